@@ -1,2 +1,4 @@
 pub mod Notation
 pub mod Value
+pub mod Items
+pub mod Records

@@ -1,7 +1,5 @@
-// The largest pack, in bytes.
-pub const MOST_BYTES: usize = 1_048_576;
-
-// Whether a pack of n bytes is too long.
-pub fn too_long(n: usize) -> bool {
-    MOST_BYTES < n
-}
+// The pack layer: document 01's byte format, its five kinds of record, and `load`.
+pub mod cursor;
+pub mod number;
+pub mod records;
+pub mod text;

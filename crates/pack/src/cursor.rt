@@ -1,0 +1,418 @@
+// The pack cursor: a value whose methods answer an item with the next cursor. A refused cursor stands at the offending item and stays
+// there, so the first offending item decides.
+ghost use mathlib.Core.Path.{_≡_};
+ghost use Prim.Native.Nat.{_+_, _≤_, _<_, _^_};
+ghost use lib.ListN.{length, getD};
+ghost use lib.Dec.{leb};
+ghost use Rattle.pack.specs.Items.{refuse, judged, wideAt, numberAt, codeAt, versionAt, indexAt, sumAt, bytesAt, markAt, textAt, nameAt, four, floatAt, optTextAt, optNumberAt, optFloatAt, optBytesAt, optSumAt, finish};
+use crate::number::{decode, is_shortest, last_byte};
+use crate::text::{OptText, Text, text_precedes};
+
+pub struct Cursor {
+    pub at: usize,
+    // 01's number of the refusal, 0 where there is none
+    pub refused: u32,
+}
+
+pub struct OptNumber {
+    pub given: bool,
+    pub value: u32,
+}
+
+// An optional float, by its 64-bit pattern.
+pub struct OptFloat {
+    pub given: bool,
+    pub pattern: u64,
+}
+
+pub struct WideItem {
+    pub value: u64,
+    pub next: Cursor,
+}
+
+pub struct NumberItem {
+    pub value: u32,
+    pub next: Cursor,
+}
+
+pub struct MarkItem {
+    pub value: bool,
+    pub next: Cursor,
+}
+
+pub struct TextItem {
+    pub value: Text,
+    pub next: Cursor,
+}
+
+pub struct OptTextItem {
+    pub value: OptText,
+    pub next: Cursor,
+}
+
+pub struct OptNumberItem {
+    pub value: OptNumber,
+    pub next: Cursor,
+}
+
+pub struct OptFloatItem {
+    pub value: OptFloat,
+    pub next: Cursor,
+}
+
+// Whether n bytes from `at` on end within len.
+fn within(at: usize, n: usize, len: usize) -> bool
+    ensures { λ r. ⌜ r ≡ leb (at + n) len ⌝ }
+{
+    if n <= len { at <= len - n } else { false }
+}
+
+fn byte(s: &[u8], at: usize) -> u64
+    requires { ⌜ at < length (now s) ⌝ }
+    ensures { λ r. ⌜ r ≡ getD (now (s .entry)) at 0 ⌝ }
+    ensures { λ r. ⌜ r < 256 ⌝ }
+{
+    s[at] as u64
+}
+
+fn four_bytes(s: &[u8], at: usize) -> u64
+    requires { ⌜ at + 4 ≤ length (now s) ⌝ }
+    ensures { λ r. ⌜ r ≡ four (now (s .entry)) at ⌝ }
+    ensures { λ r. ⌜ r < 2 ^ 32 ⌝ }
+{
+    let a = byte(s, at);
+    let b = byte(s, at + 1);
+    let c = byte(s, at + 2);
+    let d = byte(s, at + 3);
+    a + 256 * (b + 256 * (c + 256 * d))
+}
+
+impl Cursor {
+    pub fn refuse(self, number: u32) -> Cursor
+        ensures { λ r. ⌜ r ≡ refuse self number ⌝ }
+    {
+        Cursor {
+            at: self.at,
+            refused: number,
+        }
+    }
+
+    pub fn wide(self, s: &[u8], most: u64) -> WideItem
+        ensures { λ r. ⌜ r ≡ wideAt most (now (s .entry)) self ⌝ }
+        ensures { λ r. ⌜ r .value ≤ most ⌝ }
+    {
+        let at = self.at;
+        if self.refused != 0 {
+            return WideItem {
+                value: 0,
+                next: self,
+            };
+        }
+        let e = last_byte(s, at);
+        if s.len() <= e {
+            let c = self.refuse(1);
+            return WideItem { value: 0, next: c };
+        }
+        if !is_shortest(s, at, e) {
+            let c = self.refuse(2);
+            return WideItem { value: 0, next: c };
+        }
+        let v = decode(s, e + 1, e + 1 - at, most);
+        if v.over {
+            let c = self.refuse(2);
+            return WideItem { value: 0, next: c };
+        }
+        WideItem {
+            value: v.value,
+            next: Cursor {
+                at: e + 1,
+                refused: self.refused,
+            },
+        }
+    }
+
+    pub fn number(self, s: &[u8]) -> NumberItem
+        ensures { λ r. ⌜ r ≡ numberAt (now (s .entry)) self ⌝ }
+    {
+        let w = self.wide(s, 0xffff_ffff);
+        let c = w.next;
+        NumberItem {
+            value: w.value as u32,
+            next: c,
+        }
+    }
+
+    // The item, or refused by `number` at it where it was read and `good` is false.
+    fn judged(self, item: NumberItem, good: bool, number: u32) -> NumberItem
+        ensures { λ r. ⌜ r ≡ judged self item good number ⌝ }
+    {
+        let c = item.next;
+        if c.refused != 0 {
+            return item;
+        }
+        if good {
+            return item;
+        }
+        let d = self.refuse(number);
+        NumberItem { value: 0, next: d }
+    }
+
+    // A code, mark or flags.
+    pub fn code(self, s: &[u8], most: u32) -> NumberItem
+        ensures { λ r. ⌜ r ≡ codeAt most (now (s .entry)) self ⌝ }
+    {
+        let n = self.number(s);
+        self.judged(n, n.value <= most, 4)
+    }
+
+    pub fn version(self, s: &[u8]) -> NumberItem
+        ensures { λ r. ⌜ r ≡ versionAt (now (s .entry)) self ⌝ }
+    {
+        let n = self.number(s);
+        self.judged(n, n.value == 1, 3)
+    }
+
+    // An index below `count`.
+    pub fn index(self, s: &[u8], count: u64) -> NumberItem
+        ensures { λ r. ⌜ r ≡ indexAt count (now (s .entry)) self ⌝ }
+    {
+        let n = self.number(s);
+        let v = n.value as u64;
+        self.judged(n, v < count, 6)
+    }
+
+    // A number that completes a sum whose other part is `other`.
+    pub fn sum(self, s: &[u8], other: u32) -> NumberItem
+        ensures { λ r. ⌜ r ≡ sumAt other (now (s .entry)) self ⌝ }
+        ensures { λ r. ⌜ other + r .value ≤ 4294967295 ⌝ }
+    {
+        let n = self.number(s);
+        let v = n.value as u64;
+        let o = other as u64;
+        self.judged(n, o + v <= 0xffff_ffff, 7)
+    }
+
+    // A length in bytes whose bits are counted in 32 bits.
+    pub fn bytes(self, s: &[u8]) -> NumberItem
+        ensures { λ r. ⌜ r ≡ bytesAt (now (s .entry)) self ⌝ }
+    {
+        let n = self.number(s);
+        let v = n.value as u64;
+        self.judged(n, v * 8 <= 0xffff_ffff, 7)
+    }
+
+    pub fn mark(self, s: &[u8]) -> MarkItem
+        ensures { λ r. ⌜ r ≡ markAt (now (s .entry)) self ⌝ }
+    {
+        let n = self.code(s, 1);
+        let c = n.next;
+        MarkItem {
+            value: n.value == 1,
+            next: c,
+        }
+    }
+
+    pub fn text(self, s: &[u8]) -> TextItem
+        ensures { λ r. ⌜ r ≡ textAt (now (s .entry)) self ⌝ }
+    {
+        let n = self.number(s);
+        let c = n.next;
+        if c.refused != 0 {
+            return TextItem {
+                value: Text { start: 0, len: 0 },
+                next: c,
+            };
+        }
+        let at = c.at;
+        let len = n.value as usize;
+        if within(at, len, s.len()) {
+            TextItem {
+                value: Text { start: at, len },
+                next: Cursor {
+                    at: at + len,
+                    refused: c.refused,
+                },
+            }
+        } else {
+            let d = self.refuse(1);
+            TextItem {
+                value: Text { start: 0, len: 0 },
+                next: d,
+            }
+        }
+    }
+
+    // A lookup's name, which is above the one before it.
+    pub fn name(self, s: &[u8], before: OptText) -> TextItem
+        ensures { λ r. ⌜ r ≡ nameAt before (now (s .entry)) self ⌝ }
+    {
+        let t = self.text(s);
+        let c = t.next;
+        if c.refused != 0 {
+            return t;
+        }
+        if !before.given {
+            return t;
+        }
+        let earlier = before.text;
+        let this = t.value;
+        if text_precedes(s, earlier, this) {
+            return t;
+        }
+        let d = self.refuse(5);
+        TextItem {
+            value: Text { start: 0, len: 0 },
+            next: d,
+        }
+    }
+
+    pub fn float(self, s: &[u8]) -> WideItem
+        ensures { λ r. ⌜ r ≡ floatAt (now (s .entry)) self ⌝ }
+    {
+        let at = self.at;
+        if self.refused != 0 {
+            return WideItem {
+                value: 0,
+                next: self,
+            };
+        }
+        if within(at, 8, s.len()) {
+            let low = four_bytes(s, at);
+            let high = four_bytes(s, at + 4);
+            WideItem {
+                value: low + 0x1_0000_0000 * high,
+                next: Cursor {
+                    at: at + 8,
+                    refused: self.refused,
+                },
+            }
+        } else {
+            let d = self.refuse(1);
+            WideItem { value: 0, next: d }
+        }
+    }
+
+    pub fn opt_text(self, s: &[u8]) -> OptTextItem
+        ensures { λ r. ⌜ r ≡ optTextAt (now (s .entry)) self ⌝ }
+    {
+        let m = self.mark(s);
+        let c = m.next;
+        if m.value {
+            let t = c.text(s);
+            let text = t.value;
+            let d = t.next;
+            return OptTextItem {
+                value: OptText { given: true, text },
+                next: d,
+            };
+        }
+        OptTextItem {
+            value: OptText {
+                given: false,
+                text: Text { start: 0, len: 0 },
+            },
+            next: c,
+        }
+    }
+
+    pub fn opt_number(self, s: &[u8]) -> OptNumberItem
+        ensures { λ r. ⌜ r ≡ optNumberAt (now (s .entry)) self ⌝ }
+    {
+        let m = self.mark(s);
+        let c = m.next;
+        if m.value {
+            let n = c.number(s);
+            return some_number(n);
+        }
+        no_number(c)
+    }
+
+    // An optional length in bytes whose bits are counted in 32 bits.
+    pub fn opt_bytes(self, s: &[u8]) -> OptNumberItem
+        ensures { λ r. ⌜ r ≡ optBytesAt (now (s .entry)) self ⌝ }
+    {
+        let m = self.mark(s);
+        let c = m.next;
+        if m.value {
+            let n = c.bytes(s);
+            return some_number(n);
+        }
+        no_number(c)
+    }
+
+    // An optional number that completes a sum whose other part is `other`.
+    pub fn opt_sum(self, s: &[u8], other: u32) -> OptNumberItem
+        ensures { λ r. ⌜ r ≡ optSumAt other (now (s .entry)) self ⌝ }
+    {
+        let m = self.mark(s);
+        let c = m.next;
+        if m.value {
+            let n = c.sum(s, other);
+            return some_number(n);
+        }
+        no_number(c)
+    }
+
+    pub fn opt_float(self, s: &[u8]) -> OptFloatItem
+        ensures { λ r. ⌜ r ≡ optFloatAt (now (s .entry)) self ⌝ }
+    {
+        let m = self.mark(s);
+        let c = m.next;
+        if m.value {
+            let f = c.float(s);
+            let d = f.next;
+            return OptFloatItem {
+                value: OptFloat {
+                    given: true,
+                    pattern: f.value,
+                },
+                next: d,
+            };
+        }
+        OptFloatItem {
+            value: OptFloat {
+                given: false,
+                pattern: 0,
+            },
+            next: c,
+        }
+    }
+
+    // The end of the pack: refused where bytes are left.
+    pub fn finish(self, s: &[u8]) -> Cursor
+        ensures { λ r. ⌜ r ≡ finish (now (s .entry)) self ⌝ }
+    {
+        if self.refused != 0 {
+            return self;
+        }
+        if self.at < s.len() {
+            return self.refuse(8);
+        }
+        self
+    }
+}
+
+fn some_number(n: NumberItem) -> OptNumberItem
+    ensures { λ r. ⌜ r ≡ Rattle.pack.specs.Items.someNumber n ⌝ }
+{
+    let d = n.next;
+    OptNumberItem {
+        value: OptNumber {
+            given: true,
+            value: n.value,
+        },
+        next: d,
+    }
+}
+
+fn no_number(c: Cursor) -> OptNumberItem
+    ensures { λ r. ⌜ r ≡ Rattle.pack.specs.Items.noNumber c ⌝ }
+{
+    OptNumberItem {
+        value: OptNumber {
+            given: false,
+            value: 0,
+        },
+        next: c,
+    }
+}
