@@ -19,7 +19,6 @@ use Rattle.pack.specs.declared.cursor.OptNumberItem.{OptNumberItem}
 use Rattle.pack.specs.declared.cursor.OptFloatItem.{OptFloatItem}
 
 infix 50 _≺_
-
 -- ---- the cursor
 
 -- a cursor at an offset, with nothing refused
@@ -85,7 +84,9 @@ numberAt s c = let w = wideAt largest32 s c in record { value = w .value; next =
 -- an item that was read, judged by a further point: refused by that number where it is not good
 unfoldable pub judged : Cursor → NumberItem → Bool → ℕ → NumberItem
 judged c item good n =
-    if item .next .refused == 0 then if good then item else record { value = 0; next = refuse c n } else item
+    if item .next .refused == 0
+    then if good then item else record { value = 0; next = refuse c n }
+    else record { value = 0; next = item .next }
 
 -- 3: "pack version other than 1"
 unfoldable pub versionAt : List ℕ → Cursor → NumberItem

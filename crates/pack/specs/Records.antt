@@ -39,9 +39,9 @@ typeAt s c =
             signed = flags .value / 4 % 2 == 1;
             size = size .value;
             resolution = resolution .value;
-            root = root .value
+            root = root .value;
           };
-      next = root .next
+      next = root .next;
     }
 
 -- "Triplet: first, second, name": what stands before an entry's value
@@ -71,9 +71,9 @@ entryAt kind s c =
             value = value .value;
             name = name .value;
             fieldtype = rest .fieldtype;
-            nested = rest .nested
+            nested = rest .nested;
           };
-      next = rest .next
+      next = rest .next;
     }
 
 -- "Lookup: name, kind (0 pair, 1 triplet, 2 bit, 3 fieldtype), `bits`, list of entries": up to the count of the entries
@@ -85,7 +85,7 @@ lookupAt before s c =
     let entries = numberAt s (bits .next) in
     record {
       value = record { name = name .value; kind = kind .value; bits = bits .value; entries = entries .value };
-      next = entries .next
+      next = entries .next;
     }
 
 -- "Set: count, start, optional countField, nested mark." "Sums under 7: a set's start + count"
@@ -97,7 +97,7 @@ repeatingAt s c =
     let nested = markAt s (counter .next) in
     record {
       value = record { count = count .value; start = start .value; counter = counter .value; nested = nested .value };
-      next = nested .next
+      next = nested .next;
     }
 
 unfoldable pub optRepeatingAt : List ℕ → Cursor → OptRepeatingItem
@@ -107,14 +107,14 @@ optRepeatingAt s c =
     if m .value
     then record { value = record { given = true; set = r .value }; next = r .next }
     else
-      record {
-        value =
-            record {
-              given = false;
-              set = record { count = 0; start = 0; counter = record { given = false; value = 0 }; nested = false }
-            };
-        next = m .next
-      }
+    record {
+      value =
+          record {
+            given = false;
+            set = record { count = 0; start = 0; counter = record { given = false; value = 0 }; nested = false };
+          };
+      next = m .next;
+    }
 
 -- "PGN: number, id, type (0 Single, 1 Fast, 2 ISO, 3 Mixed), flags (1 fallback, 2 variable, 4 MissingCompanyFields), length,
 -- optional minimum length, two optional sets, list of fields": up to the count of the fields
@@ -139,15 +139,15 @@ pgnAt s c =
                 record {
                   fallback = flags .value % 2 == 1;
                   variable = flags .value / 2 % 2 == 1;
-                  incomplete = flags .value / 4 % 2 == 1
+                  incomplete = flags .value / 4 % 2 == 1;
                 };
             length = length .value;
             minimum = minimum .value;
             repeating1 = first .value;
             repeating2 = second .value;
-            fields = fields .value
+            fields = fields .value;
           };
-      next = fields .next
+      next = fields .next;
     }
 
 -- "Field: id, name, type text, .."
@@ -167,7 +167,7 @@ fieldFlags n =
       proprietary = n / 4 % 2 == 1;
       mismatch = n / 8 % 2 == 1;
       dynamic = n / 16 % 2 == 1;
-      overhead = n / 32 % 2 == 1
+      overhead = n / 32 % 2 == 1;
     }
 
 -- ".. `res_bits`, `res_resolution`, `res_offset`; then optional `res_unit`, ..", with `total` bits in the PGN's fields before it
@@ -183,9 +183,9 @@ scalingAt total s c =
             bits = bits .value;
             resolution = resolution .value;
             offset = offset .value;
-            unit = unit .value
+            unit = unit .value;
           };
-      next = unit .next
+      next = unit .next;
     }
 
 -- ".. `resolution`, `offset`, `spn`, `continues`, `match_`, .."
@@ -203,9 +203,9 @@ authoredAt s c =
             offset = offset .value;
             spn = spn .value;
             continues = continues .value;
-            matched = matched .value
+            matched = matched .value;
           };
-      next = matched .next
+      next = matched .next;
     }
 
 -- ".. reference (kind, name), .."
@@ -233,9 +233,9 @@ linksAt bits s c =
             special = special .value;
             length = length .value;
             trailing = trailing .value;
-            continuation = continuation .value
+            continuation = continuation .value;
           };
-      next = continuation .next
+      next = continuation .next;
     }
 
 -- a field, in a pack of `types` field types and a PGN whose fields before it have `total` bits
@@ -255,7 +255,7 @@ fieldAt types total s c =
             flags = fieldFlags (flags .value);
             scaling = scaling .value;
             authored = authored .value;
-            links = links .value
+            links = links .value;
           };
-      next = links .next
+      next = links .next;
     }

@@ -5,8 +5,12 @@ ghost use Prim.Native.Nat.{_+_, _≤_, _<_, _^_};
 ghost use lib.ListN.{length, getD};
 ghost use lib.Dec.{leb};
 ghost use Rattle.pack.specs.Items.{refuse, judged, wideAt, numberAt, codeAt, versionAt, indexAt, sumAt, bytesAt, markAt, textAt, nameAt, four, floatAt, optTextAt, optNumberAt, optFloatAt, optBytesAt, optSumAt, finish};
-use crate::number::{decode, is_shortest, last_byte};
-use crate::text::{OptText, Text, text_precedes};
+use crate::number::decode;
+use crate::number::is_shortest;
+use crate::number::last_byte;
+use crate::text::OptText;
+use crate::text::Text;
+use crate::text::text_precedes;
 
 pub struct Cursor {
     pub at: usize,
@@ -148,7 +152,7 @@ impl Cursor {
     {
         let c = item.next;
         if c.refused != 0 {
-            return item;
+            return NumberItem { value: 0, next: c };
         }
         if good {
             return item;

@@ -2,8 +2,12 @@
 ghost use mathlib.Core.Path.{_≡_};
 ghost use Prim.Native.Nat.{_+_, _≤_};
 ghost use Rattle.pack.specs.Records.{typeAt, firstAt, kindPartAt, entryAt, lookupAt, repeatingAt, optRepeatingAt, pgnAt, namesAt, fieldFlags, scalingAt, authoredAt, optReferenceAt, linksAt, fieldAt};
-use crate::cursor::{Cursor, OptFloat, OptNumber, WideItem};
-use crate::text::{OptText, Text};
+use crate::cursor::Cursor;
+use crate::cursor::OptFloat;
+use crate::cursor::OptNumber;
+use crate::cursor::WideItem;
+use crate::text::OptText;
+use crate::text::Text;
 
 pub struct FieldTypeView {
     pub name: Text,
