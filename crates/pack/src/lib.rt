@@ -1,5 +1,6 @@
 // The pack layer: document 01's byte format, its five kinds of record, and `load`.
 pub mod cursor;
+pub mod load;
 pub mod number;
 pub mod records;
 pub mod text;

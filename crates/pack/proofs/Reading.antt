@@ -1,0 +1,457 @@
+-- Laws of readers: a refused cursor stays, reading stays within the bytes, and it never goes back.
+use Prim.Native.Nat.{ℕ, zero, suc, _+_, _-_, _*_, _≤_, _<_}
+use native.Mathlib.Omega.{arith}
+use native.Mathlib.Numerals.{add-one}
+use native.Mathlib.Decide.{ℕ-discrete}
+use mathlib.Core.Path.{_≡_, refl, ap, _∙_, sym, subst}
+use mathlib.Core.List.{List}
+use mathlib.Core.Bool.{Bool, true, false}
+use borrow.Author.Tests.{ne-eqb, eqb-false, ltb-true, leb-true}
+use lib.ListN.{length}
+use lib.Dec.{eqb, ltb, leb}
+use Rattle.pack.specs.Notation.{_==_, _<ᵇ_, _≤ᵇ_, if_then_else_}
+use Rattle.pack.specs.Items.{_≺_, bytesOf, refuse, moved, fresh, lastByte, shortest, capped, groups, largest32, largest64, wideAt, numberAt, judged, versionAt, codeAt, indexAt, sumAt, bytesAt, textAt, nameAt, floatAt, markAt, optTextAt, optNumberAt, optBytesAt, optSumAt, optFloatAt}
+use Rattle.pack.specs.Records.{typeAt, firstAt, kindPartAt, entryAt, lookupAt, repeatingAt, optRepeatingAt, pgnAt, namesAt, scalingAt, authoredAt, optReferenceAt, linksAt, fieldAt}
+use Rattle.pack.specs.Format.{iter, typeNext, types, entryNext, entries, LookupState, lookupNext, lookups, noText, FieldState, fieldNext, fields, pgnNext, pgns}
+use Rattle.pack.specs.declared.text.OptText.{OptText}
+use Rattle.pack.specs.declared.cursor.Cursor.{Cursor}
+use Rattle.pack.specs.declared.cursor.NumberItem.{NumberItem}
+use Rattle.pack.specs.declared.cursor.WideItem.{WideItem}
+use Rattle.pack.specs.declared.cursor.TextItem.{TextItem}
+use Rattle.pack.specs.declared.text.Text.{Text}
+
+-- a step of a reading whose state holds a cursor
+pub record Steps (s : List ℕ) {A : Type 0} (cur : A → Cursor) (f : A → A) : Type 0 where
+  pub sticky : (a : A) → (cur a .refused ≡ 0 → ⊥) → cur (f a) ≡ cur a
+  pub within : (a : A) → cur a .at ≤ length s → cur (f a) .at ≤ length s
+  pub grows : (a : A) → cur a .at ≤ cur (f a) .at
+
+-- a reader of one item or more
+abbrev pub Reader : List ℕ → (Cursor → Cursor) → Type 0
+Reader s f = Steps s (λ c. c) f
+
+-- ---- steps repeated
+
+module _ {s : List ℕ} {A : Type 0} {cur : A → Cursor} {f : A → A} (r : Steps s cur f) where
+  -- what is not refused behind a step was not refused before it
+  pub back : (a : A) → cur (f a) .refused ≡ 0 → cur a .refused ≡ 0
+  back a e = go (ℕ-discrete (cur a .refused) 0)
+    where
+      go : Dec (cur a .refused ≡ 0) → cur a .refused ≡ 0
+      go (yes p) = p
+      go (no n) = absurd (n (sym (ap (λ (d : Cursor). d .refused) (r .sticky a n)) ∙ e))
+
+  pub often : (n : ℕ) → Steps s cur (λ a. iter f a n)
+  often zero = record { sticky = λ a h. refl; within = λ a h. h; grows = λ a. omega arith }
+  often (suc n) =
+      let i = often n in
+      record {
+        sticky = λ a h. r .sticky (iter f a n) (λ e. h (sym (ap (λ (d : Cursor). d .refused) (i .sticky a h)) ∙ e)) ∙ i .sticky a h;
+        within = λ a h. r .within (iter f a n) (i .within a h);
+        grows = λ a. omega (arith, i .grows a, r .grows (iter f a n))
+      }
+
+pub iter-add : {A : Type 0} (f : A → A) (a : A) (k j : ℕ) → iter f a (k + j) ≡ iter f (iter f a k) j
+iter-add f a k zero = let e : k + 0 ≡ k = omega arith in rw e
+iter-add f a k (suc j) = let e : k + suc j ≡ suc (k + j) = omega arith in rw e (ap f (iter-add f a k j))
+
+module _ {s : List ℕ} {A : Type 0} {cur : A → Cursor} {f : A → A} (r : Steps s cur f) (a : A) (k n : ℕ) (h : k ≤ n) where
+  -- from a refused state on, all have its cursor
+  pub stays : (cur (iter f a k) .refused ≡ 0 → ⊥) → cur (iter f a n) ≡ cur (iter f a k)
+  stays b =
+      let e : n ≡ k + (n - k) = omega arith in
+      rw (e, iter-add f a k (n - k)) (often r (n - k) .sticky (iter f a k) b)
+
+  -- what is not refused at n was not at k
+  pub clean : cur (iter f a n) .refused ≡ 0 → cur (iter f a k) .refused ≡ 0
+  clean b =
+      let e : n ≡ k + (n - k) = omega arith in
+      back (often r (n - k)) (iter f a k) (rw (← iter-add f a k (n - k), ← e) b)
+
+  pub later : cur (iter f a k) .at ≤ cur (iter f a n) .at
+  later = let e : n ≡ k + (n - k) = omega arith in rw (e, iter-add f a k (n - k)) (often r (n - k) .grows (iter f a k))
+
+-- ---- readers one after the other
+
+module _ {s : List ℕ} where
+  pub followed : {f : Cursor → Cursor} {g : Cursor → Cursor → Cursor} → Reader s f → ((c : Cursor) → Reader s (g c)) → Reader s (λ c. g c (f c))
+  followed {f} {g} p q =
+      record {
+        sticky = λ c h. ap (g c) (p .sticky c h) ∙ q c .sticky c h;
+        within = λ c h. q c .within (f c) (p .within c h);
+        grows = λ c. omega (arith, p .grows c, q c .grows (f c))
+      }
+
+  -- one of two, as a test on the cursor says
+  pub choose : (b : Cursor → Bool) (f g h : Cursor → Cursor) → ((c : Cursor) → b c ≡ true → h c ≡ f c) → ((c : Cursor) → b c ≡ false → h c ≡ g c)
+      → Reader s f → Reader s g → Reader s h
+  choose b f g h t e p q =
+      record { sticky = λ c n. st c n (b c) refl; within = λ c l. wi c l (b c) refl; grows = λ c. gr c (b c) refl }
+    where
+      st : (c : Cursor) → (c .refused ≡ 0 → ⊥) → (v : Bool) → b c ≡ v → h c ≡ c
+      st c n true d = t c d ∙ p .sticky c n
+      st c n false d = e c d ∙ q .sticky c n
+      wi : (c : Cursor) → c .at ≤ length s → (v : Bool) → b c ≡ v → h c .at ≤ length s
+      wi c l true d = rw (t c d) (p .within c l)
+      wi c l false d = rw (e c d) (q .within c l)
+      gr : (c : Cursor) → (v : Bool) → b c ≡ v → c .at ≤ h c .at
+      gr c true d = rw (t c d) (p .grows c)
+      gr c false d = rw (e c d) (q .grows c)
+
+  pub stay : Reader s (λ c. c)
+  stay = record { sticky = λ c h. refl; within = λ c h. h; grows = λ c. omega arith }
+
+-- ---- the items
+
+pub if-all : {A : Type 0} (P : A → Type 0) (b : Bool) (x y : A) → (b ≡ true → P x) → (b ≡ false → P y) → P (if b then x else y)
+if-all P true x y f g = f refl
+if-all P false x y f g = g refl
+
+-- reading that is not refused goes on by a byte at least
+abbrev pub Moves : (Cursor → Cursor) → Type 0
+Moves f = (c : Cursor) → f c .refused ≡ 0 → c .at + 1 ≤ f c .at
+
+module _ {s : List ℕ} where
+  pub moves-then : {f : Cursor → Cursor} {g : Cursor → Cursor → Cursor} → Moves f → ((c : Cursor) → Reader s (g c)) → Moves (λ c. g c (f c))
+  moves-then {f} {g} p q c e = omega (arith, p c (back (q c) (f c) e), q c .grows (f c))
+
+  pub after-moves : {f : Cursor → Cursor} {g : Cursor → Cursor → Cursor} → Reader s f → ((c : Cursor) → Moves (g c)) → Moves (λ c. g c (f c))
+  after-moves {f} {g} p q c e = omega (arith, p .grows c, q c (f c) e)
+
+module _ (s : List ℕ) where
+  -- the ends of a number: left as it was, cut short, refused by 2, read
+  wide-all : (most : ℕ) (P : WideItem → Type 0) (c : Cursor) → ((c .refused == 0) ≡ false → P (record { value = 0; next = c })) → P (record { value = 0; next = refuse c 1 })
+      → P (record { value = 0; next = refuse c 2 }) → ((v : ℕ) → lastByte s (c .at) < length s → P (record { value = v; next = moved c (lastByte s (c .at) + 1) }))
+      → P (wideAt most s c)
+  unfolding wideAt
+  wide-all most P c a b d e =
+      let l = lastByte s (c .at) in
+      if-all P (c .refused == 0) _ _
+      (λ _. if-all P (l <ᵇ length s) _ _
+      (λ h. if-all P (shortest s (c .at) l) _ _
+      (λ _. if-all P (capped most (groups s (l + 1) (l + 1 - c .at)) .over) _ _ (λ _. d) (λ _. e _ (ltb-true _ _ h)))
+      (λ _. d))
+      (λ _. b))
+      a
+
+  pub wide-reader : (most : ℕ) → Reader s (λ c. wideAt most s c .next)
+  unfolding wideAt
+  wide-reader most =
+      record {
+        sticky = λ c h. stick c h;
+        within = λ c h. wide-all most (λ w. w .next .at ≤ length s) c (λ _. h) h h (λ v l. omega arith);
+        grows = λ c. wide-all most (λ w. c .at ≤ w .next .at) c (λ _. omega arith) (omega arith) (omega arith) (λ v l. omega arith)
+      }
+    where
+      stick : (c : Cursor) → (c .refused ≡ 0 → ⊥) → wideAt most s c .next ≡ c
+      stick c h = rw (ne-eqb _ _ h)
+
+  pub wide-moves : (most : ℕ) → Moves (λ c. wideAt most s c .next)
+  wide-moves most c e =
+      wide-all most (λ w. w .next .refused ≡ 0 → c .at + 1 ≤ w .next .at) c (λ h z. absurd (eqb-false _ _ h z)) (λ z. absurd (omega arith)) (λ z. absurd (omega arith)) (λ v l z. omega arith) e
+
+  pub number-reader : Reader s (λ c. numberAt s c .next)
+  unfolding numberAt
+  number-reader = wide-reader largest32
+
+  pub number-moves : Moves (λ c. numberAt s c .next)
+  unfolding numberAt
+  number-moves = wide-moves largest32
+
+  judged-reader : (good : Cursor → Bool) (n : ℕ) → Reader s (λ c. judged c (numberAt s c) (good c) n .next)
+  unfolding judged
+  judged-reader good n =
+      record {
+        sticky = λ c h. stick c h;
+        within =
+            λ c h.
+            if-all (λ (w : NumberItem). w .next .at ≤ length s) (numberAt s c .next .refused == 0) _ _
+            (λ _. if-all (λ (w : NumberItem). w .next .at ≤ length s) (good c) _ _ (λ _. number-reader .within c h) (λ _. h))
+            (λ _. number-reader .within c h);
+        grows =
+            λ c.
+            if-all (λ (w : NumberItem). c .at ≤ w .next .at) (numberAt s c .next .refused == 0) _ _
+            (λ _. if-all (λ (w : NumberItem). c .at ≤ w .next .at) (good c) _ _ (λ _. number-reader .grows c) (λ _. omega arith))
+            (λ _. number-reader .grows c)
+      }
+    where
+      stick : (c : Cursor) → (c .refused ≡ 0 → ⊥) → judged c (numberAt s c) (good c) n .next ≡ c
+      stick c h = let e = number-reader .sticky c h in rw (e, ne-eqb _ _ h)
+
+  judged-moves : (good : Cursor → Bool) (n : ℕ) → Moves (λ c. judged c (numberAt s c) (good c) (suc n) .next)
+  unfolding judged
+  judged-moves good n c =
+      if-all (λ (w : NumberItem). w .next .refused ≡ 0 → c .at + 1 ≤ w .next .at) (numberAt s c .next .refused == 0) _ _
+      (λ _. if-all (λ (w : NumberItem). w .next .refused ≡ 0 → c .at + 1 ≤ w .next .at) (good c) _ _ (λ _. number-moves c) (λ _ z. absurd (omega arith)))
+      (λ _. number-moves c)
+
+  pub version-reader : Reader s (λ c. versionAt s c .next)
+  unfolding versionAt
+  version-reader = judged-reader (λ c. numberAt s c .value == 1) 3
+
+  pub code-reader : (most : ℕ) → Reader s (λ c. codeAt most s c .next)
+  unfolding codeAt
+  code-reader most = judged-reader (λ c. numberAt s c .value ≤ᵇ most) 4
+
+  pub index-reader : (k : ℕ) → Reader s (λ c. indexAt k s c .next)
+  unfolding indexAt
+  index-reader k = judged-reader (λ c. numberAt s c .value <ᵇ k) 6
+
+  pub sum-reader : (o : ℕ) → Reader s (λ c. sumAt o s c .next)
+  unfolding sumAt
+  sum-reader o = judged-reader (λ c. o + numberAt s c .value ≤ᵇ largest32) 7
+
+  pub bytes-reader : Reader s (λ c. bytesAt s c .next)
+  unfolding bytesAt
+  bytes-reader = judged-reader (λ c. numberAt s c .value * 8 ≤ᵇ largest32) 7
+
+  pub mark-reader : Reader s (λ c. markAt s c .next)
+  unfolding markAt
+  mark-reader = code-reader 1
+
+  -- the ends of a text: its length refused, cut short, read
+  text-all : (P : TextItem → Type 0) (c : Cursor) → ((numberAt s c .next .refused == 0) ≡ false → P (record { value = record { start = 0; len = 0 }; next = numberAt s c .next }))
+      → P (record { value = record { start = 0; len = 0 }; next = refuse c 1 })
+      → ((v : Text) (e : ℕ) → numberAt s c .next .at ≤ e → e ≤ length s → P (record { value = v; next = moved (numberAt s c .next) e })) → P (textAt s c)
+  unfolding textAt
+  text-all P c a b d =
+      let n = numberAt s c in
+      if-all P (n .next .refused == 0) _ _ (λ _. if-all P (n .next .at + n .value ≤ᵇ length s) _ _ (λ h. d _ _ (omega arith) (leb-true _ _ h)) (λ _. b)) a
+
+  pub text-reader : Reader s (λ c. textAt s c .next)
+  unfolding textAt
+  text-reader =
+      record {
+        sticky = λ c h. stick c h;
+        within = λ c h. text-all (λ w. w .next .at ≤ length s) c (λ _. number-reader .within c h) h (λ v e k l. l);
+        grows = λ c. text-all (λ w. c .at ≤ w .next .at) c (λ _. number-reader .grows c) (omega arith) (λ v e k l. omega (arith, number-reader .grows c))
+      }
+    where
+      stick : (c : Cursor) → (c .refused ≡ 0 → ⊥) → textAt s c .next ≡ c
+      stick c h = let e = number-reader .sticky c h in rw (e, ne-eqb _ _ h)
+
+  pub text-moves : Moves (λ c. textAt s c .next)
+  text-moves c =
+      text-all (λ w. w .next .refused ≡ 0 → c .at + 1 ≤ w .next .at) c (λ h z. absurd (eqb-false _ _ h z)) (λ z. absurd (omega arith)) (λ v e k l z. omega (arith, number-moves c z))
+
+  name-all : (before : OptText) (P : TextItem → Type 0) (c : Cursor) → P (textAt s c) → P (record { value = record { start = 0; len = 0 }; next = refuse c 5 }) → P (nameAt before s c)
+  unfolding nameAt
+  name-all before P c a b =
+      let t = textAt s c in
+      if-all P (t .next .refused == 0) _ _
+      (λ _. if-all P (before .given) _ _ (λ _. if-all P (bytesOf s (before .text) ≺ bytesOf s (t .value)) _ _ (λ _. a) (λ _. b)) (λ _. a))
+      (λ _. a)
+
+  pub name-reader : (before : OptText) → Reader s (λ c. nameAt before s c .next)
+  unfolding nameAt
+  name-reader before =
+      record {
+        sticky = λ c h. stick c h;
+        within = λ c h. name-all before (λ w. w .next .at ≤ length s) c (text-reader .within c h) h;
+        grows = λ c. name-all before (λ w. c .at ≤ w .next .at) c (text-reader .grows c) (omega arith)
+      }
+    where
+      stick : (c : Cursor) → (c .refused ≡ 0 → ⊥) → nameAt before s c .next ≡ c
+      stick c h = let e = text-reader .sticky c h in rw (e, ne-eqb _ _ h)
+
+  pub name-moves : (before : OptText) → Moves (λ c. nameAt before s c .next)
+  name-moves before c = name-all before (λ w. w .next .refused ≡ 0 → c .at + 1 ≤ w .next .at) c (text-moves c) (λ z. absurd (omega arith))
+
+  pub float-reader : Reader s (λ c. floatAt s c .next)
+  unfolding floatAt
+  float-reader =
+      record {
+        sticky = λ c h. stick c h;
+        within =
+            λ c h.
+            if-all (λ (w : WideItem). w .next .at ≤ length s) (c .refused == 0) _ _
+            (λ _. if-all (λ (w : WideItem). w .next .at ≤ length s) (c .at + 8 ≤ᵇ length s) _ _ (λ l. leb-true _ _ l) (λ _. h))
+            (λ _. h);
+        grows =
+            λ c.
+            if-all (λ (w : WideItem). c .at ≤ w .next .at) (c .refused == 0) _ _
+            (λ _. if-all (λ (w : WideItem). c .at ≤ w .next .at) (c .at + 8 ≤ᵇ length s) _ _ (λ l. omega arith) (λ _. omega arith))
+            (λ _. omega arith)
+      }
+    where
+      stick : (c : Cursor) → (c .refused ≡ 0 → ⊥) → floatAt s c .next ≡ c
+      stick c h = rw (ne-eqb _ _ h)
+
+  -- an optional item: a mark, and then the item or nothing
+  optionally : {f g : Cursor → Cursor} → Reader s f → ((c : Cursor) → markAt s c .value ≡ true → g c ≡ f (markAt s c .next)) → ((c : Cursor) → markAt s c .value ≡ false → g c ≡ markAt s c .next) → Reader s g
+  optionally {f} {g} p t e = choose (λ c. markAt s c .value) (λ c. f (markAt s c .next)) (λ c. markAt s c .next) g t e (followed mark-reader (λ c. p)) mark-reader
+
+  pub opt-text-reader : Reader s (λ c. optTextAt s c .next)
+  unfolding optTextAt
+  opt-text-reader = optionally text-reader (λ c e. rw e) (λ c e. rw e)
+
+  pub opt-number-reader : Reader s (λ c. optNumberAt s c .next)
+  unfolding optNumberAt
+  opt-number-reader = optionally number-reader (λ c e. rw e) (λ c e. rw e)
+
+  pub opt-bytes-reader : Reader s (λ c. optBytesAt s c .next)
+  unfolding optBytesAt
+  opt-bytes-reader = optionally bytes-reader (λ c e. rw e) (λ c e. rw e)
+
+  pub opt-sum-reader : (o : ℕ) → Reader s (λ c. optSumAt o s c .next)
+  unfolding optSumAt
+  opt-sum-reader o = optionally (sum-reader o) (λ c e. rw e) (λ c e. rw e)
+
+  pub opt-float-reader : Reader s (λ c. optFloatAt s c .next)
+  unfolding optFloatAt
+  opt-float-reader = optionally float-reader (λ c e. rw e) (λ c e. rw e)
+
+  -- ---- the records
+
+  infixl 20 _▸_
+  _▸_ : {f g : Cursor → Cursor} → Reader s f → Reader s g → Reader s (λ c. g (f c))
+  p ▸ q = followed p (λ c. q)
+
+  pub type-reader : Reader s (λ c. typeAt s c .next)
+  unfolding typeAt
+  type-reader = text-reader ▸ code-reader 7 ▸ number-reader ▸ float-reader ▸ text-reader
+
+  pub type-moves : Moves (λ c. typeAt s c .next)
+  unfolding typeAt
+  type-moves = moves-then text-moves (λ c. code-reader 7 ▸ number-reader ▸ float-reader ▸ text-reader)
+
+  first-reader : (kind : ℕ) → Reader s (λ c. firstAt kind s c .next)
+  unfolding firstAt
+  first-reader kind = choose (λ c. kind == 1) (λ c. wideAt largest64 s c .next) (λ c. c) _ (λ c e. rw e) (λ c e. rw e) (wide-reader largest64) stay
+
+  kind-part-reader : (kind : ℕ) → Reader s (λ c. kindPartAt kind s c .next)
+  unfolding kindPartAt
+  kind-part-reader kind = choose (λ c. kind == 3) (λ c. optTextAt s (textAt s c .next) .next) (λ c. c) _ (λ c e. rw e) (λ c e. rw e) (text-reader ▸ opt-text-reader) stay
+
+  pub entry-reader : (kind : ℕ) → Reader s (λ c. entryAt kind s c .next)
+  unfolding entryAt
+  entry-reader kind = first-reader kind ▸ wide-reader largest64 ▸ text-reader ▸ kind-part-reader kind
+
+  pub entry-moves : (kind : ℕ) → Moves (λ c. entryAt kind s c .next)
+  unfolding entryAt
+  entry-moves kind = after-moves (first-reader kind) (λ c. moves-then (wide-moves largest64) (λ c. text-reader ▸ kind-part-reader kind))
+
+  pub lookup-reader : (before : OptText) → Reader s (λ c. lookupAt before s c .next)
+  unfolding lookupAt
+  lookup-reader before = name-reader before ▸ code-reader 3 ▸ number-reader ▸ number-reader
+
+  pub lookup-moves : (before : OptText) → Moves (λ c. lookupAt before s c .next)
+  unfolding lookupAt
+  lookup-moves before = moves-then (name-moves before) (λ c. code-reader 3 ▸ number-reader ▸ number-reader)
+
+  repeating-reader : Reader s (λ c. repeatingAt s c .next)
+  unfolding repeatingAt
+  repeating-reader = followed number-reader (λ c. sum-reader (numberAt s c .value)) ▸ opt-number-reader ▸ mark-reader
+
+  opt-repeating-reader : Reader s (λ c. optRepeatingAt s c .next)
+  unfolding optRepeatingAt
+  opt-repeating-reader = optionally repeating-reader (λ c e. rw e) (λ c e. rw e)
+
+  pub pgn-reader : Reader s (λ c. pgnAt s c .next)
+  unfolding pgnAt
+  pgn-reader = number-reader ▸ text-reader ▸ code-reader 3 ▸ code-reader 7 ▸ number-reader ▸ opt-bytes-reader ▸ opt-repeating-reader ▸ opt-repeating-reader ▸ number-reader
+
+  pub pgn-moves : Moves (λ c. pgnAt s c .next)
+  unfolding pgnAt
+  pgn-moves = moves-then number-moves (λ c. text-reader ▸ code-reader 3 ▸ code-reader 7 ▸ number-reader ▸ opt-bytes-reader ▸ opt-repeating-reader ▸ opt-repeating-reader ▸ number-reader)
+
+  names-reader : Reader s (λ c. namesAt s c .next)
+  unfolding namesAt
+  names-reader = text-reader ▸ text-reader ▸ text-reader
+
+  names-moves : Moves (λ c. namesAt s c .next)
+  unfolding namesAt
+  names-moves = moves-then text-moves (λ c. text-reader ▸ text-reader)
+
+  scaling-reader : (total : ℕ) → Reader s (λ c. scalingAt total s c .next)
+  unfolding scalingAt
+  scaling-reader total = sum-reader total ▸ float-reader ▸ float-reader ▸ opt-text-reader
+
+  authored-reader : Reader s (λ c. authoredAt s c .next)
+  unfolding authoredAt
+  authored-reader = opt-float-reader ▸ opt-float-reader ▸ opt-number-reader ▸ opt-text-reader ▸ opt-text-reader
+
+  opt-reference-reader : Reader s (λ c. optReferenceAt s c .next)
+  unfolding optReferenceAt
+  opt-reference-reader = optionally (code-reader 3 ▸ text-reader) (λ c e. rw e) (λ c e. rw e)
+
+  links-reader : (bits : ℕ) → Reader s (λ c. linksAt bits s c .next)
+  unfolding linksAt
+  links-reader bits = opt-reference-reader ▸ opt-number-reader ▸ opt-text-reader ▸ opt-text-reader ▸ opt-sum-reader bits
+
+  -- what follows a field's names
+  abbrev fieldRest : ℕ → ℕ → Cursor → Cursor
+  fieldRest k total c =
+      let scaling = scalingAt total s (codeAt 63 s (indexAt k s c .next) .next) in linksAt (scaling .value .bits) s (authoredAt s (scaling .next) .next) .next
+
+  field-rest-reader : (k total : ℕ) → Reader s (fieldRest k total)
+  field-rest-reader k total =
+      followed (index-reader k ▸ code-reader 63 ▸ scaling-reader total ▸ authored-reader) (λ c. links-reader (scalingAt total s (codeAt 63 s (indexAt k s c .next) .next) .value .bits))
+
+  pub field-reader : (k total : ℕ) → Reader s (λ c. fieldAt k total s c .next)
+  unfolding fieldAt
+  field-reader k total = names-reader ▸ field-rest-reader k total
+
+  pub field-moves : (k total : ℕ) → Moves (λ c. fieldAt k total s c .next)
+  unfolding fieldAt
+  field-moves k total = moves-then names-moves (λ c. field-rest-reader k total)
+
+  -- ---- the lists
+
+  pub types-reader : (n : ℕ) → Reader s (λ c. types s c n)
+  unfolding types
+  types-reader n = often type-reader n
+
+  pub entries-reader : (kind n : ℕ) → Reader s (λ c. entries kind s c n)
+  unfolding entries
+  entries-reader kind n = often (entry-reader kind) n
+
+  pub lookup-next-reader : (before : OptText) → Reader s (λ c. lookupNext s (record { next = c; before = before }) .next)
+  unfolding lookupNext
+  lookup-next-reader before =
+      followed (lookup-reader before) (λ c. entries-reader (lookupAt before s c .value .kind) (lookupAt before s c .value .entries))
+
+  pub lookup-steps : Steps s (λ (a : LookupState). a .next) (lookupNext s)
+  lookup-steps =
+      record {
+        sticky = λ a. lookup-next-reader (a .before) .sticky (a .next);
+        within = λ a. lookup-next-reader (a .before) .within (a .next);
+        grows = λ a. lookup-next-reader (a .before) .grows (a .next)
+      }
+
+  pub lookups-reader : (n : ℕ) → Reader s (λ c. lookups s c n .next)
+  unfolding lookups
+  lookups-reader n =
+      let r = often lookup-steps n in
+      record {
+        sticky = λ c. r .sticky (record { next = c; before = noText });
+        within = λ c. r .within (record { next = c; before = noText });
+        grows = λ c. r .grows (record { next = c; before = noText })
+      }
+
+  pub field-steps : (k : ℕ) → Steps s (λ (a : FieldState). a .next) (fieldNext k s)
+  unfolding fieldNext
+  field-steps k =
+      record {
+        sticky = λ a. field-reader k (a .total) .sticky (a .next);
+        within = λ a. field-reader k (a .total) .within (a .next);
+        grows = λ a. field-reader k (a .total) .grows (a .next)
+      }
+
+  pub fields-reader : (k n : ℕ) → Reader s (λ c. fields k s c n .next)
+  unfolding fields
+  fields-reader k n =
+      let r = often (field-steps k) n in
+      record {
+        sticky = λ c. r .sticky (record { next = c; total = 0 });
+        within = λ c. r .within (record { next = c; total = 0 });
+        grows = λ c. r .grows (record { next = c; total = 0 })
+      }
+
+  pub pgn-next-reader : (k : ℕ) → Reader s (pgnNext k s)
+  unfolding pgnNext
+  pgn-next-reader k = followed pgn-reader (λ c. fields-reader k (pgnAt s c .value .fields))
+
+  pub pgns-reader : (k n : ℕ) → Reader s (λ c. pgns k s c n)
+  unfolding pgns
+  pgns-reader k n = often (pgn-next-reader k) n
