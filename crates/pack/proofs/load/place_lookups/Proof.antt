@@ -1,3 +1,7 @@
+use Rattle.pack.proofs.Places.{placed-none, placed-append, placed-refused, room-after, lookups-turn, lookupOffsets-turn, lookups-stay}
+use Rattle.pack.proofs.Reading.{lookup-next-reader}
+use Rattle.pack.specs.Placing.{Room, PlacedTo}
+use Rattle.pack.specs.Format.{LookupState, lookups, lookupOffsets, lookupNext, lookupRecords}
 use Prim.Native.Nat.{ℕ, zero, suc, _+_, _-_, _*_, _/_, _%_, _^_, _≤_, _<_}
 use native.Mathlib.Omega.{arith}
 use native.Mathlib.Numerals.{add-one}
@@ -16,26 +20,31 @@ use Rattle.pack.proofs.load.place_lookups.Lts as lts
 use Rattle.pack.proofs.load.place_lookup.Reads as place-lookup-reads
 
 abbrev Inv-loop : tie.InvT-loop
-Inv-loop s work₀ n p c₀ before₀ p₀ i₀ work c before p' i = ?
+Inv-loop s work₀ n p c₀ before₀ p₀ i₀ work c before p' i = (i ≤ n) × (length work ≡ length work₀) × PlacedTo (lookups s c₀ i .next) work₀ p₀ (lookupOffsets s c₀ i) work c p' × Room s c p' × (before ≡ lookups s c₀ i .before)
 
 abbrev μ-loop : tie.MeasureT-loop
-μ-loop s work₀ n p c₀ before₀ p₀ i₀ work c before p' i = ?
+μ-loop s work₀ n p c₀ before₀ p₀ i₀ work c before p' i = n - i
 
 -- src/load.rt:172:5
 loop-holds : tie.Need-loop-holds Inv-loop μ-loop
-loop-holds c = ?
+unfolding lookups lookupOffsets
+loop-holds c = (search needs, refl, placed-none (now (c .before .before .args .s)) _ _ _ (c .before .before .pre), c .before .before .pre, refl)
 
 -- src/load.rt:174:13
 same-length : tie.Need-same-length Inv-loop μ-loop
-same-length c = search needs
+same-length c = c .before .before .before .loop .inv .1
 
 -- src/load.rt:174:13
 returns : tie.Need-returns Inv-loop μ-loop
-returns c = ?
+returns c =
+    let s = now (c .before .before .before .before .before .before .args .s) in
+    let a = c .before .before .before .loop .inv .2 in
+    let n = c .if1 .taken in
+    placed-refused _ _ _ (a .next ∙ sym (lookups-stay s (c .before .before .before .before .before .before .args .c) (c .before .before .before .loop .i) (c .before .before .before .before .before .before .args .n) (search needs) (λ z. n ((rw (a .next) z))))) n (a .few)
 
 -- src/load.rt:176:13
 place-lookup-requires : tie.Need-place-lookup-requires Inv-loop μ-loop
-place-lookup-requires c κs = search needs
+place-lookup-requires c κs = c .before .before .before .before .loop .inv .3
 
 -- src/load.rt:180:9
 add-i : tie.Need-add-i Inv-loop μ-loop
@@ -47,15 +56,22 @@ loop-less c = search needs
 
 -- src/load.rt:172:5
 loop-again : tie.Need-loop-again Inv-loop μ-loop
-loop-again c = ?
+loop-again c =
+    let s = now (c .before .before .before .before .before .before .before .before .before .before .before .before .args .s) in
+    let i = c .before .before .before .before .before .before .before .before .before .loop .i in
+    let a = c .before .before .before .before .before .before .before .before .before .loop .inv .2 in
+    let b = c .before .before .before .before .place-lookup .ensures in
+    let all = placed-append a (c .before .before .before .before .before .before .if1 .left) (b .placed) in
+    let st : _≡_ {A = LookupState} (lookups s (c .before .before .before .before .before .before .before .before .before .before .before .before .args .c) i) (record { next = c .before .before .before .before .before .before .before .before .before .loop .c; before = c .before .before .before .before .before .before .before .before .before .loop .before }) = λ j. record { next = sym (a .next) j; before = sym (c .before .before .before .before .before .before .before .before .before .loop .inv .4) j } in
+    (search needs, c .before .before .before .before .place-lookup .kept .1 .0 ∙ c .before .before .before .before .before .before .before .before .before .loop .inv .1, (rw (lookups-turn s (c .before .before .before .before .before .before .before .before .before .before .before .before .args .c) i, lookupOffsets-turn s (c .before .before .before .before .before .before .before .before .before .before .before .before .args .c) i, st) all), room-after (lookup-next-reader s (c .before .before .before .before .before .before .before .before .before .loop .before)) (c .before .before .before .before .before .before .before .before .before .loop .c) (c .before .before .before .before .before .before .before .before .before .loop .p) (c .before .before .before .before .before .before .before .before .before .loop .inv .3) (b .placed), (rw (lookups-turn s (c .before .before .before .before .before .before .before .before .before .before .before .before .args .c) i, st) (b .before)))
 
 -- src/load.rt:161:1
 same-length-2 : tie.Need-same-length-2 Inv-loop μ-loop
-same-length-2 c = search needs
+same-length-2 c = c .before .loop .inv .1
 
 -- src/load.rt:161:1
 returns-2 : tie.Need-returns-2 Inv-loop μ-loop
-returns-2 c = ?
+returns-2 c = let e : c .before .before .before .before .args .n ≡ c .before .loop .i = omega arith in rw e (c .before .loop .inv .2)
 
 pub place-lookups-spec : {M : Type 1} → statement M
 place-lookups-spec =
