@@ -1,3 +1,9 @@
+use Rattle.pack.proofs.Loading.{Answers, too-long, input-refused, work-short, loads}
+use Rattle.pack.specs.declared.load.Index.{Index}
+use Rattle.pack.specs.declared.cursor.Cursor.{Cursor}
+use Rattle.pack.specs.Load.{indexOf}
+use Rattle.pack.specs.Format.{packEnd, offsets}
+use lib.Seq.{sets}
 use Prim.Native.Nat.{ℕ, zero, suc, _+_, _-_, _*_, _/_, _%_, _^_, _≤_, _<_}
 use native.Mathlib.Omega.{arith}
 use native.Mathlib.Numerals.{add-one}
@@ -15,9 +21,13 @@ use Rattle.pack.proofs.load.load.Reads as reads
 use Rattle.pack.proofs.load.load.Lts as lts
 use Rattle.pack.proofs.load.place_all.Reads as place-all-reads
 
+none : (l : List ℕ) → length l ≡ 0 → l ≡ []
+none [] e = refl
+none (x ∷ xs) e = absurd (omega arith)
+
 -- src/load.rt:303:9
 returns : tie.Need-returns
-returns c = ?
+returns c = let a = too-long (now (c .before .before .before .args .pack)) (now (c .before .before .before .args .work)) (c .if1 .taken) in (a .answer, a .work)
 
 -- src/load.rt:305:34
 slice-relend-prefix-place-all : tie.Need-slice-relend-prefix-place-all
@@ -37,7 +47,13 @@ same-length c = search needs
 
 -- src/load.rt:308:9
 returns-2 : tie.Need-returns-2
-returns-2 c = ?
+returns-2 c =
+    let s = now (c .before .before .before .before .before .before .before .before .before .before .args .pack) in
+    let w = now (c .before .before .before .before .before .before .before .before .before .before .args .work) in
+    let x : c .before .before .before .before .before .place-all .last .1 .0 ++ w ≡ w = rw (none (c .before .before .before .before .before .place-all .last .1 .0) (c .before .before .before .before .before .place-all .kept .1 .0)) in
+    let e = c .before .before .before .before .before .place-all .ensures .end in
+    let a = input-refused s w (omega arith) (rw (← e) (c .if2 .taken)) in
+    ((rw e (a .answer)), x ∙ a .work)
 
 -- src/load.rt:315:9
 same-length-2 : tie.Need-same-length-2
@@ -45,7 +61,15 @@ same-length-2 c = search needs
 
 -- src/load.rt:315:9
 returns-3 : tie.Need-returns-3
-returns-3 c = ?
+unfolding indexOf
+returns-3 c =
+    let s = now (c .before .before .before .before .before .before .before .before .before .before .before .before .before .args .pack) in
+    let w = now (c .before .before .before .before .before .before .before .before .before .before .before .before .before .args .work) in
+    let x : c .before .before .before .before .before .before .before .before .place-all .last .1 .0 ++ w ≡ w = rw (none (c .before .before .before .before .before .before .before .before .place-all .last .1 .0) (c .before .before .before .before .before .before .before .before .place-all .kept .1 .0)) in
+    let z : packEnd s .refused ≡ 0 = rw (← c .before .before .before .before .before .before .before .before .place-all .ensures .end) (c .before .before .before .if2 .left) in
+    let n : c .before .before .before .before .before .before .before .before .place-all .result .index .records ≡ length (offsets s) = ap (λ (i : Index). i .records) (c .before .before .before .before .before .before .before .before .place-all .ensures .index z) in
+    let a = work-short s w (omega arith) z (rw (x, n) at (c .if3 .taken)) in
+    ((rw n (a .answer)), x ∙ a .work)
 
 -- src/load.rt:317:5
 place-all-requires-2 : tie.Need-place-all-requires-2
@@ -57,7 +81,15 @@ same-length-3 c = search needs
 
 -- src/load.rt:298:1
 returns-4 : tie.Need-returns-4
-returns-4 c = ?
+unfolding indexOf
+returns-4 c =
+    let s = now (c .before .before .before .before .before .before .before .before .before .before .before .before .before .before .before .before .before .args .pack) in
+    let w = now (c .before .before .before .before .before .before .before .before .before .before .before .before .before .before .before .before .before .args .work) in
+    let x : c .before .before .before .before .before .before .before .before .before .before .before .before .place-all .last .1 .0 ++ w ≡ w = rw (none (c .before .before .before .before .before .before .before .before .before .before .before .before .place-all .last .1 .0) (c .before .before .before .before .before .before .before .before .before .before .before .before .place-all .kept .1 .0)) in
+    let z : packEnd s .refused ≡ 0 = rw (← c .before .before .before .before .before .before .before .before .before .before .before .before .place-all .ensures .end) (c .before .before .before .before .before .before .before .if2 .left) in
+    let n : c .before .before .before .before .before .before .before .before .before .before .before .before .place-all .result .index .records ≡ length (offsets s) = ap (λ (i : Index). i .records) (c .before .before .before .before .before .before .before .before .before .before .before .before .place-all .ensures .index z) in
+    let a = loads s w (c .before .before .before .before .before .before .before .before .before .before .before .before .before .before .if1 .left) z (rw (x, n) at (c .before .before .before .before .if3 .left)) in
+    ((rw (c .before .before .before .before .before .before .before .before .before .before .before .before .place-all .ensures .index z) (a .answer)), (rw x at (c .before .before .place-all2 .ensures .work z)) ∙ a .work)
 
 pub load-spec : {M : Type 1} → statement M
 load-spec =

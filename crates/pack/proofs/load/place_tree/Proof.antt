@@ -1,3 +1,7 @@
+use Rattle.pack.proofs.Places.{room-read}
+use Rattle.pack.proofs.Reading.{number-reader}
+use Rattle.pack.specs.Placing.{Room}
+use Rattle.pack.specs.Items.{numberAt}
 use Prim.Native.Nat.{ℕ, zero, suc, _+_, _-_, _*_, _/_, _%_, _^_, _≤_, _<_}
 use native.Mathlib.Omega.{arith}
 use native.Mathlib.Numerals.{add-one}
@@ -22,7 +26,7 @@ number-requires c κs = search needs
 
 -- src/load.rt:249:9
 place-pgns-requires : tie.Need-place-pgns-requires
-place-pgns-requires c κs = search needs
+place-pgns-requires c κs = rw (c .before .number .ensures) (room-read (number-reader (now (c .before .before .before .before .args .s))) (c .before .before .before .before .args .c) (c .before .before .before .before .args .p) (c .before .before .before .before .pre))
 
 -- src/load.rt:244:1
 same-length : tie.Need-same-length
@@ -30,7 +34,7 @@ same-length c = search needs
 
 -- src/load.rt:244:1
 returns : tie.Need-returns
-returns c = ?
+returns c = record { count = (rw (c .before .before .before .before .before .number .ensures)); placed = (rw (← c .before .before .before .before .before .number .ensures) (c .before .before .before .place-pgns .ensures)) }
 
 pub place-tree-spec : {M : Type 1} → statement M
 place-tree-spec = tie.close (tie.spec number-requires place-pgns-requires same-length returns)

@@ -1,0 +1,51 @@
+-- What `load` answers, case by case.
+use Prim.Native.Nat.{ℕ, zero, suc, _+_, _-_, _≤_, _<_}
+use native.Mathlib.Omega.{arith}
+use mathlib.Core.Path.{_≡_, refl, ap, _∙_, sym}
+use mathlib.Core.List.{List, [], _∷_, _++_}
+use borrow.Author.Tests.{eq-eqb, ne-eqb, lt-ltb, le-ltb, le-leb, lt-leb}
+use lib.ListN.{length}
+use lib.Seq.{sets}
+use Rattle.pack.specs.Format.{packEnd, offsets}
+use Rattle.pack.specs.Load.{mostBytes, Verdict, refused, accepted, verdict, indexOf, loaded, workAfter}
+use Rattle.pack.specs.declared.load.Refusal.the-variants.{Input, TooLong, Work}
+use Rattle.pack.specs.declared.load.Loaded.{Loaded}
+use Rattle.pack.specs.declared.load.Loaded.the-variants.{Refused, Accepted}
+use Rattle.pack.proofs.Stores.{sets-over}
+
+-- the answer, and the work buffer w after it
+pub record Answers (s w : List ℕ) (r : Loaded) (w′ : List ℕ) : Type 0 where
+  pub answer : r ≡ loaded s (length w)
+  pub work : w′ ≡ workAfter s w
+
+module _ (s w : List ℕ) where
+  pub too-long : mostBytes < length s → Answers s w (Refused TooLong) w
+  unfolding loaded verdict workAfter
+  too-long h = record { answer = (rw (lt-ltb mostBytes (length s) h)); work = (rw (lt-ltb mostBytes (length s) h)) }
+
+  module _ (h : length s ≤ mostBytes) where
+    pub verdict-refused : (packEnd s .refused ≡ 0 → ⊥) → verdict s ≡ refused (Input (packEnd s .refused) (packEnd s .at))
+    unfolding verdict
+    verdict-refused n = rw (le-ltb mostBytes (length s) h, ne-eqb _ _ n)
+
+    pub verdict-accepted : packEnd s .refused ≡ 0 → verdict s ≡ accepted
+    unfolding verdict
+    verdict-accepted z = rw (le-ltb mostBytes (length s) h, eq-eqb _ _ z)
+
+    pub input-refused : (packEnd s .refused ≡ 0 → ⊥) → Answers s w (Refused (Input (packEnd s .refused) (packEnd s .at))) w
+    unfolding loaded workAfter
+    input-refused n = let v = verdict-refused n in record { answer = (rw v); work = (rw v) }
+
+    pub work-short : packEnd s .refused ≡ 0 → length w < length (offsets s) → Answers s w (Refused (Work (length (offsets s)))) w
+    unfolding loaded workAfter indexOf
+    work-short z l =
+        let v = verdict-accepted z in
+        let e = lt-leb (length (offsets s)) (length w) l in
+        record { answer = (rw (v, e)); work = (rw (v, e)) }
+
+    pub loads : packEnd s .refused ≡ 0 → length (offsets s) ≤ length w → Answers s w (Accepted (indexOf s)) (sets w 0 (offsets s))
+    unfolding loaded workAfter indexOf
+    loads z l =
+        let v = verdict-accepted z in
+        let e = le-leb (length (offsets s)) (length w) l in
+        record { answer = (rw (v, e)); work = sets-over w (offsets s) l ∙ (rw (v, e)) }
