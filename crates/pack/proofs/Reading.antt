@@ -48,7 +48,7 @@ module _ {s : List ℕ} {A : Type 0} {cur : A → Cursor} {f : A → A} (r : Ste
       record {
         sticky = λ a h. r .sticky (iter f a n) (λ e. h (sym (ap (λ (d : Cursor). d .refused) (i .sticky a h)) ∙ e)) ∙ i .sticky a h;
         within = λ a h. r .within (iter f a n) (i .within a h);
-        grows = λ a. omega (arith, i .grows a, r .grows (iter f a n))
+        grows = λ a. omega (arith, i .grows a, r .grows (iter f a n));
       }
 
 pub iter-add : {A : Type 0} (f : A → A) (a : A) (k j : ℕ) → iter f a (k + j) ≡ iter f (iter f a k) j
@@ -79,7 +79,7 @@ module _ {s : List ℕ} where
       record {
         sticky = λ c h. ap (g c) (p .sticky c h) ∙ q c .sticky c h;
         within = λ c h. q c .within (f c) (p .within c h);
-        grows = λ c. omega (arith, p .grows c, q c .grows (f c))
+        grows = λ c. omega (arith, p .grows c, q c .grows (f c));
       }
 
   -- one of two, as a test on the cursor says
@@ -91,9 +91,11 @@ module _ {s : List ℕ} where
       st : (c : Cursor) → (c .refused ≡ 0 → ⊥) → (v : Bool) → b c ≡ v → h c ≡ c
       st c n true d = t c d ∙ p .sticky c n
       st c n false d = e c d ∙ q .sticky c n
+
       wi : (c : Cursor) → c .at ≤ length s → (v : Bool) → b c ≡ v → h c .at ≤ length s
       wi c l true d = rw (t c d) (p .within c l)
       wi c l false d = rw (e c d) (q .within c l)
+
       gr : (c : Cursor) → (v : Bool) → b c ≡ v → c .at ≤ h c .at
       gr c true d = rw (t c d) (p .grows c)
       gr c false d = rw (e c d) (q .grows c)
@@ -140,7 +142,7 @@ module _ (s : List ℕ) where
       record {
         sticky = λ c h. stick c h;
         within = λ c h. wide-all most (λ w. w .next .at ≤ length s) c (λ _. h) h h (λ v l. omega arith);
-        grows = λ c. wide-all most (λ w. c .at ≤ w .next .at) c (λ _. omega arith) (omega arith) (omega arith) (λ v l. omega arith)
+        grows = λ c. wide-all most (λ w. c .at ≤ w .next .at) c (λ _. omega arith) (omega arith) (omega arith) (λ v l. omega arith);
       }
     where
       stick : (c : Cursor) → (c .refused ≡ 0 → ⊥) → wideAt most s c .next ≡ c
@@ -172,7 +174,7 @@ module _ (s : List ℕ) where
             λ c.
             if-all (λ (w : NumberItem). c .at ≤ w .next .at) (numberAt s c .next .refused == 0) _ _
             (λ _. if-all (λ (w : NumberItem). c .at ≤ w .next .at) (good c) _ _ (λ _. number-reader .grows c) (λ _. omega arith))
-            (λ _. number-reader .grows c)
+            (λ _. number-reader .grows c);
       }
     where
       stick : (c : Cursor) → (c .refused ≡ 0 → ⊥) → judged c (numberAt s c) (good c) n .next ≡ c
@@ -224,7 +226,7 @@ module _ (s : List ℕ) where
       record {
         sticky = λ c h. stick c h;
         within = λ c h. text-all (λ w. w .next .at ≤ length s) c (λ _. number-reader .within c h) h (λ v e k l. l);
-        grows = λ c. text-all (λ w. c .at ≤ w .next .at) c (λ _. number-reader .grows c) (omega arith) (λ v e k l. omega (arith, number-reader .grows c))
+        grows = λ c. text-all (λ w. c .at ≤ w .next .at) c (λ _. number-reader .grows c) (omega arith) (λ v e k l. omega (arith, number-reader .grows c));
       }
     where
       stick : (c : Cursor) → (c .refused ≡ 0 → ⊥) → textAt s c .next ≡ c
@@ -248,7 +250,7 @@ module _ (s : List ℕ) where
       record {
         sticky = λ c h. stick c h;
         within = λ c h. name-all before (λ w. w .next .at ≤ length s) c (text-reader .within c h) h;
-        grows = λ c. name-all before (λ w. c .at ≤ w .next .at) c (text-reader .grows c) (omega arith)
+        grows = λ c. name-all before (λ w. c .at ≤ w .next .at) c (text-reader .grows c) (omega arith);
       }
     where
       stick : (c : Cursor) → (c .refused ≡ 0 → ⊥) → nameAt before s c .next ≡ c
@@ -271,7 +273,7 @@ module _ (s : List ℕ) where
             λ c.
             if-all (λ (w : WideItem). c .at ≤ w .next .at) (c .refused == 0) _ _
             (λ _. if-all (λ (w : WideItem). c .at ≤ w .next .at) (c .at + 8 ≤ᵇ length s) _ _ (λ l. omega arith) (λ _. omega arith))
-            (λ _. omega arith)
+            (λ _. omega arith);
       }
     where
       stick : (c : Cursor) → (c .refused ≡ 0 → ⊥) → floatAt s c .next ≡ c
@@ -416,7 +418,7 @@ module _ (s : List ℕ) where
       record {
         sticky = λ a. lookup-next-reader (a .before) .sticky (a .next);
         within = λ a. lookup-next-reader (a .before) .within (a .next);
-        grows = λ a. lookup-next-reader (a .before) .grows (a .next)
+        grows = λ a. lookup-next-reader (a .before) .grows (a .next);
       }
 
   pub lookups-reader : (n : ℕ) → Reader s (λ c. lookups s c n .next)
@@ -426,7 +428,7 @@ module _ (s : List ℕ) where
       record {
         sticky = λ c. r .sticky (record { next = c; before = noText });
         within = λ c. r .within (record { next = c; before = noText });
-        grows = λ c. r .grows (record { next = c; before = noText })
+        grows = λ c. r .grows (record { next = c; before = noText });
       }
 
   pub field-steps : (k : ℕ) → Steps s (λ (a : FieldState). a .next) (fieldNext k s)
@@ -435,7 +437,7 @@ module _ (s : List ℕ) where
       record {
         sticky = λ a. field-reader k (a .total) .sticky (a .next);
         within = λ a. field-reader k (a .total) .within (a .next);
-        grows = λ a. field-reader k (a .total) .grows (a .next)
+        grows = λ a. field-reader k (a .total) .grows (a .next);
       }
 
   pub fields-reader : (k n : ℕ) → Reader s (λ c. fields k s c n .next)
@@ -445,7 +447,7 @@ module _ (s : List ℕ) where
       record {
         sticky = λ c. r .sticky (record { next = c; total = 0 });
         within = λ c. r .within (record { next = c; total = 0 });
-        grows = λ c. r .grows (record { next = c; total = 0 })
+        grows = λ c. r .grows (record { next = c; total = 0 });
       }
 
   pub pgn-next-reader : (k : ℕ) → Reader s (pgnNext k s)

@@ -22,7 +22,7 @@ module _ {w : List ℕ} {p : ℕ} {xs w′ : List ℕ} {q : ℕ} (a : Stored w p
   stored-append {ys} {w″} {r} b =
       record {
         count = omega (arith, length-append xs ys, a .count, b .count);
-        work = b .work ∙ (rw (a .count, a .work) (sym (sets-append w p xs ys)))
+        work = b .work ∙ (rw (a .count, a .work) (sym (sets-append w p xs ys)));
       }
 
   pub stored-one : (x : ℕ) → Stored w p (xs ++ x ∷ []) (set w′ q x) (q + 1)

@@ -55,37 +55,45 @@ module _ (s : List ℕ) where
       → TreePlacing s (n .value) (l .next) w2 (l .place) w3 a → TreePlacing s (n .value) (a .next) w3 (a .place) w4 b → TreePlacing s (n .value) (b .next) w4 (b .place) w5 d
       → e ≡ finish s (d .next)
       → Walking s w w5
-        (record {
-          index = record {
-            types = record { count = n .value; place = 0 };
-            lookups = record { count = m .value; place = t .place };
-            nmea2000 = record { count = a .count; place = l .place };
-            j1939 = record { count = b .count; place = a .place };
-            quick = record { count = d .count; place = b .place };
-            records = d .place
-          };
-          end = e
-        })
+      (record {
+        index = record {
+          types = record { count = n .value; place = 0 };
+          lookups = record { count = m .value; place = t .place };
+          nmea2000 = record { count = a .count; place = l .place };
+          j1939 = record { count = b .count; place = a .place };
+          quick = record { count = d .count; place = b .place };
+          records = d .place;
+        };
+        end = e;
+      })
   unfolding packEnd typeList lookupList treeStart before offsets indexOf
   whole w w1 w2 w3 w4 w5 v n m t l a b d e ev en pt em pl pa pb pd ee =
       record { end = ee ∙ (rw (xd .0)); index = index; work = λ z. stored z .4 .work }
     where
       xn : n ≡ typeList s
       xn = en ∙ (rw ev)
+
       xt : t .next ≡ types s (typeList s .next) (typeList s .value)
       xt = pt .next ∙ (rw xn)
+
       xm : m ≡ lookupList s
       xm = em ∙ (rw xt)
+
       xl : l .next ≡ treeStart s 0
       xl = pl .next ∙ (rw xm)
+
       k : n .value ≡ typeList s .value
       k = ap (λ (r : NumberItem). r .value) xn
+
       xa : (a .next ≡ treeStart s 1) × (a .count ≡ treeList s 0 .value) × (a .next .refused ≡ 0 → (l .next .refused ≡ 0) × Stored w2 (l .place) (treePart s 0) w3 (a .place))
       xa = tree-step 0 (l .next) a (n .value) xl k pa
+
       xb : (b .next ≡ treeStart s 2) × (b .count ≡ treeList s 1 .value) × (b .next .refused ≡ 0 → (a .next .refused ≡ 0) × Stored w3 (a .place) (treePart s 1) w4 (b .place))
       xb = tree-step 1 (a .next) b (n .value) (xa .0) k pb
+
       xd : (d .next ≡ treeStart s 3) × (d .count ≡ treeList s 2 .value) × (d .next .refused ≡ 0 → (b .next .refused ≡ 0) × Stored w4 (b .place) (treePart s 2) w5 (d .place))
       xd = tree-step 2 (b .next) d (n .value) (xb .0) k pd
+
       clean : packEnd s .refused ≡ 0 → (d .next .refused ≡ 0) × (b .next .refused ≡ 0) × (a .next .refused ≡ 0) × (l .next .refused ≡ 0) × (t .next .refused ≡ 0)
       clean z =
           let zd : d .next .refused ≡ 0 = rw (xd .0) (finish-back s (treeStart s 3) z) in
@@ -94,6 +102,7 @@ module _ (s : List ℕ) where
           let zl = xa .2 za .0 in
           let zm : lookups s (numberAt s (t .next) .next) (numberAt s (t .next) .value) .next .refused ≡ 0 = rw (← em, ← pl .next) zl in
           (zd, zb, za, zl, back lookups-after (t .next) zm)
+
       stored : packEnd s .refused ≡ 0
           → Stored w 0 (typePart s) w1 (t .place) × Stored w 0 (before s 0) w2 (l .place) × Stored w 0 (before s 1) w3 (a .place) × Stored w 0 (before s 2) w4 (b .place) × Stored w 0 (before s 3) w5 (d .place)
       stored z =
@@ -104,17 +113,18 @@ module _ (s : List ℕ) where
           let s3 : Stored w 0 (before s 1) w3 (a .place) = stored-append s2 (xa .2 (y .2) .1) in
           let s4 : Stored w 0 (before s 2) w4 (b .place) = stored-append s3 (xb .2 (y .1) .1) in
           (s0, s2, s3, s4, stored-append s4 (xd .2 (y .0) .1))
+
       index : packEnd s .refused ≡ 0
           → _≡_ {A = Index}
-            (record {
-              types = record { count = n .value; place = 0 };
-              lookups = record { count = m .value; place = t .place };
-              nmea2000 = record { count = a .count; place = l .place };
-              j1939 = record { count = b .count; place = a .place };
-              quick = record { count = d .count; place = b .place };
-              records = d .place
-            })
-            (indexOf s)
+          (record {
+            types = record { count = n .value; place = 0 };
+            lookups = record { count = m .value; place = t .place };
+            nmea2000 = record { count = a .count; place = l .place };
+            j1939 = record { count = b .count; place = a .place };
+            quick = record { count = d .count; place = b .place };
+            records = d .place;
+          })
+          (indexOf s)
       index z =
           let y = stored z in
           let m1 : m .value ≡ lookupList s .value = ap (λ (r : NumberItem). r .value) xm in

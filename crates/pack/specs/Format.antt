@@ -53,7 +53,7 @@ lookupNext s a =
     let l = lookupAt (a .before) s (a .next) in
     record {
       next = entries (l .value .kind) s (l .next) (l .value .entries);
-      before = record { given = true; text = l .value .name }
+      before = record { given = true; text = l .value .name };
     }
 
 -- after n lookups from c on

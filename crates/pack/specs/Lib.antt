@@ -6,3 +6,4 @@ pub mod Format
 pub mod Load
 pub mod Meaning
 pub mod Placing
+pub mod Trees

@@ -58,7 +58,7 @@ indexOf s =
       nmea2000 = record { count = treeList s 0 .value; place = length (before s 0) };
       j1939 = record { count = treeList s 1 .value; place = length (before s 1) };
       quick = record { count = treeList s 2 .value; place = length (before s 2) };
-      records = length (offsets s)
+      records = length (offsets s);
     }
 
 abbrev pub answer : Verdict → Index → ℕ → Loaded

@@ -41,7 +41,7 @@ typeMeaning s v =
       signed = v .signed;
       size = v .size;
       resolution = v .resolution;
-      root-name = bytesOf s (v .root)
+      root-name = bytesOf s (v .root);
     }
 
 abbrev pub entryMeaning : List ℕ → EntryView → Entry
@@ -51,7 +51,7 @@ entryMeaning s v =
       value = v .value;
       name = bytesOf s (v .name);
       fieldtype = bytesOf s (v .fieldtype);
-      nested = optBytes s (v .nested)
+      nested = optBytes s (v .nested);
     }
 
 -- a lookup's view has only the number of its entries
@@ -94,7 +94,7 @@ fieldMeaning s v =
       special-values = optNumber (v .links .special);
       bit-length-field = optBytes s (v .links .length);
       trailing-zero = optBytes s (v .links .trailing);
-      continuation = optNumber (v .links .continuation)
+      continuation = optNumber (v .links .continuation);
     }
 
 -- a PGN's view has only the number of its fields
@@ -111,7 +111,7 @@ pgnMeaning s v fs =
       min-length = optNumber (v .minimum);
       repeating1 = optRepeating (v .repeating1);
       repeating2 = optRepeating (v .repeating2);
-      fields = fs
+      fields = fs;
     }
 
 -- ---- the records of the pack s
@@ -144,7 +144,7 @@ packOf s =
       lookups = tab (lookupOf s) (lookupList s .value);
       pgns = treeOf s 0;
       pgns-j1939 = treeOf s 1;
-      pgns-quick = treeOf s 2
+      pgns-quick = treeOf s 2;
     }
 
 -- ---- from bytes to the refusal, or to the value and the record offsets

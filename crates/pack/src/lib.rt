@@ -1,6 +1,8 @@
 // The pack layer: document 01's byte format, its five kinds of record, and `load`.
+pub mod at;
 pub mod cursor;
 pub mod load;
 pub mod number;
+pub mod protocol;
 pub mod records;
 pub mod text;

@@ -7,7 +7,8 @@ ghost use Rattle.pack.specs.Format.{types, typeOffsets, entries, entryOf
 ghost use Rattle.pack.specs.Load.{loaded, workAfter};
 ghost use Rattle.pack.specs.Placing.{Room, Placing, LookupPlacing, TreePlacing, Walking, counted};
 use crate::cursor::Cursor;
-use crate::text::{OptText, Text};
+use crate::text::OptText;
+use crate::text::Text;
 
 pub const MOST_BYTES: usize = 1_048_576;
 

@@ -45,7 +45,7 @@ returns c =
     let k : c .before .before .before .before .lookup .result .next .at ≡ l .next .at = ap (λ (r : LookupItem). r .next .at) (c .before .before .before .before .lookup .ensures) in
     record {
       placed = placed-refused _ _ _ (e ∙ sym (entries-reader s (l .value .kind) (l .value .entries) .sticky (l .next) (rw (← e) (c .if1 .taken)))) (c .if1 .taken) (omega (arith, k, lookup-reader s (c .before .before .before .before .before .before .before .before .before .before .before .args .before) .grows (c .before .before .before .before .before .before .before .before .before .before .before .args .c), c .before .before .before .before .before .before .before .before .before .before .before .pre .few));
-      before = (rw (c .before .before .before .before .lookup .ensures))
+      before = (rw (c .before .before .before .before .lookup .ensures));
     }
 
 -- src/load.rt:152:73

@@ -1,0 +1,28 @@
+-- The three trees by number and by name: "trees 0 NMEA 2000, 1 J1939, 2 Quick".
+use Prim.Native.Nat.{ℕ}
+use mathlib.Core.List.{List, [], _∷_}
+use Rattle.pack.specs.Notation.{_==_, if_then_else_}
+use Rattle.pack.specs.declared.load.Index.{Index}
+use Rattle.pack.specs.declared.load.Section.{Section}
+use Rattle.pack.specs.declared.protocol.Protocol.{Protocol}
+use Rattle.pack.specs.declared.protocol.Protocol.the-variants.{Nmea2000, J1939, Quick}
+use Rattle.pack.specs.declared.protocol.Prefix.{Prefix}
+
+abbrev pub treeNumber : Protocol → ℕ
+treeNumber Nmea2000 = 0
+treeNumber J1939 = 1
+treeNumber Quick = 2
+
+abbrev pub protocolOf : ℕ → Protocol
+protocolOf t = if t == 0 then Nmea2000 else if t == 1 then J1939 else Quick
+
+-- the Rust's `check_prefix`: "", "j1939/", "quick/"
+abbrev pub prefixOf : Protocol → Prefix
+prefixOf Nmea2000 = record { bytes = 0 ∷ 0 ∷ 0 ∷ 0 ∷ 0 ∷ 0 ∷ []; len = 0 }
+prefixOf J1939 = record { bytes = 106 ∷ 49 ∷ 57 ∷ 51 ∷ 57 ∷ 47 ∷ []; len = 6 }
+prefixOf Quick = record { bytes = 113 ∷ 117 ∷ 105 ∷ 99 ∷ 107 ∷ 47 ∷ []; len = 6 }
+
+abbrev pub sectionOf : Protocol → Index → Section
+sectionOf Nmea2000 i = i .nmea2000
+sectionOf J1939 i = i .j1939
+sectionOf Quick i = i .quick

@@ -1,0 +1,77 @@
+// Readers at an offset, total: what stands there, read as a record of that kind.
+ghost use mathlib.Core.Path.{_≡_};
+ghost use Rattle.pack.specs.Items.{fresh, numberAt, textAt};
+ghost use Rattle.pack.specs.Records.{typeAt, entryAt, lookupAt, pgnAt, fieldAt};
+ghost use Rattle.pack.specs.Format.{noText};
+use crate::cursor::Cursor;
+use crate::records::EntryView;
+use crate::records::FieldTypeView;
+use crate::records::FieldView;
+use crate::records::LookupView;
+use crate::records::PgnView;
+use crate::text::OptText;
+use crate::text::Text;
+
+fn cursor_at(at: usize) -> Cursor
+    ensures { λ r. ⌜ r ≡ fresh at ⌝ }
+{
+    Cursor { at, refused: 0 }
+}
+
+// The number that a record begins with: a PGN's.
+pub fn number_at(s: &[u8], at: usize) -> u32
+    ensures { λ r. ⌜ r ≡ numberAt (now (s .entry)) (fresh at) .value ⌝ }
+{
+    let r = cursor_at(at).number(s);
+    r.value
+}
+
+// The text that a record begins with: a field type's or lookup's name, a field's id.
+pub fn text_at(s: &[u8], at: usize) -> Text
+    ensures { λ r. ⌜ r ≡ textAt (now (s .entry)) (fresh at) .value ⌝ }
+{
+    let r = cursor_at(at).text(s);
+    r.value
+}
+
+pub fn type_at(s: &[u8], at: usize) -> FieldTypeView
+    ensures { λ r. ⌜ r ≡ typeAt (now (s .entry)) (fresh at) .value ⌝ }
+{
+    let r = cursor_at(at).field_type(s);
+    r.value
+}
+
+// A lookup without a name before it.
+pub fn lookup_at(s: &[u8], at: usize) -> LookupView
+    ensures { λ r. ⌜ r ≡ lookupAt noText (now (s .entry)) (fresh at) .value ⌝ }
+{
+    let before = OptText {
+        given: false,
+        text: Text { start: 0, len: 0 },
+    };
+    let r = cursor_at(at).lookup(s, before);
+    r.value
+}
+
+// An entry of a lookup of that kind.
+pub fn entry_at(s: &[u8], at: usize, kind: u32) -> EntryView
+    ensures { λ r. ⌜ r ≡ entryAt kind (now (s .entry)) (fresh at) .value ⌝ }
+{
+    let r = cursor_at(at).entry(s, kind);
+    r.value
+}
+
+pub fn pgn_at(s: &[u8], at: usize) -> PgnView
+    ensures { λ r. ⌜ r ≡ pgnAt (now (s .entry)) (fresh at) .value ⌝ }
+{
+    let r = cursor_at(at).pgn(s);
+    r.value
+}
+
+// A field with no limit on its field type index, and no fields before it.
+pub fn field_at(s: &[u8], at: usize) -> FieldView
+    ensures { λ r. ⌜ r ≡ fieldAt 4294967296 0 (now (s .entry)) (fresh at) .value ⌝ }
+{
+    let r = cursor_at(at).field(s, 0x1_0000_0000, 0);
+    r.value
+}
