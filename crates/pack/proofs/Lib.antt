@@ -3,3 +3,8 @@ pub mod Stores
 pub mod Places
 pub mod Whole
 pub mod Loading
+pub mod Free
+pub mod Tables
+pub mod Clean
+pub mod Values
+pub mod Positions

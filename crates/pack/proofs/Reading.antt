@@ -14,6 +14,7 @@ use Rattle.pack.specs.Items.{_≺_, bytesOf, refuse, moved, fresh, lastB
 use Rattle.pack.specs.Records.{typeAt, firstAt, kindPartAt, entryAt, lookupAt, repeatingAt, optRepeatingAt, pgnAt, namesAt, scalingAt, authoredAt, optReferenceAt, linksAt, fieldAt}
 use Rattle.pack.specs.Format.{iter, typeNext, types, entryNext, entries, LookupState, lookupNext, lookups, noText, FieldState, fieldNext, fields, pgnNext, pgns}
 use Rattle.pack.specs.declared.text.OptText.{OptText}
+use Rattle.pack.specs.declared.number.Value.{Value}
 use Rattle.pack.specs.declared.cursor.Cursor.{Cursor}
 use Rattle.pack.specs.declared.cursor.NumberItem.{NumberItem}
 use Rattle.pack.specs.declared.cursor.WideItem.{WideItem}
@@ -357,7 +358,7 @@ module _ (s : List ℕ) where
   unfolding pgnAt
   pgn-moves = moves-then number-moves (λ c. text-reader ▸ code-reader 3 ▸ code-reader 7 ▸ number-reader ▸ opt-bytes-reader ▸ opt-repeating-reader ▸ opt-repeating-reader ▸ number-reader)
 
-  names-reader : Reader s (λ c. namesAt s c .next)
+  pub names-reader : Reader s (λ c. namesAt s c .next)
   unfolding namesAt
   names-reader = text-reader ▸ text-reader ▸ text-reader
 
@@ -365,11 +366,11 @@ module _ (s : List ℕ) where
   unfolding namesAt
   names-moves = moves-then text-moves (λ c. text-reader ▸ text-reader)
 
-  scaling-reader : (total : ℕ) → Reader s (λ c. scalingAt total s c .next)
+  pub scaling-reader : (total : ℕ) → Reader s (λ c. scalingAt total s c .next)
   unfolding scalingAt
   scaling-reader total = sum-reader total ▸ float-reader ▸ float-reader ▸ opt-text-reader
 
-  authored-reader : Reader s (λ c. authoredAt s c .next)
+  pub authored-reader : Reader s (λ c. authoredAt s c .next)
   unfolding authoredAt
   authored-reader = opt-float-reader ▸ opt-float-reader ▸ opt-number-reader ▸ opt-text-reader ▸ opt-text-reader
 
@@ -377,7 +378,7 @@ module _ (s : List ℕ) where
   unfolding optReferenceAt
   opt-reference-reader = optionally (code-reader 3 ▸ text-reader) (λ c e. rw e) (λ c e. rw e)
 
-  links-reader : (bits : ℕ) → Reader s (λ c. linksAt bits s c .next)
+  pub links-reader : (bits : ℕ) → Reader s (λ c. linksAt bits s c .next)
   unfolding linksAt
   links-reader bits = opt-reference-reader ▸ opt-number-reader ▸ opt-text-reader ▸ opt-text-reader ▸ opt-sum-reader bits
 
@@ -457,3 +458,21 @@ module _ (s : List ℕ) where
   pub pgns-reader : (k n : ℕ) → Reader s (λ c. pgns k s c n)
   unfolding pgns
   pgns-reader k n = often (pgn-next-reader k) n
+
+-- ---- a number fits its width
+
+capped-fits : (most n : ℕ) → capped most n .value ≤ most
+unfolding capped
+capped-fits most n = if-all (λ (v : Value). v .value ≤ most) (n ≤ᵇ most) _ _ (λ e. leb-true _ _ e) (λ _. omega arith)
+
+pub number-fits : (s : List ℕ) (c : Cursor) → numberAt s c .value ≤ largest32
+unfolding numberAt wideAt
+number-fits s c =
+    let P : WideItem → Type 0 = λ w. w .value ≤ largest32 in
+    let l = lastByte s (c .at) in
+    let v = capped largest32 (groups s (l + 1) (l + 1 - c .at)) in
+    if-all P (c .refused == 0) _ _
+    (λ _. if-all P (l <ᵇ length s) _ _
+    (λ _. if-all P (shortest s (c .at) l) _ _ (λ _. if-all P (v .over) _ _ (λ _. omega arith) (λ _. capped-fits largest32 (groups s (l + 1) (l + 1 - c .at)))) (λ _. omega arith))
+    (λ _. omega arith))
+    (λ _. omega arith)

@@ -7,3 +7,4 @@ pub mod Load
 pub mod Meaning
 pub mod Placing
 pub mod Trees
+pub mod Ready

@@ -1,0 +1,74 @@
+-- A record that was read within its pack reads the same by itself: what stands before it can only refuse it.
+use Prim.Native.Nat.{ℕ, zero, suc, _+_, _≤_, _<_}
+use native.Mathlib.Omega.{arith}
+use mathlib.Core.Path.{_≡_, refl, ap, _∙_, sym}
+use mathlib.Core.List.{List}
+use mathlib.Core.Bool.{Bool, true, false}
+use borrow.Author.Tests.{eq-eqb, lt-ltb, le-leb, ltb-true, leb-true, eqb-true}
+use lib.Dec.{eqb, ltb, leb}
+use Rattle.pack.specs.Notation.{_==_, _<ᵇ_, _≤ᵇ_, if_then_else_}
+use Rattle.pack.specs.Items.{_≺_, bytesOf, refuse, largest32, numberAt, judged, codeAt, indexAt, sumAt, textAt, nameAt}
+use Rattle.pack.specs.Records.{lookupAt, namesAt, scalingAt, authoredAt, linksAt, fieldAt}
+use Rattle.pack.specs.Format.{noText}
+use Rattle.pack.specs.declared.text.OptText.{OptText}
+use Rattle.pack.specs.declared.cursor.Cursor.{Cursor}
+use Rattle.pack.specs.declared.cursor.NumberItem.{NumberItem}
+use Rattle.pack.proofs.Reading.{back, code-reader, number-reader, float-reader, opt-text-reader, scaling-reader, authored-reader, links-reader}
+
+-- what was judged and is not refused is the item itself, and good
+judged-clean : (c : Cursor) (item : NumberItem) (good : Bool) (n : ℕ) → judged c item good (suc n) .next .refused ≡ 0 → (judged c item good (suc n) ≡ item) × (good ≡ true) × ((item .next .refused == 0) ≡ true)
+unfolding judged
+judged-clean c item good n e = go (item .next .refused == 0) refl good refl
+  where
+    go : (a : Bool) → (item .next .refused == 0) ≡ a → (b : Bool) → good ≡ b → (judged c item good (suc n) ≡ item) × (good ≡ true) × ((item .next .refused == 0) ≡ true)
+    go true x true y = ((rw (x, y)), y, x)
+    go true x false y = let z : suc n ≡ 0 = rw (x, y) at e in absurd (omega arith)
+    go false x b y = let z : item .next .refused ≡ 0 = rw x at e in let w = eq-eqb _ _ z in let v : _≡_ {A = ℕ} 0 1 = cc in absurd (omega arith)
+
+judged-good : (c : Cursor) (item : NumberItem) (n : ℕ) → (item .next .refused == 0) ≡ true → judged c item true n ≡ item
+unfolding judged
+judged-good c item n e = rw e
+
+module _ (s : List ℕ) where
+  index-free : (c : Cursor) (k k′ : ℕ) → k ≤ k′ → indexAt k s c .next .refused ≡ 0 → indexAt k s c ≡ indexAt k′ s c
+  unfolding indexAt
+  index-free c k k′ h e =
+      let j = judged-clean c (numberAt s c) (numberAt s c .value <ᵇ k) 5 e in
+      let g : numberAt s c .value < k′ = omega (arith, ltb-true (numberAt s c .value) k (j .1)) in
+      j .0 ∙ sym (rw (lt-ltb _ _ g) (judged-good c (numberAt s c) 6 (j .2)))
+
+  sum-free : (c : Cursor) (o : ℕ) → sumAt o s c .next .refused ≡ 0 → sumAt o s c ≡ sumAt 0 s c
+  unfolding sumAt
+  sum-free c o e =
+      let j = judged-clean c (numberAt s c) (o + numberAt s c .value ≤ᵇ largest32) 6 e in
+      let g : 0 + numberAt s c .value ≤ largest32 = omega (arith, leb-true (o + numberAt s c .value) largest32 (j .1)) in
+      j .0 ∙ sym (rw (le-leb _ _ g) (judged-good c (numberAt s c) 7 (j .2)))
+
+  scaling-free : (c : Cursor) (o : ℕ) → scalingAt o s c .next .refused ≡ 0 → scalingAt o s c ≡ scalingAt 0 s c
+  unfolding scalingAt
+  scaling-free c o e = rw (sum-free c o (back (float-reader s) _ (back (float-reader s) _ (back (opt-text-reader s) _ e))))
+
+  name-free : (c : Cursor) (b : OptText) → nameAt b s c .next .refused ≡ 0 → nameAt b s c ≡ nameAt noText s c
+  unfolding nameAt
+  name-free c b e = go (textAt s c .next .refused == 0) refl (b .given) refl (bytesOf s (b .text) ≺ bytesOf s (textAt s c .value)) refl
+    where
+      go : (x : Bool) → (textAt s c .next .refused == 0) ≡ x → (y : Bool) → b .given ≡ y → (z : Bool) → (bytesOf s (b .text) ≺ bytesOf s (textAt s c .value)) ≡ z → nameAt b s c ≡ nameAt noText s c
+      go true x true y true z = rw (x, y, z)
+      go true x true y false z = let w : _≡_ {A = ℕ} 5 0 = rw (x, y, z) at e in absurd (omega arith)
+      go true x false y z w = rw (x, y)
+      go false x y v z w = rw x
+
+  pub lookup-free : (c : Cursor) (b : OptText) → lookupAt b s c .next .refused ≡ 0 → lookupAt b s c ≡ lookupAt noText s c
+  unfolding lookupAt
+  lookup-free c b e = rw (name-free c b (back (code-reader s 3) _ (back (number-reader s) _ (back (number-reader s) _ e))))
+
+  pub field-free : (c : Cursor) (k total : ℕ) → k ≤ 4294967296 → fieldAt k total s c .next .refused ≡ 0 → fieldAt k total s c ≡ fieldAt 4294967296 0 s c
+  unfolding fieldAt
+  field-free c k total h e =
+      let n = namesAt s c .next in
+      let sc = scalingAt total s (codeAt 63 s (indexAt k s n .next) .next) in
+      let a : sc .next .refused ≡ 0 = back (authored-reader s) (sc .next) (back (links-reader s (sc .value .bits)) (authoredAt s (sc .next) .next) e) in
+      let i : indexAt k s n .next .refused ≡ 0 = back (code-reader s 63) _ (back (scaling-reader s total) _ a) in
+      let x : indexAt k s n ≡ indexAt 4294967296 s n = index-free n k 4294967296 h i in
+      let y : scalingAt total s (codeAt 63 s (indexAt 4294967296 s n .next) .next) ≡ scalingAt 0 s (codeAt 63 s (indexAt 4294967296 s n .next) .next) = scaling-free _ total (rw x at a) in
+      rw (x, y)

@@ -1,0 +1,212 @@
+-- What the layers above go by: the record at a record's work position means that record of the pack's value.
+use Prim.Native.Nat.{ℕ, zero, suc, _+_, _-_, _≤_, _<_}
+use native.Mathlib.Omega.{arith}
+use native.Mathlib.Numerals.{add-one}
+use mathlib.Core.Path.{_≡_, refl, ap, _∙_, sym}
+use mathlib.Core.List.{List, [], _∷_, _++_}
+use lib.ListN.{length, getD, take, length-append, length-take, List·getD-append}
+use lib.Seq.{getD-append-add, getD-take, take-append-seam}
+use Rattle.pack.specs.Notation.{_==_, concatBelow, tab}
+use Rattle.pack.specs.Value.{FieldType, Entry, Lookup, Field, Pgn, Pack, pgns-of, noFieldType, noEntry, noLookup, noField, noPgn}
+use mathlib.Core.Bool.{Bool, true, false}
+use Rattle.pack.specs.Items.{fresh, bytesOf, numberAt, textAt, nameAt}
+use Rattle.pack.specs.Records.{typeAt, entryAt, lookupAt, namesAt, pgnAt, fieldAt}
+use Rattle.pack.specs.Format.{types, typeOffsets, entries, entryOffsets, LookupState, lookups, lookupRecords, lookupOffsets, noText, FieldState, fieldNext, fields, fieldOffsets, pgns, pgnRecords, pgnOffsets, typeList, lookupList, treeList, typePart, lookupPart, treePart, before, offsets, typeStart, lookupStart, pgnStart, packEnd}
+use Rattle.pack.specs.Load.{Verdict, accepted, verdict}
+use Rattle.pack.specs.Meaning.{typeMeaning, entryMeaning, fieldMeaning, lookupMeaning, pgnMeaning, typeOf, lookupOf, pgnOf, packOf}
+use Rattle.pack.specs.Ready.{Ready, lookupIn, pgnIn, fieldIn, lookupPlace, pgnRecordsBelow, treePlace, pgnPlace, LookupAt, PgnAt, LookupIs, PgnIs}
+use Rattle.pack.specs.declared.cursor.Cursor.{Cursor}
+use Rattle.pack.specs.declared.records.LookupItem.{LookupItem}
+use Rattle.pack.specs.declared.records.PgnItem.{PgnItem}
+use Rattle.pack.specs.declared.records.FieldItem.{FieldItem}
+use Rattle.pack.specs.declared.cursor.TextItem.{TextItem}
+use Rattle.pack.proofs.Tables.{length-tab, length-concatBelow, getD-concatBelow, getD-tab}
+use Rattle.pack.proofs.Reading.{if-all, number-fits}
+use Rattle.pack.proofs.Places.{fields-turn}
+use Rattle.pack.proofs.Free.{lookup-free, field-free}
+use Rattle.pack.proofs.Clean.{fresh-at, accepted-end, pgn-clean, field-clean, lookup-clean, entry-clean, type-clean}
+use Rattle.pack.proofs.Values.{types-are, type-is, lookups-are, lookup-is, pgns-are, pgn-is, lookupHead, pgnHead, entries-are, entry-is, fields-are, field-is, length-types, length-lookup, length-pgn, lookup-place, pgns-below, tree-place}
+
+module _ (s : List ℕ) where
+  -- what stands before tree t stands there in the whole, d trees further on
+  before-grows : (d t : ℕ) → length (before s t) ≤ length (before s (d + t))
+  unfolding before
+  before-grows zero t = let e : 0 + t ≡ t = omega arith in rw e (omega arith)
+  before-grows (suc d) t = let e : suc d + t ≡ suc (d + t) = omega arith in rw e (omega (arith, before-grows d t, length-append (before s (d + t)) (treePart s (d + t))))
+
+  in-before : (d t k : ℕ) → k < length (before s t) → getD (before s (d + t)) k 0 ≡ getD (before s t) k 0
+  unfolding before
+  in-before zero t k h = let e : 0 + t ≡ t = omega arith in rw e
+  in-before (suc d) t k h =
+      let e : suc d + t ≡ suc (d + t) = omega arith in
+      rw e (List·getD-append (before s (d + t)) (treePart s (d + t)) 0 k (omega (arith, before-grows d t)) ∙ in-before d t k h)
+
+  in-all : (t k : ℕ) → t ≤ 3 → k < length (before s t) → getD (offsets s) k 0 ≡ getD (before s t) k 0
+  unfolding offsets
+  in-all t k l h = let e : 3 - t + t ≡ 3 = omega arith in rw e at (in-before (3 - t) t k h)
+
+  all-of : (t : ℕ) → t ≤ 3 → length (before s t) ≤ length (offsets s)
+  unfolding offsets
+  all-of t l = let e : 3 - t + t ≡ 3 = omega arith in rw e at (before-grows (3 - t) t)
+
+  type-offset : (i : ℕ) → i < typeList s .value → (getD (offsets s) i 0 ≡ typeStart s i .at) × (i < length (offsets s))
+  unfolding before typeOffsets
+  type-offset i h =
+      let l = length-types s (typeList s .next) (typeList s .value) in
+      let m = length-append (typePart s) (lookupPart s) in
+      (in-all 0 i (omega arith) (omega arith) ∙ List·getD-append (typePart s) (lookupPart s) 0 i (omega arith) ∙ getD-tab (λ j. types s (typeList s .next) j .at) 0 (typeList s .value) i h, omega (arith, all-of 0 (omega arith)))
+
+  -- record j of lookup i with its entries
+  lookup-offset : (i j : ℕ) → i < lookupList s .value → j < length (lookupRecords s (lookupStart s i))
+      → (getD (offsets s) (lookupPlace (packOf s) i + j) 0 ≡ getD (lookupRecords s (lookupStart s i)) j 0) × (lookupPlace (packOf s) i + length (lookupRecords s (lookupStart s i)) ≤ length (offsets s))
+  unfolding before lookupOffsets
+  lookup-offset i j h l =
+      let f : ℕ → List ℕ = λ n. lookupRecords s (lookupStart s n) in
+      let p = lookup-place s i (omega arith) in
+      let m = length-append (typePart s) (lookupPart s) in
+      let b = length-concatBelow f (lookupList s .value) i h in
+      let e : lookupPlace (packOf s) i + j ≡ length (typePart s) + (length (concatBelow f i) + j) = omega arith in
+      (rw e (in-all 0 (length (typePart s) + (length (concatBelow f i) + j)) (omega arith) (omega arith) ∙ getD-append-add (typePart s) (lookupPart s) (length (concatBelow f i) + j) 0 ∙ getD-concatBelow f 0 (lookupList s .value) i j h l), omega (arith, all-of 0 (omega arith)))
+
+  -- record j of PGN i of tree t with its fields
+  pgn-offset : (t i j : ℕ) → t < 3 → i < treeList s t .value → j < length (pgnRecords (typeList s .value) s (pgnStart s t i))
+      → (getD (offsets s) (pgnPlace (packOf s) t i + j) 0 ≡ getD (pgnRecords (typeList s .value) s (pgnStart s t i)) j 0)
+      × (pgnPlace (packOf s) t i + length (pgnRecords (typeList s .value) s (pgnStart s t i)) ≤ length (offsets s))
+  unfolding before pgnOffsets
+  pgn-offset t i j h k l =
+      let f : ℕ → List ℕ = λ n. pgnRecords (typeList s .value) s (pgnStart s t n) in
+      let p = pgns-below s t i h (omega arith) in
+      let q = tree-place s t (omega arith) in
+      let m = length-append (before s t) (treePart s t) in
+      let b = length-concatBelow f (treeList s t .value) i k in
+      let e : pgnPlace (packOf s) t i + j ≡ length (before s t) + (length (concatBelow f i) + j) = omega arith in
+      (rw e (in-all (suc t) (length (before s t) + (length (concatBelow f i) + j)) (omega arith) (omega arith) ∙ getD-append-add (before s t) (treePart s t) (length (concatBelow f i) + j) 0 ∙ getD-concatBelow f 0 (treeList s t .value) i j k l), omega (arith, all-of (suc t) (omega arith)))
+
+module _ (s w : List ℕ) (r : Ready s w) where
+  clean-end : packEnd s .refused ≡ 0
+  clean-end = accepted-end s (r .accepted) .0
+
+  at-work : (k : ℕ) → k < length (offsets s) → getD w k 0 ≡ getD (offsets s) k 0
+  at-work k h = sym (getD-take (length (offsets s)) w k 0 h) ∙ ap (λ (l : List ℕ). getD l k 0) (r .begins)
+
+  pub records-fit : length (offsets s) ≤ length w
+  records-fit = let t : length (take (length (offsets s)) w) ≡ length (offsets s) = ap length (r .begins) in omega (arith, length-take (length (offsets s)) w)
+
+  pub type-law : (i : ℕ) → i < length (packOf s .fieldtypes) → (i < length w) × (typeMeaning s (typeAt s (fresh (getD w i 0)) .value) ≡ getD (packOf s .fieldtypes) i noFieldType)
+  unfolding typeOf
+  type-law i h =
+      let l : i < typeList s .value = omega (arith, types-are s) in
+      let o = type-offset s i l in
+      let e : fresh (getD w i 0) ≡ typeStart s i = ap fresh (at-work i (o .1) ∙ o .0) ∙ sym (fresh-at (typeStart s i) (type-clean s clean-end i (omega arith))) in
+      (omega (arith, records-fit, o .1), (rw e (sym (type-is s i l))))
+
+-- a name with none before it
+name-first : (s : List ℕ) (c : Cursor) → nameAt noText s c ≡ textAt s c
+unfolding nameAt
+name-first s c = if-all (λ (t : TextItem). t ≡ textAt s c) (textAt s c .next .refused == 0) _ _ (λ _. refl) (λ _. refl)
+
+module _ {s w : List ℕ} {i p : ℕ} (a : LookupAt s w i p) where
+  listed : i < lookupList s .value
+  listed = omega (arith, lookups-are s, a .lookup)
+
+  lookup-head-clean : lookupHead s i .next .refused ≡ 0
+  unfolding entries
+  lookup-head-clean = entry-clean s (clean-end s w (a .ready)) i 0 listed (omega arith)
+
+  lookup-cursor : fresh (getD w p 0) ≡ lookupStart s i .next
+  unfolding lookupRecords
+  lookup-cursor =
+      let o = lookup-offset s i 0 listed (omega (arith, length-lookup s (lookupStart s i))) in
+      let e : lookupPlace (packOf s) i + 0 ≡ p = omega (arith, a .place) in
+      let l = length-lookup s (lookupStart s i) in
+      let x : getD w p 0 ≡ lookupStart s i .next .at = at-work s w (a .ready) p (omega (arith, o .1)) ∙ (rw e at (o .0)) in
+      ap fresh x ∙ sym (fresh-at (lookupStart s i .next) (lookup-clean s (clean-end s w (a .ready)) i (omega (arith, listed))))
+
+  lookup-view : lookupAt noText s (fresh (getD w p 0)) ≡ lookupHead s i
+  lookup-view = rw lookup-cursor (sym (lookup-free s (lookupStart s i .next) (lookupStart s i .before) lookup-head-clean))
+
+  pub lookup-room : p + 1 + length (lookupIn (packOf s) i .entries) ≤ length w
+  lookup-room =
+      let l = length-lookup s (lookupStart s i) in
+      omega (arith, a .place, entries-are s i listed, lookup-offset s i 0 listed (omega arith) .1, records-fit s w (a .ready))
+
+  pub lookup-law : LookupIs s (lookupIn (packOf s) i) (lookupAt noText s (fresh (getD w p 0)) .value)
+  unfolding lookupOf
+  lookup-law = rw lookup-view (record { means = (rw (lookup-is s i listed)); entries = sym (entries-are s i listed) })
+
+  pub lookup-name-law : bytesOf s (textAt s (fresh (getD w p 0)) .value) ≡ lookupIn (packOf s) i .name
+  unfolding lookupAt
+  lookup-name-law =
+      let e : bytesOf s (lookupAt noText s (fresh (getD w p 0)) .value .name) ≡ lookupIn (packOf s) i .name = ap (λ (L : Lookup). L .name) (lookup-law .means) in
+      rw (← name-first s (fresh (getD w p 0))) e
+
+  kind-is : lookupIn (packOf s) i .kind ≡ lookupHead s i .value .kind
+  unfolding lookupOf
+  kind-is = rw (lookup-is s i listed)
+
+  pub entry-law : (j : ℕ) → j < length (lookupIn (packOf s) i .entries)
+      → entryMeaning s (entryAt (lookupIn (packOf s) i .kind) s (fresh (getD w (p + 1 + j) 0)) .value) ≡ getD (lookupIn (packOf s) i .entries) j noEntry
+  unfolding lookupRecords entryOffsets
+  entry-law j h =
+      let m : j < lookupHead s i .value .entries = omega (arith, entries-are s i listed) in
+      let l = length-lookup s (lookupStart s i) in
+      let o = lookup-offset s i (suc j) listed (omega arith) in
+      let e : lookupPlace (packOf s) i + suc j ≡ p + 1 + j = omega (arith, a .place) in
+      let x : getD w (p + 1 + j) 0 ≡ entries (lookupHead s i .value .kind) s (lookupHead s i .next) j .at =
+      at-work s w (a .ready) (p + 1 + j) (omega (arith, o .1)) ∙ (rw e at (o .0)) ∙ getD-tab (λ n. entries (lookupHead s i .value .kind) s (lookupHead s i .next) n .at) 0 (lookupHead s i .value .entries) j m in
+      let y = ap fresh x ∙ sym (fresh-at _ (entry-clean s (clean-end s w (a .ready)) i j listed (omega arith))) in
+      rw (kind-is, y) (sym (entry-is s i j listed m))
+
+types-fit : (s : List ℕ) → typeList s .value ≤ 4294967295
+unfolding typeList
+types-fit s = number-fits s _
+
+step-clean : (s : List ℕ) (k : ℕ) (st : FieldState) → fieldNext k s st .next .refused ≡ 0 → fieldAt k (st .total) s (st .next) .next .refused ≡ 0
+unfolding fieldNext
+step-clean s k st z = z
+
+module _ {s w : List ℕ} {t i p : ℕ} (a : PgnAt s w t i p) where
+  counted-pgn : i < treeList s t .value
+  counted-pgn = omega (arith, pgns-are s t (a .tree), a .pgn)
+
+  pgn-view : pgnAt s (fresh (getD w p 0)) ≡ pgnHead s t i
+  unfolding pgnRecords
+  pgn-view =
+      let l = length-pgn s (typeList s .value) (pgnStart s t i) in
+      let o = pgn-offset s t i 0 (a .tree) counted-pgn (omega arith) in
+      let e : pgnPlace (packOf s) t i + 0 ≡ p = omega (arith, a .place) in
+      let x : getD w p 0 ≡ pgnStart s t i .at = at-work s w (a .ready) p (omega (arith, o .1)) ∙ (rw e at (o .0)) in
+      let y : fresh (getD w p 0) ≡ pgnStart s t i = ap fresh x ∙ sym (fresh-at (pgnStart s t i) (pgn-clean s (clean-end s w (a .ready)) t i (a .tree) (omega (arith, counted-pgn)))) in
+      rw y
+
+  pub pgn-room : p + 1 + length (pgnIn (packOf s) t i .fields) ≤ length w
+  pgn-room =
+      let l = length-pgn s (typeList s .value) (pgnStart s t i) in
+      omega (arith, a .place, fields-are s t i (a .tree) counted-pgn, pgn-offset s t i 0 (a .tree) counted-pgn (omega arith) .1, records-fit s w (a .ready))
+
+  pub pgn-law : PgnIs s (pgnIn (packOf s) t i) (pgnAt s (fresh (getD w p 0)) .value)
+  unfolding pgnOf
+  pgn-law = rw pgn-view (record { means = (rw (pgn-is s t i (a .tree) counted-pgn)); fields = sym (fields-are s t i (a .tree) counted-pgn) })
+
+  pub pgn-number-law : numberAt s (fresh (getD w p 0)) .value ≡ pgnIn (packOf s) t i .pgn
+  unfolding pgnAt
+  pgn-number-law = ap (λ (G : Pgn). G .pgn) (pgn-law .means)
+
+  pub field-law : (j : ℕ) → j < length (pgnIn (packOf s) t i .fields)
+      → fieldMeaning s (fieldAt 4294967296 0 s (fresh (getD w (p + 1 + j) 0)) .value) ≡ fieldIn (packOf s) t i j
+  unfolding pgnRecords fieldOffsets
+  field-law j h =
+      let k = typeList s .value in
+      let m : j < pgnHead s t i .value .fields = omega (arith, fields-are s t i (a .tree) counted-pgn) in
+      let l = length-pgn s k (pgnStart s t i) in
+      let o = pgn-offset s t i (suc j) (a .tree) counted-pgn (omega arith) in
+      let e : pgnPlace (packOf s) t i + suc j ≡ p + 1 + j = omega (arith, a .place) in
+      let st = fields k s (pgnHead s t i .next) j in
+      let x : getD w (p + 1 + j) 0 ≡ st .next .at = at-work s w (a .ready) (p + 1 + j) (omega (arith, o .1)) ∙ (rw e at (o .0)) ∙ getD-tab (λ n. fields k s (pgnHead s t i .next) n .next .at) 0 (pgnHead s t i .value .fields) j m in
+      let y : fresh (getD w (p + 1 + j) 0) ≡ st .next = ap fresh x ∙ sym (fresh-at (st .next) (field-clean s (clean-end s w (a .ready)) t i j (a .tree) counted-pgn (omega arith))) in
+      let z : fieldNext k s st .next .refused ≡ 0 = rw (← fields-turn s (pgnHead s t i .next) k j) (field-clean s (clean-end s w (a .ready)) t i (j + 1) (a .tree) counted-pgn (omega arith)) in
+      rw y (ap (λ (f : FieldItem). fieldMeaning s (f .value)) (sym (field-free s (st .next) k (st .total) (omega (arith, types-fit s)) (step-clean s k st z))) ∙ sym (field-is s t i j (a .tree) counted-pgn m))
+
+  pub field-id-law : (j : ℕ) → j < length (pgnIn (packOf s) t i .fields) → bytesOf s (textAt s (fresh (getD w (p + 1 + j) 0)) .value) ≡ fieldIn (packOf s) t i j .id
+  unfolding fieldAt namesAt
+  field-id-law j h = ap (λ (f : Field). f .id) (field-law j h)

@@ -1,0 +1,73 @@
+-- For the layers above: a pack that `load` accepted with its work list, the work positions of its records, and what a view there is.
+use Prim.Native.Nat.{ℕ, zero, suc, _+_, _<_, _≤_}
+use mathlib.Core.Path.{_≡_}
+use mathlib.Core.List.{List}
+use lib.ListN.{length, getD, take}
+use Rattle.pack.specs.Value.{Bytes, FieldType, Entry, Lookup, Field, Pgn, Pack, pgns-of, noFieldType, noEntry, noLookup, noField, noPgn}
+use Rattle.pack.specs.Items.{bytesOf}
+use Rattle.pack.specs.Format.{offsets}
+use Rattle.pack.specs.Load.{Verdict, accepted, verdict}
+use Rattle.pack.specs.Meaning.{lookupMeaning, pgnMeaning, packOf}
+use Rattle.pack.specs.declared.records.LookupView.{LookupView}
+use Rattle.pack.specs.declared.records.PgnView.{PgnView}
+
+-- accepted, and the work list begins with the record offsets
+pub record Ready (s w : List ℕ) : Type 0 where
+  pub accepted : verdict s ≡ accepted
+  pub begins : take (length (offsets s)) w ≡ offsets s
+
+-- ---- records by index
+
+abbrev pub lookupIn : Pack → ℕ → Lookup
+lookupIn P i = getD (P .lookups) i noLookup
+
+abbrev pub pgnIn : Pack → ℕ → ℕ → Pgn
+pgnIn P t i = getD (pgns-of P t) i noPgn
+
+abbrev pub fieldIn : Pack → ℕ → ℕ → ℕ → Field
+fieldIn P t i j = getD (pgnIn P t i .fields) j noField
+
+-- ---- work positions
+
+-- field type i is at i; the lookups follow, each with its entries behind it
+abbrev pub lookupPlace : Pack → ℕ → ℕ
+lookupPlace P zero = length (P .fieldtypes)
+lookupPlace P (suc i) = lookupPlace P i + 1 + length (lookupIn P i .entries)
+
+-- the records of the first i PGNs
+abbrev pub pgnRecordsBelow : List Pgn → ℕ → ℕ
+pgnRecordsBelow ps zero = 0
+pgnRecordsBelow ps (suc i) = pgnRecordsBelow ps i + 1 + length (getD ps i noPgn .fields)
+
+-- where tree t begins
+abbrev pub treePlace : Pack → ℕ → ℕ
+treePlace P zero = lookupPlace P (length (P .lookups))
+treePlace P (suc t) = treePlace P t + pgnRecordsBelow (pgns-of P t) (length (pgns-of P t))
+
+abbrev pub pgnPlace : Pack → ℕ → ℕ → ℕ
+pgnPlace P t i = treePlace P t + pgnRecordsBelow (pgns-of P t) i
+
+-- p is the work position of lookup i
+pub record LookupAt (s w : List ℕ) (i p : ℕ) : Type 0 where
+  pub ready : Ready s w
+  pub lookup : i < length (packOf s .lookups)
+  pub place : p ≡ lookupPlace (packOf s) i
+
+-- p is the work position of PGN i of tree t
+pub record PgnAt (s w : List ℕ) (t i p : ℕ) : Type 0 where
+  pub ready : Ready s w
+  pub tree : t < 3
+  pub pgn : i < length (pgns-of (packOf s) t)
+  pub place : p ≡ pgnPlace (packOf s) t i
+
+-- ---- what a view is
+
+-- the view of a lookup means it, and has the number of its entries
+pub record LookupIs (s : List ℕ) (L : Lookup) (v : LookupView) : Type 0 where
+  pub means : lookupMeaning s v (L .entries) ≡ L
+  pub entries : v .entries ≡ length (L .entries)
+
+-- the view of a PGN means it, and has the number of its fields
+pub record PgnIs (s : List ℕ) (G : Pgn) (v : PgnView) : Type 0 where
+  pub means : pgnMeaning s v (G .fields) ≡ G
+  pub fields : v .fields ≡ length (G .fields)

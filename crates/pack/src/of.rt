@@ -1,0 +1,105 @@
+// For the layers above: the records by their work positions, said of the pack's value. A caller proves that a position is the record's own.
+ghost use mathlib.Core.Path.{_≡_};
+ghost use Prim.Native.Nat.{_<_};
+ghost use lib.ListN.{length, getD};
+ghost use Rattle.pack.specs.Value.{noFieldType, noEntry};
+ghost use Rattle.pack.specs.Items.{bytesOf};
+ghost use Rattle.pack.specs.Meaning.{typeMeaning, entryMeaning, fieldMeaning, packOf};
+ghost use Rattle.pack.specs.Ready.{Ready, LookupAt, PgnAt, LookupIs, PgnIs, lookupIn, pgnIn, fieldIn};
+use crate::at::entry_at;
+use crate::at::field_at;
+use crate::at::lookup_at;
+use crate::at::number_at;
+use crate::at::pgn_at;
+use crate::at::text_at;
+use crate::at::type_at;
+use crate::records::EntryView;
+use crate::records::FieldTypeView;
+use crate::records::FieldView;
+use crate::records::LookupView;
+use crate::records::PgnView;
+use crate::text::Text;
+
+// The offset that the work list has at p.
+fn offset(work: &[u32], p: usize) -> usize
+    requires { ⌜ p < length (now work) ⌝ }
+    ensures { λ r. ⌜ r ≡ getD (now (work .entry)) p 0 ⌝ }
+{
+    work[p] as usize
+}
+
+// Field type i.
+pub fn type_of(s: &[u8], work: &[u32], i: u32) -> FieldTypeView
+    requires { ⌜ Ready (now s) (now work) × (i < length (packOf (now s) .fieldtypes)) ⌝ }
+    ensures { λ r. ⌜ typeMeaning (now (s .entry)) r ≡ getD (packOf (now (s .entry)) .fieldtypes) i noFieldType ⌝ }
+{
+    let p = i as usize;
+    let at = offset(work, p);
+    type_at(s, at)
+}
+
+// Lookup i, at p.
+pub fn lookup_of(s: &[u8], work: &[u32], i: u32, p: usize) -> LookupView
+    requires { ⌜ LookupAt (now s) (now work) i p ⌝ }
+    ensures { λ r. ⌜ LookupIs (now (s .entry)) (lookupIn (packOf (now (s .entry))) i) r ⌝ }
+{
+    let at = offset(work, p);
+    lookup_at(s, at)
+}
+
+// The name of lookup i, at p.
+pub fn lookup_name_of(s: &[u8], work: &[u32], i: u32, p: usize) -> Text
+    requires { ⌜ LookupAt (now s) (now work) i p ⌝ }
+    ensures { λ r. ⌜ bytesOf (now (s .entry)) r ≡ lookupIn (packOf (now (s .entry))) i .name ⌝ }
+{
+    let at = offset(work, p);
+    text_at(s, at)
+}
+
+// Entry j of lookup i, at p, which is of that kind.
+pub fn entry_of(s: &[u8], work: &[u32], i: u32, p: usize, kind: u32, j: u32) -> EntryView
+    requires { ⌜ LookupAt (now s) (now work) i p × (kind ≡ lookupIn (packOf (now s)) i .kind) × (j < length (lookupIn (packOf (now s)) i .entries)) ⌝ }
+    ensures { λ r. ⌜ entryMeaning (now (s .entry)) r ≡ getD (lookupIn (packOf (now (s .entry))) i .entries) j noEntry ⌝ }
+{
+    let q = p + 1 + j as usize;
+    let at = offset(work, q);
+    entry_at(s, at, kind)
+}
+
+// PGN i of tree t, at p.
+pub fn pgn_of(s: &[u8], work: &[u32], t: u32, i: u32, p: usize) -> PgnView
+    requires { ⌜ PgnAt (now s) (now work) t i p ⌝ }
+    ensures { λ r. ⌜ PgnIs (now (s .entry)) (pgnIn (packOf (now (s .entry))) t i) r ⌝ }
+{
+    let at = offset(work, p);
+    pgn_at(s, at)
+}
+
+// The number of PGN i of tree t, at p.
+pub fn pgn_number_of(s: &[u8], work: &[u32], t: u32, i: u32, p: usize) -> u32
+    requires { ⌜ PgnAt (now s) (now work) t i p ⌝ }
+    ensures { λ r. ⌜ r ≡ pgnIn (packOf (now (s .entry))) t i .pgn ⌝ }
+{
+    let at = offset(work, p);
+    number_at(s, at)
+}
+
+// Field j of PGN i of tree t, which is at p.
+pub fn field_of(s: &[u8], work: &[u32], t: u32, i: u32, p: usize, j: u32) -> FieldView
+    requires { ⌜ PgnAt (now s) (now work) t i p × (j < length (pgnIn (packOf (now s)) t i .fields)) ⌝ }
+    ensures { λ r. ⌜ fieldMeaning (now (s .entry)) r ≡ fieldIn (packOf (now (s .entry))) t i j ⌝ }
+{
+    let q = p + 1 + j as usize;
+    let at = offset(work, q);
+    field_at(s, at)
+}
+
+// The id of field j of PGN i of tree t, which is at p.
+pub fn field_id_of(s: &[u8], work: &[u32], t: u32, i: u32, p: usize, j: u32) -> Text
+    requires { ⌜ PgnAt (now s) (now work) t i p × (j < length (pgnIn (packOf (now s)) t i .fields)) ⌝ }
+    ensures { λ r. ⌜ bytesOf (now (s .entry)) r ≡ fieldIn (packOf (now (s .entry))) t i j .id ⌝ }
+{
+    let q = p + 1 + j as usize;
+    let at = offset(work, q);
+    text_at(s, at)
+}
