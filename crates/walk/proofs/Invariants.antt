@@ -92,12 +92,12 @@ module _ (L : Layout) (p : Place) (h : Visits) (law : Law L p h) where
       (λ t a b e. false≢true e) (λ t a e s. false≢true e) (λ t n l. l) (λ t n l. l)
 
   -- a pass of set k begins, here or visit-then one that ends here
-  law-begin : (k : ℕ) (x : Option Rest) → start L k ≤ p .order → p .order ≤ end L k → Law L (goto-with p (start L k) k x) (by-visits L .begin h k)
+  pub law-begin : (k : ℕ) (x : Option Rest) → start L k ≤ p .order → p .order ≤ end L k → Law L (goto-with p (start L k) k x) (by-visits L .begin h k)
   law-begin k x l u = law-set k (start L k) x _ (λ j n. put-other (h .begun) k _ j n) (rw put-same (omega arith))
       (λ t a b e. omega arith) (λ t a e s. since-none _ (h .made) t (omega arith) (rw put-same at s)) (λ t n b. before L k (suc t) n (omega arith)) (λ t n b. omega arith)
 
   -- set k is passed over
-  law-over : (k : ℕ) → start L k ≡ p .order → (Present p k → ⊥) → Law L (goto p (end L k)) h
+  pub law-over : (k : ℕ) → start L k ≡ p .order → (Present p k → ⊥) → Law L (goto p (end L k)) h
   law-over k q n = record {
     fwd = λ t c. let d = law .fwd t c in record { below = omega arith; here = d .here };
     bwd = λ t d. law .bwd t (record { below = omega (arith, before L k (suc t) (λ a. n (d .here k a)) (d .below)); here = d .here });
@@ -180,22 +180,27 @@ module _ (p : Place) (o k : ℕ) (x : Option Rest) where
 pub record Arriving (L : Layout) (p : Place) (k : ℕ) : Type 0 where
   pub full : 0 < set-at L k .count
   pub starts : start L k ≡ p .order
-  pub outside : present (p .left k) ≡ false
+  pub outside : Present p k → ⊥
 
 pub arrives-e : (L : Layout) (p : Place) (k : ℕ) → arrives L p k ≡ true → Arriving L p k
 unfolding arrives
-arrives-e L p k e = record { full = ltb-true _ _ (search (and-l, and-r)); starts = eqb-true _ _ (search (and-l, and-r)); outside = not-true _ (search (and-l, and-r)) }
+arrives-e L p k e = record { full = ltb-true _ _ (search (and-l, and-r)); starts = eqb-true _ _ (search (and-l, and-r)); outside = λ a. false≢true (sym (not-true _ (search (and-l, and-r))) ∙ a) }
 
 arrives-f : (L : Layout) (p : Place) (k : ℕ) → arrives L p k ≡ false → Holds L k (p .order) → start L k ≡ p .order → Present p k
 unfolding arrives
 arrives-f L p k e a q = not-false (present (p .left k)) (rw (lt-ltb 0 (set-at L k .count) (omega arith), eq-eqb (start L k) (p .order) q) at e)
 
+-- a set that is arrived at is entered
+pub entering : (L : Layout) (p : Place) (h : Visits) → Law L p h → (k : ℕ) (x : Rest) → Arriving L p k → Law L (goto-with p (p .order) k (some x)) (by-visits L .begin h k)
+entering L p h law k x a =
+    subst (λ (o : ℕ). Law L (goto-with p o k (some x)) (by-visits L .begin h k)) (a .starts) (law-begin L p h law k (some x) (omega (arith, a .starts)) (omega (arith, a .starts)))
+
 -- the passes that end here are closed
 module _ (L : Layout) (w : ℕ) (p : Place) (m : Moved L w 0 p) where
-  now : (j : ℕ) → Present p j → Holds L j (p .order)
+  pub now : (j : ℕ) → Present p j → Holds L j (p .order)
   now j a = omega (arith, m .ahead, m .from j a, m .done j a (omega arith))
 
-  still : (j : ℕ) → start L j < p .order → Holds L j (p .order) → Present p j
+  pub still : (j : ℕ) → start L j < p .order → Holds L j (p .order) → Present p j
   still j l a = m .stay j (m .clear j l (a .1)) (a .1)
 
 module _ (L : Layout) (G : Good L) (w : ℕ) (p : Place) (m : Moved L w 0 p) (high : p .order ≤ length (L .fields)) where
@@ -210,7 +215,7 @@ module _ (L : Layout) (G : Good L) (w : ℕ) (p : Place) (m : Moved L w 0 p) (hi
     high = high;
   }
 
-  due-enter : (k : ℕ) (x : Rest) → Arriving L p k → Due L (goto-with p (p .order) k (some x))
+  pub due-enter : (k : ℕ) (x : Rest) → Arriving L p k → Due L (goto-with p (p .order) k (some x))
   due-enter k x v = record {
     holding = λ j a. go j a (ℕ-discrete j k);
     held = λ j a. tri j k
@@ -228,7 +233,7 @@ module _ (L : Layout) (G : Good L) (w : ℕ) (p : Place) (m : Moved L w 0 p) (hi
       go j a (yes r) = rw r hk
       go j a (no r) = now L w p m j (was p (p .order) k (some x) j a r)
 
-  moved-over : (k : ℕ) → Arriving L p k → Moved L w (length (L .sets)) (goto p (end L k))
+  pub moved-over : (k : ℕ) → Arriving L p k → Moved L w (length (L .sets)) (goto p (end L k))
   moved-over k v =
       let hk : Holds L k (p .order) = omega (arith, v .full, v .starts) in
       let up : (j : ℕ) → Present p j → end L k ≤ end L j = λ j a.
