@@ -7,7 +7,7 @@ use lib.ListN.{length, List·getD-eq-default}
 use lib.Dec.{ltb, leb, eqb}
 use borrow.Author.Tests.{ltb-true, ltb-false, leb-true, eqb-true, eqb-false, not-false, lt-ltb, le-leb}
 use Rattle.pack.specs.Value.{Repeating}
-use Rattle.walk.specs.Layout.{Layout, no-set, set-at, start, end, nonempty, holds, every-below, some-below, sets-hold, share, nested-in, inside-last, misplaced, clash, stop-1}
+use Rattle.walk.specs.Layout.{Layout, no-set, set-at, start, end, nonempty, holds, everyBelow, anyBelow, sets-hold, share, nested-in, inside-last, misplaced, clash, stop-1}
 use Rattle.walk.specs.ByPlace.{placed}
 use Rattle.walk.proofs.Tests.{and-l, and-r, and-i, or-l, or-r, imp-e, imp-i, and-false, every-e, every-i, none-below}
 
@@ -30,12 +30,12 @@ short L k o h = go (ltb k (length (L .sets))) refl
         let q = List·getD-eq-default (L .sets) no-set (ltb-false k (length (L .sets)) e) in
         absurd (omega (arith, ap (λ (s : Repeating). s .start) q, ap (λ (s : Repeating). s .count) q))
 
--- a test of every-below set, as a fact of the sets that hold o
-pub each-e : (L : Layout) (o : ℕ) (f : ℕ → Bool) → every-below (length (L .sets)) (λ k. not (holds L k o) || f k) ≡ true → (k : ℕ) → Holds L k o → f k ≡ true
-each-e L o f e k h = imp-e (holds L k o) (f k) (every-e _ _ e k (short L k o h)) (holds-i L k o h)
+-- a test of every set, as a fact of the sets that hold o
+pub each-e : (L : Layout) (o : ℕ) (f : ℕ → Bool) → everyBelow (λ k. not (holds L k o) || f k) (length (L .sets)) ≡ true → (k : ℕ) → Holds L k o → f k ≡ true
+each-e L o f e k h = imp-e (holds L k o) (f k) (every-e _ (length (L .sets)) e k (short L k o h)) (holds-i L k o h)
 
-pub each-i : (L : Layout) (o : ℕ) (f : ℕ → Bool) → ((k : ℕ) → Holds L k o → f k ≡ true) → every-below (length (L .sets)) (λ k. not (holds L k o) || f k) ≡ true
-each-i L o f h = every-i _ _ (λ k l. imp-i (holds L k o) (f k) (λ e. h k (holds-e L k o e)))
+pub each-i : (L : Layout) (o : ℕ) (f : ℕ → Bool) → ((k : ℕ) → Holds L k o → f k ≡ true) → everyBelow (λ k. not (holds L k o) || f k) (length (L .sets)) ≡ true
+each-i L o f h = every-i _ (length (L .sets)) (λ k l. imp-i (holds L k o) (f k) (λ e. h k (holds-e L k o e)))
 
 -- `placed` in words
 pub placed-e : (L : Layout) (o t : ℕ) → placed L o t ≡ true → (suc t < o) × ((k : ℕ) → Holds L k (suc t) → Holds L k o)
@@ -59,9 +59,9 @@ pub record Good (L : Layout) : Type 0 where
   pub inside : (j k o : ℕ) → j < k → Holds L j o → Holds L k o → (start L j < start L k) × (end L k ≤ end L j)
 
 module _ (L : Layout) (laid : stop-1 L ≡ false) where
-  each : (k : ℕ) → k < length (L .sets) → (misplaced L k || some-below k (λ j. clash L j k)) ≡ false
+  each : (k : ℕ) → k < length (L .sets) → (misplaced L k || anyBelow (λ j. clash L j k) k) ≡ false
   unfolding stop-1
-  each = none-below (length (L .sets)) _ laid
+  each = none-below _ (length (L .sets)) laid
 
   record Laid (k : ℕ) : Type 0 where
     low : 1 ≤ start L k
@@ -101,6 +101,6 @@ module _ (L : Layout) (laid : stop-1 L ≡ false) where
     low = λ k o h. laid-e k o h .low;
     high = λ k o h. laid-e k o h .high;
     inside = λ j k o l h g.
-        let a = none-below k (λ j. clash L j k) (or-r (misplaced L k) _ (each k (short L k o g))) j l in
+        let a = none-below (λ j. clash L j k) k (or-r (misplaced L k) _ (each k (short L k o g))) j l in
         nested-e j k o g (not-false (nested-in L j k) (and-false (share L j k) _ a (share-i L j k o h g)));
   }

@@ -7,7 +7,7 @@ use native.Mathlib.Decide.{ℕ-discrete}
 use lib.Dec.{ltb}
 use borrow.Author.Tests.{ltb-true, ltb-false, eq-eqb, ne-eqb}
 use Rattle.pack.specs.Notation.{if_then_else_}
-use Rattle.walk.specs.Layout.{every-below, some-below}
+use Rattle.walk.specs.Layout.{everyBelow, anyBelow}
 use Rattle.walk.specs.Walk.{put}
 
 pub and-l : (a b : Bool) → (a && b) ≡ true → a ≡ true
@@ -56,55 +56,51 @@ bool-eq true b f g = sym (f refl)
 bool-eq false true f g = g refl
 bool-eq false false f g = refl
 
-pub every-e : (n : ℕ) (f : ℕ → Bool) → every-below n f ≡ true → (k : ℕ) → k < n → f k ≡ true
-unfolding every-below
-every-e zero f e k h = absurd (omega arith)
-every-e (suc n) f e k h = go (ℕ-discrete k n) (every-e n f (and-r (f n) _ e) k)
+-- for all, and for some, below a number
+pub every-e : (f : ℕ → Bool) (n : ℕ) → everyBelow f n ≡ true → (k : ℕ) → k < n → f k ≡ true
+every-e f zero e k h = absurd (omega arith)
+every-e f (suc n) e k h = go (ℕ-discrete k n) (every-e f n (and-l _ _ e) k)
   where
     go : Dec (k ≡ n) → (k < n → f k ≡ true) → f k ≡ true
-    go (yes q) r = rw q (and-l (f n) _ e)
+    go (yes q) r = rw q (and-r (everyBelow f n) _ e)
     go (no q) r = r (omega arith)
 
-pub every-i : (n : ℕ) (f : ℕ → Bool) → ((k : ℕ) → k < n → f k ≡ true) → every-below n f ≡ true
-unfolding every-below
-every-i zero f h = refl
-every-i (suc n) f h = and-i (f n) _ (h n (omega arith)) (every-i n f (λ k l. h k (omega arith)))
+pub every-i : (f : ℕ → Bool) (n : ℕ) → ((k : ℕ) → k < n → f k ≡ true) → everyBelow f n ≡ true
+every-i f zero h = refl
+every-i f (suc n) h = and-i (everyBelow f n) _ (every-i f n (λ k l. h k (omega arith))) (h n (omega arith))
 
-pub none-below : (n : ℕ) (f : ℕ → Bool) → some-below n f ≡ false → (k : ℕ) → k < n → f k ≡ false
-unfolding some-below
-none-below zero f e k h = absurd (omega arith)
-none-below (suc n) f e k h = go (ℕ-discrete k n) (none-below n f (or-r (f n) _ e) k)
+pub none-below : (f : ℕ → Bool) (n : ℕ) → anyBelow f n ≡ false → (k : ℕ) → k < n → f k ≡ false
+none-below f zero e k h = absurd (omega arith)
+none-below f (suc n) e k h = go (ℕ-discrete k n) (none-below f n (or-l _ _ e) k)
   where
     go : Dec (k ≡ n) → (k < n → f k ≡ false) → f k ≡ false
-    go (yes q) r = rw q (or-l (f n) _ e)
+    go (yes q) r = rw q (or-r (anyBelow f n) _ e)
     go (no q) r = r (omega arith)
 
-pub none-below-i : (n : ℕ) (f : ℕ → Bool) → ((k : ℕ) → k < n → f k ≡ false) → some-below n f ≡ false
-unfolding some-below
-none-below-i zero f h = refl
-none-below-i (suc n) f h = or-i (f n) _ (h n (omega arith)) (none-below-i n f (λ k l. h k (omega arith)))
+pub none-below-i : (f : ℕ → Bool) (n : ℕ) → ((k : ℕ) → k < n → f k ≡ false) → anyBelow f n ≡ false
+none-below-i f zero h = refl
+none-below-i f (suc n) h = or-i (anyBelow f n) _ (none-below-i f n (λ k l. h k (omega arith))) (h n (omega arith))
 
 -- which one, where there is one
-pub record Some (n : ℕ) (f : ℕ → Bool) : Type 0 where
+pub record Some (f : ℕ → Bool) (n : ℕ) : Type 0 where
   pub at : ℕ
   pub low : at < n
-  pub holds : f at ≡ true
+  pub has : f at ≡ true
 
-pub some-below-e : (n : ℕ) (f : ℕ → Bool) → some-below n f ≡ true → Some n f
-unfolding some-below
-some-below-e zero f e = absurd (false≢true e)
-some-below-e (suc n) f e = go (f n) refl (some-below-e n f)
+pub any-e : (f : ℕ → Bool) (n : ℕ) → anyBelow f n ≡ true → Some f n
+any-e f zero e = absurd (false≢true e)
+any-e f (suc n) e = go (anyBelow f n) refl (any-e f n)
   where
-    go : (b : Bool) → f n ≡ b → (some-below n f ≡ true → Some n f) → Some (suc n) f
-    go true q r = record { at = n; low = omega arith; holds = q }
-    go false q r = let s = r (rw q at e) in record { at = s .at; low = omega (arith, s .low); holds = s .holds }
+    go : (b : Bool) → anyBelow f n ≡ b → (anyBelow f n ≡ true → Some f n) → Some f (suc n)
+    go true q r = let s = r q in record { at = s .at; low = omega (arith, s .low); has = s .has }
+    go false q r = record { at = n; low = omega arith; has = rw q at e }
 
-pub some-below-i : (n : ℕ) (f : ℕ → Bool) (k : ℕ) → k < n → f k ≡ true → some-below n f ≡ true
-some-below-i n f k l e = go (some-below n f) refl
+pub any-i : (f : ℕ → Bool) (n k : ℕ) → k < n → f k ≡ true → anyBelow f n ≡ true
+any-i f n k l e = go (anyBelow f n) refl
   where
-    go : (b : Bool) → some-below n f ≡ b → some-below n f ≡ true
+    go : (b : Bool) → anyBelow f n ≡ b → anyBelow f n ≡ true
     go true q = q
-    go false q = absurd (false≢true (sym (none-below n f q k l) ∙ e))
+    go false q = absurd (false≢true (sym (none-below f n q k l) ∙ e))
 
 pub put-same : {A : Type 0} (f : ℕ → A) (k : ℕ) (x : A) → put f k x k ≡ x
 unfolding put

@@ -45,19 +45,18 @@ abbrev pub holds : Layout → ℕ → ℕ → Bool
 holds L k o = (start L k ≤ᵇ o) && (o <ᵇ end L k)
 
 -- f at every k below n
-unfoldable pub every-below : ℕ → (ℕ → Bool) → Bool
-every-below zero f = true
-every-below (suc n) f = f n && every-below n f
+abbrev pub everyBelow : (ℕ → Bool) → ℕ → Bool
+everyBelow f zero = true
+everyBelow f (suc n) = everyBelow f n && f n
 
 -- f at some k below n
-unfoldable pub some-below : ℕ → (ℕ → Bool) → Bool
-some-below zero f = false
-some-below (suc n) f = f n || some-below n f
+abbrev pub anyBelow : (ℕ → Bool) → ℕ → Bool
+anyBelow f zero = false
+anyBelow f (suc n) = anyBelow f n || f n
 
 -- every set that holds the order a holds the order b
 unfoldable pub sets-hold : Layout → ℕ → ℕ → Bool
-unfolding every-below
-sets-hold L a b = every-below (length (L .sets)) (λ k. not (holds L k a) || holds L k b)
+sets-hold L a b = everyBelow (λ k. not (holds L k a) || holds L k b) (length (L .sets))
 
 -- two nonempty sets share an order
 unfoldable pub share : Layout → ℕ → ℕ → Bool
@@ -86,5 +85,5 @@ unfolding share nested-in
 clash L j k = share L j k && not (nested-in L j k)
 
 unfoldable pub stop-1 : Layout → Bool
-unfolding some-below misplaced clash
-stop-1 L = some-below (length (L .sets)) (λ k. misplaced L k || some-below k (λ j. clash L j k))
+unfolding misplaced clash
+stop-1 L = anyBelow (λ k. misplaced L k || anyBelow (λ j. clash L j k) k) (length (L .sets))

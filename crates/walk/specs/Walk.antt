@@ -6,7 +6,7 @@ use mathlib.Core.Option.{Option, none, some}
 use lib.ListN.{length}
 use Rattle.pack.specs.Notation.{_<ᵇ_, _≤ᵇ_, _==_, if_then_else_}
 use Rattle.pack.specs.Value.{Field}
-use Rattle.walk.specs.Layout.{Layout, field-at, set-at, start, end, nonempty, holds, every-below, stop-1}
+use Rattle.walk.specs.Layout.{Layout, field-at, set-at, start, end, nonempty, holds, everyBelow, stop-1}
 
 -- THE ANSWER: "the end and the number of visits, one for each reading taken"; each visit "writes the index".
 pub data End : Type 0 where
@@ -203,9 +203,9 @@ latest (v ∷ vs) t = if v .field == t then v .reading else latest vs t
 
 -- "A needed field is current if visited and, where it lies in a nonempty set, visited in that set's present pass"
 unfoldable pub is-current : Layout → Place → Visits → ℕ → Bool
-unfolding visited every-below
+unfolding visited
 is-current L p h t = visited 0 (h .made) t
-    && every-below (length (L .sets)) (λ k. not (holds L k (suc t)) || present (p .left k) && visited (h .begun k) (h .made) t)
+    && everyBelow (λ k. not (holds L k (suc t)) || present (p .left k) && visited (h .begun k) (h .made) t) (length (L .sets))
 
 abbrev pub by-visits : Layout → Memory Visits
 by-visits L = record {
