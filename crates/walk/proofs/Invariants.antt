@@ -11,7 +11,7 @@ use lib.Dec.{ltb, leb, eqb}
 use borrow.Author.Tests.{ltb-true, ltb-false, eqb-true, eqb-false, not-true, not-false, lt-ltb, le-leb, lt-leb, eq-eqb, ne-eqb}
 use Rattle.walk.proofs.Tests.{and-l, and-r, and-i, bool-eq, put-same, put-other, tri}
 use Rattle.walk.proofs.Sets.{Holds, holds-e, holds-i, short, each-e, each-i, Good, good}
-use Rattle.walk.specs.Layout.{Layout, field-at, set-at, start, end, holds, sets-hold, stop-1}
+use Rattle.walk.specs.Layout.{Layout, set-at, start, end, holds, sets-hold, stop-1}
 use Rattle.walk.specs.Walk.{Rest, endless, more, present, passes, Place, first, goto, goto-with, arrives, Turn, turn, Stand, again, arrived, ready, beyond, look, close, stand, Memory, Arrival, counted, refused, over, enter, arrive, Settled, past, halted, due, Answer, no-visit, visit-then, settle, settled, onward, walk-on, walk-with, Visit, Visits, visited, latest, is-current, by-visits, walk-by}
 use Rattle.walk.specs.ByPlace.{placed, counts, by-place, walk-by-place}
 

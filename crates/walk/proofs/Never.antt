@@ -5,8 +5,9 @@ use mathlib.Core.Option.{Option, none, some}
 use mathlib.Core.Bool.{Bool, true, false, false≢true}
 use Prim.Native.Nat.{ℕ, zero, suc, pred, _≤_, _<_}
 use native.Mathlib.Omega.{arith}
-use lib.ListN.{length}
-use Rattle.walk.specs.Layout.{Layout, field-at, set-at, start, stop-1}
+use lib.ListN.{length, getD}
+use Rattle.pack.specs.Value.{noField}
+use Rattle.walk.specs.Layout.{Layout, set-at, start, stop-1}
 use Rattle.walk.specs.Walk.{passes, Place, Memory, counted, refused, arrive, Settled, past, halted, due, End, whole, used-up, stop, Answer, onward, walk-on, walk-with, Visits, by-visits, walk-by}
 use Rattle.walk.specs.ByPlace.{placed, by-place, walk-by-place}
 use Rattle.walk.proofs.Sets.{Holds, Good, good}
@@ -68,7 +69,7 @@ module _ (L : Layout) (stops : (ℕ → Bool) → ℕ → ℕ → Option ℕ) (S
   unfolding arrive
   answers p g k none e f = let z : _≡_ {A = ℕ} 0 1 = cc in omega arith
   answers p g k (some zero) e f = e
-  answers p g k (some (suc t)) e f = go (passes (field-at L t) (g k)) (rw e at f)
+  answers p g k (some (suc t)) e f = go (passes (getD (L .fields) t noField) (g k)) (rw e at f)
     where
       go : (n : ℕ) → counted true n ≡ refused → ⊥
       go zero f = let z : _≡_ {A = ℕ} 0 1 = cc in omega arith

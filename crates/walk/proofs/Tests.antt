@@ -7,7 +7,8 @@ use native.Mathlib.Decide.{ℕ-discrete}
 use lib.Dec.{ltb}
 use borrow.Author.Tests.{ltb-true, ltb-false, eq-eqb, ne-eqb}
 use Rattle.pack.specs.Notation.{if_then_else_}
-use Rattle.walk.specs.Layout.{everyBelow, anyBelow}
+use Rattle.rules.specs.Search.{anyBelow}
+use Rattle.walk.specs.Layout.{everyBelow}
 use Rattle.walk.specs.Walk.{put}
 
 pub and-l : (a b : Bool) → (a && b) ≡ true → a ≡ true

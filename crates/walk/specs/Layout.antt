@@ -6,7 +6,8 @@ use mathlib.Core.List.{List, [], _∷_}
 use mathlib.Core.Option.{Option, none, some}
 use lib.ListN.{length, getD}
 use Rattle.pack.specs.Notation.{_<ᵇ_, _≤ᵇ_, _==_}
-use Rattle.pack.specs.Value.{Field, noField, Repeating, Pgn}
+use Rattle.pack.specs.Value.{Field, Repeating, Pgn}
+use Rattle.rules.specs.Search.{anyBelow}
 
 pub record Layout : Type 0 where
   pub fields : List Field
@@ -23,9 +24,6 @@ set-or-empty (some s) = s
 -- "two optional sets": set 1 stands at 0, set 2 at 1.
 abbrev pub layout : Pgn → Layout
 layout p = record { fields = p .fields; sets = set-or-empty (p .repeating1) ∷ set-or-empty (p .repeating2) ∷ [] }
-
-abbrev pub field-at : Layout → ℕ → Field
-field-at L t = getD (L .fields) t noField
 
 abbrev pub set-at : Layout → ℕ → Repeating
 set-at L k = getD (L .sets) k no-set
@@ -48,11 +46,6 @@ holds L k o = (start L k ≤ᵇ o) && (o <ᵇ end L k)
 abbrev pub everyBelow : (ℕ → Bool) → ℕ → Bool
 everyBelow f zero = true
 everyBelow f (suc n) = everyBelow f n && f n
-
--- f at some k below n
-abbrev pub anyBelow : (ℕ → Bool) → ℕ → Bool
-anyBelow f zero = false
-anyBelow f (suc n) = anyBelow f n || f n
 
 -- every set that holds the order a holds the order b
 unfoldable pub sets-hold : Layout → ℕ → ℕ → Bool

@@ -1,3 +1,5 @@
 pub mod Layout
+pub mod Stops
 pub mod Walk
+pub mod Held
 pub mod ByPlace

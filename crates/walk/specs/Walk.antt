@@ -1,12 +1,13 @@
--- The walk over a PGN's fields and repeating sets (document 01, "The walk"), for any test of the stops 3 to 9 at a field.
+-- The walk over a PGN's fields and repeating sets (document 01, "The walk").
 use Prim.Native.Nat.{ℕ, zero, suc, pred, _+_}
 use mathlib.Core.Bool.{Bool, true, false, not, _&&_, _||_}
 use mathlib.Core.List.{List, [], _∷_}
 use mathlib.Core.Option.{Option, none, some}
-use lib.ListN.{length}
+use lib.ListN.{length, getD}
 use Rattle.pack.specs.Notation.{_<ᵇ_, _≤ᵇ_, _==_, if_then_else_}
-use Rattle.pack.specs.Value.{Field}
-use Rattle.walk.specs.Layout.{Layout, field-at, set-at, start, end, nonempty, holds, everyBelow, stop-1}
+use Rattle.pack.specs.Value.{Field, noField, Pgn, Pack}
+use Rattle.walk.specs.Layout.{Layout, layout, set-at, start, end, nonempty, holds, everyBelow, stop-1}
+use Rattle.walk.specs.Stops.{stop-at}
 
 -- THE ANSWER: "the end and the number of visits, one for each reading taken"; each visit "writes the index".
 pub data End : Type 0 where
@@ -132,7 +133,7 @@ module _ (L : Layout) {M : Type 0} (m : Memory M) where
   unfoldable pub arrive : Place → M → ℕ → Option ℕ → Arrival
   arrive p h k none = enter endless
   arrive p h k (some zero) = refused
-  arrive p h k (some (suc t)) = counted (m .current p h t) (passes (field-at L t) (m .reading h k t))
+  arrive p h k (some (suc t)) = counted (m .current p h t) (passes (getD (L .fields) t noField) (m .reading h k t))
 
   -- Until a field is due. Each set that is passed over takes the order up, so that 1 + fields rounds are enough (`enough`).
   unfoldable pub settle : ℕ → Stand → M → Settled M
@@ -219,3 +220,8 @@ by-visits L = record {
 unfoldable pub walk-by : Layout → ((ℕ → Bool) → ℕ → ℕ → Option ℕ) → List ℕ → Answer
 unfolding walk-with is-current latest put
 walk-by L stops rs = walk-with L (by-visits L) stops rs
+
+-- THE WALK: over the PGN p of the pack P
+unfoldable pub walk : Pack → Pgn → List ℕ → Answer
+unfolding walk-by stop-at
+walk P p readings = walk-by (layout p) (stop-at P p) readings
