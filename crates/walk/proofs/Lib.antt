@@ -4,3 +4,4 @@ pub mod Invariants
 pub mod Position
 pub mod Agree
 pub mod Never
+pub mod Silent
