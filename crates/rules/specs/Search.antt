@@ -50,3 +50,21 @@ maxBelow f (suc n) = larger (maxBelow f n) (f n)
 abbrev pub minBelow : (ℕ → Option ℕ) → ℕ → Option ℕ
 minBelow f zero = none
 minBelow f (suc n) = smaller (minBelow f n) (f n)
+
+-- the index below n that has the property and the least key, the first of equals
+abbrev pub lower-key : (ℕ → ℕ) → Option ℕ → ℕ → ℕ
+lower-key key none n = n
+lower-key key (some m) n = if key n <ᵇ key m then n else m
+
+abbrev pub leastBelow : (ℕ → ℕ) → (ℕ → Bool) → ℕ → Option ℕ
+leastBelow key p zero = none
+leastBelow key p (suc n) = if p n then some (lower-key key (leastBelow key p n) n) else leastBelow key p n
+
+-- numbers in rising order, by rank: `least b` is the least of them from b on
+abbrev pub next-rank : (ℕ → Option ℕ) → Option ℕ → Option ℕ
+next-rank least none = none
+next-rank least (some s) = least (s + 1)
+
+abbrev pub ranked : (ℕ → Option ℕ) → ℕ → Option ℕ
+ranked least zero = least 0
+ranked least (suc r) = next-rank least (ranked least r)
