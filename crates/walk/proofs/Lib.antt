@@ -4,4 +4,6 @@ pub mod Invariants
 pub mod Position
 pub mod Agree
 pub mod Never
-pub mod Silent
+pub mod Clean
+pub mod CleanSets
+pub mod CleanFields
