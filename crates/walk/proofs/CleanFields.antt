@@ -8,7 +8,7 @@ use native.Mathlib.Omega.{arith}
 use native.Mathlib.Decide.{ℕ-discrete}
 use lib.ListN.{length}
 use lib.Dec.{ltb, leb, eqb}
-use borrow.Author.Tests.{ltb-true, ltb-false, leb-true, leb-false, eqb-true, not-true, not-false, lt-ltb}
+use borrow.Author.Tests.{ltb-true, leb-true, leb-false, eqb-true, not-false, lt-ltb, le-leb}
 use Rattle.pack.specs.Notation.{_==_, _<ᵇ_, _≤ᵇ_, _≐_, if_then_else_, optional}
 use Rattle.pack.specs.Value.{Bytes, Entry, Reference, Field, Repeating, Pgn, Pack}
 use Rattle.rules.specs.Search.{or-else, anyBelow, firstBelow}
@@ -19,6 +19,7 @@ use Rattle.rules.specs.MatchValues.{resolved-at, match-value-at}
 use Rattle.rules.specs.BitLengthField.{variable-binary, bit-length-target-at, bit-length-field-at}
 use Rattle.rules.specs.Continues.{holds-order, set-of, continued-at, continued-found-at, continues-at}
 use Rattle.rules.specs.TrailingZero.{starts-behind, fixed, trailing-zero-target-at, trailing-zero-at}
+use Rattle.rules.specs.Texts.{DECIMAL}
 use Rattle.walk.specs.Layout.{Layout, set-or-empty, layout, start, end, holds, sets-hold}
 use Rattle.walk.specs.Stops.{is-missing, name-of, lookup-missing, unfit, match-unfit, names-missing, any-names-missing, entry-astray-in, entry-astray, target-current, lacks}
 use Rattle.walk.specs.ByPlace.{placed}
@@ -126,3 +127,101 @@ module _ (p : Pgn) where
           let b = rw q at (a .1) in
           let l = leb-false k j (clean-else (leb k j) _ _ refl b .0) in
           has (suc k) j id q (and-i _ _ (lt-ltb (suc j) (suc k) (omega arith)) (h id j refl q))
+
+-- a set of the PGN, as the rules see it and as the walk does
+order-e : (r : Option Repeating) (o : ℕ) → holds-order r o ≡ true → (set-or-empty r .start ≤ o) × (o < set-or-empty r .start + set-or-empty r .count)
+order-e none o e = absurd (false≢true e)
+order-e (some r) o e = (leb-true _ _ (and-l _ _ e), ltb-true _ _ (and-r (leb (r .start) o) _ e))
+
+order-i : (r : Option Repeating) (o : ℕ) → (set-or-empty r .start ≤ o) × (o < set-or-empty r .start + set-or-empty r .count) → holds-order r o ≡ true
+order-i none o h = absurd (omega arith)
+order-i (some r) o h = and-i _ _ (le-leb _ _ (h .0)) (lt-ltb _ _ (h .1))
+
+-- `set-of`, of whether set 1 and set 2 hold a field
+abbrev which : Bool → Bool → ℕ
+which a b = if b then 2 else if a then 1 else 0
+
+same-2 : (a b a′ b′ : Bool) → which a b ≡ which a′ b′ → b ≡ true → b′ ≡ true
+same-2 a true a′ true q e = refl
+same-2 a true true false q e = absurd (omega arith)
+same-2 a true false false q e = absurd (omega arith)
+same-2 a false a′ b′ q e = absurd (false≢true e)
+
+same-1 : (a b a′ b′ : Bool) → which a b ≡ which a′ b′ → b ≡ false → a ≡ true → a′ ≡ true
+same-1 a b true b′ q e f = refl
+same-1 true false false true q e f = absurd (omega arith)
+same-1 true false false false q e f = absurd (omega arith)
+same-1 true true false b′ q e f = absurd (false≢true (sym e))
+same-1 false b false b′ q e f = absurd (false≢true f)
+
+-- STOP 7, by R43: where two fields are of one set, each set that holds the first holds the second
+module _ (p : Pgn) (G : Good (layout p)) where
+  -- whether set 1 and set 2 hold the field j
+  abbrev one : ℕ → Bool
+  one j = holds-order (p .repeating1) (j + 1)
+
+  abbrev two : ℕ → Bool
+  two j = holds-order (p .repeating2) (j + 1)
+
+  one-set : (j k : ℕ) → set-of p j ≡ set-of p k → (n : ℕ) → Holds (layout p) n (suc j) → Holds (layout p) n (suc k)
+  unfolding set-of
+  one-set j k q zero h = go (two j) refl
+    where
+      go : (b : Bool) → two j ≡ b → Holds (layout p) 0 (suc k)
+      go true e =
+          let a = order-e (p .repeating2) (j + 1) e in
+          let b = order-e (p .repeating2) (k + 1) (same-2 (one j) (two j) (one k) (two k) q e) in
+          omega (arith, G .inside 0 1 (suc j) (omega arith) h (omega arith))
+      go false e =
+          let a = order-i (p .repeating1) (j + 1) (omega arith) in
+          omega (arith, order-e (p .repeating1) (k + 1) (same-1 (one j) (two j) (one k) (two k) q e a))
+  one-set j k q (suc zero) h =
+      let a = order-i (p .repeating2) (j + 1) (omega arith) in
+      omega (arith, order-e (p .repeating2) (k + 1) (same-2 (one j) (two j) (one k) (two k) q a))
+  one-set j k q (suc (suc n)) h = absurd (omega (arith, short (layout p) (suc (suc n)) (suc j) h))
+
+  pub no-stop-7 : (P : Pack) (t i k : ℕ) → k < length (p .fields) → (x : Option Bytes) → Clean (continues-at (P .fieldtypes) t i p k x) → lacks p (placed (layout p) (suc k)) x ≡ false
+  unfolding continues-at continued-found-at continued-at lacks target
+  no-stop-7 P t i k l none e = refl
+  no-stop-7 P t i k l (some id) e = go (firstBelow (λ j. field-at p j .id ≐ id) k) refl
+    where
+      go : (x : Option ℕ) → firstBelow (λ j. field-at p j .id ≐ id) k ≡ x → lacks p (placed (layout p) (suc k)) (some id) ≡ false
+      go none q = absurd (false≢true (rw (q, continues-at) at e))
+      go (some j) q =
+          let c : Clean (continued-at (P .fieldtypes) t i p k (field-at p k) id j (field-at p j)) = rw (q, continues-at) at e in
+          let other = not (set-of p j == set-of p k) in
+          let parts = clean-part ((if other then pgn-error 43 2 t i k j ∷ [] else _) ∷ _ ∷ _ ∷ _ ∷ _ ∷ _ ∷ []) c in
+          let s = eqb-true (set-of p j) (set-of p k) (not-false _ (clean-else other (pgn-error 43 2 t i k j) _ refl (parts 0) .0)) in
+          let m = first-low _ k j q in
+          has p (suc k) j id (first-more _ k (length (p .fields)) j q (omega arith)) (placed-i (layout p) (suc k) j (omega arith) (one-set j k s))
+
+-- STOP 9, by R44: no set begins before the target
+behind : (r : Option Repeating) (o : ℕ) → starts-behind r o ≡ true → (set-or-empty r .start ≤ o) × (o < set-or-empty r .start + set-or-empty r .count) → ⊥
+behind none o e h = omega arith
+behind (some r) o e h = omega (arith, ltb-true o (r .start) e)
+
+module _ (p : Pgn) where
+  in-no-set : (j : ℕ) → fixed p j ≡ true → (n : ℕ) → Holds (layout p) n (suc j) → ⊥
+  unfolding fixed
+  in-no-set j e n h = go n h
+    where
+      narrow : Bool
+      narrow = not (anyBelow (λ k. (field-at p k .res-bits == 0) || field-at p k .proprietary) j)
+
+      go : (n : ℕ) → Holds (layout p) n (suc j) → ⊥
+      go zero h = behind (p .repeating1) (j + 1) (and-r narrow _ (and-l (narrow && starts-behind (p .repeating1) (j + 1)) _ e)) (omega arith)
+      go (suc zero) h = behind (p .repeating2) (j + 1) (and-r (narrow && starts-behind (p .repeating1) (j + 1)) _ e) (omega arith)
+      go (suc (suc n)) h = omega (arith, short (layout p) (suc (suc n)) (suc j) h)
+
+  pub no-stop-9 : (P : Pack) (t i k : ℕ) (x : Option Bytes) → Clean (trailing-zero-at (P .fieldtypes) t i p k x) → lacks p (placed (layout p) (suc k)) x ≡ false
+  unfolding trailing-zero-at trailing-zero-target-at lacks
+  no-stop-9 P t i k none e = refl
+  no-stop-9 P t i k (some id) e = go (target p id) refl
+    where
+      go : (x : Option ℕ) → target p id ≡ x → lacks p (placed (layout p) (suc k)) (some id) ≡ false
+      go none q = absurd (false≢true (rw (q, trailing-zero-at) at (clean-else (not (field-at p k .type ≐ DECIMAL)) _ _ refl e .1)))
+      go (some j) q =
+          let a = rw (q, trailing-zero-at) at (clean-else (not (field-at p k .type ≐ DECIMAL)) _ _ refl e .1) in
+          let b = clean-else (leb k j || not (fixed p j)) _ _ refl a .0 in
+          let l = leb-false k j (or-l _ _ b) in
+          has p (suc k) j id q (placed-i (layout p) (suc k) j (omega arith) (λ n h. absurd (in-no-set j (not-false _ (or-r (leb k j) _ b)) n h)))
