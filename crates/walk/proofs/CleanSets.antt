@@ -14,6 +14,7 @@ use Rattle.rules.specs.Repeating.{set-bounds, set-count-field, set-nesting, che
 use Rattle.walk.specs.Layout.{Layout, set-or-empty, layout, set-at, start, end, inside-last}
 use Rattle.walk.proofs.Tests.{and-l, and-r, and-i, or-l, or-r}
 use Rattle.walk.proofs.Clean.{Clean, clean-l, clean-r, clean-part, clean-if, clean-then, clean-else}
+use Rattle.walk.proofs.HeldSets.{Fits}
 use Rattle.walk.proofs.Sets.{Holds, short}
 
 -- of a nonempty set
@@ -67,13 +68,6 @@ module _ (t i n : ℕ) where
         count = count-field (r .start) (r .count-field) (parts 1);
         nests = λ q. nesting outer r (clean-then (r .nested) _ _ q (parts 2));
       }
-
--- of set k of a layout, which holds some order
-pub record Fits (L : Layout) (k : ℕ) : Type 0 where
-  pub low : 1 ≤ start L k
-  pub high : end L k ≤ suc (length (L .fields))
-  pub count : (c : ℕ) → set-at L k .count-field ≡ some c → (1 ≤ c) × (c < start L k)
-  pub nests : set-at L k .nested ≡ true → inside-last L k ≡ true
 
 abbrev two : List Field → Option Repeating → Option Repeating → Layout
 two fs r1 r2 = record { fields = fs; sets = set-or-empty r1 ∷ set-or-empty r2 ∷ [] }

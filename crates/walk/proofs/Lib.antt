@@ -5,5 +5,7 @@ pub mod Position
 pub mod Agree
 pub mod Never
 pub mod Clean
+pub mod HeldSets
 pub mod CleanSets
 pub mod CleanFields
+pub mod NoStop

@@ -82,7 +82,7 @@ module _ (L : Layout) (laid : stop-1 L ≡ false) where
         nests = λ e. not-false (inside-last L k) (and-false _ _ (or-r (eqb (start L k) 0 || ltb (suc (length (L .fields))) (end L k)) _ b) e);
       }
 
-  nested-e : (j k o : ℕ) → Holds L k o → nested-in L j k ≡ true → (start L j < start L k) × (end L k ≤ end L j)
+  pub nested-e : (j k o : ℕ) → Holds L k o → nested-in L j k ≡ true → (start L j < start L k) × (end L k ≤ end L j)
   unfolding nested-in inside-last
   nested-e j zero o h e = absurd (false≢true e)
   nested-e j (suc k) o h e =

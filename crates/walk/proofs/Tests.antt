@@ -52,6 +52,10 @@ pub and-not : (a b : Bool) → (a ≡ true → b ≡ true) → (a && not b) ≡ 
 and-not true b f = rw (f refl)
 and-not false b f = refl
 
+pub and-4 : (a b c d : Bool) → (a && b && c && d) ≡ true → (a ≡ true) × (b ≡ true) × (c ≡ true) × (d ≡ true)
+and-4 true b c d e = (refl, and-l b c (and-l (b && c) d e), and-r b c (and-l (b && c) d e), and-r (b && c) d e)
+and-4 false b c d e = absurd (false≢true e)
+
 pub bool-eq : (a b : Bool) → (a ≡ true → b ≡ true) → (b ≡ true → a ≡ true) → a ≡ b
 bool-eq true b f g = sym (f refl)
 bool-eq false true f g = g refl

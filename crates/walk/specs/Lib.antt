@@ -2,4 +2,5 @@ pub mod Layout
 pub mod Stops
 pub mod Walk
 pub mod Held
+pub mod Guarantee
 pub mod ByPlace

@@ -1,0 +1,158 @@
+-- The guarantee against stops: the rules that are silent and what is held make the PGN's layout sound, so that its walk never stops.
+use mathlib.Core.Path.{_≡_, refl, sym, _∙_}
+use mathlib.Core.Bool.{Bool, true, false, not, _&&_, _||_, false≢true}
+use mathlib.Core.List.{List, [], _∷_}
+use mathlib.Core.Option.{Option, none, some}
+use Prim.Native.Nat.{ℕ, zero, suc, _≤_, _<_}
+use native.Mathlib.Omega.{arith}
+use lib.ListN.{length}
+use lib.Dec.{ltb, eqb}
+use borrow.Author.Tests.{ltb-true, not-true, lt-ltb, le-ltb, ne-eqb}
+use Rattle.pack.specs.Notation.{_==_, if_then_else_, concatBelow}
+use Rattle.pack.specs.Value.{Bytes, Pgn, Pack, pgns-of}
+use Rattle.rules.specs.Search.{anyBelow}
+use Rattle.rules.specs.declared.Finding.{Finding}
+use Rattle.rules.specs.Findings.{without-error}
+use Rattle.rules.specs.Model.{pgn-at, field-at, lookup-at, lookup-ref, target}
+use Rattle.rules.specs.DynamicLength.{length-source}
+use Rattle.rules.specs.Fieldtypes.{check-fieldtypes}
+use Rattle.rules.specs.LookupWiring.{lookup-ref-at, check-lookup-refs, check-nested-refs, check-lookup-wiring}
+use Rattle.rules.specs.PgnRange.{check-pgn-range}
+use Rattle.rules.specs.Repeating.{check-repeating}
+use Rattle.rules.specs.MatchValues.{match-value-at, check-match-values}
+use Rattle.rules.specs.BitLengthField.{bit-length-field-at, check-bit-length-field}
+use Rattle.rules.specs.Continues.{continues-at, check-continues}
+use Rattle.rules.specs.TrailingZero.{trailing-zero-at, check-trailing-zero-is-digit}
+use Rattle.rules.specs.Check.{check-pgn, check-tree, check-tree-continues, check}
+use Rattle.walk.specs.Layout.{Layout, layout, set-at, start, end, nonempty, holds, everyBelow, sets-hold, nested-in, inside-last, misplaced, clash, stop-1}
+use Rattle.walk.specs.Stops.{is-dynamic-value, lacks-length, stop-at}
+use Rattle.walk.specs.Walk.{End, whole, used-up, stop, Answer, by-visits, walk-with, walk-by, walk}
+use Rattle.walk.specs.ByPlace.{placed}
+use Rattle.walk.specs.Held.{shares-held, count-field-held, count-fields-held, target-held, bit-length-held, dynamic-value-held, held}
+use Rattle.walk.specs.Guarantee.{Unstopped, ends-whole, ends-used-up, Guarantee}
+use Rattle.walk.proofs.Tests.{and-l, and-r, and-i, or-i, and-not, imp-e, imp-i, every-e, every-i, none-below-i, Some, any-e, any-i, and-4}
+use Rattle.walk.proofs.Sets.{Holds, placed-i, good}
+use Rattle.walk.proofs.HeldSets.{Fits, nonempty-count-fields-held, counts-weaker, past-stop-1, counts-placed}
+use Rattle.walk.proofs.Never.{Counted, walk-counted, Runs, Count-placed, Sound, never}
+use Rattle.walk.proofs.Clean.{Clean, clean-part, clean-below}
+use Rattle.walk.proofs.CleanSets.{sets-fit}
+use Rattle.walk.proofs.CleanFields.{no-stop-3, no-stop-4, no-stop-5, no-stop-6, no-stop-7, no-stop-9}
+
+-- `held`, but of the countFields only those of nonempty sets: the guarantee is proved under this weaker test, and so holds under either
+-- reading of "a countField".
+unfoldable pub held-nonempty : Pack → Pgn → Bool
+held-nonempty P p =
+    shares-held (layout p)
+    && nonempty-count-fields-held (layout p)
+    && everyBelow (λ k. bit-length-held p k) (length (p .fields))
+    && everyBelow (λ k. dynamic-value-held P p k) (length (p .fields))
+
+pub weaker : (P : Pack) (p : Pgn) → held P p ≡ true → held-nonempty P p ≡ true
+unfolding held held-nonempty
+weaker P p e = let h = and-4 (shares-held (layout p)) (count-fields-held (layout p)) _ _ e in rw (h .0, counts-weaker (layout p) (h .1), h .2, h .3)
+
+-- A PGN of which the rules say nothing: R05, R08, R13, R15, R43, R44
+pub record Quiet (P : Pack) (t i : ℕ) (p : Pgn) : Type 0 where
+  pub repeating : Clean (check-repeating t i p)
+  pub lookup-refs : Clean (check-lookup-refs (P .lookups) t i p)
+  pub nested-refs : (l : ℕ) → l < length (P .lookups) → Clean (check-nested-refs P l (lookup-at (P .lookups) l))
+  pub match-values : Clean (check-match-values (P .lookups) t i p)
+  pub bit-length-field : Clean (check-bit-length-field t i p)
+  pub continues : Clean (check-continues (P .fieldtypes) t i p)
+  pub trailing-zero : Clean (check-trailing-zero-is-digit (P .fieldtypes) t i p)
+
+-- the references of PGN i of tree t, and of the tree
+abbrev refs : Pack → ℕ → ℕ → List Finding
+refs P t i = check-lookup-refs (P .lookups) t i (pgn-at P t i)
+
+abbrev tree-refs : Pack → ℕ → List Finding
+tree-refs P t = concatBelow (refs P t) (length (pgns-of P t))
+
+-- the entries of lookup l
+abbrev entries : Pack → ℕ → List Finding
+entries P l = check-nested-refs P l (lookup-at (P .lookups) l)
+
+pub quiet : (P : Pack) (t i : ℕ) → t < 3 → i < length (pgns-of P t) → Clean (check P) → Quiet P t i (pgn-at P t i)
+unfolding check check-tree check-pgn check-tree-continues check-lookup-wiring
+quiet P t i l m e =
+    let p = pgn-at P t i in
+    let n = length (pgns-of P t) in
+    let all = clean-part (check-fieldtypes (P .fieldtypes) ∷ check-lookup-wiring P ∷ _ ∷ concatBelow (check-tree P) 3 ∷ _ ∷ concatBelow (check-tree-continues P) 3 ∷ []) e in
+    let wiring = clean-part (concatBelow (tree-refs P) 3 ∷ concatBelow (entries P) (length (P .lookups)) ∷ _ ∷ []) (all 1) in
+    let tree = clean-part (concatBelow (λ i. check-pgn P t i (pgn-at P t i)) n ∷ _ ∷ _ ∷ []) (clean-below (check-tree P) 3 (all 3) t l) in
+    let pgn = clean-part (check-pgn-range t i p ∷ _ ∷ check-repeating t i p ∷ _ ∷ _ ∷ _ ∷ _ ∷ _ ∷ check-match-values (P .lookups) t i p ∷ _ ∷ check-bit-length-field t i p
+    ∷ check-trailing-zero-is-digit (P .fieldtypes) t i p ∷ _ ∷ []) (clean-below (λ i. check-pgn P t i (pgn-at P t i)) n (tree 0) i m) in
+    record {
+      repeating = pgn 2;
+      lookup-refs = clean-below (refs P t) n (clean-below (tree-refs P) 3 (wiring 0) t l) i m;
+      nested-refs = clean-below (entries P) (length (P .lookups)) (wiring 1);
+      match-values = pgn 8;
+      bit-length-field = pgn 10;
+      continues = clean-below (λ i. check-continues (P .fieldtypes) t i (pgn-at P t i)) n (clean-below (check-tree-continues P) 3 (all 5) t l) i m;
+      trailing-zero = pgn 11;
+    }
+
+module _ (P : Pack) (t i : ℕ) (p : Pgn) (q : Quiet P t i p) (h : held-nonempty P p ≡ true) where
+  held-4 : (shares-held (layout p) ≡ true) × (nonempty-count-fields-held (layout p) ≡ true)
+      × (everyBelow (λ k. bit-length-held p k) (length (p .fields)) ≡ true) × (everyBelow (λ k. dynamic-value-held P p k) (length (p .fields)) ≡ true)
+  unfolding held-nonempty
+  held-4 = and-4 (shares-held (layout p)) (nonempty-count-fields-held (layout p)) _ _ h
+
+  fit : (k o : ℕ) → Holds (layout p) k o → Fits (layout p) k
+  fit = sets-fit t i p (q .repeating)
+
+  laid : stop-1 (layout p) ≡ false
+  laid = past-stop-1 (layout p) fit (held-4 .0)
+
+  -- stop 6's target is held
+  bits-held : (k : ℕ) → k < length (p .fields) → (id : Bytes) (j : ℕ) → field-at p k .bit-length-field ≡ some id → target p id ≡ some j → sets-hold (layout p) (suc j) (suc k) ≡ true
+  unfolding bit-length-held
+  bits-held k l id j a b = let e = every-e (λ k. bit-length-held p k) (length (p .fields)) (held-4 .2) k l in rw (bit-length-held, a, b) at e
+
+  -- STOP 8, by what is held
+  no-stop-8 : (k : ℕ) → k < length (p .fields) → lacks-length P p (placed (layout p) (suc k)) k ≡ false
+  unfolding lacks-length dynamic-value-held placed
+  no-stop-8 k l = and-not (is-dynamic-value P (field-at p k)) (anyBelow current-source k) (λ v.
+      let s = any-e _ k (imp-e (is-dynamic-value P (field-at p k)) _ (every-e (λ k. dynamic-value-held P p k) (length (p .fields)) (held-4 .3) k l) v) in
+      let source = length-source (P .fieldtypes) (field-at p (s .at)) in
+      any-i current-source k (s .at) (s .low) (and-i source _ (and-l source _ (s .has)) (and-i _ _ (lt-ltb (suc (s .at)) (suc k) (omega (arith, s .low))) (and-r source _ (s .has)))))
+    where
+      current-source : ℕ → Bool
+      current-source j = length-source (P .fieldtypes) (field-at p j) && placed (layout p) (suc k) j
+
+  no-stop-at : (k r : ℕ) → k < length (p .fields) → stop-at P p (placed (layout p) (suc k)) k r ≡ none
+  unfolding stop-at check-lookup-refs check-match-values check-bit-length-field check-continues check-trailing-zero-is-digit
+  no-stop-at k r l =
+      let n = length (p .fields) in
+      rw (
+        no-stop-3 P t i k (field-at p k) (clean-below _ n (q .lookup-refs) k l),
+        no-stop-4 P t i p k (clean-below _ n (q .match-values) k l),
+        no-stop-5 P (q .nested-refs) (lookup-ref (field-at p k)) r,
+        no-stop-6 p t i k (field-at p k .bit-length-field) (clean-below _ n (q .bit-length-field) k l) (bits-held k l),
+        no-stop-7 p (good (layout p) laid) P t i k l (field-at p k .continues) (clean-below _ n (q .continues) k l),
+        no-stop-8 k l,
+        no-stop-9 p P t i k (field-at p k .trailing-zero) (clean-below _ n (q .trailing-zero) k l),
+        stop-at,
+      )
+
+  pub sound : Sound (layout p) (stop-at P p)
+  sound = record { laid = laid; fields = no-stop-at; counts = counts-placed (layout p) fit (held-4 .0) (held-4 .1) }
+
+unstopped : (a : Answer) (n : ℕ) → Runs (a .ends) → Counted a n → Unstopped a n
+unstopped a n r c = go (a .ends) refl r
+  where
+    go : (x : End) → a .ends ≡ x → Runs x → Unstopped a n
+    go whole q r = ends-whole q (c .at-most)
+    go used-up q r = ends-used-up q (c .exact q)
+    go (stop k) q r = absurd r
+
+-- under the weaker test
+pub guarantee-nonempty : (P : Pack) (t i : ℕ) → t < 3 → i < length (pgns-of P t) → without-error (check P) ≡ true → held-nonempty P (pgn-at P t i) ≡ true
+    → (readings : List ℕ) → Unstopped (walk P (pgn-at P t i) readings) (length readings)
+unfolding walk walk-by
+guarantee-nonempty P t i l m e h readings =
+    let p = pgn-at P t i in
+    unstopped _ _ (never (layout p) (stop-at P p) (sound P t i p (quiet P t i l m e) h) readings) (walk-counted (layout p) (by-visits (layout p)) (stop-at P p) readings)
+
+pub guarantee : Guarantee
+guarantee P t i l m e h = guarantee-nonempty P t i l m e (weaker P (pgn-at P t i) h)
