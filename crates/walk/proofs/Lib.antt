@@ -3,6 +3,7 @@ pub mod Sets
 pub mod Invariants
 pub mod Position
 pub mod Agree
+pub mod Rounds
 pub mod Never
 pub mod Clean
 pub mod HeldSets
