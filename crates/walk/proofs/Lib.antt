@@ -10,3 +10,4 @@ pub mod HeldSets
 pub mod CleanSets
 pub mod CleanFields
 pub mod NoStop
+pub mod Examples

@@ -1,0 +1,304 @@
+-- Small walks, by computation: each end and each stop.
+use Prim.Native.Nat.{ℕ}
+use mathlib.Core.Path.{_≡_, refl}
+use mathlib.Core.Bool.{Bool, true, false}
+use mathlib.Core.List.{List, [], _∷_}
+use mathlib.Core.Option.{Option, none, some}
+use Rattle.pack.specs.Value.{Bytes, FieldType, Entry, Lookup, Reference, Repeating, Field, Pgn, Pack}
+use Rattle.rules.specs.Model.{find-lookup, target, fieldtypes, resolve-match, resolve-text, resolve-name, parse-u64, parse-digits}
+use Rattle.rules.specs.DynamicLength.{length-source}
+use Rattle.rules.specs.LookupWiring.{is-fieldtype}
+use Rattle.rules.specs.Texts.{bytes, NUMBER, DYNAMIC-FIELD-KEY, DYNAMIC-FIELD-VALUE}
+use Rattle.walk.specs.Walk.{End, whole, used-up, stop, Answer, walk}
+use Rattle.walk.specs.Held.{held}
+
+-- A PACK of three field types and one lookup, and fields that ask for something
+abbrev root : Bytes → FieldType
+root name = record { name = name; base = false; print-function = true; signed = false; size = 0; resolution = 0; root-name = name }
+
+abbrev entry : ℕ → Bytes → Option Bytes → Entry
+entry value fieldtype nested = record { first = 0; value = value; name = bytes "e"; fieldtype = fieldtype; nested = nested }
+
+abbrev P : Pack
+P = record {
+  fieldtypes = root NUMBER ∷ root DYNAMIC-FIELD-KEY ∷ root DYNAMIC-FIELD-VALUE ∷ [];
+  lookups =
+      record {
+        name = bytes "L";
+        kind = 3;
+        bits = 8;
+        entries = entry 1 NUMBER none ∷ entry 1 NUMBER (some (bytes "L")) ∷ entry 2 (bytes "X") none ∷ entry 3 NUMBER (some (bytes "Y")) ∷ [];
+      } ∷ [];
+  pgns = [];
+  pgns-j1939 = [];
+  pgns-quick = [];
+}
+
+-- what a field asks for
+pub record Wants : Type 0 where
+  ft : ℕ
+  match : Option Bytes
+  lookup : Option Bytes
+  bit-length-field : Option Bytes
+  continues : Option Bytes
+  trailing-zero : Option Bytes
+
+abbrev reference : Option Bytes → Option Reference
+reference none = none
+reference (some name) = some (record { kind = 3; name = name })
+
+abbrev field : Bytes → Wants → Field
+field id w =
+    record {
+      id = id;
+      name = id;
+      type = NUMBER;
+      ft = w .ft;
+      bits-given = false;
+      unit-given = false;
+      proprietary = false;
+      allow-lookup-width-mismatch = false;
+      dynamic-field-length = false;
+      overhead = false;
+      res-bits = 8;
+      res-resolution = 0;
+      res-offset = 0;
+      res-unit = none;
+      resolution = none;
+      offset = none;
+      spn = none;
+      continues = w .continues;
+      match = w .match;
+      reference = reference (w .lookup);
+      special-values = none;
+      bit-length-field = w .bit-length-field;
+      trailing-zero = w .trailing-zero;
+      continuation = none;
+    }
+
+abbrev nothing : Wants
+nothing = record { ft = 0; match = none; lookup = none; bit-length-field = none; continues = none; trailing-zero = none }
+
+abbrev a : Field
+a = field (bytes "a") nothing
+
+abbrev b : Field
+b = field (bytes "b") nothing
+
+abbrev c : Field
+c = field (bytes "c") nothing
+
+abbrev d : Field
+d = field (bytes "d") nothing
+
+abbrev e : Field
+e = field (bytes "e") nothing
+
+abbrev f : Field
+f = field (bytes "f") nothing
+
+-- the field z, which wants something
+abbrev z-matches : Bytes → Field
+z-matches m = field (bytes "z") (record { ft = 0; match = some m; lookup = none; bit-length-field = none; continues = none; trailing-zero = none })
+
+abbrev z-looks-up : Bytes → Field
+z-looks-up l = field (bytes "z") (record { ft = 0; match = none; lookup = some l; bit-length-field = none; continues = none; trailing-zero = none })
+
+abbrev z-as-long-as : Bytes → Field
+z-as-long-as id = field (bytes "z") (record { ft = 0; match = none; lookup = none; bit-length-field = some id; continues = none; trailing-zero = none })
+
+abbrev z-continues : Bytes → Field
+z-continues id = field (bytes "z") (record { ft = 0; match = none; lookup = none; bit-length-field = none; continues = some id; trailing-zero = none })
+
+abbrev z-ends-by : Bytes → Field
+z-ends-by id = field (bytes "z") (record { ft = 0; match = none; lookup = none; bit-length-field = none; continues = none; trailing-zero = some id })
+
+abbrev key : Field
+key = field (bytes "k") (record { ft = 1; match = none; lookup = none; bit-length-field = none; continues = none; trailing-zero = none })
+
+abbrev value : Field
+value = field (bytes "v") (record { ft = 2; match = none; lookup = none; bit-length-field = none; continues = none; trailing-zero = none })
+
+abbrev pgn : Option Repeating → Option Repeating → List Field → Pgn
+pgn set1 set2 fields =
+    record {
+      pgn = 130820;
+      id = bytes "p";
+      type = 1;
+      fallback = false;
+      variable = true;
+      missing-company-fields = false;
+      length = 8;
+      min-length = none;
+      repeating1 = set1;
+      repeating2 = set2;
+      fields = fields;
+    }
+
+abbrev set : (start count : ℕ) → Option ℕ → Bool → Option Repeating
+set start count count-field nested = some (record { count = count; start = start; count-field = count-field; nested = nested })
+
+abbrev answer : End → List ℕ → Answer
+answer x visits = record { ends = x; visits = visits }
+
+-- the definitions, opened
+unfoldable run : Pgn → List ℕ → Answer
+unfolding walk find-lookup target fieldtypes is-fieldtype length-source resolve-match resolve-text resolve-name parse-u64 parse-digits
+run p readings = walk P p readings
+
+unfoldable is-held : Pgn → Bool
+unfolding held target length-source
+is-held p = held P p
+
+-- THE ENDS. c and d repeat as often as b says
+abbrev counted : Pgn
+counted = pgn (set 3 2 (some 2) false) none (a ∷ b ∷ c ∷ d ∷ e ∷ [])
+
+twice : run counted (9 ∷ 2 ∷ 1 ∷ 1 ∷ 1 ∷ 1 ∷ 7 ∷ 8 ∷ []) ≡ answer whole (0 ∷ 1 ∷ 2 ∷ 3 ∷ 2 ∷ 3 ∷ 4 ∷ [])
+unfolding run
+twice = refl
+
+not-at-all : run counted (9 ∷ 0 ∷ 1 ∷ 1 ∷ []) ≡ answer whole (0 ∷ 1 ∷ 4 ∷ [])
+unfolding run
+not-at-all = refl
+
+cut-short : run counted (9 ∷ 2 ∷ 1 ∷ []) ≡ answer used-up (0 ∷ 1 ∷ 2 ∷ [])
+unfolding run
+cut-short = refl
+
+nothing-read : run counted [] ≡ answer used-up []
+unfolding run
+nothing-read = refl
+
+no-fields : run (pgn none none []) [] ≡ answer whole []
+unfolding run
+no-fields = refl
+
+-- without countField the passes never end
+endless : run (pgn (set 2 2 none false) none (a ∷ b ∷ c ∷ d ∷ [])) (0 ∷ 0 ∷ 0 ∷ 0 ∷ 0 ∷ 0 ∷ []) ≡ answer used-up (0 ∷ 1 ∷ 2 ∷ 1 ∷ 2 ∷ 1 ∷ [])
+unfolding run
+endless = refl
+
+-- c, d, e repeat as often as b says; within each of their passes d, e as often as c said
+abbrev nested : Pgn
+nested = pgn (set 3 3 (some 2) false) (set 4 2 (some 3) true) (a ∷ b ∷ c ∷ d ∷ e ∷ f ∷ [])
+
+twice-and-not-at-all : run nested (9 ∷ 2 ∷ 2 ∷ 1 ∷ 1 ∷ 1 ∷ 1 ∷ 0 ∷ 5 ∷ 8 ∷ []) ≡ answer whole (0 ∷ 1 ∷ 2 ∷ 3 ∷ 4 ∷ 3 ∷ 4 ∷ 2 ∷ 5 ∷ [])
+unfolding run
+twice-and-not-at-all = refl
+
+-- STOP 1: start 0; past the fields; sets that share an order; a nested set 1; a nested set 2 that is not inside
+start-0 : run (pgn (set 0 1 none false) none (a ∷ b ∷ [])) (1 ∷ []) ≡ answer (stop 1) []
+unfolding run
+start-0 = refl
+
+past-the-fields : run (pgn (set 2 2 none false) none (a ∷ b ∷ [])) (1 ∷ []) ≡ answer (stop 1) []
+unfolding run
+past-the-fields = refl
+
+shared : run (pgn (set 1 2 none false) (set 2 1 none false) (a ∷ b ∷ [])) (1 ∷ []) ≡ answer (stop 1) []
+unfolding run
+shared = refl
+
+nested-set-1 : run (pgn (set 1 2 none true) none (a ∷ b ∷ [])) (1 ∷ []) ≡ answer (stop 1) []
+unfolding run
+nested-set-1 = refl
+
+nested-at-the-start : run (pgn (set 1 2 none false) (set 1 1 none true) (a ∷ b ∷ [])) (1 ∷ []) ≡ answer (stop 1) []
+unfolding run
+nested-at-the-start = refl
+
+-- but not for empty sets
+empty-sets : run (pgn (set 0 0 none true) (set 9 0 none true) (a ∷ b ∷ [])) (1 ∷ 2 ∷ []) ≡ answer whole (0 ∷ 1 ∷ [])
+unfolding run
+empty-sets = refl
+
+-- STOP 2: the countField comes later, is no field, or lies in a set that has been left; it comes before "used up"
+count-later : run (pgn (set 2 1 (some 3) false) none (a ∷ b ∷ c ∷ [])) (1 ∷ []) ≡ answer (stop 2) (0 ∷ [])
+unfolding run
+count-later = refl
+
+count-0 : run (pgn (set 1 1 (some 0) false) none (a ∷ [])) [] ≡ answer (stop 2) []
+unfolding run
+count-0 = refl
+
+count-in-a-left-set : run (pgn (set 2 1 (some 1) false) (set 3 1 (some 2) false) (a ∷ b ∷ c ∷ [])) (1 ∷ 1 ∷ 1 ∷ []) ≡ answer (stop 2) (0 ∷ 1 ∷ [])
+unfolding run
+count-in-a-left-set = refl
+
+-- STOPS 3 to 5
+unknown-lookup : run (pgn none none (a ∷ z-looks-up (bytes "M") ∷ [])) (1 ∷ 1 ∷ []) ≡ answer (stop 3) (0 ∷ [])
+unfolding run
+unknown-lookup = refl
+
+-- but "used up" comes first
+unknown-lookup-unread : run (pgn none none (a ∷ z-looks-up (bytes "M") ∷ [])) (1 ∷ []) ≡ answer used-up (0 ∷ [])
+unfolding run
+unknown-lookup-unread = refl
+
+wide-match : run (pgn none none (z-matches (bytes "256") ∷ [])) (1 ∷ []) ≡ answer (stop 4) []
+unfolding run
+wide-match = refl
+
+fitting-match : run (pgn none none (z-matches (bytes "+255") ∷ [])) (1 ∷ []) ≡ answer whole (0 ∷ [])
+unfolding run
+fitting-match = refl
+
+unresolved-match : run (pgn none none (z-matches (bytes "-0") ∷ [])) (1 ∷ []) ≡ answer (stop 4) []
+unfolding run
+unresolved-match = refl
+
+known-entries : run (pgn none none (z-looks-up (bytes "L") ∷ [])) (1 ∷ []) ≡ answer whole (0 ∷ [])
+unfolding run
+known-entries = refl
+
+unknown-fieldtype : run (pgn none none (z-looks-up (bytes "L") ∷ [])) (2 ∷ []) ≡ answer (stop 5) []
+unfolding run
+unknown-fieldtype = refl
+
+unknown-nested : run (pgn none none (z-looks-up (bytes "L") ∷ [])) (3 ∷ []) ≡ answer (stop 5) []
+unfolding run
+unknown-nested = refl
+
+-- STOPS 6 to 9: the target comes later, is no field, or lies in a set that has been left
+length-later : run (pgn none none (z-as-long-as (bytes "a") ∷ a ∷ [])) (1 ∷ []) ≡ answer (stop 6) []
+unfolding run
+length-later = refl
+
+length-in-a-left-set : run (pgn (set 2 1 (some 1) false) none (a ∷ b ∷ z-as-long-as (bytes "b") ∷ [])) (1 ∷ 1 ∷ 1 ∷ []) ≡ answer (stop 6) (0 ∷ 1 ∷ [])
+unfolding run
+length-in-a-left-set = refl
+
+continued-in-a-left-set : run (pgn (set 2 1 (some 1) false) none (a ∷ b ∷ z-continues (bytes "b") ∷ [])) (1 ∷ 1 ∷ 1 ∷ []) ≡ answer (stop 7) (0 ∷ 1 ∷ [])
+unfolding run
+continued-in-a-left-set = refl
+
+no-length : run (pgn none none (a ∷ value ∷ [])) (1 ∷ 1 ∷ []) ≡ answer (stop 8) (0 ∷ [])
+unfolding run
+no-length = refl
+
+length-by-key : run (pgn none none (key ∷ value ∷ [])) (1 ∷ 1 ∷ []) ≡ answer whole (0 ∷ 1 ∷ [])
+unfolding run
+length-by-key = refl
+
+no-such-target : run (pgn none none (a ∷ z-ends-by (bytes "b") ∷ [])) (1 ∷ 1 ∷ []) ≡ answer (stop 9) (0 ∷ [])
+unfolding run
+no-such-target = refl
+
+-- HELD: the PGNs that count are, and one whose target lies in a set that its user does not lie in is not
+held-counted : is-held counted ≡ true
+unfolding is-held
+held-counted = refl
+
+held-nested : is-held nested ≡ true
+unfolding is-held
+held-nested = refl
+
+not-held : is-held (pgn (set 2 1 (some 1) false) none (a ∷ b ∷ z-as-long-as (bytes "b") ∷ [])) ≡ false
+unfolding is-held
+not-held = refl
+
+-- to the letter: the countField of an empty set too
+not-held-empty : is-held (pgn (set 1 1 none false) (set 0 0 (some 1) false) (a ∷ [])) ≡ false
+unfolding is-held
+not-held-empty = refl
