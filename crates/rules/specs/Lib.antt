@@ -47,3 +47,6 @@ pub mod Continues
 -- R44
 pub mod TrailingZero
 pub mod Check
+-- examples
+mod Computed
+mod Examples
