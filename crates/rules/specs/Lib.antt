@@ -47,6 +47,7 @@ pub mod Continues
 -- R44
 pub mod TrailingZero
 pub mod Check
+pub mod Clean
 -- examples
 mod Computed
 mod Examples
