@@ -1,7 +1,7 @@
 -- The report example of document 01, its edges, and for each of its errors to shut out an example that the wrong reading fails.
-use Prim.Native.Nat.{ℕ, _+_}
+use Prim.Native.Nat.{ℕ}
 use mathlib.Core.Bool.{Bool, true, false, _&&_}
-use mathlib.Core.List.{List, [], _∷_, _++_}
+use mathlib.Core.List.{List, [], _∷_}
 use mathlib.Core.Option.{Option, none, some}
 use mathlib.Core.Path.{_≡_, refl}
 use Rattle.pack.specs.Notation.{_==_, _≐_, if_then_else_, tab}
@@ -9,7 +9,7 @@ use Rattle.pack.specs.Value.{Bytes, FieldType, Entry, Lookup, Repeating, Refere
 use Rattle.rules.specs.declared.Finding.{Finding}
 use Rattle.rules.specs.Check.{check}
 use Rattle.rules.specs.Computed.{computed}
-use Rattle.rules.specs.Findings.{pgn-error, group-error}
+use Rattle.rules.specs.Findings.{pgn-error}
 use Rattle.rules.specs.Floats.{ONE}
 use Rattle.rules.specs.PlaceText.{place-text}
 use Rattle.rules.specs.Texts.{bytes, NUMBER, DECIMAL}

@@ -48,6 +48,7 @@ pub mod Continues
 pub mod TrailingZero
 pub mod Check
 pub mod Clean
+pub mod Pdu1
 -- examples
 mod Computed
 mod Examples
