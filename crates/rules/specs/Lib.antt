@@ -47,3 +47,8 @@ pub mod Continues
 -- R44
 pub mod TrailingZero
 pub mod Check
+pub mod Clean
+pub mod Pdu1
+-- examples
+mod Computed
+mod Examples

@@ -1,6 +1,6 @@
 -- R02, `check_pgn_range`: the number in a valid range; PDU1 PGNs end in 0x00; the packet type agrees with the range.
 use Prim.Native.Nat.{ℕ, _%_}
-use mathlib.Core.Bool.{Bool, _&&_, _||_, not}
+use mathlib.Core.Bool.{_&&_, _||_, not}
 use mathlib.Core.List.{List, [], _∷_, _++_}
 use mathlib.Core.Option.{Option, none, some}
 use Rattle.pack.specs.Notation.{_<ᵇ_, _≤ᵇ_, _==_, if_then_else_}
@@ -59,6 +59,10 @@ J1939-PGN-RANGES =
     ∷ range 0x1ff00 0x1ffff 1 ISO
     ∷ []
 
+-- Quick has none
+abbrev pub ranges-of : (t : ℕ) → List Range
+ranges-of t = if t == 1 then J1939-PGN-RANGES else PGN-RANGES
+
 -- the first range that does not end below the number
 unfoldable pub find-range : List Range → ℕ → Option Range
 find-range [] n = none
@@ -84,4 +88,4 @@ unfoldable pub check-pgn-range : (t i : ℕ) → Pgn → List Finding
 check-pgn-range t i p =
     if ACTISENSE-BEM ≤ᵇ p .pgn then []
     else if t == 2 then quick-range t i p
-    else found-range t i p (find-range (if t == 1 then J1939-PGN-RANGES else PGN-RANGES) (p .pgn))
+    else found-range t i p (find-range (ranges-of t) (p .pgn))

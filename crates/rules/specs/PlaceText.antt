@@ -3,9 +3,9 @@ use Prim.Native.Nat.{ℕ, zero, suc}
 use mathlib.Core.Bool.{Bool, _&&_}
 use mathlib.Core.List.{[], _++_}
 use mathlib.Core.Option.{Option, none}
-use lib.ListN.{length, getD}
+use lib.ListN.{length}
 use Rattle.pack.specs.Notation.{_<ᵇ_, _==_, optional}
-use Rattle.pack.specs.Value.{Bytes, Pgn, Pack, pgns-of, noLookup}
+use Rattle.pack.specs.Value.{Bytes, Pgn, Pack, pgns-of}
 use Rattle.rules.specs.Digits.{six-digits}
 use Rattle.rules.specs.Model.{pgn-at, lookup-at}
 use Rattle.rules.specs.Search.{anyBelow}

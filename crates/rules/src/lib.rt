@@ -1,4 +1,7 @@
-// A finding of the check: eight numbers.
+ghost use mathlib.Core.Path.{_≡_};
+ghost use Rattle.rules.specs.Proprietary.{is-manufacturer-pgn};
+
+// A finding's eight numbers.
 pub struct Finding {
     pub rule: u32,
     pub severity: u32,
@@ -8,4 +11,23 @@ pub struct Finding {
     pub item: u32,
     pub part: u32,
     pub other: u32,
+}
+
+// pgn.h IS_MANUFACTURER_PGN()
+pub fn is_manufacturer_pgn(pgn: u32) -> bool
+    ensures { λ r. ⌜ r ≡ is-manufacturer-pgn pgn ⌝ }
+{
+    if pgn < 0xff00 {
+        return false;
+    }
+    if pgn <= 0xffff {
+        return true;
+    }
+    if pgn == 0x1ef00 {
+        return true;
+    }
+    if pgn < 0x1ff00 {
+        return false;
+    }
+    pgn <= 0x1ffff
 }
