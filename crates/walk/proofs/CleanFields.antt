@@ -24,7 +24,8 @@ use Rattle.walk.specs.Layout.{Layout, set-or-empty, layout, start, end, 
 use Rattle.walk.specs.Stops.{is-missing, name-of, lookup-missing, unfit, match-unfit, names-missing, any-names-missing, entry-astray-in, entry-astray, target-current, lacks}
 use Rattle.walk.specs.ByPlace.{placed}
 use Rattle.walk.proofs.Tests.{and-l, and-r, and-i, or-l, or-r, or-i, none-below-i}
-use Rattle.walk.proofs.Clean.{Clean, clean-l, clean-r, clean-part, clean-below, clean-if, clean-then, clean-else}
+use Rattle.rules.specs.Clean.{Clean, clean-in-turn, clean-below, clean-if}
+use Rattle.walk.proofs.Clean.{clean-then, clean-else}
 use Rattle.walk.proofs.Sets.{Holds, holds-e, holds-i, short, placed-i, Good}
 
 -- A FIRST INDEX
@@ -86,8 +87,8 @@ module _ (P : Pack) where
   unfolding fieldtype-entry-at names-missing
   names-there l e x c =
       let unknown = not (is-fieldtype (P .fieldtypes) (x .fieldtype)) in
-      let parts = clean-part (report-if unknown (lookup-error 8 6 l e 0) ∷ nested-lookup-at (P .lookups) l e (x .nested) ∷ []) c in
-      or-i unknown _ (clean-if unknown (lookup-error 8 6 l e 0) refl (parts 0)) (nested-there l e (x .nested) (parts 1))
+      let parts = clean-in-turn (report-if unknown (lookup-error 8 6 l e 0)) (nested-lookup-at (P .lookups) l e (x .nested) ∷ []) c in
+      or-i unknown _ (clean-if unknown (lookup-error 8 6 l e 0) refl (parts .0)) (nested-there l e (x .nested) (parts .1 .0))
 
   and-none : (a b : Bool) → b ≡ false → (a && b) ≡ false
   and-none true b e = e
@@ -190,8 +191,8 @@ module _ (p : Pgn) (G : Good (layout p)) where
       go (some j) q =
           let c : Clean (continued-at (P .fieldtypes) t i p k (field-at p k) id j (field-at p j)) = rw (q, continues-at) at e in
           let other = not (set-of p j == set-of p k) in
-          let parts = clean-part ((if other then pgn-error 43 2 t i k j ∷ [] else _) ∷ _ ∷ _ ∷ _ ∷ _ ∷ _ ∷ []) c in
-          let s = eqb-true (set-of p j) (set-of p k) (not-false _ (clean-else other (pgn-error 43 2 t i k j) _ refl (parts 0) .0)) in
+          let parts = clean-in-turn (if other then pgn-error 43 2 t i k j ∷ [] else _) (_ ∷ _ ∷ _ ∷ _ ∷ _ ∷ []) c in
+          let s = eqb-true (set-of p j) (set-of p k) (not-false _ (clean-else other (pgn-error 43 2 t i k j) _ refl (parts .0) .0)) in
           let m = first-low _ k j q in
           has p (suc k) j id (first-more _ k (length (p .fields)) j q (omega arith)) (placed-i (layout p) (suc k) j (omega arith) (one-set j k s))
 

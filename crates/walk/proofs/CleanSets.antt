@@ -13,7 +13,8 @@ use Rattle.pack.specs.Value.{Field, Repeating, Pgn}
 use Rattle.rules.specs.Repeating.{set-bounds, set-count-field, set-nesting, check-set, check-repeating, none-or-below}
 use Rattle.walk.specs.Layout.{Layout, set-or-empty, layout, set-at, start, end, inside-last}
 use Rattle.walk.proofs.Tests.{and-l, and-r, and-i, or-l, or-r}
-use Rattle.walk.proofs.Clean.{Clean, clean-l, clean-r, clean-part, clean-if, clean-then, clean-else}
+use Rattle.rules.specs.Clean.{Clean, clean-left, clean-right, clean-in-turn, clean-if}
+use Rattle.walk.proofs.Clean.{clean-then, clean-else}
 use Rattle.walk.proofs.HeldSets.{Fits}
 use Rattle.walk.proofs.Sets.{Holds, short}
 
@@ -59,14 +60,14 @@ module _ (t i n : ℕ) where
   silent : (fields : ℕ) (outer : Option Repeating) (r : Repeating) → 0 < r .count → Clean (check-set t i n fields outer (some r)) → Silent fields outer r
   unfolding check-set
   silent fields outer r l e =
-      let parts = clean-part (set-bounds t i n fields r ∷ set-count-field t i n (r .start) (r .count-field) ∷ (if r .nested then set-nesting t i n outer r else []) ∷ [])
+      let parts = clean-in-turn (set-bounds t i n fields r) (set-count-field t i n (r .start) (r .count-field) ∷ (if r .nested then set-nesting t i n outer r else []) ∷ [])
       (rw (ne-eqb (r .count) 0 (λ q. omega arith)) at e) in
-      let b = bounds fields r (parts 0) in
+      let b = bounds fields r (parts .0) in
       record {
         low = b .0;
         high = b .1;
-        count = count-field (r .start) (r .count-field) (parts 1);
-        nests = λ q. nesting outer r (clean-then (r .nested) _ _ q (parts 2));
+        count = count-field (r .start) (r .count-field) (parts .1 .0);
+        nests = λ q. nesting outer r (clean-then (r .nested) _ _ q (parts .1 .1 .0));
       }
 
 abbrev two : List Field → Option Repeating → Option Repeating → Layout
@@ -93,7 +94,7 @@ module _ (t i : ℕ) (fs : List Field) where
 pub sets-fit : (t i : ℕ) (p : Pgn) → Clean (check-repeating t i p) → (k o : ℕ) → Holds (layout p) k o → Fits (layout p) k
 unfolding check-repeating
 sets-fit t i p e zero o h =
-    first-fits t i (p .fields) (p .repeating1) (p .repeating2) o (clean-l (check-set t i 1 (length (p .fields)) none (p .repeating1)) _ e) h
+    first-fits t i (p .fields) (p .repeating1) (p .repeating2) o (clean-left (check-set t i 1 (length (p .fields)) none (p .repeating1)) _ e) h
 sets-fit t i p e (suc zero) o h =
-    second-fits t i (p .fields) (p .repeating1) (p .repeating2) o (clean-r (check-set t i 1 (length (p .fields)) none (p .repeating1)) _ e) h
+    second-fits t i (p .fields) (p .repeating1) (p .repeating2) o (clean-right (check-set t i 1 (length (p .fields)) none (p .repeating1)) _ e) h
 sets-fit t i p e (suc (suc k)) o h = absurd (omega (arith, short (layout p) (suc (suc k)) o h))

@@ -34,7 +34,7 @@ use Rattle.walk.proofs.Tests.{and-l, and-r, and-i, or-i, and-not, imp-e
 use Rattle.walk.proofs.Sets.{Holds, placed-i, good}
 use Rattle.walk.proofs.HeldSets.{Fits, nonempty-count-fields-held, counts-weaker, past-stop-1, counts-placed}
 use Rattle.walk.proofs.Never.{Counted, walk-counted, Runs, Count-placed, Sound, never}
-use Rattle.walk.proofs.Clean.{Clean, clean-part, clean-below}
+use Rattle.rules.specs.Clean.{Clean, clean-below, CleanPgn, clean-pgn, clean-lookup-refs, clean-nested-refs, clean-continues}
 use Rattle.walk.proofs.CleanSets.{sets-fit}
 use Rattle.walk.proofs.CleanFields.{no-stop-3, no-stop-4, no-stop-5, no-stop-6, no-stop-7, no-stop-9}
 
@@ -61,35 +61,17 @@ pub record Quiet (P : Pack) (t i : ℕ) (p : Pgn) : Type 0 where
   pub continues : Clean (check-continues (P .fieldtypes) t i p)
   pub trailing-zero : Clean (check-trailing-zero-is-digit (P .fieldtypes) t i p)
 
--- the references of PGN i of tree t, and of the tree
-abbrev refs : Pack → ℕ → ℕ → List Finding
-refs P t i = check-lookup-refs (P .lookups) t i (pgn-at P t i)
-
-abbrev tree-refs : Pack → ℕ → List Finding
-tree-refs P t = concatBelow (refs P t) (length (pgns-of P t))
-
--- the entries of lookup l
-abbrev entries : Pack → ℕ → List Finding
-entries P l = check-nested-refs P l (lookup-at (P .lookups) l)
-
 pub quiet : (P : Pack) (t i : ℕ) → t < 3 → i < length (pgns-of P t) → Clean (check P) → Quiet P t i (pgn-at P t i)
-unfolding check check-tree check-pgn check-tree-continues check-lookup-wiring
 quiet P t i l m e =
-    let p = pgn-at P t i in
-    let n = length (pgns-of P t) in
-    let all = clean-part (check-fieldtypes (P .fieldtypes) ∷ check-lookup-wiring P ∷ _ ∷ concatBelow (check-tree P) 3 ∷ _ ∷ concatBelow (check-tree-continues P) 3 ∷ []) e in
-    let wiring = clean-part (concatBelow (tree-refs P) 3 ∷ concatBelow (entries P) (length (P .lookups)) ∷ _ ∷ []) (all 1) in
-    let tree = clean-part (concatBelow (λ i. check-pgn P t i (pgn-at P t i)) n ∷ _ ∷ _ ∷ []) (clean-below (check-tree P) 3 (all 3) t l) in
-    let pgn = clean-part (check-pgn-range t i p ∷ _ ∷ check-repeating t i p ∷ _ ∷ _ ∷ _ ∷ _ ∷ _ ∷ check-match-values (P .lookups) t i p ∷ _ ∷ check-bit-length-field t i p
-    ∷ check-trailing-zero-is-digit (P .fieldtypes) t i p ∷ _ ∷ []) (clean-below (λ i. check-pgn P t i (pgn-at P t i)) n (tree 0) i m) in
+    let c = clean-pgn P e t i l m in
     record {
-      repeating = pgn 2;
-      lookup-refs = clean-below (refs P t) n (clean-below (tree-refs P) 3 (wiring 0) t l) i m;
-      nested-refs = clean-below (entries P) (length (P .lookups)) (wiring 1);
-      match-values = pgn 8;
-      bit-length-field = pgn 10;
-      continues = clean-below (λ i. check-continues (P .fieldtypes) t i (pgn-at P t i)) n (clean-below (check-tree-continues P) 3 (all 5) t l) i m;
-      trailing-zero = pgn 11;
+      repeating = c .repeating;
+      lookup-refs = clean-lookup-refs P e t i l m;
+      nested-refs = clean-nested-refs P e;
+      match-values = c .match-values;
+      bit-length-field = c .bit-length-field;
+      continues = clean-continues P e t i l m;
+      trailing-zero = c .trailing-zero-is-digit;
     }
 
 module _ (P : Pack) (t i : ℕ) (p : Pgn) (q : Quiet P t i p) (h : held-nonempty P p ≡ true) where
