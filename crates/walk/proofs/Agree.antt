@@ -8,10 +8,11 @@ use native.Mathlib.Omega.{arith}
 use native.Mathlib.Decide.{ℕ-discrete}
 use lib.ListN.{length}
 use borrow.Author.Tests.{eq-eqb, ne-eqb}
-use Rattle.pack.specs.Notation.{if_then_else_}
-use Rattle.walk.specs.Layout.{Layout, set-at, end, stop-1}
-use Rattle.walk.specs.Walk.{passes, Place, first, goto, Stand, again, arrived, ready, beyond, stand, Arrival, refused, over, enter, arrive, Settled, past, halted, due, visit-then, settle, settled, onward, walk-on, walk-with, Visits, latest, is-current, by-visits, walk-by}
-use Rattle.walk.specs.ByPlace.{placed, counts, by-place, walk-by-place}
+use Rattle.walk.specs.Layout.{Layout, set-at, stop-1}
+use Rattle.walk.specs.Passes.{Place, first, Stand, again, arrived, ready, beyond}
+use Rattle.walk.specs.Visits.{Visits, latest, is-current}
+use Rattle.walk.specs.Walk.{Arrival, refused, over, enter, arrive, Settled, past, halted, due, visit-then, settle, settled, onward, walk-on, walk-with, by-visits, Stops}
+use Rattle.walk.specs.ByPlace.{placed, by-place}
 use Rattle.walk.proofs.Sets.{Good, good}
 use Rattle.walk.proofs.Position.{standing, visiting, Comes, at-first, another, no-start, entered, passed-over, after-visit, at-field, on-arriving}
 
@@ -67,7 +68,7 @@ module _ (L : Layout) (G : Good L) where
   unfolding settled latest
   first-same = settle-same (suc (length (L .fields))) _ _ (λ k t e. refl) _ at-first
 
-  walk-same : (stops : (ℕ → Bool) → ℕ → ℕ → Option ℕ) (rs : List ℕ) (x : Settled Visits) (y : Settled (ℕ → ℕ)) → Same L x y → walk-on L (by-visits L) stops x rs ≡ walk-on L (by-place L) stops y rs
+  walk-same : (stops : Stops) (rs : List ℕ) (x : Settled Visits) (y : Settled (ℕ → ℕ)) → Same L x y → walk-on L (by-visits L) stops x rs ≡ walk-on L (by-place L) stops y rs
   unfolding walk-on
   walk-same stops [] x y both-past = refl
   walk-same stops [] x y (both-halted g c e) = refl
@@ -85,10 +86,10 @@ module _ (L : Layout) (G : Good L) where
       go (some n) t rec = rw (current, t, walk-on)
       go none t rec = rw (current, t, walk-on) (ap (visit-then (pred (p .order))) rec)
 
-pub agree : (L : Layout) (stops : (ℕ → Bool) → ℕ → ℕ → Option ℕ) (rs : List ℕ) → walk-by L stops rs ≡ walk-by-place L stops rs
-unfolding walk-by walk-by-place walk-with
+pub agree : (L : Layout) (stops : Stops) (rs : List ℕ) → walk-with L (by-visits L) stops rs ≡ walk-with L (by-place L) stops rs
+unfolding walk-with
 agree L stops rs = go (stop-1 L) refl
   where
-    go : (b : Bool) → stop-1 L ≡ b → walk-by L stops rs ≡ walk-by-place L stops rs
-    go true e = rw (e, walk-by, walk-by-place, walk-with)
-    go false e = rw (e, walk-by, walk-by-place, walk-with) (walk-same L (good L e) stops rs _ _ (first-same L (good L e)))
+    go : (b : Bool) → stop-1 L ≡ b → walk-with L (by-visits L) stops rs ≡ walk-with L (by-place L) stops rs
+    go true e = rw (e, walk-with)
+    go false e = rw (e, walk-with) (walk-same L (good L e) stops rs _ _ (first-same L (good L e)))

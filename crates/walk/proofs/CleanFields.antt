@@ -1,32 +1,32 @@
 -- What it says of a field that R08, R13, R15, R43 and R44 report no error of it: none of the stops 3 to 7 and 9 comes of it by the place.
 use mathlib.Core.Path.{_≡_, refl, sym, _∙_}
 use mathlib.Core.Bool.{Bool, true, false, not, _&&_, _||_, false≢true}
-use mathlib.Core.List.{List, [], _∷_, _++_}
+use mathlib.Core.List.{[], _∷_}
 use mathlib.Core.Option.{Option, none, some}
-use Prim.Native.Nat.{ℕ, zero, suc, _+_, _-_, _^_, _≤_, _<_}
+use Prim.Native.Nat.{ℕ, zero, suc, _+_, _-_, _≤_, _<_}
 use native.Mathlib.Omega.{arith}
 use native.Mathlib.Decide.{ℕ-discrete}
 use lib.ListN.{length}
-use lib.Dec.{ltb, leb, eqb}
+use lib.Dec.{leb, eqb}
 use borrow.Author.Tests.{ltb-true, leb-true, leb-false, eqb-true, not-false, lt-ltb, le-leb}
-use Rattle.pack.specs.Notation.{_==_, _<ᵇ_, _≤ᵇ_, _≐_, if_then_else_, optional}
+use Rattle.pack.specs.Notation.{if_then_else_, _==_, _≐_}
 use Rattle.pack.specs.Value.{Bytes, Entry, Reference, Field, Repeating, Pgn, Pack}
-use Rattle.rules.specs.Search.{or-else, anyBelow, firstBelow}
+use Rattle.rules.specs.Search.{anyBelow, firstBelow}
 use Rattle.rules.specs.Findings.{pgn-error, lookup-error, report-if}
-use Rattle.rules.specs.Model.{given, field-at, lookup-at, entry-at, lookup-ref, find-lookup, target, fieldtypes, resolve-match}
+use Rattle.rules.specs.Model.{given, field-at, lookup-at, entry-at, lookup-ref, find-lookup, target, fieldtypes}
 use Rattle.rules.specs.LookupWiring.{is-fieldtype, lookup-found-at, lookup-ref-at, nested-lookup-at, fieldtype-entry-at, check-nested-refs}
 use Rattle.rules.specs.MatchValues.{resolved-at, match-value-at}
 use Rattle.rules.specs.BitLengthField.{variable-binary, bit-length-target-at, bit-length-field-at}
 use Rattle.rules.specs.Continues.{holds-order, set-of, continued-at, continued-found-at, continues-at}
 use Rattle.rules.specs.TrailingZero.{starts-behind, fixed, trailing-zero-target-at, trailing-zero-at}
 use Rattle.rules.specs.Texts.{DECIMAL}
-use Rattle.walk.specs.Layout.{Layout, set-or-empty, layout, start, end, holds, sets-hold}
-use Rattle.walk.specs.Stops.{is-missing, name-of, lookup-missing, unfit, match-unfit, names-missing, any-names-missing, entry-astray-in, entry-astray, target-current, lacks}
+use Rattle.walk.specs.Layout.{set-or-empty, layout, start, sets-hold}
+use Rattle.walk.specs.Stops.{is-missing, name-of, lookup-missing, unfit, match-unfit, names-missing, any-names-missing, entry-astray-in, entry-astray, lacks}
 use Rattle.walk.specs.ByPlace.{placed}
 use Rattle.walk.proofs.Tests.{and-l, and-r, and-i, or-l, or-r, or-i, none-below-i}
 use Rattle.rules.specs.Clean.{Clean, clean-in-turn, clean-below, clean-if}
 use Rattle.walk.proofs.Clean.{clean-then, clean-else}
-use Rattle.walk.proofs.Sets.{Holds, holds-e, holds-i, short, placed-i, Good}
+use Rattle.walk.proofs.Sets.{Holds, short, placed-i, Good}
 
 -- A FIRST INDEX
 pub first-low : (f : ℕ → Bool) (n j : ℕ) → firstBelow f n ≡ some j → j < n

@@ -4,13 +4,17 @@ use mathlib.Core.Path.{_≡_, refl}
 use mathlib.Core.Bool.{Bool, true, false}
 use mathlib.Core.List.{List, [], _∷_}
 use mathlib.Core.Option.{Option, none, some}
-use Rattle.pack.specs.Value.{Bytes, FieldType, Entry, Lookup, Reference, Repeating, Field, Pgn, Pack}
+use Rattle.pack.specs.Value.{Bytes, FieldType, Entry, Reference, Repeating, Field, Pgn, Pack}
 use Rattle.rules.specs.Model.{find-lookup, target, fieldtypes, resolve-match, resolve-text, resolve-name, parse-u64, parse-digits}
 use Rattle.rules.specs.DynamicLength.{length-source}
 use Rattle.rules.specs.LookupWiring.{is-fieldtype}
 use Rattle.rules.specs.Texts.{bytes, NUMBER, DYNAMIC-FIELD-KEY, DYNAMIC-FIELD-VALUE}
-use Rattle.walk.specs.Walk.{End, whole, used-up, stop, Answer, walk}
-use Rattle.walk.specs.Held.{held}
+use Rattle.walk.specs.Layout.{sets-hold, share, nested-in, inside-last, misplaced, clash, stop-1}
+use Rattle.walk.specs.Stops.{is-missing, lookup-missing, unfit, match-unfit, names-missing, any-names-missing, entry-astray-in, entry-astray, lacks, lacks-length, stop-at}
+use Rattle.walk.specs.Passes.{put, arrives, look, close, stand}
+use Rattle.walk.specs.Visits.{visited, latest, is-current}
+use Rattle.walk.specs.Walk.{End, whole, used-up, stop, Answer, arrive, settle, settled, onward, walk-on, walk-with, walk}
+use Rattle.walk.specs.Held.{shares-held, count-field-held, count-fields-held, bit-length-held, dynamic-value-held, held}
 
 -- A PACK of three field types and one lookup, and fields that ask for something
 abbrev root : Bytes → FieldType
@@ -143,11 +147,11 @@ answer x visits = record { ends = x; visits = visits }
 
 -- the definitions, opened
 unfoldable run : Pgn → List ℕ → Answer
-unfolding walk find-lookup target fieldtypes is-fieldtype length-source resolve-match resolve-text resolve-name parse-u64 parse-digits
+unfolding walk walk-with walk-on onward settled settle arrive stand close look arrives put visited latest is-current stop-1 misplaced clash share nested-in inside-last stop-at lookup-missing is-missing match-unfit unfit entry-astray entry-astray-in any-names-missing names-missing lacks lacks-length find-lookup target fieldtypes is-fieldtype length-source resolve-match resolve-text resolve-name parse-u64 parse-digits
 run p readings = walk P p readings
 
 unfoldable is-held : Pgn → Bool
-unfolding held target length-source
+unfolding held shares-held clash share nested-in count-fields-held count-field-held bit-length-held dynamic-value-held sets-hold target length-source
 is-held p = held P p
 
 -- THE ENDS. c and d repeat as often as b says

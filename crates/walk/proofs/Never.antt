@@ -2,14 +2,16 @@
 use mathlib.Core.Path.{_≡_, refl, ap}
 use mathlib.Core.List.{List, [], _∷_}
 use mathlib.Core.Option.{Option, none, some}
-use mathlib.Core.Bool.{Bool, true, false, false≢true}
+use mathlib.Core.Bool.{Bool, true, false}
 use Prim.Native.Nat.{ℕ, zero, suc, pred, _≤_, _<_}
 use native.Mathlib.Omega.{arith}
 use lib.ListN.{length, getD}
 use Rattle.pack.specs.Value.{noField}
 use Rattle.walk.specs.Layout.{Layout, set-at, start, stop-1}
-use Rattle.walk.specs.Walk.{passes, Place, Memory, counted, refused, arrive, Settled, past, halted, due, End, whole, used-up, stop, Answer, onward, walk-on, walk-with, Visits, by-visits, walk-by}
-use Rattle.walk.specs.ByPlace.{placed, by-place, walk-by-place}
+use Rattle.walk.specs.Passes.{passes, Place}
+use Rattle.walk.specs.Visits.{Visits}
+use Rattle.walk.specs.Walk.{Memory, counted, refused, arrive, Settled, past, halted, due, End, whole, used-up, stop, Answer, onward, walk-on, walk-with, by-visits, Stops}
+use Rattle.walk.specs.ByPlace.{placed, by-place}
 use Rattle.walk.proofs.Sets.{Holds, Good, good}
 use Rattle.walk.proofs.Position.{due-order, arriving-at}
 use Rattle.walk.proofs.Agree.{Same, both-past, both-halted, both-due, next-same, first-same, agree}
@@ -19,7 +21,7 @@ pub record Counted (a : Answer) (n : ℕ) : Type 0 where
   pub at-most : length (a .visits) ≤ n
   pub exact : a .ends ≡ used-up → length (a .visits) ≡ n
 
-module _ (L : Layout) {M : Type 0} (m : Memory M) (stops : (ℕ → Bool) → ℕ → ℕ → Option ℕ) where
+module _ (L : Layout) {M : Type 0} (m : Memory M) (stops : Stops) where
   on-counted : (rs : List ℕ) (x : Settled M) → Counted (walk-on L m stops x rs) (length rs)
   unfolding walk-on
   on-counted [] past = record { at-most = omega arith; exact = λ q. refl }
@@ -53,12 +55,12 @@ Count-placed L o none = Unit {0}
 Count-placed L o (some zero) = ⊥
 Count-placed L o (some (suc t)) = placed L o t ≡ true
 
-pub record Sound (L : Layout) (stops : (ℕ → Bool) → ℕ → ℕ → Option ℕ) : Type 0 where
+pub record Sound (L : Layout) (stops : Stops) : Type 0 where
   pub laid : stop-1 L ≡ false
   pub fields : (i r : ℕ) → i < length (L .fields) → stops (placed L (suc i)) i r ≡ none
   pub counts : (k : ℕ) → Holds L k (start L k) → Count-placed L (start L k) (set-at L k .count-field)
 
-module _ (L : Layout) (stops : (ℕ → Bool) → ℕ → ℕ → Option ℕ) (S : Sound L stops) where
+module _ (L : Layout) (stops : Stops) (S : Sound L stops) where
   G : Good L
   G = good L (S .laid)
 
@@ -89,6 +91,6 @@ module _ (L : Layout) (stops : (ℕ → Bool) → ℕ → ℕ → Option ℕ) (S
       let o = due-order L G c in
       rw (at-order (pred (p .order)) (p .order) r (omega arith) (o .1), walk-on) (runs rs _ _ (next-same L G p h g r c a))
 
-  pub never : (rs : List ℕ) → Runs (walk-by L stops rs .ends)
-  unfolding walk-by-place walk-with
-  never rs = rw (agree L stops rs, S .laid, walk-by-place, walk-with) (runs rs _ _ (first-same L G))
+  pub never : (rs : List ℕ) → Runs (walk-with L (by-visits L) stops rs .ends)
+  unfolding walk-with
+  never rs = rw (agree L stops rs, S .laid, walk-with) (runs rs _ _ (first-same L G))

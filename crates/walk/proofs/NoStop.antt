@@ -1,40 +1,35 @@
 -- The guarantee against stops: the rules that are silent and what is held make the PGN's layout sound, so that its walk never stops.
-use mathlib.Core.Path.{_≡_, refl, sym, _∙_}
-use mathlib.Core.Bool.{Bool, true, false, not, _&&_, _||_, false≢true}
-use mathlib.Core.List.{List, [], _∷_}
-use mathlib.Core.Option.{Option, none, some}
-use Prim.Native.Nat.{ℕ, zero, suc, _≤_, _<_}
+use mathlib.Core.Path.{_≡_, refl}
+use mathlib.Core.Bool.{Bool, true, false, _&&_}
+use mathlib.Core.List.{List}
+use mathlib.Core.Option.{none, some}
+use Prim.Native.Nat.{ℕ, suc, _<_}
 use native.Mathlib.Omega.{arith}
 use lib.ListN.{length}
-use lib.Dec.{ltb, eqb}
-use borrow.Author.Tests.{ltb-true, not-true, lt-ltb, le-ltb, ne-eqb}
-use Rattle.pack.specs.Notation.{_==_, if_then_else_, concatBelow}
+use borrow.Author.Tests.{lt-ltb}
 use Rattle.pack.specs.Value.{Bytes, Pgn, Pack, pgns-of}
 use Rattle.rules.specs.Search.{anyBelow}
-use Rattle.rules.specs.declared.Finding.{Finding}
 use Rattle.rules.specs.Findings.{without-error}
 use Rattle.rules.specs.Model.{pgn-at, field-at, lookup-at, lookup-ref, target}
 use Rattle.rules.specs.DynamicLength.{length-source}
-use Rattle.rules.specs.Fieldtypes.{check-fieldtypes}
-use Rattle.rules.specs.LookupWiring.{lookup-ref-at, check-lookup-refs, check-nested-refs, check-lookup-wiring}
-use Rattle.rules.specs.PgnRange.{check-pgn-range}
+use Rattle.rules.specs.LookupWiring.{check-lookup-refs, check-nested-refs}
 use Rattle.rules.specs.Repeating.{check-repeating}
-use Rattle.rules.specs.MatchValues.{match-value-at, check-match-values}
-use Rattle.rules.specs.BitLengthField.{bit-length-field-at, check-bit-length-field}
-use Rattle.rules.specs.Continues.{continues-at, check-continues}
-use Rattle.rules.specs.TrailingZero.{trailing-zero-at, check-trailing-zero-is-digit}
-use Rattle.rules.specs.Check.{check-pgn, check-tree, check-tree-continues, check}
-use Rattle.walk.specs.Layout.{Layout, layout, set-at, start, end, nonempty, holds, everyBelow, sets-hold, nested-in, inside-last, misplaced, clash, stop-1}
+use Rattle.rules.specs.MatchValues.{check-match-values}
+use Rattle.rules.specs.BitLengthField.{check-bit-length-field}
+use Rattle.rules.specs.Continues.{check-continues}
+use Rattle.rules.specs.TrailingZero.{check-trailing-zero-is-digit}
+use Rattle.rules.specs.Check.{check}
+use Rattle.walk.specs.Layout.{layout, everyBelow, sets-hold, stop-1}
 use Rattle.walk.specs.Stops.{is-dynamic-value, lacks-length, stop-at}
-use Rattle.walk.specs.Walk.{End, whole, used-up, stop, Answer, by-visits, walk-with, walk-by, walk}
+use Rattle.walk.specs.Walk.{End, whole, used-up, stop, Answer, by-visits, walk}
 use Rattle.walk.specs.ByPlace.{placed}
-use Rattle.walk.specs.Held.{shares-held, count-field-held, count-fields-held, target-held, bit-length-held, dynamic-value-held, held}
+use Rattle.walk.specs.Held.{shares-held, count-fields-held, bit-length-held, dynamic-value-held, held}
 use Rattle.walk.specs.Guarantee.{Unstopped, ends-whole, ends-used-up, Guarantee}
-use Rattle.walk.proofs.Tests.{and-l, and-r, and-i, or-i, and-not, imp-e, imp-i, every-e, every-i, none-below-i, Some, any-e, any-i, and-4}
-use Rattle.walk.proofs.Sets.{Holds, placed-i, good}
+use Rattle.walk.proofs.Tests.{and-l, and-r, and-i, and-not, imp-e, every-e, any-e, any-i, and-4}
+use Rattle.walk.proofs.Sets.{Holds, good}
 use Rattle.walk.proofs.HeldSets.{Fits, nonempty-count-fields-held, counts-weaker, past-stop-1, counts-placed}
-use Rattle.walk.proofs.Never.{Counted, walk-counted, Runs, Count-placed, Sound, never}
-use Rattle.rules.specs.Clean.{Clean, clean-below, CleanPgn, clean-pgn, clean-lookup-refs, clean-nested-refs, clean-continues}
+use Rattle.walk.proofs.Never.{Counted, walk-counted, Runs, Sound, never}
+use Rattle.rules.specs.Clean.{Clean, clean-below, clean-pgn, clean-lookup-refs, clean-nested-refs, clean-continues}
 use Rattle.walk.proofs.CleanSets.{sets-fit}
 use Rattle.walk.proofs.CleanFields.{no-stop-3, no-stop-4, no-stop-5, no-stop-6, no-stop-7, no-stop-9}
 
@@ -131,7 +126,7 @@ unstopped a n r c = go (a .ends) refl r
 -- under the weaker test
 pub guarantee-nonempty : (P : Pack) (t i : ℕ) → t < 3 → i < length (pgns-of P t) → without-error (check P) ≡ true → held-nonempty P (pgn-at P t i) ≡ true
     → (readings : List ℕ) → Unstopped (walk P (pgn-at P t i) readings) (length readings)
-unfolding walk walk-by
+unfolding walk
 guarantee-nonempty P t i l m e h readings =
     let p = pgn-at P t i in
     unstopped _ _ (never (layout p) (stop-at P p) (sound P t i p (quiet P t i l m e) h) readings) (walk-counted (layout p) (by-visits (layout p)) (stop-at P p) readings)

@@ -1,7 +1,7 @@
 -- THE LAW OF POSITION. Past stop 1, at a due field of order o and on arriving at a set at o, a field is current exactly if its order is
 -- below o and every nonempty set that holds it holds o (`placed`).
 use mathlib.Core.Path.{_≡_}
-use mathlib.Core.Bool.{true, false, _&&_}
+use mathlib.Core.Bool.{false, _&&_}
 use mathlib.Core.Option.{some}
 use Prim.Native.Nat.{ℕ, suc, pred, _≤_, _<_}
 use native.Mathlib.Omega.{arith}
@@ -9,11 +9,13 @@ use lib.ListN.{length}
 use lib.Dec.{ltb}
 use borrow.Author.Tests.{ltb-true, lt-ltb}
 use Rattle.walk.specs.Layout.{Layout, start, end, holds, sets-hold, stop-1}
-use Rattle.walk.specs.Walk.{Rest, present, Place, first, goto, goto-with, Stand, again, arrived, ready, beyond, stand, Visits, visited, is-current, by-visits}
+use Rattle.walk.specs.Passes.{Rest, present, Place, first, goto, goto-with, Stand, again, arrived, ready, stand}
+use Rattle.walk.specs.Visits.{Visits, visited, is-current}
+use Rattle.walk.specs.Walk.{by-visits}
 use Rattle.walk.specs.ByPlace.{placed}
 use Rattle.walk.proofs.Tests.{and-l, and-r, and-i, bool-eq}
 use Rattle.walk.proofs.Sets.{Holds, holds-e, holds-i, each-e, each-i, Good, good}
-use Rattle.walk.proofs.Invariants.{Present, Law, Due, Arriving, Met, Stood, now, still, law-visit, moved-visit, entering, law-over, due-enter, moved-over, stand-ok, moved-first, law-first}
+use Rattle.walk.proofs.Invariants.{Present, Law, Due, Stood, now, still, law-visit, moved-visit, entering, law-over, due-enter, moved-over, stand-ok, moved-first, law-first}
 
 -- A walk stands somewhere before a visit, or a field is due.
 pub data Moment : Type 0 where

@@ -1,6 +1,5 @@
 -- The walk's rounds at one place are enough: more of them change nothing. Each set that is passed over takes the order up.
 use mathlib.Core.Path.{_≡_, refl, sym, _∙_}
-use mathlib.Core.Option.{Option}
 use mathlib.Core.Bool.{Bool, true, false}
 use Prim.Native.Nat.{ℕ, zero, suc, _+_, _≤_, _<_}
 use native.Mathlib.Omega.{arith}
@@ -9,8 +8,9 @@ use lib.ListN.{length}
 use lib.Dec.{ltb, eqb}
 use borrow.Author.Tests.{ltb-false}
 use Rattle.walk.specs.Layout.{Layout, set-at, end}
-use Rattle.walk.specs.Walk.{Place, goto, arrives, Stand, again, arrived, ready, beyond, look, Turn, goes-on, leaves, begins, turn, close, stand, Memory, Arrival, refused, over, enter, arrive, settle, settled}
-use Rattle.walk.proofs.Invariants.{Arriving, arrives-e}
+use Rattle.walk.specs.Passes.{Place, goto, arrives, Stand, again, arrived, ready, beyond, look, Turn, goes-on, leaves, begins, turn, close, stand}
+use Rattle.walk.specs.Walk.{Memory, Arrival, refused, over, enter, arrive, settle, settled}
+use Rattle.walk.proofs.Invariants.{arrives-e}
 
 -- a set that is arrived at, at the order o, ends behind it
 abbrev Ahead : Layout → ℕ → Stand → Type 0

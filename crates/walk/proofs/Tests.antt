@@ -1,15 +1,14 @@
 -- Tests as facts: what it says that a Bool is true or false.
 use mathlib.Core.Path.{_≡_, refl, sym, _∙_}
 use mathlib.Core.Bool.{Bool, true, false, not, _&&_, _||_, false≢true}
-use Prim.Native.Nat.{ℕ, zero, suc, _+_, _≤_, _<_}
+use Prim.Native.Nat.{ℕ, zero, suc, _<_}
 use native.Mathlib.Omega.{arith}
 use native.Mathlib.Decide.{ℕ-discrete}
 use lib.Dec.{ltb}
 use borrow.Author.Tests.{ltb-true, ltb-false, eq-eqb, ne-eqb}
-use Rattle.pack.specs.Notation.{if_then_else_}
 use Rattle.rules.specs.Search.{anyBelow}
 use Rattle.walk.specs.Layout.{everyBelow}
-use Rattle.walk.specs.Walk.{put}
+use Rattle.walk.specs.Passes.{put}
 
 pub and-l : (a b : Bool) → (a && b) ≡ true → a ≡ true
 and-l true b e = refl

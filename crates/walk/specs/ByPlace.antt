@@ -1,15 +1,13 @@
 -- The walk as code can keep it: by the place alone, and for each set the latest reading of its countField. It is the same walk (`agree`).
-use Prim.Native.Nat.{ℕ, zero, suc}
-use mathlib.Core.Bool.{Bool, true, false, not, _&&_, _||_}
-use mathlib.Core.List.{List}
+use Prim.Native.Nat.{ℕ, suc}
+use mathlib.Core.Bool.{Bool, false, _&&_}
 use mathlib.Core.Option.{Option, none, some}
-use Rattle.pack.specs.Notation.{_<ᵇ_, _==_, if_then_else_}
+use Rattle.pack.specs.Notation.{if_then_else_, _<ᵇ_, _==_}
 use Rattle.walk.specs.Layout.{Layout, set-at, sets-hold}
-use Rattle.walk.specs.Walk.{Answer, Memory, walk-with, put}
+use Rattle.walk.specs.Walk.{Memory}
 
 -- the field t comes before the order o, and every set that holds it holds o
 unfoldable pub placed : Layout → ℕ → ℕ → Bool
-unfolding sets-hold
 placed L o t = (suc t <ᵇ o) && sets-hold L (suc t) o
 
 -- the field t is the countField c
@@ -25,7 +23,3 @@ by-place L = record {
   current = λ p g t. placed L (p .order) t;
   reading = λ g k t. g k;
 }
-
-unfoldable pub walk-by-place : Layout → ((ℕ → Bool) → ℕ → ℕ → Option ℕ) → List ℕ → Answer
-unfolding walk-with placed put
-walk-by-place L stops rs = walk-with L (by-place L) stops rs

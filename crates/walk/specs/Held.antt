@@ -12,17 +12,14 @@ use Rattle.walk.specs.Stops.{is-dynamic-value}
 
 -- "nonempty sets share no order unless set 2 is nested"
 unfoldable pub shares-held : Layout → Bool
-unfolding clash
 shares-held L = everyBelow (λ k. everyBelow (λ j. not (clash L j k)) k) (length (L .sets))
 
 -- "a countField lies in no nonempty set, or in set 1 for a nested set 2": the countField of set k, empty or not
 unfoldable pub count-field-held : Layout → ℕ → Option ℕ → Bool
-unfolding nested-in
 count-field-held L k none = true
 count-field-held L k (some c) = everyBelow (λ j. not (holds L j c) || nested-in L j k) (length (L .sets))
 
 unfoldable pub count-fields-held : Layout → Bool
-unfolding count-field-held
 count-fields-held L = everyBelow (λ k. count-field-held L k (set-at L k .count-field)) (length (L .sets))
 
 -- "a bitLengthField target's nonempty sets hold its user": the field i
@@ -31,18 +28,15 @@ target-held L none i = true
 target-held L (some t) i = sets-hold L (suc t) (suc i)
 
 unfoldable pub bit-length-held : Pgn → ℕ → Bool
-unfolding sets-hold
 bit-length-held p i = elim (field-at p i .bit-length-field) [ none ↦ true | some id ↦ target-held (layout p) (target p id) i ]
 
 -- "each DYNAMIC_FIELD_VALUE has a lower-order dynamicFieldLength or DYNAMIC_FIELD_KEY field whose nonempty sets hold it"
 unfoldable pub dynamic-value-held : Pack → Pgn → ℕ → Bool
-unfolding sets-hold
 dynamic-value-held P p i =
     not (is-dynamic-value P (field-at p i))
     || anyBelow (λ j. length-source (P .fieldtypes) (field-at p j) && sets-hold (layout p) (suc j) (suc i)) i
 
 unfoldable pub held : Pack → Pgn → Bool
-unfolding shares-held count-fields-held bit-length-held dynamic-value-held
 held P p =
     shares-held (layout p)
     && count-fields-held (layout p)

@@ -69,14 +69,11 @@ inside-last L (suc k) = (start L k <ᵇ start L (suc k)) && (end L (suc k) ≤�
 -- STOP 1, of a set: "a nonempty set has start 0, runs past the fields, or is marked nested but is not set 2 starting after set 1's start
 -- and ending within it"
 unfoldable pub misplaced : Layout → ℕ → Bool
-unfolding inside-last
 misplaced L k = nonempty L k && ((start L k == 0) || (suc (length (L .fields)) <ᵇ end L k) || set-at L k .nested && not (inside-last L k))
 
 -- of two sets: "or set 2 is not nested and shares an order with set 1"
 unfoldable pub clash : Layout → ℕ → ℕ → Bool
-unfolding share nested-in
 clash L j k = share L j k && not (nested-in L j k)
 
 unfoldable pub stop-1 : Layout → Bool
-unfolding misplaced clash
 stop-1 L = anyBelow (λ k. misplaced L k || anyBelow (λ j. clash L j k) k) (length (L .sets))

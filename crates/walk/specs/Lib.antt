@@ -1,5 +1,8 @@
 pub mod Layout
+-- stops 3 to 9
 pub mod Stops
+pub mod Passes
+pub mod Visits
 pub mod Walk
 pub mod Held
 pub mod Guarantee

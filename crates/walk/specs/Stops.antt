@@ -4,7 +4,7 @@ use mathlib.Core.Bool.{Bool, true, false, not, _&&_, _||_}
 use mathlib.Core.List.{List}
 use mathlib.Core.Option.{Option, none, some}
 use lib.ListN.{length}
-use Rattle.pack.specs.Notation.{_<ᵇ_, _==_, _≐_, if_then_else_}
+use Rattle.pack.specs.Notation.{if_then_else_, _<ᵇ_, _==_, _≐_}
 use Rattle.pack.specs.Value.{Bytes, Entry, Reference, Field, Pgn, Pack}
 use Rattle.rules.specs.Search.{anyBelow}
 use Rattle.rules.specs.Model.{given, field-at, lookup-at, entry-at, root-of, lookup-ref, find-lookup, target, fieldtypes, resolve-match}
@@ -23,7 +23,6 @@ name-of (some r) = some (r .name)
 
 -- "3 lookup missing"
 unfoldable pub lookup-missing : Pack → Field → Bool
-unfolding is-missing
 lookup-missing P f = is-missing P (name-of (lookup-ref f))
 
 -- "4 match unresolved or, below 64 bits, above 2^bits − 1"
@@ -32,26 +31,21 @@ unfit bits none = true
 unfit bits (some value) = (bits <ᵇ 64) && (2 ^ bits - 1 <ᵇ value)
 
 unfoldable pub match-unfit : Pack → Field → Bool
-unfolding unfit
 match-unfit P f = given (f .match) && unfit (f .res-bits) (resolve-match (P .lookups) f)
 
 -- "5 an entry for the reading names a missing field type or nested lookup"
 unfoldable pub names-missing : Pack → Entry → Bool
-unfolding is-missing
 names-missing P e = not (is-fieldtype (P .fieldtypes) (e .fieldtype)) || is-missing P (e .nested)
 
 unfoldable pub any-names-missing : Pack → List Entry → (reading : ℕ) → Bool
-unfolding names-missing
 any-names-missing P es reading = anyBelow (λ e. (entry-at es e .value == reading) && names-missing P (entry-at es e)) (length es)
 
 -- The entries of the lookup that is named: only those of a fieldtype lookup name anything.
 unfoldable pub entry-astray-in : Pack → Option ℕ → (reading : ℕ) → Bool
-unfolding any-names-missing
 entry-astray-in P none reading = false
 entry-astray-in P (some l) reading = any-names-missing P (fieldtypes (lookup-at (P .lookups) l)) reading
 
 unfoldable pub entry-astray : Pack → Option Reference → (reading : ℕ) → Bool
-unfolding entry-astray-in
 entry-astray P none reading = false
 entry-astray P (some r) reading = entry-astray-in P (find-lookup (P .lookups) (r .name)) reading
 
@@ -74,7 +68,6 @@ lacks-length P p current i = is-dynamic-value P (field-at p i) && not (anyBelow 
 
 -- "At a field, in this order": the field i, with this reading
 unfoldable pub stop-at : Pack → Pgn → (ℕ → Bool) → (i reading : ℕ) → Option ℕ
-unfolding lookup-missing match-unfit entry-astray lacks lacks-length
 stop-at P p current i reading =
     let f = field-at p i in
     if lookup-missing P f then some 3
