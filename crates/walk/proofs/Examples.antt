@@ -8,12 +8,15 @@ use Rattle.pack.specs.Value.{Bytes, FieldType, Entry, Reference, Repeating, Fie
 use Rattle.rules.specs.Model.{find-lookup, target, fieldtypes, resolve-match, resolve-text, resolve-name, parse-u64, parse-digits}
 use Rattle.rules.specs.DynamicLength.{length-source}
 use Rattle.rules.specs.LookupWiring.{is-fieldtype}
-use Rattle.rules.specs.Texts.{bytes, NUMBER, DYNAMIC-FIELD-KEY, DYNAMIC-FIELD-VALUE}
-use Rattle.walk.specs.Layout.{sets-hold, share, nested-in, inside-last, misplaced, clash, stop-1}
+use Rattle.rules.specs.Findings.{pgn-error}
+use Rattle.rules.specs.Repeating.{set-bounds, set-count-field, check-set, check-repeating}
+use Rattle.rules.specs.BitLengthField.{variable-binary, bit-length-target-at, bit-length-field-at, check-bit-length-field}
+use Rattle.rules.specs.Texts.{bytes, BINARY, NUMBER, DYNAMIC-FIELD-KEY, DYNAMIC-FIELD-VALUE}
+use Rattle.walk.specs.Layout.{Layout, sets-hold, share, nested-in, inside-last, misplaced, clash, stop-1}
 use Rattle.walk.specs.Stops.{is-missing, lookup-missing, unfit, match-unfit, names-missing, any-names-missing, entry-astray-in, entry-astray, lacks, lacks-length, stop-at}
 use Rattle.walk.specs.Passes.{put, arrives, look, close, stand}
 use Rattle.walk.specs.Visits.{visited, latest, is-current}
-use Rattle.walk.specs.Walk.{End, whole, used-up, stop, Answer, arrive, settle, settled, onward, walk-on, walk-with, walk}
+use Rattle.walk.specs.Walk.{End, whole, used-up, stop, Answer, arrive, settle, settled, onward, walk-on, walk-with, by-visits, walk}
 use Rattle.walk.specs.Held.{shares-held, count-field-held, count-fields-held, bit-length-held, dynamic-value-held, held}
 
 -- A PACK of three field types and one lookup, and fields that ask for something
@@ -38,90 +41,81 @@ P = record {
   pgns-quick = [];
 }
 
--- what a field asks for
-pub record Wants : Type 0 where
-  ft : ℕ
-  match : Option Bytes
-  lookup : Option Bytes
-  bit-length-field : Option Bytes
-  continues : Option Bytes
-  trailing-zero : Option Bytes
-
 abbrev reference : Option Bytes → Option Reference
 reference none = none
 reference (some name) = some (record { kind = 3; name = name })
 
-abbrev field : Bytes → Wants → Field
-field id w =
+abbrev field : (id type : Bytes) (bits ft : ℕ) (match lookup bit-length-field continues trailing-zero : Option Bytes) → Field
+field id type bits ft match lookup bit-length-field continues trailing-zero =
     record {
       id = id;
       name = id;
-      type = NUMBER;
-      ft = w .ft;
+      type = type;
+      ft = ft;
       bits-given = false;
       unit-given = false;
       proprietary = false;
       allow-lookup-width-mismatch = false;
       dynamic-field-length = false;
       overhead = false;
-      res-bits = 8;
+      res-bits = bits;
       res-resolution = 0;
       res-offset = 0;
       res-unit = none;
       resolution = none;
       offset = none;
       spn = none;
-      continues = w .continues;
-      match = w .match;
-      reference = reference (w .lookup);
+      continues = continues;
+      match = match;
+      reference = reference lookup;
       special-values = none;
-      bit-length-field = w .bit-length-field;
-      trailing-zero = w .trailing-zero;
+      bit-length-field = bit-length-field;
+      trailing-zero = trailing-zero;
       continuation = none;
     }
 
-abbrev nothing : Wants
-nothing = record { ft = 0; match = none; lookup = none; bit-length-field = none; continues = none; trailing-zero = none }
-
 abbrev a : Field
-a = field (bytes "a") nothing
+a = field (bytes "a") NUMBER 8 0 none none none none none
 
 abbrev b : Field
-b = field (bytes "b") nothing
+b = field (bytes "b") NUMBER 8 0 none none none none none
 
 abbrev c : Field
-c = field (bytes "c") nothing
+c = field (bytes "c") NUMBER 8 0 none none none none none
 
 abbrev d : Field
-d = field (bytes "d") nothing
+d = field (bytes "d") NUMBER 8 0 none none none none none
 
 abbrev e : Field
-e = field (bytes "e") nothing
+e = field (bytes "e") NUMBER 8 0 none none none none none
 
 abbrev f : Field
-f = field (bytes "f") nothing
+f = field (bytes "f") NUMBER 8 0 none none none none none
 
 -- the field z, which wants something
 abbrev z-matches : Bytes → Field
-z-matches m = field (bytes "z") (record { ft = 0; match = some m; lookup = none; bit-length-field = none; continues = none; trailing-zero = none })
+z-matches m = field (bytes "z") NUMBER 8 0 (some m) none none none none
 
 abbrev z-looks-up : Bytes → Field
-z-looks-up l = field (bytes "z") (record { ft = 0; match = none; lookup = some l; bit-length-field = none; continues = none; trailing-zero = none })
+z-looks-up l = field (bytes "z") NUMBER 8 0 none (some l) none none none
 
 abbrev z-as-long-as : Bytes → Field
-z-as-long-as id = field (bytes "z") (record { ft = 0; match = none; lookup = none; bit-length-field = some id; continues = none; trailing-zero = none })
+z-as-long-as id = field (bytes "z") NUMBER 8 0 none none (some id) none none
+
+abbrev z-binary : Field
+z-binary = field (bytes "z") BINARY 0 0 none none (some (bytes "a")) none none
 
 abbrev z-continues : Bytes → Field
-z-continues id = field (bytes "z") (record { ft = 0; match = none; lookup = none; bit-length-field = none; continues = some id; trailing-zero = none })
+z-continues id = field (bytes "z") NUMBER 8 0 none none none (some id) none
 
 abbrev z-ends-by : Bytes → Field
-z-ends-by id = field (bytes "z") (record { ft = 0; match = none; lookup = none; bit-length-field = none; continues = none; trailing-zero = some id })
+z-ends-by id = field (bytes "z") NUMBER 8 0 none none none none (some id)
 
 abbrev key : Field
-key = field (bytes "k") (record { ft = 1; match = none; lookup = none; bit-length-field = none; continues = none; trailing-zero = none })
+key = field (bytes "k") NUMBER 8 1 none none none none none
 
 abbrev value : Field
-value = field (bytes "v") (record { ft = 2; match = none; lookup = none; bit-length-field = none; continues = none; trailing-zero = none })
+value = field (bytes "v") NUMBER 8 2 none none none none none
 
 abbrev pgn : Option Repeating → Option Repeating → List Field → Pgn
 pgn set1 set2 fields =
@@ -191,7 +185,7 @@ twice-and-not-at-all : run nested (9 ∷ 2 ∷ 2 ∷ 1 ∷ 1 ∷ 1 ∷ 1 ∷ 0 �
 unfolding run
 twice-and-not-at-all = refl
 
--- STOP 1: start 0; past the fields; sets that share an order; a nested set 1; a nested set 2 that is not inside
+-- STOP 1: start 0; past the fields; a nested set 1; a nested set 2 that is not inside
 start-0 : run (pgn (set 0 1 none false) none (a ∷ b ∷ [])) (1 ∷ []) ≡ answer (stop 1) []
 unfolding run
 start-0 = refl
@@ -199,10 +193,6 @@ start-0 = refl
 past-the-fields : run (pgn (set 2 2 none false) none (a ∷ b ∷ [])) (1 ∷ []) ≡ answer (stop 1) []
 unfolding run
 past-the-fields = refl
-
-shared : run (pgn (set 1 2 none false) (set 2 1 none false) (a ∷ b ∷ [])) (1 ∷ []) ≡ answer (stop 1) []
-unfolding run
-shared = refl
 
 nested-set-1 : run (pgn (set 1 2 none true) none (a ∷ b ∷ [])) (1 ∷ []) ≡ answer (stop 1) []
 unfolding run
@@ -217,11 +207,7 @@ empty-sets : run (pgn (set 0 0 none true) (set 9 0 none true) (a ∷ b ∷ [])) 
 unfolding run
 empty-sets = refl
 
--- STOP 2: the countField comes later, is no field, or lies in a set that has been left; it comes before "used up"
-count-later : run (pgn (set 2 1 (some 3) false) none (a ∷ b ∷ c ∷ [])) (1 ∷ []) ≡ answer (stop 2) (0 ∷ [])
-unfolding run
-count-later = refl
-
+-- STOP 2: the countField is no field, or lies in a set that has been left; it comes before "used up"
 count-0 : run (pgn (set 1 1 (some 0) false) none (a ∷ [])) [] ≡ answer (stop 2) []
 unfolding run
 count-0 = refl
@@ -264,11 +250,7 @@ unknown-nested : run (pgn none none (z-looks-up (bytes "L") ∷ [])) (3 ∷ []) 
 unfolding run
 unknown-nested = refl
 
--- STOPS 6 to 9: the target comes later, is no field, or lies in a set that has been left
-length-later : run (pgn none none (z-as-long-as (bytes "a") ∷ a ∷ [])) (1 ∷ []) ≡ answer (stop 6) []
-unfolding run
-length-later = refl
-
+-- STOPS 6 to 9: the target lies in a set that has been left, or is no field
 length-in-a-left-set : run (pgn (set 2 1 (some 1) false) none (a ∷ b ∷ z-as-long-as (bytes "b") ∷ [])) (1 ∷ 1 ∷ 1 ∷ []) ≡ answer (stop 6) (0 ∷ 1 ∷ [])
 unfolding run
 length-in-a-left-set = refl
@@ -306,3 +288,67 @@ not-held = refl
 not-held-empty : is-held (pgn (set 1 1 none false) (set 0 0 (some 1) false) (a ∷ [])) ≡ false
 unfolding is-held
 not-held-empty = refl
+
+-- WHAT IS NEEDED. Held, and only R05's cause 3: stop 2
+abbrev late : Pgn
+late = pgn (set 2 1 (some 3) false) none (a ∷ b ∷ c ∷ [])
+
+late-found : check-repeating 0 0 late ≡ pgn-error 5 3 0 0 1 0 ∷ []
+unfolding check-repeating check-set set-bounds set-count-field
+late-found = refl
+
+late-held : is-held late ≡ true
+unfolding is-held
+late-held = refl
+
+late-stops : run late (1 ∷ []) ≡ answer (stop 2) (0 ∷ [])
+unfolding run
+late-stops = refl
+
+-- held, and only R15's cause 4: stop 6
+abbrev ahead : Pgn
+ahead = pgn none none (z-binary ∷ a ∷ [])
+
+ahead-found : check-bit-length-field 0 0 ahead ≡ pgn-error 15 4 0 0 0 1 ∷ []
+unfolding check-bit-length-field bit-length-field-at variable-binary bit-length-target-at target
+ahead-found = refl
+
+ahead-held : is-held ahead ≡ true
+unfolding is-held
+ahead-held = refl
+
+ahead-stops : run ahead (1 ∷ []) ≡ answer (stop 6) []
+unfolding run
+ahead-stops = refl
+
+-- R05 is silent of sets that share an order, so that it must be held: stop 1
+abbrev sharing : Pgn
+sharing = pgn (set 1 2 none false) (set 2 1 none false) (a ∷ b ∷ [])
+
+sharing-unfound : check-repeating 0 0 sharing ≡ []
+unfolding check-repeating check-set set-bounds set-count-field
+sharing-unfound = refl
+
+sharing-not-held : is-held sharing ≡ false
+unfolding is-held
+sharing-not-held = refl
+
+sharing-stops : run sharing [] ≡ answer (stop 1) []
+unfolding run
+sharing-stops = refl
+
+-- MORE THAN TWO SETS: a chain of three that end together, the outer without end, the middle one passed over once
+abbrev three : Layout
+three = record {
+  fields = a ∷ b ∷ c ∷ d ∷ e ∷ f ∷ [];
+  sets =
+      record { count = 5; start = 2; count-field = none; nested = false }
+      ∷ record { count = 3; start = 4; count-field = some 3; nested = true }
+      ∷ record { count = 1; start = 6; count-field = some 4; nested = true }
+      ∷ [];
+}
+
+three-deep :
+    walk-with three (by-visits three) (λ current i r. none) (0 ∷ 0 ∷ 0 ∷ 0 ∷ 1 ∷ 2 ∷ 0 ∷ 9 ∷ 9 ∷ 7 ∷ []) ≡ answer used-up (0 ∷ 1 ∷ 2 ∷ 1 ∷ 2 ∷ 3 ∷ 4 ∷ 5 ∷ 5 ∷ 1 ∷ [])
+unfolding run
+three-deep = refl

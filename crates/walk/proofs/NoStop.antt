@@ -24,7 +24,7 @@ use Rattle.walk.specs.Stops.{is-dynamic-value, lacks-length, stop-at}
 use Rattle.walk.specs.Walk.{End, whole, used-up, stop, Answer, by-visits, walk}
 use Rattle.walk.specs.ByPlace.{placed}
 use Rattle.walk.specs.Held.{shares-held, count-fields-held, bit-length-held, dynamic-value-held, held}
-use Rattle.walk.specs.Guarantee.{Unstopped, ends-whole, ends-used-up, Guarantee}
+use Rattle.walk.specs.Guarantee.{Unstopped, ends-whole, ends-used-up, Guarantee, Quiet}
 use Rattle.walk.proofs.Tests.{and-l, and-r, and-i, and-not, imp-e, every-e, any-e, any-i, and-4}
 use Rattle.walk.proofs.Sets.{Holds, good}
 use Rattle.walk.proofs.HeldSets.{Fits, nonempty-count-fields-held, counts-weaker, past-stop-1, counts-placed}
@@ -45,16 +45,6 @@ held-nonempty P p =
 pub weaker : (P : Pack) (p : Pgn) → held P p ≡ true → held-nonempty P p ≡ true
 unfolding held held-nonempty
 weaker P p e = let h = and-4 (shares-held (layout p)) (count-fields-held (layout p)) _ _ e in rw (h .0, counts-weaker (layout p) (h .1), h .2, h .3)
-
--- A PGN of which the rules say nothing: R05, R08, R13, R15, R43, R44
-pub record Quiet (P : Pack) (t i : ℕ) (p : Pgn) : Type 0 where
-  pub repeating : Clean (check-repeating t i p)
-  pub lookup-refs : Clean (check-lookup-refs (P .lookups) t i p)
-  pub nested-refs : (l : ℕ) → l < length (P .lookups) → Clean (check-nested-refs P l (lookup-at (P .lookups) l))
-  pub match-values : Clean (check-match-values (P .lookups) t i p)
-  pub bit-length-field : Clean (check-bit-length-field t i p)
-  pub continues : Clean (check-continues (P .fieldtypes) t i p)
-  pub trailing-zero : Clean (check-trailing-zero-is-digit (P .fieldtypes) t i p)
 
 pub quiet : (P : Pack) (t i : ℕ) → t < 3 → i < length (pgns-of P t) → Clean (check P) → Quiet P t i (pgn-at P t i)
 quiet P t i l m e =
@@ -123,13 +113,12 @@ unstopped a n r c = go (a .ends) refl r
     go used-up q r = ends-used-up q (c .exact q)
     go (stop k) q r = absurd r
 
--- under the weaker test
-pub guarantee-nonempty : (P : Pack) (t i : ℕ) → t < 3 → i < length (pgns-of P t) → without-error (check P) ≡ true → held-nonempty P (pgn-at P t i) ≡ true
-    → (readings : List ℕ) → Unstopped (walk P (pgn-at P t i) readings) (length readings)
+-- by the rules that matter, and the weaker test
+pub guarantee-by : (P : Pack) (t i : ℕ) (p : Pgn) → Quiet P t i p → held-nonempty P p ≡ true → (readings : List ℕ) → Unstopped (walk P p readings) (length readings)
 unfolding walk
-guarantee-nonempty P t i l m e h readings =
-    let p = pgn-at P t i in
-    unstopped _ _ (never (layout p) (stop-at P p) (sound P t i p (quiet P t i l m e) h) readings) (walk-counted (layout p) (by-visits (layout p)) (stop-at P p) readings)
+guarantee-by P t i p q h readings =
+    unstopped _ _ (never (layout p) (stop-at P p) (sound P t i p q h) readings) (walk-counted (layout p) (by-visits (layout p)) (stop-at P p) readings)
 
+-- THE GUARANTEE
 pub guarantee : Guarantee
-guarantee P t i l m e h = guarantee-nonempty P t i l m e (weaker P (pgn-at P t i) h)
+guarantee P t i l m e h = guarantee-by P t i (pgn-at P t i) (quiet P t i l m e) (weaker P (pgn-at P t i) h)
