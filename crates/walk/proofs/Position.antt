@@ -1,17 +1,17 @@
 -- THE LAW OF POSITION. Past stop 1, at a due field of order o and on arriving at a set at o, a field is current exactly if its order is
 -- below o and every nonempty set that holds it holds o (`placed`).
-use mathlib.Core.Path.{_≡_}
+use mathlib.Core.Path.{_≡_, refl}
 use mathlib.Core.Bool.{false, _&&_}
 use mathlib.Core.Option.{some}
-use Prim.Native.Nat.{ℕ, suc, pred, _≤_, _<_}
+use Prim.Native.Nat.{ℕ, zero, suc, pred, _≤_, _<_}
 use native.Mathlib.Omega.{arith}
 use lib.ListN.{length}
 use lib.Dec.{ltb}
 use borrow.Author.Tests.{ltb-true, lt-ltb}
-use Rattle.walk.specs.Layout.{Layout, start, end, holds, sets-hold, stop-1}
-use Rattle.walk.specs.Passes.{Rest, present, Place, first, goto, goto-with, Stand, again, arrived, ready, stand}
+use Rattle.walk.specs.Layout.{Layout, set-at, start, end, holds, sets-hold, stop-1}
+use Rattle.walk.specs.Passes.{Rest, present, Place, first, goto, goto-with, Stand, again, arrived, ready, beyond, stand}
 use Rattle.walk.specs.Visits.{Visits, visited, is-current}
-use Rattle.walk.specs.Walk.{by-visits}
+use Rattle.walk.specs.Walk.{by-visits, Arrival, refused, over, enter, arrive, Settled, past, halted, due, settle, settled, onward}
 use Rattle.walk.specs.ByPlace.{placed}
 use Rattle.walk.proofs.Tests.{and-l, and-r, and-i, bool-eq}
 use Rattle.walk.proofs.Sets.{Holds, holds-e, holds-i, each-e, each-i, Good, good}
@@ -87,3 +87,32 @@ pub record Position (L : Layout) : Type 0 where
 
 pub position : (L : Layout) → stop-1 L ≡ false → Position L
 position L e = record { at-field = λ p h c. at-field L (good L e) c; on-arriving = λ k p h c. on-arriving L (good L e) c }
+
+-- A walk comes to no other moments: a field that falls due is one of them.
+abbrev pub Due-comes : Layout → Settled Visits → Type 0
+Due-comes L past = Unit {0}
+Due-comes L halted = Unit {0}
+Due-comes L (due p h) = Comes L (visiting p) h
+
+module _ (L : Layout) where
+  settle-comes : (n : ℕ) (c : Stand) (h : Visits) → Comes L (standing c) h → Due-comes L (settle L (by-visits L) n c h)
+  unfolding settle
+  settle-comes zero c h s = tt
+  settle-comes (suc n) (again k p) h s = another s
+  settle-comes (suc n) (ready p) h s = no-start s
+  settle-comes (suc n) beyond h s = tt
+  settle-comes (suc n) (arrived k p) h s = go (arrive L (by-visits L) p h k (set-at L k .count-field)) refl (λ c. settle-comes n c h)
+    where
+      go : (x : Arrival) → arrive L (by-visits L) p h k (set-at L k .count-field) ≡ x → ((c : Stand) → Comes L (standing c) h → Due-comes L (settle L (by-visits L) n c h))
+          → Due-comes L (settle L (by-visits L) (suc n) (arrived k p) h)
+      go refused e rec = rw (e, settle) tt
+      go over e rec = rw (e, settle) (rec _ (passed-over s))
+      go (enter x) e rec = rw (e, settle) (entered x s)
+
+  pub first-comes : Due-comes L (settled L (by-visits L) first (by-visits L .fresh))
+  unfolding settled
+  first-comes = settle-comes (suc (length (L .fields))) _ _ at-first
+
+  pub next-comes : {p : Place} {h : Visits} → Comes L (visiting p) h → (r : ℕ) → Due-comes L (onward L (by-visits L) p h r)
+  unfolding onward settled
+  next-comes c r = settle-comes (suc (length (L .fields))) _ _ (after-visit r c)
