@@ -49,6 +49,7 @@ pub mod TrailingZero
 pub mod Check
 pub mod Clean
 pub mod Pdu1
+pub mod Bound
 -- examples
 mod Computed
 mod Examples
