@@ -47,6 +47,8 @@ pub mod Continues
 -- R44
 pub mod TrailingZero
 pub mod Check
+-- laws
+pub mod SearchLaws
 pub mod Clean
 pub mod Pdu1
 pub mod Bound
