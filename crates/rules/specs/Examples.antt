@@ -106,9 +106,16 @@ report-place = refl
 
 -- ---- the edges, as one table: a rule's findings of a pack have these causes
 
-abbrev causes : (rule : ℕ) → List Finding → List ℕ
-causes rule [] = []
-causes rule (f ∷ fs) = if f .rule == rule then f .cause ∷ causes rule fs else causes rule fs
+abbrev only : (rule : ℕ) → List Finding → List Finding
+only rule [] = []
+only rule (f ∷ fs) = if f .rule == rule then f ∷ only rule fs else only rule fs
+
+abbrev causes : List Finding → List ℕ
+causes [] = []
+causes (f ∷ fs) = f .cause ∷ causes fs
+
+abbrev findings-of : (rule : ℕ) → Pack → List Finding
+findings-of rule P = only rule (check P)
 
 record Edge : Type 0 where
   rule : ℕ
@@ -153,7 +160,7 @@ edges =
 
 abbrev all-as-expected : List Edge → Bool
 all-as-expected [] = true
-all-as-expected (e ∷ es) = (causes (e .rule) (check (e .pack)) ≐ e .expected) && all-as-expected es
+all-as-expected (e ∷ es) = (causes (findings-of (e .rule) (e .pack)) ≐ e .expected) && all-as-expected es
 
 edges-hold : all-as-expected edges ≡ true
 unfolding computed
@@ -178,6 +185,20 @@ latest-id : check (in-nmea2000 [] (numbered-a 127488 ∷ numbered-a 127489 ∷ n
 unfolding computed
 latest-id = refl
 
+-- R24 cause 2 too: 7 is named by the field of the least PGN number, 9 clashes with 7 and not with 3, and one text is one place
+abbrev named-spn : (number : ℕ) (name : Bytes) → Field
+named-spn number name = a-field (bytes "a") name NUMBER 16 ONE 0 (some number) none none none none
+
+latest-spn : findings-of 24
+    (in-j1939
+    (a-pgn 65263 (bytes "b") none (named-spn 7 (bytes "X") ∷ [])
+    ∷ a-pgn 65262 (bytes "a") none (named-spn 7 (bytes "Y") ∷ named-spn 3 (bytes "Y") ∷ [])
+    ∷ a-pgn 65264 (bytes "c") none (named-spn 9 (bytes "Y") ∷ [])
+    ∷ []))
+    ≡ pgn-error 24 2 1 1 3 7 ∷ pgn-error 24 2 1 1 7 9 ∷ pgn-error 24 2 1 2 7 9 ∷ []
+unfolding computed
+latest-spn = refl
+
 -- "scaling compared by bits (NaN, −0)": two fields of one NaN pattern differ, -0 and 0 do not, and a lone NaN is silent
 abbrev NAN : ℕ
 NAN = 0x7ff8_0000_0000_0000
@@ -186,7 +207,7 @@ abbrev MINUS-ZERO : ℕ
 MINUS-ZERO = 0x8000_0000_0000_0000
 
 abbrev j1939-fields : List Field → List ℕ
-j1939-fields fields = causes 42 (check (in-j1939 (a-pgn 65262 (bytes "a") none fields ∷ [])))
+j1939-fields fields = causes (findings-of 42 (in-j1939 (a-pgn 65262 (bytes "a") none fields ∷ [])))
 
 nan-differs : j1939-fields (spn 190 16 NAN 0 ∷ spn 190 16 NAN 0 ∷ []) ≡ 3 ∷ []
 unfolding computed

@@ -47,8 +47,11 @@ pub mod Continues
 -- R44
 pub mod TrailingZero
 pub mod Check
+-- laws
+pub mod SearchLaws
 pub mod Clean
 pub mod Pdu1
+pub mod Bound
 -- examples
 mod Computed
 mod Examples

@@ -37,14 +37,20 @@ module _ (pgns : List Pgn) where
   unfoldable pub spn-name : (s : ℕ) → Bytes
   spn-name s = name-by s (spn-pgn s)
 
-  -- `insert` answers the latest earlier SPN of the name: the largest one below s
-  abbrev pub earlier-if : (s : ℕ) → Option ℕ → Option ℕ
-  earlier-if s none = none
-  earlier-if s (some e) = optional ((e <ᵇ s) && (spn-name e ≐ spn-name s)) e
+  -- field k of PGN i is the one that names the SPN
+  unfoldable pub names-spn : (s i k : ℕ) → Bool
+  names-spn s i k = is-number (spn-pgn s) i && is-number (spn-field (getD pgns i noPgn) s) k
+
+  -- `insert` answers the latest earlier SPN of the name: the largest one below s that has it
+  abbrev pub earlier-if : (s i k : ℕ) → Option ℕ → Option ℕ
+  earlier-if s i k none = none
+  earlier-if s i k (some e) = optional ((e <ᵇ s) && (field-at (getD pgns i noPgn) k .name ≐ spn-name s) && names-spn e i k) e
+
+  unfoldable pub earlier-in : (s i : ℕ) → Option ℕ
+  earlier-in s i = maxBelow (λ k. earlier-if s i k (field-at (getD pgns i noPgn) k .spn)) (length (getD pgns i noPgn .fields))
 
   unfoldable pub earlier-spn : (s : ℕ) → Option ℕ
-  earlier-spn s =
-      maxBelow (λ i. maxBelow (λ k. earlier-if s (field-at (getD pgns i noPgn) k .spn)) (length (getD pgns i noPgn .fields))) (length pgns)
+  earlier-spn s = maxBelow (earlier-in s) (length pgns)
 
   -- One finding at the earlier SPN's PGN and one at this one's; `dedup` compares the two places' texts.
   unfoldable pub clash-at : (earlier s i j : ℕ) → List Finding
@@ -65,9 +71,11 @@ module _ (pgns : List Pgn) where
   spn-from b none = none
   spn-from b (some s) = optional (b ≤ᵇ s) s
 
+  unfoldable pub least-spn-in : (b i : ℕ) → Option ℕ
+  least-spn-in b i = minBelow (λ k. spn-from b (field-at (getD pgns i noPgn) k .spn)) (length (getD pgns i noPgn .fields))
+
   unfoldable pub least-spn : (b : ℕ) → Option ℕ
-  least-spn b =
-      minBelow (λ i. minBelow (λ k. spn-from b (field-at (getD pgns i noPgn) k .spn)) (length (getD pgns i noPgn .fields))) (length pgns)
+  least-spn b = minBelow (least-spn-in b) (length pgns)
 
   -- there are no more SPNs than fields
   unfoldable pub check-spn-names : List Finding

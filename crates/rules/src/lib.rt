@@ -1,6 +1,8 @@
 ghost use mathlib.Core.Path.{_≡_};
 ghost use Rattle.rules.specs.Proprietary.{is-manufacturer-pgn};
 
+mod floats;
+
 // A finding's eight numbers.
 pub struct Finding {
     pub rule: u32,
