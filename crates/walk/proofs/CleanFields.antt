@@ -1,16 +1,17 @@
 -- What it says of a field that R08, R13, R15, R43 and R44 report no error of it: none of the stops 3 to 7 and 9 comes of it by the place.
-use mathlib.Core.Path.{_≡_, refl, sym, _∙_}
-use mathlib.Core.Bool.{Bool, true, false, not, _&&_, _||_, false≢true}
-use mathlib.Core.List.{[], _∷_}
-use mathlib.Core.Option.{Option, none, some}
 use Prim.Native.Nat.{ℕ, zero, suc, _+_, _-_, _≤_, _<_}
 use native.Mathlib.Omega.{arith}
 use native.Mathlib.Decide.{ℕ-discrete}
+use mathlib.Core.Path.{_≡_, refl, sym}
+use mathlib.Core.Bool.{Bool, true, false, not, _&&_, _||_, false≢true}
+use mathlib.Core.List.{[], _∷_}
+use mathlib.Core.Option.{Option, none, some}
 use lib.ListN.{length}
 use lib.Dec.{leb, eqb}
 use borrow.Author.Tests.{ltb-true, leb-true, leb-false, eqb-true, not-false, lt-ltb, le-leb}
 use Rattle.pack.specs.Notation.{if_then_else_, _==_, _≐_}
 use Rattle.pack.specs.Value.{Bytes, Entry, Reference, Field, Repeating, Pgn, Pack}
+use Rattle.rules.specs.SearchLaws.{first-is}
 use Rattle.rules.specs.Search.{anyBelow, firstBelow}
 use Rattle.rules.specs.Findings.{pgn-error, lookup-error, report-if}
 use Rattle.rules.specs.Model.{given, field-at, lookup-at, entry-at, lookup-ref, find-lookup, target, fieldtypes}
@@ -20,26 +21,16 @@ use Rattle.rules.specs.BitLengthField.{variable-binary, bit-length-target-at, b
 use Rattle.rules.specs.Continues.{holds-order, set-of, continued-at, continued-found-at, continues-at}
 use Rattle.rules.specs.TrailingZero.{starts-behind, fixed, trailing-zero-target-at, trailing-zero-at}
 use Rattle.rules.specs.Texts.{DECIMAL}
+use Rattle.rules.specs.Clean.{Clean, clean-in-turn, clean-below, clean-if}
 use Rattle.walk.specs.Layout.{set-or-empty, layout, start, sets-hold}
 use Rattle.walk.specs.Stops.{is-missing, name-of, lookup-missing, unfit, match-unfit, names-missing, any-names-missing, entry-astray-in, entry-astray, lacks}
 use Rattle.walk.specs.ByPlace.{placed}
-use Rattle.walk.proofs.Tests.{and-l, and-r, and-i, or-l, or-r, or-i, none-below-i}
-use Rattle.rules.specs.Clean.{Clean, clean-in-turn, clean-below, clean-if}
+use Rattle.walk.proofs.Tests.{and-l, and-r, and-i, or-l, or-r, or-i, none-below}
 use Rattle.walk.proofs.Clean.{clean-then, clean-else}
 use Rattle.walk.proofs.Sets.{Holds, short, placed-i, Good}
 
--- A FIRST INDEX
-pub first-low : (f : ℕ → Bool) (n j : ℕ) → firstBelow f n ≡ some j → j < n
-first-low f zero j e = let z : _≡_ {A = ℕ} 0 1 = cc in absurd (omega arith)
-first-low f (suc n) j e = go (firstBelow f n) (f n) refl refl (first-low f n j)
-  where
-    go : (x : Option ℕ) (b : Bool) → firstBelow f n ≡ x → f n ≡ b → (firstBelow f n ≡ some j → j < n) → j < suc n
-    go none true p q r = let s : n ≡ j = cc (rw (p, q) at e) in omega arith
-    go none false p q r = let z : _≡_ {A = ℕ} 0 1 = cc (rw (p, q) at e) in absurd (omega arith)
-    go (some k) b p q r = let s : firstBelow f n ≡ some j = p ∙ (rw p at e) in omega (arith, r s)
-
--- it stays the first where more are looked at
-pub first-more : (f : ℕ → Bool) (k n j : ℕ) → firstBelow f k ≡ some j → k ≤ n → firstBelow f n ≡ some j
+-- a first index stays the first where more are looked at
+first-more : (f : ℕ → Bool) (k n j : ℕ) → firstBelow f k ≡ some j → k ≤ n → firstBelow f n ≡ some j
 first-more f k zero j e l = let z : k ≡ 0 = omega arith in rw z at e
 first-more f k (suc n) j e l = go (ℕ-discrete k (suc n)) (first-more f k n j e)
   where
@@ -103,8 +94,8 @@ module _ (P : Pack) where
       go none q = rw (q, entry-astray-in)
       go (some l) q =
           let es = fieldtypes (lookup-at (P .lookups) l) in
-          let c′ = c l (first-low _ _ l q) in
-          rw (q, entry-astray-in, any-names-missing) (none-below-i _ (length es) (λ e h. and-none (eqb (entry-at es e .value) reading) _ (names-there l e (entry-at es e) (clean-below _ (length es) c′ e h))))
+          let c′ = c l (first-is _ _ l q .0) in
+          rw (q, entry-astray-in, any-names-missing) (none-below _ (length es) (λ e h. and-none (eqb (entry-at es e .value) reading) _ (names-there l e (entry-at es e) (clean-below _ (length es) c′ e h))))
 
 -- A NEEDED FIELD of the PGN p, by the place
 module _ (p : Pgn) where
@@ -193,7 +184,7 @@ module _ (p : Pgn) (G : Good (layout p)) where
           let other = not (set-of p j == set-of p k) in
           let parts = clean-in-turn (if other then pgn-error 43 2 t i k j ∷ [] else _) (_ ∷ _ ∷ _ ∷ _ ∷ _ ∷ []) c in
           let s = eqb-true (set-of p j) (set-of p k) (not-false _ (clean-else other (pgn-error 43 2 t i k j) _ refl (parts .0) .0)) in
-          let m = first-low _ k j q in
+          let m = first-is _ k j q .0 in
           has p (suc k) j id (first-more _ k (length (p .fields)) j q (omega arith)) (placed-i (layout p) (suc k) j (omega arith) (one-set j k s))
 
 -- STOP 9, by R44: no set begins before the target

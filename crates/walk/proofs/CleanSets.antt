@@ -1,19 +1,19 @@
 -- What it says of a PGN's sets that R05 reports no error.
+use Prim.Native.Nat.{ℕ, zero, suc, _+_, _-_, _≤_, _<_}
+use native.Mathlib.Omega.{arith}
 use mathlib.Core.Path.{_≡_, refl}
 use mathlib.Core.Bool.{Bool, true, false, _&&_, _||_, false≢true}
 use mathlib.Core.List.{List, [], _∷_}
 use mathlib.Core.Option.{Option, none, some}
-use Prim.Native.Nat.{ℕ, zero, suc, _+_, _-_, _≤_, _<_}
-use native.Mathlib.Omega.{arith}
 use lib.ListN.{length}
 use lib.Dec.{ltb, leb, eqb}
 use borrow.Author.Tests.{ltb-true, ltb-false, leb-true, leb-false, eqb-false, lt-ltb, le-leb, ne-eqb}
 use Rattle.pack.specs.Notation.{if_then_else_, _==_}
 use Rattle.pack.specs.Value.{Field, Repeating, Pgn}
 use Rattle.rules.specs.Repeating.{set-bounds, set-count-field, set-nesting, check-set, check-repeating}
+use Rattle.rules.specs.Clean.{Clean, clean-left, clean-right, clean-in-turn, clean-if}
 use Rattle.walk.specs.Layout.{Layout, set-or-empty, layout, start, inside-last}
 use Rattle.walk.proofs.Tests.{and-l, and-r, and-i, or-l, or-r}
-use Rattle.rules.specs.Clean.{Clean, clean-left, clean-right, clean-in-turn, clean-if}
 use Rattle.walk.proofs.Clean.{clean-then, clean-else}
 use Rattle.walk.proofs.HeldSets.{Fits}
 use Rattle.walk.proofs.Sets.{Holds, short}

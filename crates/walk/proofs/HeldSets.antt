@@ -1,14 +1,14 @@
 -- Sets that fit (R05) and are held: the layout is past stop 1, and every countField is current at its set's start.
+use Prim.Native.Nat.{ℕ, zero, suc, _≤_, _<_}
+use native.Mathlib.Omega.{arith}
 use mathlib.Core.Path.{_≡_, refl}
 use mathlib.Core.Bool.{Bool, true, false, not, _||_}
 use mathlib.Core.Option.{Option, none, some}
-use Prim.Native.Nat.{ℕ, zero, suc, _≤_, _<_}
-use native.Mathlib.Omega.{arith}
 use lib.ListN.{length}
 use borrow.Author.Tests.{ltb-true, not-true, lt-ltb, le-ltb, ne-eqb}
 use Rattle.walk.specs.Layout.{Layout, set-at, start, end, nonempty, holds, everyBelow, nested-in, inside-last, misplaced, clash, stop-1}
 use Rattle.walk.specs.Held.{shares-held, count-field-held, count-fields-held}
-use Rattle.walk.proofs.Tests.{or-i, and-not, imp-e, imp-i, every-e, every-i, none-below-i}
+use Rattle.walk.proofs.Tests.{or-i, and-not, imp-e, imp-i, every-e, every-i, none-below}
 use Rattle.walk.proofs.Sets.{Holds, holds-i, short, placed-i, nested-e}
 use Rattle.walk.proofs.Never.{Count-placed}
 
@@ -46,7 +46,7 @@ module _ (L : Layout) (fit : (k o : ℕ) → Holds L k o → Fits L k) (shares :
 
   pub past-stop-1 : stop-1 L ≡ false
   unfolding stop-1
-  past-stop-1 = none-below-i _ (length (L .sets)) (λ k l. or-i (misplaced L k) _ (in-place k) (none-below-i (λ j. clash L j k) k (λ j m. apart j k m l)))
+  past-stop-1 = none-below _ (length (L .sets)) (λ k l. or-i (misplaced L k) _ (in-place k) (none-below (λ j. clash L j k) k (λ j m. apart j k m l)))
 
   pub counts-placed : nonempty-count-fields-held L ≡ true → (k : ℕ) → Holds L k (start L k) → Count-placed L (start L k) (set-at L k .count-field)
   unfolding nonempty-count-fields-held count-field-held

@@ -1,20 +1,20 @@
 -- What holds where the walk stands: of its visits (`Law`), of the sets' passes at a due field (`Due`) and between two visits (`Moved`).
+use Prim.Native.Nat.{ℕ, zero, suc, pred, _≤_, _<_}
+use native.Mathlib.Omega.{arith}
+use native.Mathlib.Decide.{ℕ-discrete}
 use mathlib.Core.Path.{_≡_, refl, sym, subst, _∙_}
 use mathlib.Core.List.{List, [], _∷_}
 use mathlib.Core.Option.{Option, none, some}
 use mathlib.Core.Bool.{Bool, true, false, _&&_, _||_, false≢true}
-use Prim.Native.Nat.{ℕ, zero, suc, pred, _≤_, _<_}
-use native.Mathlib.Omega.{arith}
-use native.Mathlib.Decide.{ℕ-discrete}
 use lib.ListN.{length}
 use lib.Dec.{ltb, eqb}
 use borrow.Author.Tests.{ltb-true, ltb-false, eqb-true, eqb-false, not-true, not-false, lt-ltb, le-leb, lt-leb, eq-eqb, ne-eqb}
-use Rattle.walk.proofs.Tests.{and-l, and-r, put-same, put-other, tri}
-use Rattle.walk.proofs.Sets.{Holds, short, Good}
 use Rattle.walk.specs.Layout.{Layout, set-at, start, end}
 use Rattle.walk.specs.Passes.{Rest, endless, more, present, Place, first, goto, goto-with, arrives, Stand, again, arrived, ready, beyond, look, close, stand}
 use Rattle.walk.specs.Visits.{Visit, Visits, visited}
 use Rattle.walk.specs.Walk.{by-visits}
+use Rattle.walk.proofs.Tests.{and-l, and-r, put-same, put-other, tri}
+use Rattle.walk.proofs.Sets.{Holds, short, Good}
 
 -- set k has a present pass
 abbrev pub Present : Place → ℕ → Type 0

@@ -1,10 +1,10 @@
 -- A walk over a sound layout never stops; and how many visits a walk makes.
+use Prim.Native.Nat.{ℕ, zero, suc, pred, _≤_, _<_}
+use native.Mathlib.Omega.{arith}
 use mathlib.Core.Path.{_≡_, refl, ap}
 use mathlib.Core.List.{List, [], _∷_}
 use mathlib.Core.Option.{Option, none, some}
 use mathlib.Core.Bool.{Bool, true, false}
-use Prim.Native.Nat.{ℕ, zero, suc, pred, _≤_, _<_}
-use native.Mathlib.Omega.{arith}
 use lib.ListN.{length, getD}
 use Rattle.pack.specs.Value.{noField}
 use Rattle.walk.specs.Layout.{Layout, set-at, start, stop-1}

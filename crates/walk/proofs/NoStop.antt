@@ -1,35 +1,34 @@
 -- The guarantee against stops: the rules that are silent and what is held make the PGN's layout sound, so that its walk never stops.
+use Prim.Native.Nat.{ℕ, suc, _<_}
+use native.Mathlib.Omega.{arith}
 use mathlib.Core.Path.{_≡_, refl}
 use mathlib.Core.Bool.{Bool, true, false, _&&_}
 use mathlib.Core.List.{List}
 use mathlib.Core.Option.{none, some}
-use Prim.Native.Nat.{ℕ, suc, _<_}
-use native.Mathlib.Omega.{arith}
 use lib.ListN.{length}
 use borrow.Author.Tests.{lt-ltb}
 use Rattle.pack.specs.Value.{Bytes, Pgn, Pack, pgns-of}
+use Rattle.rules.specs.SearchLaws.{any-hit}
 use Rattle.rules.specs.Search.{anyBelow}
-use Rattle.rules.specs.Findings.{without-error}
-use Rattle.rules.specs.Model.{pgn-at, field-at, lookup-at, lookup-ref, target}
+use Rattle.rules.specs.Model.{pgn-at, field-at, lookup-ref, target}
 use Rattle.rules.specs.DynamicLength.{length-source}
-use Rattle.rules.specs.LookupWiring.{check-lookup-refs, check-nested-refs}
-use Rattle.rules.specs.Repeating.{check-repeating}
+use Rattle.rules.specs.LookupWiring.{check-lookup-refs}
 use Rattle.rules.specs.MatchValues.{check-match-values}
 use Rattle.rules.specs.BitLengthField.{check-bit-length-field}
 use Rattle.rules.specs.Continues.{check-continues}
 use Rattle.rules.specs.TrailingZero.{check-trailing-zero-is-digit}
 use Rattle.rules.specs.Check.{check}
+use Rattle.rules.specs.Clean.{Clean, clean-below, clean-pgn, clean-lookup-refs, clean-nested-refs, clean-continues}
 use Rattle.walk.specs.Layout.{layout, everyBelow, sets-hold, stop-1}
 use Rattle.walk.specs.Stops.{is-dynamic-value, lacks-length, stop-at}
 use Rattle.walk.specs.Walk.{End, whole, used-up, stop, Answer, by-visits, walk}
 use Rattle.walk.specs.ByPlace.{placed}
 use Rattle.walk.specs.Held.{shares-held, count-fields-held, bit-length-held, dynamic-value-held, held}
 use Rattle.walk.specs.Guarantee.{Unstopped, ends-whole, ends-used-up, Guarantee, Quiet}
-use Rattle.walk.proofs.Tests.{and-l, and-r, and-i, and-not, imp-e, every-e, any-e, any-i, and-4}
+use Rattle.walk.proofs.Tests.{and-l, and-r, and-i, and-not, imp-e, every-e, any-e, and-4}
 use Rattle.walk.proofs.Sets.{Holds, good}
 use Rattle.walk.proofs.HeldSets.{Fits, nonempty-count-fields-held, counts-weaker, past-stop-1, counts-placed}
 use Rattle.walk.proofs.Never.{Counted, walk-counted, Runs, Sound, never}
-use Rattle.rules.specs.Clean.{Clean, clean-below, clean-pgn, clean-lookup-refs, clean-nested-refs, clean-continues}
 use Rattle.walk.proofs.CleanSets.{sets-fit}
 use Rattle.walk.proofs.CleanFields.{no-stop-3, no-stop-4, no-stop-5, no-stop-6, no-stop-7, no-stop-9}
 
@@ -82,7 +81,7 @@ module _ (P : Pack) (t i : ℕ) (p : Pgn) (q : Quiet P t i p) (h : held-nonempty
   no-stop-8 k l = and-not (is-dynamic-value P (field-at p k)) (anyBelow current-source k) (λ v.
       let s = any-e _ k (imp-e (is-dynamic-value P (field-at p k)) _ (every-e (λ k. dynamic-value-held P p k) (length (p .fields)) (held-4 .3) k l) v) in
       let source = length-source (P .fieldtypes) (field-at p (s .at)) in
-      any-i current-source k (s .at) (s .low) (and-i source _ (and-l source _ (s .has)) (and-i _ _ (lt-ltb (suc (s .at)) (suc k) (omega (arith, s .low))) (and-r source _ (s .has)))))
+      any-hit current-source k (s .at) (s .low) (and-i source _ (and-l source _ (s .has)) (and-i _ _ (lt-ltb (suc (s .at)) (suc k) (omega (arith, s .low))) (and-r source _ (s .has)))))
     where
       current-source : ℕ → Bool
       current-source j = length-source (P .fieldtypes) (field-at p j) && placed (layout p) (suc k) j

@@ -1,10 +1,10 @@
 -- THE LAW OF POSITION. Past stop 1, at a due field of order o and on arriving at a set at o, a field is current exactly if its order is
 -- below o and every nonempty set that holds it holds o (`placed`).
+use Prim.Native.Nat.{ℕ, zero, suc, pred, _≤_, _<_}
+use native.Mathlib.Omega.{arith}
 use mathlib.Core.Path.{_≡_, refl}
 use mathlib.Core.Bool.{false, _&&_}
 use mathlib.Core.Option.{some}
-use Prim.Native.Nat.{ℕ, zero, suc, pred, _≤_, _<_}
-use native.Mathlib.Omega.{arith}
 use lib.ListN.{length}
 use lib.Dec.{ltb}
 use borrow.Author.Tests.{ltb-true, lt-ltb}

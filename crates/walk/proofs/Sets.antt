@@ -1,16 +1,17 @@
 -- The sets' facts: which orders a set holds, and what stop 1 shuts out.
-use mathlib.Core.Path.{_≡_, refl, ap}
-use mathlib.Core.Bool.{Bool, true, false, not, _||_, false≢true}
 use Prim.Native.Nat.{ℕ, zero, suc, _≤_, _<_}
 use native.Mathlib.Omega.{arith}
+use mathlib.Core.Path.{_≡_, refl, ap}
+use mathlib.Core.Bool.{Bool, true, false, not, _||_, false≢true}
 use lib.ListN.{length, List·getD-eq-default}
 use lib.Dec.{ltb, leb, eqb}
 use borrow.Author.Tests.{ltb-true, ltb-false, leb-true, eqb-true, eqb-false, not-false, lt-ltb, le-leb}
 use Rattle.pack.specs.Value.{Repeating}
+use Rattle.rules.specs.SearchLaws.{any-missed}
 use Rattle.rules.specs.Search.{anyBelow}
 use Rattle.walk.specs.Layout.{Layout, no-set, set-at, start, end, nonempty, holds, everyBelow, sets-hold, share, nested-in, inside-last, misplaced, clash, stop-1}
 use Rattle.walk.specs.ByPlace.{placed}
-use Rattle.walk.proofs.Tests.{and-l, and-r, and-i, or-l, or-r, imp-e, imp-i, and-false, every-e, every-i, none-below}
+use Rattle.walk.proofs.Tests.{and-l, and-r, and-i, or-l, or-r, imp-e, imp-i, and-false, every-e, every-i}
 
 -- set k holds the order o
 abbrev pub Holds : Layout → ℕ → ℕ → Type 0
@@ -62,7 +63,7 @@ pub record Good (L : Layout) : Type 0 where
 module _ (L : Layout) (laid : stop-1 L ≡ false) where
   each : (k : ℕ) → k < length (L .sets) → (misplaced L k || anyBelow (λ j. clash L j k) k) ≡ false
   unfolding stop-1
-  each = none-below _ (length (L .sets)) laid
+  each = any-missed _ (length (L .sets)) laid
 
   record Laid (k : ℕ) : Type 0 where
     low : 1 ≤ start L k
@@ -102,6 +103,6 @@ module _ (L : Layout) (laid : stop-1 L ≡ false) where
     low = λ k o h. laid-e k o h .low;
     high = λ k o h. laid-e k o h .high;
     inside = λ j k o l h g.
-        let a = none-below (λ j. clash L j k) k (or-r (misplaced L k) _ (each k (short L k o g))) j l in
+        let a = any-missed (λ j. clash L j k) k (or-r (misplaced L k) _ (each k (short L k o g))) j l in
         nested-e j k o g (not-false (nested-in L j k) (and-false (share L j k) _ a (share-i L j k o h g)));
   }

@@ -1,9 +1,9 @@
 -- Tests as facts: what it says that a Bool is true or false.
-use mathlib.Core.Path.{_≡_, refl, sym, _∙_}
-use mathlib.Core.Bool.{Bool, true, false, not, _&&_, _||_, false≢true}
 use Prim.Native.Nat.{ℕ, zero, suc, _<_}
 use native.Mathlib.Omega.{arith}
 use native.Mathlib.Decide.{ℕ-discrete}
+use mathlib.Core.Path.{_≡_, refl, sym}
+use mathlib.Core.Bool.{Bool, true, false, not, _&&_, _||_, false≢true}
 use lib.Dec.{ltb}
 use borrow.Author.Tests.{ltb-true, ltb-false, eq-eqb, ne-eqb}
 use Rattle.rules.specs.Search.{anyBelow}
@@ -73,17 +73,9 @@ pub every-i : (f : ℕ → Bool) (n : ℕ) → ((k : ℕ) → k < n → f k ≡ 
 every-i f zero h = refl
 every-i f (suc n) h = and-i (everyBelow f n) _ (every-i f n (λ k l. h k (omega arith))) (h n (omega arith))
 
-pub none-below : (f : ℕ → Bool) (n : ℕ) → anyBelow f n ≡ false → (k : ℕ) → k < n → f k ≡ false
-none-below f zero e k h = absurd (omega arith)
-none-below f (suc n) e k h = go (ℕ-discrete k n) (none-below f n (or-l _ _ e) k)
-  where
-    go : Dec (k ≡ n) → (k < n → f k ≡ false) → f k ≡ false
-    go (yes q) r = rw q (or-r (anyBelow f n) _ e)
-    go (no q) r = r (omega arith)
-
-pub none-below-i : (f : ℕ → Bool) (n : ℕ) → ((k : ℕ) → k < n → f k ≡ false) → anyBelow f n ≡ false
-none-below-i f zero h = refl
-none-below-i f (suc n) h = or-i (anyBelow f n) _ (none-below-i f n (λ k l. h k (omega arith))) (h n (omega arith))
+pub none-below : (f : ℕ → Bool) (n : ℕ) → ((k : ℕ) → k < n → f k ≡ false) → anyBelow f n ≡ false
+none-below f zero h = refl
+none-below f (suc n) h = or-i (anyBelow f n) _ (none-below f n (λ k l. h k (omega arith))) (h n (omega arith))
 
 -- which one, where there is one
 pub record Some (f : ℕ → Bool) (n : ℕ) : Type 0 where
@@ -98,13 +90,6 @@ any-e f (suc n) e = go (anyBelow f n) refl (any-e f n)
     go : (b : Bool) → anyBelow f n ≡ b → (anyBelow f n ≡ true → Some f n) → Some f (suc n)
     go true q r = let s = r q in record { at = s .at; low = omega (arith, s .low); has = s .has }
     go false q r = record { at = n; low = omega arith; has = rw q at e }
-
-pub any-i : (f : ℕ → Bool) (n k : ℕ) → k < n → f k ≡ true → anyBelow f n ≡ true
-any-i f n k l e = go (anyBelow f n) refl
-  where
-    go : (b : Bool) → anyBelow f n ≡ b → anyBelow f n ≡ true
-    go true q = q
-    go false q = absurd (false≢true (sym (none-below f n q k l) ∙ e))
 
 pub put-same : {A : Type 0} (f : ℕ → A) (k : ℕ) (x : A) → put f k x k ≡ x
 unfolding put

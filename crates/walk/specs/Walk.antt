@@ -108,6 +108,7 @@ module _ (L : Layout) {M : Type 0} (m : Memory M) where
     | false ↦ walk-on stops (settled first (m .fresh)) rs
   ]
 
+-- all the visits so far, and since when each set's present pass runs
 abbrev pub by-visits : Layout → Memory Visits
 by-visits L = record {
   fresh = record { made = []; begun = λ k. 0 };
