@@ -1,15 +1,20 @@
 -- Small walks, by computation: each end and each stop.
 use Prim.Native.Nat.{ℕ}
+use native.Mathlib.Omega.{arith}
 use mathlib.Core.Path.{_≡_, refl}
 use mathlib.Core.Bool.{Bool, true, false}
 use mathlib.Core.List.{List, [], _∷_}
 use mathlib.Core.Option.{Option, none, some}
+use lib.ListN.{length}
 use Rattle.pack.specs.Value.{Bytes, FieldType, Entry, Reference, Repeating, Field, Pgn, Pack}
 use Rattle.rules.specs.Model.{find-lookup, target, fieldtypes, resolve-match, resolve-text, resolve-name, parse-u64, parse-digits}
 use Rattle.rules.specs.DynamicLength.{length-source}
-use Rattle.rules.specs.LookupWiring.{is-fieldtype}
+use Rattle.rules.specs.LookupWiring.{is-fieldtype, lookup-ref-at, check-lookup-refs}
+use Rattle.rules.specs.MatchValues.{match-value-at, check-match-values}
+use Rattle.rules.specs.Continues.{continues-at, check-continues}
+use Rattle.rules.specs.TrailingZero.{trailing-zero-at, check-trailing-zero-is-digit}
 use Rattle.rules.specs.Findings.{pgn-error}
-use Rattle.rules.specs.Repeating.{set-bounds, set-count-field, check-set, check-repeating}
+use Rattle.rules.specs.Repeating.{set-bounds, set-count-field, set-nesting, check-set, check-repeating}
 use Rattle.rules.specs.BitLengthField.{variable-binary, bit-length-target-at, bit-length-field-at, check-bit-length-field}
 use Rattle.rules.specs.Texts.{bytes, BINARY, NUMBER, DYNAMIC-FIELD-KEY, DYNAMIC-FIELD-VALUE}
 use Rattle.walk.specs.Layout.{Layout, sets-hold, share, nested-in, inside-last, misplaced, clash, stop-1}
@@ -18,6 +23,8 @@ use Rattle.walk.specs.Passes.{put, arrives, look, close, stand}
 use Rattle.walk.specs.Visits.{visited, latest, is-current}
 use Rattle.walk.specs.Walk.{End, whole, used-up, stop, Answer, arrive, settle, settled, onward, walk-on, walk-with, by-visits, walk}
 use Rattle.walk.specs.Held.{shares-held, count-field-held, count-fields-held, bit-length-held, dynamic-value-held, held}
+use Rattle.walk.specs.Guarantee.{Unstopped, Quiet}
+use Rattle.walk.proofs.NoStop.{weaker, guarantee-by}
 
 -- A PACK of three field types and one lookup, and fields that ask for something
 abbrev root : Bytes → FieldType
@@ -271,14 +278,18 @@ no-such-target : run (pgn none none (a ∷ z-ends-by (bytes "b") ∷ [])) (1 ∷
 unfolding run
 no-such-target = refl
 
+-- a pack with no lookup
+abbrev Q : Pack
+Q = record { fieldtypes = root NUMBER ∷ []; lookups = []; pgns = nested ∷ []; pgns-j1939 = []; pgns-quick = [] }
+
 -- HELD: the PGNs that count are, and one whose target lies in a set that its user does not lie in is not
 held-counted : is-held counted ≡ true
 unfolding is-held
 held-counted = refl
 
-held-nested : is-held nested ≡ true
+nested-held : held Q nested ≡ true
 unfolding is-held
-held-nested = refl
+nested-held = refl
 
 not-held : is-held (pgn (set 2 1 (some 1) false) none (a ∷ b ∷ z-as-long-as (bytes "b") ∷ [])) ≡ false
 unfolding is-held
@@ -336,6 +347,22 @@ sharing-not-held = refl
 sharing-stops : run sharing [] ≡ answer (stop 1) []
 unfolding run
 sharing-stops = refl
+
+-- THE GUARANTEE at work: the PGN with a nested set is quiet and held
+nested-quiet : Quiet Q 0 0 nested
+unfolding check-repeating check-set set-bounds set-count-field set-nesting check-lookup-refs lookup-ref-at check-match-values match-value-at check-bit-length-field bit-length-field-at variable-binary check-continues continues-at check-trailing-zero-is-digit trailing-zero-at
+nested-quiet = record {
+  repeating = refl;
+  lookup-refs = refl;
+  nested-refs = λ l h. absurd (omega arith);
+  match-values = refl;
+  bit-length-field = refl;
+  continues = refl;
+  trailing-zero = refl;
+}
+
+nested-unstopped : (readings : List ℕ) → Unstopped (walk Q nested readings) (length readings)
+nested-unstopped = guarantee-by Q 0 0 nested nested-quiet (weaker Q nested nested-held)
 
 -- MORE THAN TWO SETS: a chain of three that end together, the outer without end, the middle one passed over once
 abbrev three : Layout
