@@ -23,7 +23,7 @@ use Rattle.rules.specs.TrailingZero.{starts-behind, fixed, trailing-zero-target
 use Rattle.rules.specs.Texts.{DECIMAL}
 use Rattle.rules.specs.Clean.{Clean, clean-in-turn, clean-below, clean-if}
 use Rattle.walk.specs.Layout.{set-or-empty, layout, start, sets-hold}
-use Rattle.walk.specs.Stops.{is-missing, name-of, lookup-missing, unfit, match-unfit, names-missing, any-names-missing, entry-astray-in, entry-astray, lacks}
+use Rattle.walk.specs.Stops.{is-missing, name-of, lookup-missing, unfit, match-unfit, names-missing, entries-name-missing, lookup-names-missing, reference-names-missing, lacks}
 use Rattle.walk.specs.ByPlace.{placed}
 use Rattle.walk.proofs.Tests.{and-l, and-r, and-i, or-l, or-r, or-i, none-below}
 use Rattle.walk.proofs.Clean.{clean-then, clean-else}
@@ -85,17 +85,17 @@ module _ (P : Pack) where
   and-none true b e = e
   and-none false b e = refl
 
-  pub no-stop-5 : ((l : ℕ) → l < length (P .lookups) → Clean (check-nested-refs P l (lookup-at (P .lookups) l))) → (x : Option Reference) (reading : ℕ) → entry-astray P x reading ≡ false
-  unfolding check-nested-refs entry-astray entry-astray-in any-names-missing find-lookup
+  pub no-stop-5 : ((l : ℕ) → l < length (P .lookups) → Clean (check-nested-refs P l (lookup-at (P .lookups) l))) → (x : Option Reference) (reading : ℕ) → reference-names-missing P x reading ≡ false
+  unfolding check-nested-refs reference-names-missing lookup-names-missing entries-name-missing find-lookup
   no-stop-5 c none reading = refl
   no-stop-5 c (some r) reading = go (find-lookup (P .lookups) (r .name)) refl
     where
-      go : (x : Option ℕ) → find-lookup (P .lookups) (r .name) ≡ x → entry-astray-in P (find-lookup (P .lookups) (r .name)) reading ≡ false
-      go none q = rw (q, entry-astray-in)
+      go : (x : Option ℕ) → find-lookup (P .lookups) (r .name) ≡ x → lookup-names-missing P (find-lookup (P .lookups) (r .name)) reading ≡ false
+      go none q = rw (q, lookup-names-missing)
       go (some l) q =
           let es = fieldtypes (lookup-at (P .lookups) l) in
           let c′ = c l (first-is _ _ l q .0) in
-          rw (q, entry-astray-in, any-names-missing) (none-below _ (length es) (λ e h. and-none (eqb (entry-at es e .value) reading) _ (names-there l e (entry-at es e) (clean-below _ (length es) c′ e h))))
+          rw (q, lookup-names-missing, entries-name-missing) (none-below _ (length es) (λ e h. and-none (eqb (entry-at es e .value) reading) _ (names-there l e (entry-at es e) (clean-below _ (length es) c′ e h))))
 
 -- A NEEDED FIELD of the PGN p, by the place
 module _ (p : Pgn) where

@@ -12,7 +12,7 @@ use Rattle.pack.specs.Notation.{if_then_else_, _==_}
 use Rattle.pack.specs.Value.{Field, Repeating, Pgn}
 use Rattle.rules.specs.Repeating.{set-bounds, set-count-field, set-nesting, check-set, check-repeating}
 use Rattle.rules.specs.Clean.{Clean, clean-left, clean-right, clean-in-turn, clean-if}
-use Rattle.walk.specs.Layout.{Layout, set-or-empty, layout, start, inside-last}
+use Rattle.walk.specs.Layout.{Layout, set-or-empty, layout, start, inside-previous}
 use Rattle.walk.proofs.Tests.{and-l, and-r, and-i, or-l, or-r}
 use Rattle.walk.proofs.Clean.{clean-then, clean-else}
 use Rattle.walk.proofs.HeldSets.{Fits}
@@ -81,13 +81,13 @@ module _ (t i : ℕ) (fs : List Field) where
       record { low = s .low; high = s .high; count = s .count; nests = λ q. absurd (s .nests q) }
 
   second-fits : (r1 r2 : Option Repeating) (o : ℕ) → Clean (check-set t i 2 (length fs) r1 r2) → Holds (two fs r1 r2) 1 o → Fits (two fs r1 r2) 1
-  unfolding inside-last
+  unfolding inside-previous
   second-fits r1 none o e h = absurd (omega arith)
   second-fits r1 (some r) o e h =
       let s = silent t i 2 (length fs) r1 r (omega arith) e in
       record { low = s .low; high = s .high; count = s .count; nests = λ q. nests r1 (s .nests q) }
     where
-      nests : (r1 : Option Repeating) → Inside r1 r → inside-last (two fs r1 (some r)) 1 ≡ true
+      nests : (r1 : Option Repeating) → Inside r1 r → inside-previous (two fs r1 (some r)) 1 ≡ true
       nests none s = absurd s
       nests (some outer) s = and-i _ _ (lt-ltb _ _ (s .0)) (le-leb _ _ (s .1))
 

@@ -17,8 +17,8 @@ use Rattle.rules.specs.Findings.{pgn-error}
 use Rattle.rules.specs.Repeating.{set-bounds, set-count-field, set-nesting, check-set, check-repeating}
 use Rattle.rules.specs.BitLengthField.{variable-binary, bit-length-target-at, bit-length-field-at, check-bit-length-field}
 use Rattle.rules.specs.Texts.{bytes, BINARY, NUMBER, DYNAMIC-FIELD-KEY, DYNAMIC-FIELD-VALUE}
-use Rattle.walk.specs.Layout.{Layout, sets-hold, share, nested-in, inside-last, misplaced, clash, stop-1}
-use Rattle.walk.specs.Stops.{is-missing, lookup-missing, unfit, match-unfit, names-missing, any-names-missing, entry-astray-in, entry-astray, lacks, lacks-length, stop-at}
+use Rattle.walk.specs.Layout.{Layout, sets-hold, share, nested-in, inside-previous, misplaced, clash, stop-1}
+use Rattle.walk.specs.Stops.{is-missing, lookup-missing, unfit, match-unfit, names-missing, entries-name-missing, lookup-names-missing, reference-names-missing, lacks, lacks-length, stop-at}
 use Rattle.walk.specs.Passes.{put, arrives, look, close, stand}
 use Rattle.walk.specs.Visits.{visited, latest, is-current}
 use Rattle.walk.specs.Walk.{End, whole, used-up, stop, Answer, arrive, settle, settled, onward, walk-on, walk-with, by-visits, walk}
@@ -148,7 +148,7 @@ answer x visits = record { ends = x; visits = visits }
 
 -- the definitions, opened
 unfoldable run : Pgn → List ℕ → Answer
-unfolding walk walk-with walk-on onward settled settle arrive stand close look arrives put visited latest is-current stop-1 misplaced clash share nested-in inside-last stop-at lookup-missing is-missing match-unfit unfit entry-astray entry-astray-in any-names-missing names-missing lacks lacks-length find-lookup target fieldtypes is-fieldtype length-source resolve-match resolve-text resolve-name parse-u64 parse-digits
+unfolding walk walk-with walk-on onward settled settle arrive stand close look arrives put visited latest is-current stop-1 misplaced clash share nested-in inside-previous stop-at lookup-missing is-missing match-unfit unfit reference-names-missing lookup-names-missing entries-name-missing names-missing lacks lacks-length find-lookup target fieldtypes is-fieldtype length-source resolve-match resolve-text resolve-name parse-u64 parse-digits
 run p readings = walk P p readings
 
 unfoldable is-held : Pgn → Bool

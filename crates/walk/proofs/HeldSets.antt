@@ -6,7 +6,7 @@ use mathlib.Core.Bool.{Bool, true, false, not, _||_}
 use mathlib.Core.Option.{Option, none, some}
 use lib.ListN.{length}
 use borrow.Author.Tests.{ltb-true, not-true, lt-ltb, le-ltb, ne-eqb}
-use Rattle.walk.specs.Layout.{Layout, set-at, start, end, nonempty, holds, everyBelow, nested-in, inside-last, misplaced, clash, stop-1}
+use Rattle.walk.specs.Layout.{Layout, set-at, start, end, nonempty, holds, everyBelow, nested-in, inside-previous, misplaced, clash, stop-1}
 use Rattle.walk.specs.Held.{shares-held, count-field-held, count-fields-held}
 use Rattle.walk.proofs.Tests.{or-i, and-not, imp-e, imp-i, every-e, every-i, none-below}
 use Rattle.walk.proofs.Sets.{Holds, holds-i, short, placed-i, nested-e}
@@ -17,7 +17,7 @@ pub record Fits (L : Layout) (k : ℕ) : Type 0 where
   pub low : 1 ≤ start L k
   pub high : end L k ≤ suc (length (L .fields))
   pub count : (c : ℕ) → set-at L k .count-field ≡ some c → (1 ≤ c) × (c < start L k)
-  pub nests : set-at L k .nested ≡ true → inside-last L k ≡ true
+  pub nests : set-at L k .nested ≡ true → inside-previous L k ≡ true
 
 -- Of the countFields only those of nonempty sets are needed. `held` asks it of every set's, as document 01 has it to the letter.
 unfoldable pub nonempty-count-fields-held : Layout → Bool
@@ -42,7 +42,7 @@ module _ (L : Layout) (fit : (k o : ℕ) → Holds L k o → Fits L k) (shares :
       go true e =
           let l = ltb-true 0 (set-at L k .count) e in
           let f = fit k (start L k) (omega arith) in
-          rw (e, misplaced) (or-i _ _ (or-i _ _ (ne-eqb (start L k) 0 (λ q. omega (arith, f .low))) (le-ltb _ _ (f .high))) (and-not (set-at L k .nested) (inside-last L k) (f .nests)))
+          rw (e, misplaced) (or-i _ _ (or-i _ _ (ne-eqb (start L k) 0 (λ q. omega (arith, f .low))) (le-ltb _ _ (f .high))) (and-not (set-at L k .nested) (inside-previous L k) (f .nests)))
 
   pub past-stop-1 : stop-1 L ≡ false
   unfolding stop-1

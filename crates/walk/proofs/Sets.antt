@@ -9,7 +9,7 @@ use borrow.Author.Tests.{ltb-true, ltb-false, leb-true, eqb-true, eqb-false, not
 use Rattle.pack.specs.Value.{Repeating}
 use Rattle.rules.specs.SearchLaws.{any-missed}
 use Rattle.rules.specs.Search.{anyBelow}
-use Rattle.walk.specs.Layout.{Layout, no-set, set-at, start, end, nonempty, holds, everyBelow, sets-hold, share, nested-in, inside-last, misplaced, clash, stop-1}
+use Rattle.walk.specs.Layout.{Layout, no-set, set-at, start, end, nonempty, holds, everyBelow, sets-hold, share, nested-in, inside-previous, misplaced, clash, stop-1}
 use Rattle.walk.specs.ByPlace.{placed}
 use Rattle.walk.proofs.Tests.{and-l, and-r, and-i, or-l, or-r, imp-e, imp-i, and-false, every-e, every-i}
 
@@ -68,7 +68,7 @@ module _ (L : Layout) (laid : stop-1 L ≡ false) where
   record Laid (k : ℕ) : Type 0 where
     low : 1 ≤ start L k
     high : end L k ≤ suc (length (L .fields))
-    nests : set-at L k .nested ≡ true → inside-last L k ≡ true
+    nests : set-at L k .nested ≡ true → inside-previous L k ≡ true
 
   laid-e : (k o : ℕ) → Holds L k o → Laid k
   unfolding misplaced
@@ -80,11 +80,11 @@ module _ (L : Layout) (laid : stop-1 L ≡ false) where
       record {
         low = omega arith;
         high = ltb-false _ _ (or-r (eqb (start L k) 0) _ c);
-        nests = λ e. not-false (inside-last L k) (and-false _ _ (or-r (eqb (start L k) 0 || ltb (suc (length (L .fields))) (end L k)) _ b) e);
+        nests = λ e. not-false (inside-previous L k) (and-false _ _ (or-r (eqb (start L k) 0 || ltb (suc (length (L .fields))) (end L k)) _ b) e);
       }
 
   pub nested-e : (j k o : ℕ) → Holds L k o → nested-in L j k ≡ true → (start L j < start L k) × (end L k ≤ end L j)
-  unfolding nested-in inside-last
+  unfolding nested-in inside-previous
   nested-e j zero o h e = absurd (false≢true e)
   nested-e j (suc k) o h e =
       let i = laid-e (suc k) o h .nests (and-l _ _ e) in

@@ -61,15 +61,15 @@ unfoldable pub nested-in : Layout → ℕ → ℕ → Bool
 nested-in L j zero = false
 nested-in L j (suc k) = set-at L (suc k) .nested && ((j == k) || nested-in L j k)
 
--- set k starts after the start of the set before it, and ends within that: for two sets, "set 2 starting after set 1's start and ending within it"
-unfoldable pub inside-last : Layout → ℕ → Bool
-inside-last L zero = false
-inside-last L (suc k) = (start L k <ᵇ start L (suc k)) && (end L (suc k) ≤ᵇ end L k)
+-- Set k starts after the start of the one before it and ends within that one. For two sets, "set 2 starting after set 1's start and ending within it"
+unfoldable pub inside-previous : Layout → ℕ → Bool
+inside-previous L zero = false
+inside-previous L (suc k) = (start L k <ᵇ start L (suc k)) && (end L (suc k) ≤ᵇ end L k)
 
 -- STOP 1, of a set: "a nonempty set has start 0, runs past the fields, or is marked nested but is not set 2 starting after set 1's start
 -- and ending within it"
 unfoldable pub misplaced : Layout → ℕ → Bool
-misplaced L k = nonempty L k && ((start L k == 0) || (suc (length (L .fields)) <ᵇ end L k) || set-at L k .nested && not (inside-last L k))
+misplaced L k = nonempty L k && ((start L k == 0) || (suc (length (L .fields)) <ᵇ end L k) || set-at L k .nested && not (inside-previous L k))
 
 -- of two sets: "or set 2 is not nested and shares an order with set 1"
 unfoldable pub clash : Layout → ℕ → ℕ → Bool

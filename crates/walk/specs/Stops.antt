@@ -37,24 +37,24 @@ match-unfit P f = given (f .match) && unfit (f .res-bits) (resolve-match (P .loo
 unfoldable pub names-missing : Pack → Entry → Bool
 names-missing P e = not (is-fieldtype (P .fieldtypes) (e .fieldtype)) || is-missing P (e .nested)
 
-unfoldable pub any-names-missing : Pack → List Entry → (reading : ℕ) → Bool
-any-names-missing P es reading = anyBelow (λ e. (entry-at es e .value == reading) && names-missing P (entry-at es e)) (length es)
+unfoldable pub entries-name-missing : Pack → List Entry → (reading : ℕ) → Bool
+entries-name-missing P es reading = anyBelow (λ e. (entry-at es e .value == reading) && names-missing P (entry-at es e)) (length es)
 
 -- The entries of the lookup that is named: only those of a fieldtype lookup name anything.
-unfoldable pub entry-astray-in : Pack → Option ℕ → (reading : ℕ) → Bool
-entry-astray-in P none reading = false
-entry-astray-in P (some l) reading = any-names-missing P (fieldtypes (lookup-at (P .lookups) l)) reading
+unfoldable pub lookup-names-missing : Pack → Option ℕ → (reading : ℕ) → Bool
+lookup-names-missing P none reading = false
+lookup-names-missing P (some l) reading = entries-name-missing P (fieldtypes (lookup-at (P .lookups) l)) reading
 
-unfoldable pub entry-astray : Pack → Option Reference → (reading : ℕ) → Bool
-entry-astray P none reading = false
-entry-astray P (some r) reading = entry-astray-in P (find-lookup (P .lookups) (r .name)) reading
+unfoldable pub reference-names-missing : Pack → Option Reference → (reading : ℕ) → Bool
+reference-names-missing P none reading = false
+reference-names-missing P (some r) reading = lookup-names-missing P (find-lookup (P .lookups) (r .name)) reading
 
 -- "A target is the first field with that id; without one it is not current."
 abbrev pub target-current : (ℕ → Bool) → Option ℕ → Bool
 target-current current none = false
 target-current current (some t) = current t
 
--- a target is named, and is not current
+-- "6 bitLengthField target not current; 7 continued field not current", "9 trailing-zero target not current": it is named, and is not
 unfoldable pub lacks : Pgn → (ℕ → Bool) → Option Bytes → Bool
 lacks p current none = false
 lacks p current (some id) = not (target-current current (target p id))
@@ -72,7 +72,7 @@ stop-at P p current i reading =
     let f = field-at p i in
     if lookup-missing P f then some 3
     else if match-unfit P f then some 4
-    else if entry-astray P (lookup-ref f) reading then some 5
+    else if reference-names-missing P (lookup-ref f) reading then some 5
     else if lacks p current (f .bit-length-field) then some 6
     else if lacks p current (f .continues) then some 7
     else if lacks-length P p current i then some 8
