@@ -1,16 +1,16 @@
 -- A report without one error: neither has any of its parts.
-use Prim.Native.Nat.{ℕ, zero, suc, _<_}
+use Prim.Native.Nat.{ℕ, zero, suc, _+_, _<_}
 use native.Mathlib.Omega.{arith}
 use native.Mathlib.Decide.{ℕ-discrete}
 use mathlib.Core.Bool.{Bool, true, false, not, _&&_, false≢true}
 use mathlib.Core.List.{List, [], _∷_, _++_}
 use mathlib.Core.Path.{_≡_, refl}
 use lib.ListN.{length}
-use Rattle.pack.specs.Notation.{concatBelow, _==_}
+use Rattle.pack.specs.Notation.{_==_, if_then_else_, concatBelow}
 use Rattle.pack.specs.Value.{Pack, pgns-of}
 use Rattle.rules.specs.declared.Finding.{Finding}
 use Rattle.rules.specs.Check.{check, check-tree, check-tree-continues, check-pgn}
-use Rattle.rules.specs.Findings.{without-error, report-if, lookup-warning}
+use Rattle.rules.specs.Findings.{errors, without-error, report-if, lookup-warning}
 use Rattle.rules.specs.Model.{pgn-at, lookup-at}
 use Rattle.rules.specs.Fieldtypes.{check-fieldtypes}
 use Rattle.rules.specs.LookupWiring.{check-lookup-wiring, check-lookup-refs, check-nested-refs, referenced}
@@ -35,6 +35,23 @@ use Rattle.rules.specs.Continues.{check-continues}
 
 abbrev pub Clean : List Finding → Type 0
 Clean fs = without-error fs ≡ true
+
+-- it is to have 0 errors
+pub clean-errors : (fs : List Finding) → Clean fs → errors fs ≡ 0
+clean-errors [] c = refl
+clean-errors (f ∷ fs) c = go (f .severity == 1) refl c (clean-errors fs)
+  where
+    go : (b : Bool) → (f .severity == 1) ≡ b → (not b && without-error fs) ≡ true → (Clean fs → errors fs ≡ 0) → errors (f ∷ fs) ≡ 0
+    go true e h rec = absurd (false≢true h)
+    go false e h rec = rw e (rec h)
+
+pub errors-clean : (fs : List Finding) → errors fs ≡ 0 → Clean fs
+errors-clean [] e = refl
+errors-clean (f ∷ fs) e = go (f .severity == 1) refl e (errors-clean fs)
+  where
+    go : (b : Bool) → (f .severity == 1) ≡ b → (if b then errors fs + 1 else errors fs) ≡ 0 → (errors fs ≡ 0 → Clean fs) → Clean (f ∷ fs)
+    go true q h rec = absurd (omega arith)
+    go false q h rec = rw q (rec h)
 
 pub clean-left : (xs ys : List Finding) → Clean (xs ++ ys) → Clean xs
 clean-left [] ys c = refl

@@ -9,7 +9,7 @@ use Rattle.pack.specs.Value.{Bytes, FieldType, Entry, Lookup, Repeating, Refere
 use Rattle.rules.specs.declared.Finding.{Finding}
 use Rattle.rules.specs.Check.{check}
 use Rattle.rules.specs.Computed.{computed}
-use Rattle.rules.specs.Findings.{pgn-error}
+use Rattle.rules.specs.Findings.{pgn-error, group-error}
 use Rattle.rules.specs.Floats.{ONE}
 use Rattle.rules.specs.PlaceText.{place-text}
 use Rattle.rules.specs.Texts.{bytes, NUMBER, DECIMAL}
@@ -269,3 +269,20 @@ fieldtype-by-fieldtype = refl
 bit-by-triplet : match-on 2 1 ≡ pgn-error 8 2 0 0 0 0 ∷ []
 unfolding computed
 bit-by-triplet = refl
+
+-- ---- place texts
+
+places : (place-text reported 0 0 0 ≡ some (bytes "fieldtypes.yaml"))
+    × (place-text reported 3 0 127488 ≡ some (bytes "pgns/127488-*.yaml"))
+    × (place-text reported 1 0 1 ≡ none)
+    × (place-text reported 0 1 0 ≡ none)
+    × (place-text reported 4 0 0 ≡ none)
+    × (place-text (in-j1939 (a-pgn 190 (bytes "b") none [] ∷ [])) 1 1 0 ≡ some (bytes "j1939/pgns/000190-b.yaml"))
+    × (place-text (in-nmea2000 (on-off 0 ∷ []) []) 2 0 0 ≡ some (bytes "lookups/ON_OFF.yaml"))
+unfolding computed
+places = (refl, refl, refl, refl, refl, refl, refl)
+
+-- a group without matches stands at the number
+matchless : check (in-nmea2000 [] (a-pgn 127488 (bytes "a") none [] ∷ a-pgn 127488 (bytes "b") none [] ∷ [])) ≡ group-error 20 2 0 127488 2 ∷ []
+unfolding computed
+matchless = refl

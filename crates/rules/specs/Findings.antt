@@ -1,5 +1,5 @@
 -- A finding's eight numbers. "Tree is 0 for places 0 and 2. Item is the index in its list, for place 3 the PGN number."
-use Prim.Native.Nat.{ℕ}
+use Prim.Native.Nat.{ℕ, _+_}
 use mathlib.Core.Bool.{Bool, true, _&&_, not}
 use mathlib.Core.List.{List, [], _∷_}
 use Rattle.pack.specs.Notation.{_==_, if_then_else_}
@@ -36,7 +36,11 @@ group-error rule cause tree number other =
 abbrev pub report-if : Bool → Finding → List Finding
 report-if b f = if b then f ∷ [] else []
 
--- "no finding it reports has severity 1"
+-- how many have severity 1, and that none has: "without one error"
+abbrev pub errors : List Finding → ℕ
+errors [] = 0
+errors (f ∷ fs) = if f .severity == 1 then errors fs + 1 else errors fs
+
 abbrev pub without-error : List Finding → Bool
 without-error [] = true
 without-error (f ∷ fs) = not (f .severity == 1) && without-error fs

@@ -49,6 +49,7 @@ pub mod TrailingZero
 pub mod Check
 -- laws
 pub mod SearchLaws
+pub mod PlaceLaws
 pub mod Clean
 pub mod Pdu1
 pub mod Bound

@@ -4,7 +4,7 @@ use mathlib.Core.Bool.{Bool, _&&_}
 use mathlib.Core.List.{[], _++_}
 use mathlib.Core.Option.{Option, none}
 use lib.ListN.{length}
-use Rattle.pack.specs.Notation.{_<ᵇ_, _==_, optional}
+use Rattle.pack.specs.Notation.{_<ᵇ_, _==_, if_then_else_, optional}
 use Rattle.pack.specs.Value.{Bytes, Pgn, Pack, pgns-of}
 use Rattle.rules.specs.Digits.{six-digits}
 use Rattle.rules.specs.Model.{pgn-at, lookup-at}
@@ -33,8 +33,9 @@ has-number P t number = anyBelow (λ i. pgn-at P t i .pgn == number) (length (pg
 
 -- "it is in the pack if that record, or for place 3 a PGN of that number in the tree, is there; places 0 and 2 want tree 0"
 unfoldable pub place-text : Pack → (place tree item : ℕ) → Option Bytes
-place-text P zero t item = optional ((t == 0) && (item <ᵇ length (P .fieldtypes))) (bytes "fieldtypes.yaml")
-place-text P (suc zero) t item = optional ((t <ᵇ 3) && (item <ᵇ length (pgns-of P t))) (pgn-loc t (pgn-at P t item))
-place-text P (suc (suc zero)) t item = optional ((t == 0) && (item <ᵇ length (P .lookups))) (lookup-loc (lookup-at (P .lookups) item .name))
-place-text P (suc (suc (suc zero))) t item = optional ((t <ᵇ 3) && has-number P t item) (group-loc t item)
-place-text P (suc (suc (suc (suc place)))) t item = none
+place-text P place t item =
+    if place == 0 then optional ((t == 0) && (item <ᵇ length (P .fieldtypes))) (bytes "fieldtypes.yaml")
+    else if place == 1 then optional ((t <ᵇ 3) && (item <ᵇ length (pgns-of P t))) (pgn-loc t (pgn-at P t item))
+    else if place == 2 then optional ((t == 0) && (item <ᵇ length (P .lookups))) (lookup-loc (lookup-at (P .lookups) item .name))
+    else if place == 3 then optional ((t <ᵇ 3) && has-number P t item) (group-loc t item)
+    else none
