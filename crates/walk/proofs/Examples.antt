@@ -127,7 +127,7 @@ value = field (bytes "v") NUMBER 8 2 none none none none none
 abbrev pgn : Option Repeating → Option Repeating → List Field → Pgn
 pgn set1 set2 fields =
     record {
-      pgn = 130820;
+      pgn = 129540;
       id = bytes "p";
       type = 1;
       fallback = false;
