@@ -1,0 +1,34 @@
+use mathlib.Core.Bool.{true, false≢true}
+use mathlib.Core.Path.{_≡_, refl, _∙_, sym}
+use borrow.Author.Needs.{needs}
+use borrow.Author.Tests.{lt-ltb, le-ltb}
+use lib.Ieee.{Float, nan, inf, fin, binary64, ofBits, div, isNan}
+use lib.Ieee.Bits.{nanBits-is, nanBits-above}
+use Rattle.rules.proofs.floats.float.Statement.{statement}
+use Rattle.rules.proofs.floats.float.Tie as tie
+use Rattle.rules.proofs.floats.float.Reads as reads
+use Rattle.rules.proofs.floats.float.Lts as lts
+
+is-nan : (x : Float) → isNan x ≡ true → nan ≡ x
+unfolding isNan
+is-nan nan e = refl
+is-nan (inf s) e = absurd (false≢true e)
+is-nan (fin s m k) e = absurd (false≢true e)
+
+-- src/floats.rt:16:9
+returns : tie.Need-returns
+unfolding div ofBits
+returns c =
+    let bits = c .before .args .bits in
+    is-nan (ofBits binary64 bits) (sym (nanBits-is binary64 bits) ∙ nanBits-above binary64 bits ∙ lt-ltb _ _ (c .if1 .taken))
+
+-- src/floats.rt:18:5
+float-from-bits-result : tie.Need-float-from-bits-result
+float-from-bits-result c = rw (nanBits-above binary64 (c .before .args .bits), le-ltb _ _ (c .if1 .left)) tt
+
+-- src/floats.rt:11:1
+returns-2 : tie.Need-returns-2
+returns-2 c = search needs
+
+pub float-spec : {M : Type 1} → statement M
+float-spec = tie.close (tie.spec returns float-from-bits-result returns-2)

@@ -1,0 +1,288 @@
+-- The report example of document 01, its edges, and for each of its errors to shut out an example that the wrong reading fails.
+use Prim.Native.Nat.{ℕ}
+use mathlib.Core.Bool.{Bool, true, false, _&&_}
+use mathlib.Core.List.{List, [], _∷_}
+use mathlib.Core.Option.{Option, none, some}
+use mathlib.Core.Path.{_≡_, refl}
+use Rattle.pack.specs.Notation.{_==_, _≐_, if_then_else_, tab}
+use Rattle.pack.specs.Value.{Bytes, FieldType, Entry, Lookup, Repeating, Reference, Field, Pgn, Pack}
+use Rattle.rules.specs.declared.Finding.{Finding}
+use Rattle.rules.specs.Check.{check}
+use Rattle.rules.specs.Computed.{computed}
+use Rattle.rules.specs.Findings.{pgn-error, group-error}
+use Rattle.rules.specs.Floats.{ONE}
+use Rattle.rules.specs.PlaceText.{place-text}
+use Rattle.rules.specs.Texts.{bytes, NUMBER, DECIMAL}
+
+-- ---- packs
+
+-- "one root field type NUMBER with a print function"
+abbrev number-type : FieldType
+number-type = record { name = NUMBER; base = false; print-function = true; signed = false; size = 0; resolution = 0; root-name = NUMBER }
+
+abbrev a-field :
+    (id name type : Bytes) (bits resolution offset : ℕ) (spn : Option ℕ) (match : Option Bytes) (reference : Option Reference) (special : Option ℕ) (trailing : Option Bytes)
+    → Field
+a-field id name type bits resolution offset spn match reference special trailing =
+    record {
+      id = id;
+      name = name;
+      type = type;
+      ft = 0;
+      bits-given = false;
+      unit-given = false;
+      proprietary = false;
+      allow-lookup-width-mismatch = false;
+      dynamic-field-length = false;
+      overhead = false;
+      res-bits = bits;
+      res-resolution = resolution;
+      res-offset = offset;
+      res-unit = none;
+      resolution = none;
+      offset = none;
+      spn = spn;
+      continues = none;
+      match = match;
+      reference = reference;
+      special-values = special;
+      bit-length-field = none;
+      trailing-zero = trailing;
+      continuation = none;
+    }
+
+abbrev plain : (id name type : Bytes) (bits : ℕ) → Field
+plain id name type bits = a-field id name type bits ONE 0 none none none none none
+
+abbrev special : (bits value : ℕ) → Field
+special bits value = a-field (bytes "a") (bytes "A") NUMBER bits ONE 0 none none none (some value) none
+
+abbrev matching : (bits : ℕ) → (match : Bytes) → Option Reference → Field
+matching bits match reference = a-field (bytes "a") (bytes "A") NUMBER bits ONE 0 none (some match) reference none none
+
+abbrev spn : (number bits resolution offset : ℕ) → Field
+spn number bits resolution offset = a-field (bytes "a") (bytes "A") NUMBER bits resolution offset (some number) none none none none
+
+abbrev a-pgn : (number : ℕ) (id : Bytes) → Option Repeating → List Field → Pgn
+a-pgn number id set fields =
+    record {
+      pgn = number;
+      id = id;
+      type = 0;
+      fallback = false;
+      variable = false;
+      missing-company-fields = false;
+      length = 8;
+      min-length = none;
+      repeating1 = set;
+      repeating2 = none;
+      fields = fields;
+    }
+
+abbrev in-nmea2000 : List Lookup → List Pgn → Pack
+in-nmea2000 lookups pgns = record { fieldtypes = number-type ∷ []; lookups = lookups; pgns = pgns; pgns-j1939 = []; pgns-quick = [] }
+
+abbrev in-j1939 : List Pgn → Pack
+in-j1939 pgns = record { fieldtypes = number-type ∷ []; lookups = []; pgns = []; pgns-j1939 = pgns; pgns-quick = [] }
+
+abbrev of-fields : List Field → Pack
+of-fields fields = in-nmea2000 [] (a-pgn 127488 (bytes "a") none fields ∷ [])
+
+-- ---- the report
+
+abbrev a-set : (start count : ℕ) → Repeating
+a-set start count = record { count = count; start = start; count-field = none; nested = false }
+
+abbrev reported : Pack
+reported = in-nmea2000 [] (a-pgn 127488 (bytes "a") (some (a-set 1 2)) (plain (bytes "r") (bytes "Reserved") NUMBER 64 ∷ []) ∷ [])
+
+report : check reported ≡ pgn-error 5 2 0 0 1 0 ∷ pgn-error 12 1 0 0 0 0 ∷ []
+unfolding computed
+report = refl
+
+report-place : place-text reported 1 0 0 ≡ some (bytes "pgns/127488-a.yaml")
+unfolding computed
+report-place = refl
+
+-- ---- the edges, as one table: a rule's findings of a pack have these causes
+
+abbrev only : (rule : ℕ) → List Finding → List Finding
+only rule [] = []
+only rule (f ∷ fs) = if f .rule == rule then f ∷ only rule fs else only rule fs
+
+abbrev causes : List Finding → List ℕ
+causes [] = []
+causes (f ∷ fs) = f .cause ∷ causes fs
+
+abbrev findings-of : (rule : ℕ) → Pack → List Finding
+findings-of rule P = only rule (check P)
+
+record Edge : Type 0 where
+  rule : ℕ
+  pack : Pack
+  expected : List ℕ
+
+abbrev edge : (rule : ℕ) → Pack → (expected : List ℕ) → Edge
+edge rule pack expected = record { rule = rule; pack = pack; expected = expected }
+
+abbrev single : (number : ℕ) → Pack
+single number = in-nmea2000 [] (a-pgn number (bytes "a") none [] ∷ [])
+
+abbrev edges : List Edge
+edges =
+    edge 2 (single 59904) []
+    ∷ edge 2 (single 59905) (5 ∷ [])
+    ∷ edge 2 (single 61183) (4 ∷ [])
+    ∷ edge 2 (single 131072) (3 ∷ [])
+    ∷ edge 2 (single 262144) []
+    ∷ edge 9 (of-fields (special 1 1 ∷ [])) []
+    ∷ edge 9 (of-fields (special 1 2 ∷ [])) (1 ∷ [])
+    ∷ edge 9 (of-fields (special 0 0 ∷ [])) []
+    ∷ edge 13 (of-fields (matching 3 (bytes "7") none ∷ [])) []
+    ∷ edge 13 (of-fields (matching 3 (bytes "8") none ∷ [])) (2 ∷ [])
+    ∷ edge 13 (of-fields (matching 64 (bytes "18446744073709551615") none ∷ [])) []
+    ∷ edge 13 (of-fields (matching 0 (bytes "0") none ∷ [])) []
+    ∷ edge 13 (of-fields (matching 0 (bytes "1") none ∷ [])) (2 ∷ [])
+    ∷ edge 13 (of-fields (matching 8 (bytes "+5") none ∷ [])) []
+    ∷ edge 13 (of-fields (matching 8 (bytes "-0") none ∷ [])) (1 ∷ [])
+    ∷ edge 11 (of-fields (tab (λ k. special 8 0) 33)) []
+    ∷ edge 11 (of-fields (tab (λ k. special 8 0) 34)) (1 ∷ [])
+    ∷ edge 42 (in-j1939 (a-pgn 65262 (bytes "a") none (spn 524287 8 ONE 0 ∷ spn 524287 16 ONE 0 ∷ []) ∷ [])) (3 ∷ [])
+    ∷ edge 42 (in-j1939 (a-pgn 65262 (bytes "a") none (spn 524288 8 ONE 0 ∷ spn 524288 16 ONE 0 ∷ []) ∷ [])) (2 ∷ 2 ∷ [])
+    ∷ edge
+    20
+    (in-nmea2000 []
+    (a-pgn 127488 (bytes "a") none (matching 8 (bytes "1") none ∷ matching 8 (bytes "2") none ∷ [])
+    ∷ a-pgn 127488 (bytes "b") none (matching 8 (bytes "1,1=2") none ∷ [])
+    ∷ []))
+    (1 ∷ [])
+    ∷ []
+
+abbrev all-as-expected : List Edge → Bool
+all-as-expected [] = true
+all-as-expected (e ∷ es) = (causes (findings-of (e .rule) (e .pack)) ≐ e .expected) && all-as-expected es
+
+edges-hold : all-as-expected edges ≡ true
+unfolding computed
+edges-hold = refl
+
+-- ---- errors to shut out
+
+-- "R20 and R21 naming the first earlier holder (it is the latest)"
+abbrev variant : (id : Bytes) → Pgn
+variant id = a-pgn 127488 id none (matching 64 (bytes "1") none ∷ [])
+
+latest-variant : check (in-nmea2000 [] (variant (bytes "a") ∷ variant (bytes "b") ∷ variant (bytes "c") ∷ []))
+    ≡ pgn-error 20 1 0 1 0 0 ∷ pgn-error 20 1 0 2 0 1 ∷ []
+unfolding computed
+latest-variant = refl
+
+abbrev numbered-a : (number : ℕ) → Pgn
+numbered-a number = a-pgn number (bytes "a") none []
+
+latest-id : check (in-nmea2000 [] (numbered-a 127488 ∷ numbered-a 127489 ∷ numbered-a 127490 ∷ []))
+    ≡ pgn-error 21 1 0 1 0 0 ∷ pgn-error 21 1 0 2 0 1 ∷ []
+unfolding computed
+latest-id = refl
+
+-- R24 cause 2 too: 7 is named by the field of the least PGN number, 9 clashes with 7 and not with 3, and one text is one place
+abbrev named-spn : (number : ℕ) (name : Bytes) → Field
+named-spn number name = a-field (bytes "a") name NUMBER 16 ONE 0 (some number) none none none none
+
+latest-spn : findings-of 24
+    (in-j1939
+    (a-pgn 65263 (bytes "b") none (named-spn 7 (bytes "X") ∷ [])
+    ∷ a-pgn 65262 (bytes "a") none (named-spn 7 (bytes "Y") ∷ named-spn 3 (bytes "Y") ∷ [])
+    ∷ a-pgn 65264 (bytes "c") none (named-spn 9 (bytes "Y") ∷ [])
+    ∷ []))
+    ≡ pgn-error 24 2 1 1 3 7 ∷ pgn-error 24 2 1 1 7 9 ∷ pgn-error 24 2 1 2 7 9 ∷ []
+unfolding computed
+latest-spn = refl
+
+-- "scaling compared by bits (NaN, −0)": two fields of one NaN pattern differ, -0 and 0 do not, and a lone NaN is silent
+abbrev NAN : ℕ
+NAN = 0x7ff8_0000_0000_0000
+
+abbrev MINUS-ZERO : ℕ
+MINUS-ZERO = 0x8000_0000_0000_0000
+
+abbrev j1939-fields : List Field → List ℕ
+j1939-fields fields = causes (findings-of 42 (in-j1939 (a-pgn 65262 (bytes "a") none fields ∷ [])))
+
+nan-differs : j1939-fields (spn 190 16 NAN 0 ∷ spn 190 16 NAN 0 ∷ []) ≡ 3 ∷ []
+unfolding computed
+nan-differs = refl
+
+zeros-equal : j1939-fields (spn 190 16 ONE 0 ∷ spn 190 16 ONE MINUS-ZERO ∷ []) ≡ []
+unfolding computed
+zeros-equal = refl
+
+nan-alone : j1939-fields (spn 190 16 NAN 0 ∷ []) ≡ []
+unfolding computed
+nan-alone = refl
+
+-- "an empty set with start 0 ignored in R44"
+abbrev decimal : Option Repeating → Pack
+decimal set =
+    in-nmea2000 []
+    (a-pgn 127488 (bytes "a") set
+    (plain (bytes "f") (bytes "F") NUMBER 8 ∷ a-field (bytes "d") (bytes "D") DECIMAL 56 ONE 0 none none none none (some (bytes "f")) ∷ [])
+    ∷ [])
+
+empty-set : check (decimal (some (a-set 0 0))) ≡ pgn-error 44 3 0 0 1 0 ∷ []
+unfolding computed
+empty-set = refl
+
+no-set : check (decimal none) ≡ []
+unfolding computed
+no-set = refl
+
+-- "a match resolved by the lookup's own kind": it goes by the reference's
+abbrev entry : (value : ℕ) (name : Bytes) → Entry
+entry value name = record { first = 0; value = value; name = name; fieldtype = NUMBER; nested = none }
+
+abbrev on-off : (kind : ℕ) → Lookup
+on-off kind = record { name = bytes "ON_OFF"; kind = kind; bits = 64; entries = entry 0 (bytes "Off") ∷ entry 1 (bytes "On") ∷ [] }
+
+abbrev match-on : (lookup reference : ℕ) → List Finding
+match-on lookup reference =
+    check
+    (in-nmea2000 (on-off lookup ∷ []) (a-pgn 127488 (bytes "a") none (matching 64 (bytes "On") (some (record { kind = reference; name = bytes "ON_OFF" })) ∷ []) ∷ []))
+
+pair-by-fieldtype : match-on 0 3 ≡ pgn-error 8 2 0 0 0 0 ∷ pgn-error 13 1 0 0 0 0 ∷ []
+unfolding computed
+pair-by-fieldtype = refl
+
+fieldtype-by-pair : match-on 3 0 ≡ pgn-error 8 2 0 0 0 0 ∷ pgn-error 13 1 0 0 0 0 ∷ []
+unfolding computed
+fieldtype-by-pair = refl
+
+pair-by-pair : match-on 0 0 ≡ []
+unfolding computed
+pair-by-pair = refl
+
+fieldtype-by-fieldtype : match-on 3 3 ≡ []
+unfolding computed
+fieldtype-by-fieldtype = refl
+
+-- a bit lookup's entries are pairs, whatever kind but fieldtype the reference has
+bit-by-triplet : match-on 2 1 ≡ pgn-error 8 2 0 0 0 0 ∷ []
+unfolding computed
+bit-by-triplet = refl
+
+-- ---- place texts
+
+places : (place-text reported 0 0 0 ≡ some (bytes "fieldtypes.yaml"))
+    × (place-text reported 3 0 127488 ≡ some (bytes "pgns/127488-*.yaml"))
+    × (place-text reported 1 0 1 ≡ none)
+    × (place-text reported 0 1 0 ≡ none)
+    × (place-text reported 4 0 0 ≡ none)
+    × (place-text (in-j1939 (a-pgn 190 (bytes "b") none [] ∷ [])) 1 1 0 ≡ some (bytes "j1939/pgns/000190-b.yaml"))
+    × (place-text (in-nmea2000 (on-off 0 ∷ []) []) 2 0 0 ≡ some (bytes "lookups/ON_OFF.yaml"))
+unfolding computed
+places = (refl, refl, refl, refl, refl, refl, refl)
+
+-- a group without matches stands at the number
+matchless : check (in-nmea2000 [] (a-pgn 127488 (bytes "a") none [] ∷ a-pgn 127488 (bytes "b") none [] ∷ [])) ≡ group-error 20 2 0 127488 2 ∷ []
+unfolding computed
+matchless = refl

@@ -1,0 +1,15 @@
+-- R23, `check_fieldtypes`: every root field type can print.
+use Prim.Native.Nat.{ℕ}
+use mathlib.Core.Bool.{_&&_, not}
+use mathlib.Core.List.{List}
+use lib.ListN.{length, getD}
+use Rattle.pack.specs.Notation.{concatBelow}
+use Rattle.pack.specs.Value.{FieldType, noFieldType}
+use Rattle.rules.specs.declared.Finding.{Finding}
+use Rattle.rules.specs.Findings.{fieldtype-error, report-if}
+
+unfoldable pub fieldtype-at : (i : ℕ) → FieldType → List Finding
+fieldtype-at i ft = report-if (not (ft .base) && not (ft .print-function)) (fieldtype-error 23 1 i)
+
+unfoldable pub check-fieldtypes : List FieldType → List Finding
+check-fieldtypes fts = concatBelow (λ i. fieldtype-at i (getD fts i noFieldType)) (length fts)

@@ -1,0 +1,113 @@
+-- What the rules read of a pack: the Rust's `model.rs`.
+use Prim.Native.Nat.{ℕ, _+_, _-_, _*_, _^_}
+use mathlib.Core.Bool.{Bool, true, false, _&&_, _||_}
+use mathlib.Core.List.{List, [], _∷_}
+use mathlib.Core.Option.{Option, none, some}
+use lib.ListN.{length, getD}
+use Rattle.pack.specs.Notation.{_<ᵇ_, _≤ᵇ_, _==_, _≐_, if_then_else_, optional}
+use Rattle.pack.specs.Value.{Bytes, FieldType, Entry, Lookup, Reference, Field, Pgn, Pack, pgns-of, noFieldType, noEntry, noLookup, noField, noPgn}
+use Rattle.rules.specs.Search.{or-else, firstBelow}
+
+abbrev pub given : {A : Type 0} → Option A → Bool
+given none = false
+given (some a) = true
+
+abbrev pub is-text : Option Bytes → Bytes → Bool
+is-text none t = false
+is-text (some s) t = s ≐ t
+
+-- records by their index
+abbrev pub pgn-at : Pack → ℕ → ℕ → Pgn
+pgn-at P t i = getD (pgns-of P t) i noPgn
+
+abbrev pub field-at : Pgn → ℕ → Field
+field-at p k = getD (p .fields) k noField
+
+abbrev pub lookup-at : List Lookup → ℕ → Lookup
+lookup-at ls l = getD ls l noLookup
+
+abbrev pub entry-at : List Entry → ℕ → Entry
+entry-at es e = getD es e noEntry
+
+-- the Rust's `db.fieldtypes[f.ft]`, and its root's name
+abbrev pub fieldtype-of : List FieldType → Field → FieldType
+fieldtype-of fts f = getD fts (f .ft) noFieldType
+
+abbrev pub root-of : List FieldType → Field → Bytes
+root-of fts f = fieldtype-of fts f .root-name
+
+-- `value_bits`: "its own bits plus any bits a later field continues it with"
+abbrev pub continuation-bits : Option ℕ → ℕ
+continuation-bits none = 0
+continuation-bits (some bits) = bits
+
+unfoldable pub value-bits : Field → ℕ
+value-bits f = f .res-bits + continuation-bits (f .continuation)
+
+-- `lookup_ref`
+abbrev pub lookup-ref : Field → Option Reference
+lookup-ref f = f .reference
+
+-- `db.lookups.get(name)`: "Lookups are keyed by their own name."
+unfoldable pub find-lookup : List Lookup → Bytes → Option ℕ
+find-lookup ls name = firstBelow (λ l. lookup-at ls l .name ≐ name) (length ls)
+
+-- the first field with an id: "A target is the first field with that id"
+unfoldable pub target : Pgn → Bytes → Option ℕ
+target p id = firstBelow (λ k. field-at p k .id ≐ id) (length (p .fields))
+
+-- A lookup's `pairs` and `fieldtypes`. "The Rust's lists of other kinds are empty"; a bit lookup's entries are pairs.
+unfoldable pub pairs : Lookup → List Entry
+pairs l = if (l .kind == 0) || (l .kind == 2) then l .entries else []
+
+unfoldable pub fieldtypes : Lookup → List Entry
+fieldtypes l = if l .kind == 3 then l .entries else []
+
+-- "first parses a u64: digits, one leading + allowed"
+abbrev pub is-digit : ℕ → Bool
+is-digit b = (48 ≤ᵇ b) && (b ≤ᵇ 57)
+
+abbrev pub all-digits : Bytes → Bool
+all-digits [] = true
+all-digits (b ∷ bs) = is-digit b && all-digits bs
+
+-- the number that digits write, after v
+abbrev pub decimal : ℕ → Bytes → ℕ
+decimal v [] = v
+decimal v (b ∷ bs) = decimal (10 * v + (b - 48)) bs
+
+unfoldable pub parse-digits : Bytes → Option ℕ
+parse-digits [] = none
+parse-digits (b ∷ bs) = optional (all-digits (b ∷ bs) && (decimal 0 (b ∷ bs) <ᵇ 2 ^ 64)) (decimal 0 (b ∷ bs))
+
+unfoldable pub parse-u64 : Bytes → Option ℕ
+parse-u64 [] = none
+parse-u64 (b ∷ bs) = if b == 43 then parse-digits bs else parse-digits (b ∷ bs)
+
+-- the value of the first entry with a name
+abbrev pub value-at : List Entry → Option ℕ → Option ℕ
+value-at es none = none
+value-at es (some e) = some (entry-at es e .value)
+
+unfoldable pub value-named : List Entry → Bytes → Option ℕ
+value-named es name = value-at es (firstBelow (λ e. entry-at es e .name ≐ name) (length es))
+
+-- "then goes by the reference's kind"
+abbrev pub entries-for : Reference → Lookup → List Entry
+entries-for r l = if r .kind == 3 then fieldtypes l else pairs l
+
+unfoldable pub resolve-in : List Lookup → Bytes → Reference → Option ℕ → Option ℕ
+resolve-in ls m r none = none
+resolve-in ls m r (some l) = value-named (entries-for r (lookup-at ls l)) m
+
+unfoldable pub resolve-name : List Lookup → Bytes → Option Reference → Option ℕ
+resolve-name ls m none = none
+resolve-name ls m (some r) = resolve-in ls m r (find-lookup ls (r .name))
+
+unfoldable pub resolve-text : List Lookup → Option Reference → Option Bytes → Option ℕ
+resolve-text ls r none = none
+resolve-text ls r (some m) = or-else (parse-u64 m) (resolve-name ls m r)
+
+-- `resolve_match`
+unfoldable pub resolve-match : List Lookup → Field → Option ℕ
+resolve-match ls f = resolve-text ls (lookup-ref f) (f .match)

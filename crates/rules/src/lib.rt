@@ -1,0 +1,35 @@
+ghost use mathlib.Core.Path.{_≡_};
+ghost use Rattle.rules.specs.Proprietary.{is-manufacturer-pgn};
+
+mod floats;
+
+// A finding's eight numbers.
+pub struct Finding {
+    pub rule: u32,
+    pub severity: u32,
+    pub cause: u32,
+    pub place: u32,
+    pub tree: u32,
+    pub item: u32,
+    pub part: u32,
+    pub other: u32,
+}
+
+// pgn.h IS_MANUFACTURER_PGN()
+pub fn is_manufacturer_pgn(pgn: u32) -> bool
+    ensures { λ r. ⌜ r ≡ is-manufacturer-pgn pgn ⌝ }
+{
+    if pgn < 0xff00 {
+        return false;
+    }
+    if pgn <= 0xffff {
+        return true;
+    }
+    if pgn == 0x1ef00 {
+        return true;
+    }
+    if pgn < 0x1ff00 {
+        return false;
+    }
+    pgn <= 0x1ffff
+}

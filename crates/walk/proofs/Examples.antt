@@ -1,0 +1,381 @@
+-- Small walks, by computation: each end and each stop.
+use Prim.Native.Nat.{ℕ}
+use native.Mathlib.Omega.{arith}
+use mathlib.Core.Path.{_≡_, refl}
+use mathlib.Core.Bool.{Bool, true, false}
+use mathlib.Core.List.{List, [], _∷_}
+use mathlib.Core.Option.{Option, none, some}
+use lib.ListN.{length}
+use Rattle.pack.specs.Value.{Bytes, FieldType, Entry, Reference, Repeating, Field, Pgn, Pack}
+use Rattle.rules.specs.Model.{find-lookup, target, fieldtypes, resolve-match, resolve-text, resolve-name, parse-u64, parse-digits}
+use Rattle.rules.specs.DynamicLength.{length-source}
+use Rattle.rules.specs.LookupWiring.{is-fieldtype, lookup-ref-at, check-lookup-refs}
+use Rattle.rules.specs.MatchValues.{match-value-at, check-match-values}
+use Rattle.rules.specs.Continues.{continues-at, check-continues}
+use Rattle.rules.specs.TrailingZero.{trailing-zero-at, check-trailing-zero-is-digit}
+use Rattle.rules.specs.Findings.{pgn-error}
+use Rattle.rules.specs.Repeating.{set-bounds, set-count-field, set-nesting, check-set, check-repeating}
+use Rattle.rules.specs.BitLengthField.{variable-binary, bit-length-target-at, bit-length-field-at, check-bit-length-field}
+use Rattle.rules.specs.Texts.{bytes, BINARY, NUMBER, DYNAMIC-FIELD-KEY, DYNAMIC-FIELD-VALUE}
+use Rattle.walk.specs.Layout.{Layout, sets-hold, share, nested-in, inside-previous, misplaced, clash, stop-1}
+use Rattle.walk.specs.Stops.{is-missing, lookup-missing, unfit, match-unfit, names-missing, entries-name-missing, lookup-names-missing, reference-names-missing, lacks, lacks-length, stop-at}
+use Rattle.walk.specs.Passes.{put, arrives, look, close, stand}
+use Rattle.walk.specs.Visits.{visited, latest, is-current}
+use Rattle.walk.specs.Walk.{End, whole, used-up, stop, Answer, arrive, settle, settled, onward, walk-on, walk-with, by-visits, walk}
+use Rattle.walk.specs.Held.{shares-held, count-field-held, count-fields-held, bit-length-held, dynamic-value-held, held}
+use Rattle.walk.specs.Guarantee.{Unstopped, Quiet}
+use Rattle.walk.proofs.NoStop.{weaker, guarantee-by}
+
+-- A PACK of three field types and one lookup, and fields that ask for something
+abbrev root : Bytes → FieldType
+root name = record { name = name; base = false; print-function = true; signed = false; size = 0; resolution = 0; root-name = name }
+
+abbrev entry : ℕ → Bytes → Option Bytes → Entry
+entry value fieldtype nested = record { first = 0; value = value; name = bytes "e"; fieldtype = fieldtype; nested = nested }
+
+abbrev P : Pack
+P = record {
+  fieldtypes = root NUMBER ∷ root DYNAMIC-FIELD-KEY ∷ root DYNAMIC-FIELD-VALUE ∷ [];
+  lookups =
+      record {
+        name = bytes "L";
+        kind = 3;
+        bits = 8;
+        entries = entry 1 NUMBER none ∷ entry 1 NUMBER (some (bytes "L")) ∷ entry 2 (bytes "X") none ∷ entry 3 NUMBER (some (bytes "Y")) ∷ [];
+      } ∷ [];
+  pgns = [];
+  pgns-j1939 = [];
+  pgns-quick = [];
+}
+
+abbrev reference : Option Bytes → Option Reference
+reference none = none
+reference (some name) = some (record { kind = 3; name = name })
+
+abbrev field : (id type : Bytes) (bits ft : ℕ) (match lookup bit-length-field continues trailing-zero : Option Bytes) → Field
+field id type bits ft match lookup bit-length-field continues trailing-zero =
+    record {
+      id = id;
+      name = id;
+      type = type;
+      ft = ft;
+      bits-given = false;
+      unit-given = false;
+      proprietary = false;
+      allow-lookup-width-mismatch = false;
+      dynamic-field-length = false;
+      overhead = false;
+      res-bits = bits;
+      res-resolution = 0;
+      res-offset = 0;
+      res-unit = none;
+      resolution = none;
+      offset = none;
+      spn = none;
+      continues = continues;
+      match = match;
+      reference = reference lookup;
+      special-values = none;
+      bit-length-field = bit-length-field;
+      trailing-zero = trailing-zero;
+      continuation = none;
+    }
+
+abbrev a : Field
+a = field (bytes "a") NUMBER 8 0 none none none none none
+
+abbrev b : Field
+b = field (bytes "b") NUMBER 8 0 none none none none none
+
+abbrev c : Field
+c = field (bytes "c") NUMBER 8 0 none none none none none
+
+abbrev d : Field
+d = field (bytes "d") NUMBER 8 0 none none none none none
+
+abbrev e : Field
+e = field (bytes "e") NUMBER 8 0 none none none none none
+
+abbrev f : Field
+f = field (bytes "f") NUMBER 8 0 none none none none none
+
+-- the field z, which wants something
+abbrev z-matches : Bytes → Field
+z-matches m = field (bytes "z") NUMBER 8 0 (some m) none none none none
+
+abbrev z-looks-up : Bytes → Field
+z-looks-up l = field (bytes "z") NUMBER 8 0 none (some l) none none none
+
+abbrev z-as-long-as : Bytes → Field
+z-as-long-as id = field (bytes "z") NUMBER 8 0 none none (some id) none none
+
+abbrev z-binary : Field
+z-binary = field (bytes "z") BINARY 0 0 none none (some (bytes "a")) none none
+
+abbrev z-continues : Bytes → Field
+z-continues id = field (bytes "z") NUMBER 8 0 none none none (some id) none
+
+abbrev z-ends-by : Bytes → Field
+z-ends-by id = field (bytes "z") NUMBER 8 0 none none none none (some id)
+
+abbrev key : Field
+key = field (bytes "k") NUMBER 8 1 none none none none none
+
+abbrev value : Field
+value = field (bytes "v") NUMBER 8 2 none none none none none
+
+abbrev pgn : Option Repeating → Option Repeating → List Field → Pgn
+pgn set1 set2 fields =
+    record {
+      pgn = 129540;
+      id = bytes "p";
+      type = 1;
+      fallback = false;
+      variable = true;
+      missing-company-fields = false;
+      length = 8;
+      min-length = none;
+      repeating1 = set1;
+      repeating2 = set2;
+      fields = fields;
+    }
+
+abbrev set : (start count : ℕ) → Option ℕ → Bool → Option Repeating
+set start count count-field nested = some (record { count = count; start = start; count-field = count-field; nested = nested })
+
+abbrev answer : End → List ℕ → Answer
+answer x visits = record { ends = x; visits = visits }
+
+-- the definitions, opened
+unfoldable run : Pgn → List ℕ → Answer
+unfolding walk walk-with walk-on onward settled settle arrive stand close look arrives put visited latest is-current stop-1 misplaced clash share nested-in inside-previous stop-at lookup-missing is-missing match-unfit unfit reference-names-missing lookup-names-missing entries-name-missing names-missing lacks lacks-length find-lookup target fieldtypes is-fieldtype length-source resolve-match resolve-text resolve-name parse-u64 parse-digits
+run p readings = walk P p readings
+
+unfoldable is-held : Pgn → Bool
+unfolding held shares-held clash share nested-in count-fields-held count-field-held bit-length-held dynamic-value-held sets-hold target length-source
+is-held p = held P p
+
+-- THE ENDS. c and d repeat as often as b says
+abbrev counted : Pgn
+counted = pgn (set 3 2 (some 2) false) none (a ∷ b ∷ c ∷ d ∷ e ∷ [])
+
+twice : run counted (9 ∷ 2 ∷ 1 ∷ 1 ∷ 1 ∷ 1 ∷ 7 ∷ 8 ∷ []) ≡ answer whole (0 ∷ 1 ∷ 2 ∷ 3 ∷ 2 ∷ 3 ∷ 4 ∷ [])
+unfolding run
+twice = refl
+
+not-at-all : run counted (9 ∷ 0 ∷ 1 ∷ 1 ∷ []) ≡ answer whole (0 ∷ 1 ∷ 4 ∷ [])
+unfolding run
+not-at-all = refl
+
+cut-short : run counted (9 ∷ 2 ∷ 1 ∷ []) ≡ answer used-up (0 ∷ 1 ∷ 2 ∷ [])
+unfolding run
+cut-short = refl
+
+nothing-read : run counted [] ≡ answer used-up []
+unfolding run
+nothing-read = refl
+
+no-fields : run (pgn none none []) [] ≡ answer whole []
+unfolding run
+no-fields = refl
+
+-- without countField the passes never end
+endless : run (pgn (set 2 2 none false) none (a ∷ b ∷ c ∷ d ∷ [])) (0 ∷ 0 ∷ 0 ∷ 0 ∷ 0 ∷ 0 ∷ []) ≡ answer used-up (0 ∷ 1 ∷ 2 ∷ 1 ∷ 2 ∷ 1 ∷ [])
+unfolding run
+endless = refl
+
+-- c, d, e repeat as often as b says; within each of their passes d, e as often as c said
+abbrev nested : Pgn
+nested = pgn (set 3 3 (some 2) false) (set 4 2 (some 3) true) (a ∷ b ∷ c ∷ d ∷ e ∷ f ∷ [])
+
+twice-and-not-at-all : run nested (9 ∷ 2 ∷ 2 ∷ 1 ∷ 1 ∷ 1 ∷ 1 ∷ 0 ∷ 5 ∷ 8 ∷ []) ≡ answer whole (0 ∷ 1 ∷ 2 ∷ 3 ∷ 4 ∷ 3 ∷ 4 ∷ 2 ∷ 5 ∷ [])
+unfolding run
+twice-and-not-at-all = refl
+
+-- STOP 1: start 0; past the fields; a nested set 1; a nested set 2 that is not inside
+start-0 : run (pgn (set 0 1 none false) none (a ∷ b ∷ [])) (1 ∷ []) ≡ answer (stop 1) []
+unfolding run
+start-0 = refl
+
+past-the-fields : run (pgn (set 2 2 none false) none (a ∷ b ∷ [])) (1 ∷ []) ≡ answer (stop 1) []
+unfolding run
+past-the-fields = refl
+
+nested-set-1 : run (pgn (set 1 2 none true) none (a ∷ b ∷ [])) (1 ∷ []) ≡ answer (stop 1) []
+unfolding run
+nested-set-1 = refl
+
+nested-at-the-start : run (pgn (set 1 2 none false) (set 1 1 none true) (a ∷ b ∷ [])) (1 ∷ []) ≡ answer (stop 1) []
+unfolding run
+nested-at-the-start = refl
+
+-- but not for empty sets
+empty-sets : run (pgn (set 0 0 none true) (set 9 0 none true) (a ∷ b ∷ [])) (1 ∷ 2 ∷ []) ≡ answer whole (0 ∷ 1 ∷ [])
+unfolding run
+empty-sets = refl
+
+-- STOP 2: the countField is no field, or lies in a set that has been left; it comes before "used up"
+count-0 : run (pgn (set 1 1 (some 0) false) none (a ∷ [])) [] ≡ answer (stop 2) []
+unfolding run
+count-0 = refl
+
+count-in-a-left-set : run (pgn (set 2 1 (some 1) false) (set 3 1 (some 2) false) (a ∷ b ∷ c ∷ [])) (1 ∷ 1 ∷ 1 ∷ []) ≡ answer (stop 2) (0 ∷ 1 ∷ [])
+unfolding run
+count-in-a-left-set = refl
+
+-- STOPS 3 to 5
+unknown-lookup : run (pgn none none (a ∷ z-looks-up (bytes "M") ∷ [])) (1 ∷ 1 ∷ []) ≡ answer (stop 3) (0 ∷ [])
+unfolding run
+unknown-lookup = refl
+
+-- but "used up" comes first
+unknown-lookup-unread : run (pgn none none (a ∷ z-looks-up (bytes "M") ∷ [])) (1 ∷ []) ≡ answer used-up (0 ∷ [])
+unfolding run
+unknown-lookup-unread = refl
+
+wide-match : run (pgn none none (z-matches (bytes "256") ∷ [])) (1 ∷ []) ≡ answer (stop 4) []
+unfolding run
+wide-match = refl
+
+fitting-match : run (pgn none none (z-matches (bytes "+255") ∷ [])) (1 ∷ []) ≡ answer whole (0 ∷ [])
+unfolding run
+fitting-match = refl
+
+unresolved-match : run (pgn none none (z-matches (bytes "-0") ∷ [])) (1 ∷ []) ≡ answer (stop 4) []
+unfolding run
+unresolved-match = refl
+
+known-entries : run (pgn none none (z-looks-up (bytes "L") ∷ [])) (1 ∷ []) ≡ answer whole (0 ∷ [])
+unfolding run
+known-entries = refl
+
+unknown-fieldtype : run (pgn none none (z-looks-up (bytes "L") ∷ [])) (2 ∷ []) ≡ answer (stop 5) []
+unfolding run
+unknown-fieldtype = refl
+
+unknown-nested : run (pgn none none (z-looks-up (bytes "L") ∷ [])) (3 ∷ []) ≡ answer (stop 5) []
+unfolding run
+unknown-nested = refl
+
+-- STOPS 6 to 9: the target lies in a set that has been left, or is no field
+length-in-a-left-set : run (pgn (set 2 1 (some 1) false) none (a ∷ b ∷ z-as-long-as (bytes "b") ∷ [])) (1 ∷ 1 ∷ 1 ∷ []) ≡ answer (stop 6) (0 ∷ 1 ∷ [])
+unfolding run
+length-in-a-left-set = refl
+
+continued-in-a-left-set : run (pgn (set 2 1 (some 1) false) none (a ∷ b ∷ z-continues (bytes "b") ∷ [])) (1 ∷ 1 ∷ 1 ∷ []) ≡ answer (stop 7) (0 ∷ 1 ∷ [])
+unfolding run
+continued-in-a-left-set = refl
+
+no-length : run (pgn none none (a ∷ value ∷ [])) (1 ∷ 1 ∷ []) ≡ answer (stop 8) (0 ∷ [])
+unfolding run
+no-length = refl
+
+length-by-key : run (pgn none none (key ∷ value ∷ [])) (1 ∷ 1 ∷ []) ≡ answer whole (0 ∷ 1 ∷ [])
+unfolding run
+length-by-key = refl
+
+no-such-target : run (pgn none none (a ∷ z-ends-by (bytes "b") ∷ [])) (1 ∷ 1 ∷ []) ≡ answer (stop 9) (0 ∷ [])
+unfolding run
+no-such-target = refl
+
+-- a pack with no lookup
+abbrev Q : Pack
+Q = record { fieldtypes = root NUMBER ∷ []; lookups = []; pgns = nested ∷ []; pgns-j1939 = []; pgns-quick = [] }
+
+-- HELD: the PGNs that count are, and one whose target lies in a set that its user does not lie in is not
+held-counted : is-held counted ≡ true
+unfolding is-held
+held-counted = refl
+
+nested-held : held Q nested ≡ true
+unfolding is-held
+nested-held = refl
+
+not-held : is-held (pgn (set 2 1 (some 1) false) none (a ∷ b ∷ z-as-long-as (bytes "b") ∷ [])) ≡ false
+unfolding is-held
+not-held = refl
+
+-- to the letter: the countField of an empty set too
+not-held-empty : is-held (pgn (set 1 1 none false) (set 0 0 (some 1) false) (a ∷ [])) ≡ false
+unfolding is-held
+not-held-empty = refl
+
+-- WHAT IS NEEDED. Held, and only R05's cause 3: stop 2
+abbrev late : Pgn
+late = pgn (set 2 1 (some 3) false) none (a ∷ b ∷ c ∷ [])
+
+late-found : check-repeating 0 0 late ≡ pgn-error 5 3 0 0 1 0 ∷ []
+unfolding check-repeating check-set set-bounds set-count-field
+late-found = refl
+
+late-held : is-held late ≡ true
+unfolding is-held
+late-held = refl
+
+late-stops : run late (1 ∷ []) ≡ answer (stop 2) (0 ∷ [])
+unfolding run
+late-stops = refl
+
+-- held, and only R15's cause 4: stop 6
+abbrev ahead : Pgn
+ahead = pgn none none (z-binary ∷ a ∷ [])
+
+ahead-found : check-bit-length-field 0 0 ahead ≡ pgn-error 15 4 0 0 0 1 ∷ []
+unfolding check-bit-length-field bit-length-field-at variable-binary bit-length-target-at target
+ahead-found = refl
+
+ahead-held : is-held ahead ≡ true
+unfolding is-held
+ahead-held = refl
+
+ahead-stops : run ahead (1 ∷ []) ≡ answer (stop 6) []
+unfolding run
+ahead-stops = refl
+
+-- R05 is silent of sets that share an order, so that it must be held: stop 1
+abbrev sharing : Pgn
+sharing = pgn (set 1 2 none false) (set 2 1 none false) (a ∷ b ∷ [])
+
+sharing-unfound : check-repeating 0 0 sharing ≡ []
+unfolding check-repeating check-set set-bounds set-count-field
+sharing-unfound = refl
+
+sharing-not-held : is-held sharing ≡ false
+unfolding is-held
+sharing-not-held = refl
+
+sharing-stops : run sharing [] ≡ answer (stop 1) []
+unfolding run
+sharing-stops = refl
+
+-- THE GUARANTEE at work: the PGN with a nested set is quiet and held
+nested-quiet : Quiet Q 0 0 nested
+unfolding check-repeating check-set set-bounds set-count-field set-nesting check-lookup-refs lookup-ref-at check-match-values match-value-at check-bit-length-field bit-length-field-at variable-binary check-continues continues-at check-trailing-zero-is-digit trailing-zero-at
+nested-quiet = record {
+  repeating = refl;
+  lookup-refs = refl;
+  nested-refs = λ l h. absurd (omega arith);
+  match-values = refl;
+  bit-length-field = refl;
+  continues = refl;
+  trailing-zero = refl;
+}
+
+nested-unstopped : (readings : List ℕ) → Unstopped (walk Q nested readings) (length readings)
+nested-unstopped = guarantee-by Q 0 0 nested nested-quiet (weaker Q nested nested-held)
+
+-- MORE THAN TWO SETS: a chain of three that end together, the outer without end, the middle one passed over once
+abbrev three : Layout
+three = record {
+  fields = a ∷ b ∷ c ∷ d ∷ e ∷ f ∷ [];
+  sets =
+      record { count = 5; start = 2; count-field = none; nested = false }
+      ∷ record { count = 3; start = 4; count-field = some 3; nested = true }
+      ∷ record { count = 1; start = 6; count-field = some 4; nested = true }
+      ∷ [];
+}
+
+three-deep :
+    walk-with three (by-visits three) (λ current i r. none) (0 ∷ 0 ∷ 0 ∷ 0 ∷ 1 ∷ 2 ∷ 0 ∷ 9 ∷ 9 ∷ 7 ∷ []) ≡ answer used-up (0 ∷ 1 ∷ 2 ∷ 1 ∷ 2 ∷ 3 ∷ 4 ∷ 5 ∷ 5 ∷ 1 ∷ [])
+unfolding run
+three-deep = refl

@@ -1,0 +1,9 @@
+pub mod Layout
+-- stops 3 to 9
+pub mod Stops
+pub mod Passes
+pub mod Visits
+pub mod Walk
+pub mod Held
+pub mod Guarantee
+pub mod ByPlace
