@@ -52,6 +52,7 @@ pub mod SearchLaws
 pub mod PlaceLaws
 pub mod Clean
 pub mod Pdu1
+pub mod NamedMax
 pub mod Bound
 -- examples
 mod Computed

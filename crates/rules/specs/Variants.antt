@@ -17,7 +17,7 @@ unfoldable pub has-match : Pgn → ℕ → Bool
 has-match p n = anyBelow (λ k. given (field-at p k .match)) n
 
 -- The key: index, `=` and match text of each field that has a match, joined by `,`.
--- It is one text, so that matches which hold `,` and `=` can collide.
+-- It is one text, so matches that hold `,` and `=` can collide.
 unfoldable pub match-key-at : Pgn → (k : ℕ) → Option Bytes → Bytes
 match-key-at p k none = []
 match-key-at p k (some m) = (if has-match p k then bytes "," else []) ++ digits k ++ bytes "=" ++ m
