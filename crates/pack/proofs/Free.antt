@@ -37,6 +37,12 @@ module _ (s : List ℕ) where
       let g : numberAt s c .value < k′ = omega (arith, ltb-true (numberAt s c .value) k (j .1)) in
       j .0 ∙ sym (rw (lt-ltb _ _ g) (judged-good c (numberAt s c) 6 (j .2)))
 
+  pub index-below : (c : Cursor) (k : ℕ) → indexAt k s c .next .refused ≡ 0 → indexAt k s c .value < k
+  unfolding indexAt
+  index-below c k e =
+      let j = judged-clean c (numberAt s c) (numberAt s c .value <ᵇ k) 5 e in
+      rw (j .0) (ltb-true (numberAt s c .value) k (j .1))
+
   sum-free : (c : Cursor) (o : ℕ) → sumAt o s c .next .refused ≡ 0 → sumAt o s c ≡ sumAt 0 s c
   unfolding sumAt
   sum-free c o e =

@@ -8,3 +8,5 @@ pub mod Tables
 pub mod Clean
 pub mod Values
 pub mod Positions
+pub mod Accepted
+pub mod Bounds

@@ -9,8 +9,8 @@ use lib.Seq.{getD-append-add, getD-take, take-append-seam}
 use Rattle.pack.specs.Notation.{_==_, concatBelow, tab}
 use Rattle.pack.specs.Value.{FieldType, Entry, Lookup, Field, Pgn, Pack, pgns-of, noFieldType, noEntry, noLookup, noField, noPgn}
 use mathlib.Core.Bool.{Bool, true, false}
-use Rattle.pack.specs.Items.{fresh, bytesOf, numberAt, textAt, nameAt}
-use Rattle.pack.specs.Records.{typeAt, entryAt, lookupAt, namesAt, pgnAt, fieldAt}
+use Rattle.pack.specs.Items.{fresh, bytesOf, numberAt, textAt, nameAt, indexAt, codeAt}
+use Rattle.pack.specs.Records.{typeAt, entryAt, lookupAt, namesAt, scalingAt, authoredAt, pgnAt, fieldAt}
 use Rattle.pack.specs.Format.{types, typeOffsets, entries, entryOffsets, LookupState, lookups, lookupRecords, lookupOffsets, noText, FieldState, fieldNext, fields, fieldOffsets, pgns, pgnRecords, pgnOffsets, typeList, lookupList, treeList, typePart, lookupPart, treePart, before, offsets, typeStart, lookupStart, pgnStart, packEnd}
 use Rattle.pack.specs.Load.{Verdict, accepted, verdict}
 use Rattle.pack.specs.Meaning.{typeMeaning, entryMeaning, fieldMeaning, lookupMeaning, pgnMeaning, typeOf, lookupOf, pgnOf, packOf}
@@ -21,9 +21,9 @@ use Rattle.pack.specs.declared.records.PgnItem.{PgnItem}
 use Rattle.pack.specs.declared.records.FieldItem.{FieldItem}
 use Rattle.pack.specs.declared.cursor.TextItem.{TextItem}
 use Rattle.pack.proofs.Tables.{length-tab, length-concatBelow, getD-concatBelow, getD-tab}
-use Rattle.pack.proofs.Reading.{if-all, number-fits}
+use Rattle.pack.proofs.Reading.{if-all, number-fits, back, code-reader, scaling-reader, authored-reader, links-reader}
 use Rattle.pack.proofs.Places.{fields-turn}
-use Rattle.pack.proofs.Free.{lookup-free, field-free}
+use Rattle.pack.proofs.Free.{index-below, lookup-free, field-free}
 use Rattle.pack.proofs.Clean.{fresh-at, accepted-end, pgn-clean, field-clean, lookup-clean, entry-clean, type-clean}
 use Rattle.pack.proofs.Values.{types-are, type-is, lookups-are, lookup-is, pgns-are, pgn-is, lookupHead, pgnHead, entries-are, entry-is, fields-are, field-is, length-types, length-lookup, length-pgn, lookup-place, pgns-below, tree-place}
 
@@ -210,3 +210,32 @@ module _ {s w : List ℕ} {t i p : ℕ} (a : PgnAt s w t i p) where
   pub field-id-law : (j : ℕ) → j < length (pgnIn (packOf s) t i .fields) → bytesOf s (textAt s (fresh (getD w (p + 1 + j) 0)) .value) ≡ fieldIn (packOf s) t i j .id
   unfolding fieldAt namesAt
   field-id-law j h = ap (λ (f : Field). f .id) (field-law j h)
+
+-- ---- a field's field type is there: 6 refuses every other index
+
+module _ (s : List ℕ) where
+  field-type-below : (k total : ℕ) (c : Cursor) → fieldAt k total s c .next .refused ≡ 0 → fieldAt k total s c .value .ft < k
+  unfolding fieldAt
+  field-type-below k total c e =
+      let n = namesAt s c .next in
+      let sc = scalingAt total s (codeAt 63 s (indexAt k s n .next) .next) in
+      let a : sc .next .refused ≡ 0 = back (authored-reader s) (sc .next) (back (links-reader s (sc .value .bits)) (authoredAt s (sc .next) .next) e) in
+      index-below s n k (back (code-reader s 63) _ (back (scaling-reader s total) _ a))
+
+module _ {s w : List ℕ} {t i p : ℕ} (a : PgnAt s w t i p) where
+  pub field-ft-law : (j : ℕ) → j < length (pgnIn (packOf s) t i .fields) → fieldIn (packOf s) t i j .ft < length (packOf s .fieldtypes)
+  field-ft-law j h =
+      let k = typeList s .value in
+      let m : j < pgnHead s t i .value .fields = omega (arith, fields-are s t i (a .tree) (counted-pgn a)) in
+      let st = fields k s (pgnHead s t i .next) j in
+      let z : fieldNext k s st .next .refused ≡ 0 = rw (← fields-turn s (pgnHead s t i .next) k j) (field-clean s (clean-end s w (a .ready)) t i (j + 1) (a .tree) (counted-pgn a) (omega arith)) in
+      let b = field-type-below s k (st .total) (st .next) (step-clean s k st z) in
+      let e : fieldIn (packOf s) t i j .ft ≡ fieldAt k (st .total) s (st .next) .value .ft = ap (λ (f : Field). f .ft) (field-is s t i j (a .tree) (counted-pgn a) m) in
+      omega (arith, b, e, types-are s)
+
+-- the next record of its kind
+pub lookup-place-next : (P : Pack) (i : ℕ) → lookupPlace P (i + 1) ≡ lookupPlace P i + 1 + length (lookupIn P i .entries)
+lookup-place-next P i = rw (add-one i)
+
+pub pgn-place-next : (P : Pack) (t i : ℕ) → pgnPlace P t (i + 1) ≡ pgnPlace P t i + 1 + length (pgnIn P t i .fields)
+pgn-place-next P t i = rw (add-one i) (omega arith)

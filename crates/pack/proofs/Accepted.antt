@@ -1,0 +1,65 @@
+-- What an accepting `load` gives the layers above: a ready work list, the index of the pack's value, and bounds.
+use Prim.Native.Nat.{ℕ, zero, suc, _+_, _-_, _*_, _≤_, _<_}
+use native.Mathlib.Omega.{arith}
+use mathlib.Core.Path.{_≡_, refl, ap, _∙_, sym}
+use mathlib.Core.List.{List, [], _∷_, _++_}
+use mathlib.Core.Bool.{Bool, true, false}
+use lib.ListN.{length, getD, take, drop, length-append}
+use lib.Seq.{take-append-seam}
+use Rattle.pack.specs.Notation.{_≤ᵇ_, concatBelow}
+use Rattle.pack.specs.Value.{Pack, pgns-of}
+use Rattle.pack.specs.Items.{fresh, numberAt, finish}
+use Rattle.pack.specs.Records.{lookupAt, pgnAt}
+use Rattle.pack.specs.Format.{types, typeOffsets, entries, entryOffsets, LookupState, lookupNext, lookups, lookupRecords, lookupOffsets, noText, fields, fieldOffsets, pgnNext, pgns, pgnRecords, pgnOffsets, typeList, lookupList, treeStart, treeList, typePart, lookupPart, treePart, before, offsets, packEnd, typeStart, lookupStart, pgnStart}
+use Rattle.pack.specs.Load.{mostBytes, Verdict, refused, accepted, verdict, indexOf, answer, loaded, workAfter}
+use Rattle.pack.specs.Meaning.{packOf}
+use Rattle.pack.specs.Ready.{Ready, lookupPlace, treePlace}
+use Rattle.pack.specs.Trees.{protocolOf, sectionOf}
+use Rattle.pack.specs.declared.load.Index.{Index}
+use Rattle.pack.specs.declared.load.Refusal.{Refusal}
+use Rattle.pack.specs.declared.load.Loaded.{Loaded}
+use Rattle.pack.specs.declared.load.Loaded.the-variants.{Refused, Accepted}
+use Rattle.pack.proofs.Values.{types-are, lookups-are, pgns-are, length-types, lookup-place, tree-place}
+
+-- the index says the value's counts and places
+pub record IndexIs (P : Pack) (i : Index) : Type 0 where
+  pub types : i .types .count ≡ length (P .fieldtypes)
+  pub lookups : i .lookups .count ≡ length (P .lookups)
+  pub lookups-place : i .lookups .place ≡ lookupPlace P 0
+  pub trees : (t : ℕ) → t < 3 → sectionOf (protocolOf t) i .count ≡ length (pgns-of P t)
+  pub trees-place : (t : ℕ) → t < 3 → sectionOf (protocolOf t) i .place ≡ treePlace P t
+
+pub index-law : (s : List ℕ) → IndexIs (packOf s) (indexOf s)
+unfolding indexOf
+index-law s =
+    record {
+      types = sym (types-are s);
+      lookups = sym (lookups-are s);
+      lookups-place = length-types s (typeList s .next) (typeList s .value) ∙ sym (types-are s);
+      trees = counts;
+      trees-place = places;
+    }
+  where
+    counts : (t : ℕ) → t < 3 → sectionOf (protocolOf t) (indexOf s) .count ≡ length (pgns-of (packOf s) t)
+    counts zero h = sym (pgns-are s 0 h)
+    counts (suc zero) h = sym (pgns-are s 1 h)
+    counts (suc (suc zero)) h = sym (pgns-are s 2 h)
+    counts (suc (suc (suc t))) h = absurd (omega arith)
+
+    places : (t : ℕ) → t < 3 → sectionOf (protocolOf t) (indexOf s) .place ≡ treePlace (packOf s) t
+    places zero h = sym (tree-place s 0 (omega arith))
+    places (suc zero) h = sym (tree-place s 1 (omega arith))
+    places (suc (suc zero)) h = sym (tree-place s 2 (omega arith))
+    places (suc (suc (suc t))) h = absurd (omega arith)
+
+-- what was loaded is ready
+pub load-law : (s w : List ℕ) (i : Index) → loaded s (length w) ≡ Accepted i → Ready s (workAfter s w) × (i ≡ indexOf s)
+unfolding loaded workAfter
+load-law s w i e = go (verdict s) refl (indexOf s .records ≤ᵇ length w) refl
+  where
+    go : (v : Verdict) → verdict s ≡ v → (b : Bool) → (indexOf s .records ≤ᵇ length w) ≡ b → Ready s (workAfter s w) × (i ≡ indexOf s)
+    go (refused r) x b y = let z : Refused r ≡ Accepted i = rw x at e in let u : _≡_ {A = ℕ} 0 1 = cc in absurd (omega arith)
+    go accepted x true y =
+        let z : Accepted (indexOf s) ≡ Accepted i = rw (x, y) at e in
+        (record { accepted = x; begins = (rw (x, y) (take-append-seam (offsets s) (drop (length (offsets s)) w))) }, cc)
+    go accepted x false y = let u : _≡_ {A = ℕ} 0 1 = (let z = rw (x, y) at e in cc) in absurd (omega arith)
