@@ -4,6 +4,7 @@ pub mod Texts
 pub mod Floats
 pub mod Digits
 pub mod Model
+pub mod Emit
 pub mod PlaceText
 -- R02
 pub mod PgnRange

@@ -1,7 +1,9 @@
 ghost use mathlib.Core.Path.{_≡_};
 ghost use Rattle.rules.specs.Proprietary.{is-manufacturer-pgn};
 
-mod floats;
+pub mod emit;
+pub mod floats;
+pub mod frame_length;
 
 // A finding's eight numbers.
 pub struct Finding {

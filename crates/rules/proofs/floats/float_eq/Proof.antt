@@ -4,17 +4,13 @@ use Rattle.rules.proofs.floats.float_eq.Statement.{statement}
 use Rattle.rules.proofs.floats.float_eq.Tie as tie
 use Rattle.rules.proofs.floats.float_eq.Reads as reads
 use Rattle.rules.proofs.floats.float_eq.Lts as lts
-use Rattle.rules.proofs.floats.float.Reads as float-reads
 
--- src/floats.rt:25:5
 float-requires : tie.Need-float-requires
 float-requires c κs = search needs
 
--- src/floats.rt:25:17
 float-requires-2 : tie.Need-float-requires-2
 float-requires-2 c κs = search needs
 
--- src/floats.rt:22:1
 returns : tie.Need-returns
 unfolding float-eq
 returns c = rw (c .before .float .ensures, c .float2 .ensures)

@@ -1,0 +1,42 @@
+-- Laws of findings put into a buffer: nothing, one, two lists, a turn of a loop; and what their number leaves room for.
+use Prim.Native.Nat.{ℕ, zero, suc, _+_, _*_, _≤_, _<_}
+use native.Mathlib.Omega.{arith}
+use native.Mathlib.Numerals.{add-one}
+use mathlib.Core.Path.{_≡_, refl, ap, _∙_, sym}
+use mathlib.Core.List.{List, [], _∷_, _++_}
+use mathlib.Core.Bool.{Bool, true, false}
+use lib.ListN.{length, length-append}
+use Rattle.pack.specs.Notation.{if_then_else_, concatBelow}
+use Rattle.pack.proofs.Tables.{length-concatBelow}
+use Rattle.rules.specs.declared.Finding.{Finding}
+use Rattle.rules.specs.Findings.{report-if}
+use Rattle.rules.specs.Emit.{stored, putAll, Emitted, Fits}
+
+pub putAll-append : (o : List ℕ) (n : ℕ) (xs ys : List Finding) → putAll o n (xs ++ ys) ≡ putAll (putAll o n xs) (n + length xs) ys
+putAll-append o n [] ys = let e : n + 0 ≡ n = omega arith in rw e
+putAll-append o n (x ∷ xs) ys =
+    let e : n + suc (length xs) ≡ n + 1 + length xs = omega arith in
+    rw e (putAll-append (stored o n x) (n + 1) xs ys)
+
+pub emitted-none : (o : List ℕ) (n : ℕ) → Emitted o n [] o n
+emitted-none o n = record { count = omega arith; out = refl }
+
+pub emitted-append : {o o′ o″ : List ℕ} {n m k : ℕ} {xs ys : List Finding} → Emitted o n xs o′ m → Emitted o′ m ys o″ k → Emitted o n (xs ++ ys) o″ k
+emitted-append {o} {o′} {o″} {n} {m} {k} {xs} {ys} p q =
+    record { count = omega (arith, p .count, q .count, length-append xs ys); out = q .out ∙ (rw (p .out, p .count, putAll-append)) }
+
+-- a turn of a loop
+pub emitted-turn : {o o′ o″ : List ℕ} {n m k : ℕ} (f : ℕ → List Finding) (i : ℕ) → Emitted o n (concatBelow f i) o′ m → Emitted o′ m (f i) o″ k → Emitted o n (concatBelow f (i + 1)) o″ k
+emitted-turn f i p q = rw (add-one i) (emitted-append p q)
+
+-- ---- room for the count
+
+pub fits-left : {n : ℕ} (xs ys : List Finding) → Fits n (xs ++ ys) → Fits n xs
+fits-left xs ys a = record { small = omega (arith, a .small, length-append xs ys) }
+
+pub fits-right : {o o′ : List ℕ} {n m : ℕ} (xs ys : List Finding) → Fits n (xs ++ ys) → Emitted o n xs o′ m → Fits m ys
+fits-right xs ys a e = record { small = omega (arith, a .small, e .count, length-append xs ys) }
+
+-- at a turn of a loop of k turns
+pub fits-turn : {o o′ : List ℕ} {n m : ℕ} (f : ℕ → List Finding) (k i : ℕ) → i < k → Fits n (concatBelow f k) → Emitted o n (concatBelow f i) o′ m → Fits m (f i)
+fits-turn f k i h a e = record { small = omega (arith, a .small, e .count, length-concatBelow f k i h) }

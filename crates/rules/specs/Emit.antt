@@ -1,0 +1,29 @@
+-- Findings put into a buffer one after the other, eight numbers each, where they fit.
+use Prim.Native.Nat.{ℕ, _+_, _*_, _≤_}
+use mathlib.Core.Path.{_≡_}
+use mathlib.Core.List.{List, [], _∷_}
+use lib.ListN.{length}
+use lib.Seq.{sets}
+use Rattle.pack.specs.Notation.{_≤ᵇ_, if_then_else_}
+use Rattle.rules.specs.declared.Finding.{Finding}
+
+-- "Eight numbers: rule, severity, cause, place, tree, item, part, other."
+abbrev pub numbers : Finding → List ℕ
+numbers f = f .rule ∷ f .severity ∷ f .cause ∷ f .place ∷ f .tree ∷ f .item ∷ f .part ∷ f .other ∷ []
+
+-- a finding behind n others, where its eight numbers fit
+unfoldable pub stored : List ℕ → ℕ → Finding → List ℕ
+stored o n f = if 8 * n + 8 ≤ᵇ length o then sets o (8 * n) (numbers f) else o
+
+abbrev pub putAll : List ℕ → ℕ → List Finding → List ℕ
+putAll o n [] = o
+putAll o n (f ∷ fs) = putAll (stored o n f) (n + 1) fs
+
+-- what every function that reports promises: the buffer with the findings fs put behind n others, and how many there are then
+pub record Emitted (o : List ℕ) (n : ℕ) (fs : List Finding) (o′ : List ℕ) (m : ℕ) : Type 0 where
+  pub count : m ≡ n + length fs
+  pub out : o′ ≡ putAll o n fs
+
+-- what it asks for: the count stays small. A pack has far fewer findings (Bound).
+pub record Fits (n : ℕ) (fs : List Finding) : Type 0 where
+  pub small : n + length fs ≤ 1152921504606846976

@@ -1,0 +1,48 @@
+// R04
+ghost use mathlib.Core.Path.{_≡_};
+ghost use mathlib.Core.Bool.{not, _&&_};
+ghost use Rattle.pack.specs.Notation.{_==_, _<ᵇ_};
+ghost use Rattle.pack.specs.Meaning.{packOf};
+ghost use Rattle.pack.specs.Ready.{PgnIs, pgnIn};
+ghost use Rattle.rules.specs.Emit.{Emitted, Fits};
+ghost use Rattle.rules.specs.FrameLength.{check-frame-length};
+use crate::emit::pgn_error;
+use crate::emit::put_if;
+use pack::records::PgnView;
+
+// A fixed frame that is not exactly 8 bytes long.
+fn not_eight(variable: bool, length: u32, pgn: u32) -> bool
+    ensures { λ r. ⌜ r ≡ (not variable && not (length == 8) && not (pgn == 59904)) ⌝ }
+{
+    if variable {
+        return false;
+    }
+    if length == 8 {
+        return false;
+    }
+    pgn != 59904
+}
+
+// A variable frame whose fixed part is too long.
+fn too_long(variable: bool, length: u32) -> bool
+    ensures { λ r. ⌜ r ≡ (variable && (8 <ᵇ length)) ⌝ }
+{
+    if variable {
+        return 8 < length;
+    }
+    false
+}
+
+// R04: fixed single-frame PGNs are exactly 8 bytes (ISO Request 59904 excepted); a variable one's fixed part must fit the frame.
+pub fn check_frame_length(out: &mut [u32], n: usize, s: &[u8], t: u32, i: u32, g: PgnView) -> usize
+    requires { ⌜ Fits n (check-frame-length t i (pgnIn (packOf (now s)) t i)) × PgnIs (now s) (pgnIn (packOf (now s)) t i) g ⌝ }
+    ensures { λ r. ⌜ Emitted (now (out .entry)) n (check-frame-length t i (pgnIn (packOf (now (s .entry))) t i)) (now (out .exit)) r ⌝ }
+{
+    if g.kind != 0 {
+        return n;
+    }
+    let fixed = not_eight(g.flags.variable, g.length, g.pgn);
+    let m = put_if(out, n, fixed, pgn_error(4, 1, t, i, 0, 0));
+    let long = too_long(g.flags.variable, g.length);
+    put_if(out, m, long, pgn_error(4, 2, t, i, 0, 0))
+}
