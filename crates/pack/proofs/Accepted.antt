@@ -1,25 +1,21 @@
 -- What an accepting `load` gives the layers above: a ready work list, the index of the pack's value, and bounds.
-use Prim.Native.Nat.{ℕ, zero, suc, _+_, _-_, _*_, _≤_, _<_}
+use Prim.Native.Nat.{ℕ, zero, suc, _<_}
 use native.Mathlib.Omega.{arith}
-use mathlib.Core.Path.{_≡_, refl, ap, _∙_, sym}
-use mathlib.Core.List.{List, [], _∷_, _++_}
+use mathlib.Core.Path.{_≡_, refl, _∙_, sym}
+use mathlib.Core.List.{List}
 use mathlib.Core.Bool.{Bool, true, false}
-use lib.ListN.{length, getD, take, drop, length-append}
+use lib.ListN.{length, drop}
 use lib.Seq.{take-append-seam}
-use Rattle.pack.specs.Notation.{_≤ᵇ_, concatBelow}
+use Rattle.pack.specs.Notation.{_≤ᵇ_}
 use Rattle.pack.specs.Value.{Pack, pgns-of}
-use Rattle.pack.specs.Items.{fresh, numberAt, finish}
-use Rattle.pack.specs.Records.{lookupAt, pgnAt}
-use Rattle.pack.specs.Format.{types, typeOffsets, entries, entryOffsets, LookupState, lookupNext, lookups, lookupRecords, lookupOffsets, noText, fields, fieldOffsets, pgnNext, pgns, pgnRecords, pgnOffsets, typeList, lookupList, treeStart, treeList, typePart, lookupPart, treePart, before, offsets, packEnd, typeStart, lookupStart, pgnStart}
-use Rattle.pack.specs.Load.{mostBytes, Verdict, refused, accepted, verdict, indexOf, answer, loaded, workAfter}
+use Rattle.pack.specs.Format.{types, lookups, typeList, offsets}
+use Rattle.pack.specs.Load.{Verdict, refused, accepted, verdict, indexOf, loaded, workAfter}
 use Rattle.pack.specs.Meaning.{packOf}
 use Rattle.pack.specs.Ready.{Ready, lookupPlace, treePlace}
 use Rattle.pack.specs.Trees.{protocolOf, sectionOf}
 use Rattle.pack.specs.declared.load.Index.{Index}
-use Rattle.pack.specs.declared.load.Refusal.{Refusal}
-use Rattle.pack.specs.declared.load.Loaded.{Loaded}
 use Rattle.pack.specs.declared.load.Loaded.the-variants.{Refused, Accepted}
-use Rattle.pack.proofs.Values.{types-are, lookups-are, pgns-are, length-types, lookup-place, tree-place}
+use Rattle.pack.proofs.Values.{types-are, lookups-are, pgns-are, length-types, tree-place}
 
 -- the index says the value's counts and places
 pub record IndexIs (P : Pack) (i : Index) : Type 0 where

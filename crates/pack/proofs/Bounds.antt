@@ -1,18 +1,18 @@
 -- Bounds for the layers above: an accepted pack has no more records than bytes, and every offset is within it.
-use Prim.Native.Nat.{ℕ, zero, suc, _+_, _-_, _≤_, _<_}
+use Prim.Native.Nat.{ℕ, zero, suc, _+_, _≤_}
 use native.Mathlib.Omega.{arith}
-use mathlib.Core.Path.{_≡_, refl, ap, _∙_, sym}
+use mathlib.Core.Path.{_≡_}
 use mathlib.Core.List.{List, [], _∷_, _++_}
 use lib.ListN.{length, getD, length-append}
 use Rattle.pack.specs.Notation.{concatBelow}
-use Rattle.pack.specs.Items.{fresh, numberAt, versionAt}
+use Rattle.pack.specs.Items.{fresh}
 use Rattle.pack.specs.Records.{lookupAt, pgnAt}
-use Rattle.pack.specs.Format.{types, typeOffsets, entries, entryOffsets, LookupState, lookupNext, lookups, lookupRecords, lookupOffsets, noText, FieldState, fieldNext, fields, fieldOffsets, pgnNext, pgns, pgnRecords, pgnOffsets, typeList, lookupList, treeStart, treeList, typePart, lookupPart, treePart, before, offsets, packEnd, typeStart, lookupStart, pgnStart}
+use Rattle.pack.specs.Format.{types, typeOffsets, entries, entryOffsets, LookupState, lookupNext, lookups, lookupRecords, lookupOffsets, FieldState, fieldNext, fields, fieldOffsets, pgnNext, pgns, pgnRecords, pgnOffsets, typeList, lookupList, treeStart, treeList, typePart, lookupPart, treePart, before, offsets, packEnd, lookupStart, pgnStart}
 use Rattle.pack.specs.Load.{mostBytes}
 use Rattle.pack.specs.Ready.{Ready}
 use Rattle.pack.specs.declared.cursor.Cursor.{Cursor}
 use Rattle.pack.proofs.Reading.{back, number-reader, version-reader, type-reader, type-moves, types-reader, entry-reader, entry-moves, entries-reader, lookup-reader, lookup-moves, lookup-steps, lookups-reader, field-steps, field-moves, fields-reader, pgn-reader, pgn-moves, pgn-next-reader, pgns-reader}
-use Rattle.pack.proofs.Clean.{accepted-end, tree-clean, lookup-clean}
+use Rattle.pack.proofs.Clean.{accepted-end, tree-clean}
 use Rattle.pack.proofs.Values.{length-types, length-lookup, length-pgn}
 use Rattle.pack.proofs.Whole.{tree-reader}
 

@@ -1,22 +1,20 @@
 -- In an accepted pack every record begins at a cursor that is not refused.
 use Prim.Native.Nat.{ℕ, zero, suc, _+_, _-_, _≤_, _<_}
 use native.Mathlib.Omega.{arith}
-use native.Mathlib.Decide.{ℕ-discrete}
-use mathlib.Core.Path.{_≡_, refl, ap, _∙_, sym}
+use mathlib.Core.Path.{_≡_, refl}
 use mathlib.Core.List.{List}
 use mathlib.Core.Bool.{Bool, true, false}
 use borrow.Author.Tests.{eqb-true, ltb-false}
 use lib.ListN.{length}
-use lib.Dec.{ltb, eqb}
 use Rattle.pack.specs.Notation.{_==_, _<ᵇ_}
-use Rattle.pack.specs.Items.{fresh, numberAt}
-use Rattle.pack.specs.Records.{typeAt, entryAt, lookupAt, pgnAt, fieldAt}
-use Rattle.pack.specs.Format.{types, entries, LookupState, lookupNext, lookups, noText, FieldState, fieldNext, fields, pgnNext, pgns, typeList, lookupList, treeStart, treeList, packEnd, typeStart, lookupStart, pgnStart}
-use Rattle.pack.specs.Load.{mostBytes, Verdict, refused, accepted, verdict}
+use Rattle.pack.specs.Items.{fresh}
+use Rattle.pack.specs.Records.{lookupAt, pgnAt}
+use Rattle.pack.specs.Format.{types, entries, lookupNext, lookups, noText, fields, pgnNext, pgns, typeList, lookupList, treeStart, treeList, packEnd, typeStart, lookupStart, pgnStart}
+use Rattle.pack.specs.Load.{mostBytes, refused, accepted, verdict}
 use Rattle.pack.specs.declared.cursor.Cursor.{Cursor}
 use Rattle.pack.specs.declared.load.Refusal.the-variants.{Input, TooLong}
-use Rattle.pack.proofs.Reading.{back, clean, number-reader, type-reader, types-reader, entry-reader, entries-reader, lookup-reader, lookup-steps, lookups-reader, field-steps, fields-reader, pgn-reader, pgn-next-reader, pgns-reader}
-use Rattle.pack.proofs.Places.{types-turn, entries-turn, lookups-turn, fields-turn, pgns-turn}
+use Rattle.pack.proofs.Reading.{back, clean, number-reader, type-reader, entry-reader, lookup-steps, field-steps, pgn-next-reader}
+use Rattle.pack.proofs.Places.{lookups-turn, pgns-turn}
 use Rattle.pack.proofs.Whole.{finish-back, tree-reader}
 
 pub fresh-at : (c : Cursor) → c .refused ≡ 0 → c ≡ fresh (c .at)

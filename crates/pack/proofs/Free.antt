@@ -1,14 +1,13 @@
 -- A record that was read within its pack reads the same by itself: what stands before it can only refuse it.
-use Prim.Native.Nat.{ℕ, zero, suc, _+_, _≤_, _<_}
+use Prim.Native.Nat.{ℕ, suc, _+_, _≤_, _<_}
 use native.Mathlib.Omega.{arith}
-use mathlib.Core.Path.{_≡_, refl, ap, _∙_, sym}
+use mathlib.Core.Path.{_≡_, refl, _∙_, sym}
 use mathlib.Core.List.{List}
 use mathlib.Core.Bool.{Bool, true, false}
-use borrow.Author.Tests.{eq-eqb, lt-ltb, le-leb, ltb-true, leb-true, eqb-true}
-use lib.Dec.{eqb, ltb, leb}
-use Rattle.pack.specs.Notation.{_==_, _<ᵇ_, _≤ᵇ_, if_then_else_}
-use Rattle.pack.specs.Items.{_≺_, bytesOf, refuse, largest32, numberAt, judged, codeAt, indexAt, sumAt, textAt, nameAt}
-use Rattle.pack.specs.Records.{lookupAt, namesAt, scalingAt, authoredAt, linksAt, fieldAt}
+use borrow.Author.Tests.{eq-eqb, lt-ltb, le-leb, ltb-true, leb-true}
+use Rattle.pack.specs.Notation.{_==_, _<ᵇ_, _≤ᵇ_}
+use Rattle.pack.specs.Items.{_≺_, bytesOf, largest32, numberAt, judged, codeAt, indexAt, sumAt, textAt, nameAt}
+use Rattle.pack.specs.Records.{lookupAt, namesAt, scalingAt, authoredAt, fieldAt}
 use Rattle.pack.specs.Format.{noText}
 use Rattle.pack.specs.declared.text.OptText.{OptText}
 use Rattle.pack.specs.declared.cursor.Cursor.{Cursor}

@@ -1,13 +1,12 @@
 -- What `load` answers, case by case.
-use Prim.Native.Nat.{ℕ, zero, suc, _+_, _-_, _≤_, _<_}
-use native.Mathlib.Omega.{arith}
-use mathlib.Core.Path.{_≡_, refl, ap, _∙_, sym}
-use mathlib.Core.List.{List, [], _∷_, _++_}
+use Prim.Native.Nat.{ℕ, _≤_, _<_}
+use mathlib.Core.Path.{_≡_, _∙_}
+use mathlib.Core.List.{List}
 use borrow.Author.Tests.{eq-eqb, ne-eqb, lt-ltb, le-ltb, le-leb, lt-leb}
 use lib.ListN.{length}
 use lib.Seq.{sets}
 use Rattle.pack.specs.Format.{packEnd, offsets}
-use Rattle.pack.specs.Load.{mostBytes, Verdict, refused, accepted, verdict, indexOf, loaded, workAfter}
+use Rattle.pack.specs.Load.{mostBytes, refused, accepted, verdict, indexOf, loaded, workAfter}
 use Rattle.pack.specs.declared.load.Refusal.the-variants.{Input, TooLong, Work}
 use Rattle.pack.specs.declared.load.Loaded.{Loaded}
 use Rattle.pack.specs.declared.load.Loaded.the-variants.{Refused, Accepted}

@@ -1,18 +1,17 @@
 -- Laws of the steps of `load`: records placed one after the other, and where a loop over them stops.
-use Prim.Native.Nat.{ℕ, zero, suc, _+_, _-_, _≤_, _<_}
+use Prim.Native.Nat.{ℕ, _+_, _≤_}
 use native.Mathlib.Omega.{arith}
 use native.Mathlib.Numerals.{add-one}
 use native.Mathlib.Decide.{ℕ-discrete}
-use mathlib.Core.Path.{_≡_, refl, ap, _∙_, sym, subst}
+use mathlib.Core.Path.{_≡_, refl, ap, _∙_}
 use mathlib.Core.List.{List, [], _∷_, _++_}
 use borrow.Author.Tests.{eq-eqb, ne-eqb}
-use lib.ListN.{length, set}
-use Rattle.pack.specs.Records.{typeAt, entryAt, lookupAt, pgnAt, fieldAt}
-use Rattle.pack.specs.Format.{iter, typeNext, types, typeOffsets, entryNext, entries, entryOffsets, LookupState, lookupNext, lookupRecords, lookups, lookupOffsets, noText, FieldState, fieldNext, fields, fieldOffsets, pgnNext, pgnRecords, pgns, pgnOffsets}
-use Rattle.pack.specs.Placing.{Room, Stored, PlacedTo, counted}
-use Rattle.pack.specs.declared.text.OptText.{OptText}
+use lib.ListN.{set}
+use Rattle.pack.specs.Records.{typeAt, entryAt}
+use Rattle.pack.specs.Format.{types, typeOffsets, entries, entryOffsets, lookupNext, lookupRecords, lookups, lookupOffsets, noText, fieldNext, fields, fieldOffsets, pgnNext, pgnRecords, pgns, pgnOffsets}
+use Rattle.pack.specs.Placing.{Room, PlacedTo, counted}
 use Rattle.pack.specs.declared.cursor.Cursor.{Cursor}
-use Rattle.pack.proofs.Reading.{Steps, Reader, Moves, stays, type-reader, entry-reader, lookup-steps, field-steps, pgn-next-reader}
+use Rattle.pack.proofs.Reading.{Reader, Moves, stays, type-reader, entry-reader, lookup-steps, field-steps, pgn-next-reader}
 use Rattle.pack.proofs.Stores.{stored-none, stored-append, stored-cons}
 
 -- nothing placed yet

@@ -3,24 +3,21 @@ use Prim.Native.Nat.{ℕ, zero, suc, _+_, _-_, _≤_, _<_}
 use native.Mathlib.Omega.{arith}
 use native.Mathlib.Numerals.{add-one}
 use mathlib.Core.Path.{_≡_, refl, ap, _∙_, sym}
-use mathlib.Core.List.{List, [], _∷_, _++_}
+use mathlib.Core.List.{List}
 use lib.ListN.{length, getD, take, length-append, length-take, List·getD-append}
-use lib.Seq.{getD-append-add, getD-take, take-append-seam}
-use Rattle.pack.specs.Notation.{_==_, concatBelow, tab}
-use Rattle.pack.specs.Value.{FieldType, Entry, Lookup, Field, Pgn, Pack, pgns-of, noFieldType, noEntry, noLookup, noField, noPgn}
-use mathlib.Core.Bool.{Bool, true, false}
+use lib.Seq.{getD-append-add, getD-take}
+use Rattle.pack.specs.Notation.{_==_, concatBelow}
+use Rattle.pack.specs.Value.{Lookup, Field, Pgn, Pack, noFieldType, noEntry}
 use Rattle.pack.specs.Items.{fresh, bytesOf, numberAt, textAt, nameAt, indexAt, codeAt}
 use Rattle.pack.specs.Records.{typeAt, entryAt, lookupAt, namesAt, scalingAt, authoredAt, pgnAt, fieldAt}
-use Rattle.pack.specs.Format.{types, typeOffsets, entries, entryOffsets, LookupState, lookups, lookupRecords, lookupOffsets, noText, FieldState, fieldNext, fields, fieldOffsets, pgns, pgnRecords, pgnOffsets, typeList, lookupList, treeList, typePart, lookupPart, treePart, before, offsets, typeStart, lookupStart, pgnStart, packEnd}
-use Rattle.pack.specs.Load.{Verdict, accepted, verdict}
-use Rattle.pack.specs.Meaning.{typeMeaning, entryMeaning, fieldMeaning, lookupMeaning, pgnMeaning, typeOf, lookupOf, pgnOf, packOf}
-use Rattle.pack.specs.Ready.{Ready, lookupIn, pgnIn, fieldIn, lookupPlace, pgnRecordsBelow, treePlace, pgnPlace, LookupAt, PgnAt, LookupIs, PgnIs}
+use Rattle.pack.specs.Format.{types, typeOffsets, entries, entryOffsets, lookupRecords, lookupOffsets, noText, FieldState, fieldNext, fields, fieldOffsets, pgnRecords, pgnOffsets, typeList, lookupList, treeList, typePart, lookupPart, treePart, before, offsets, typeStart, lookupStart, pgnStart, packEnd}
+use Rattle.pack.specs.Load.{accepted}
+use Rattle.pack.specs.Meaning.{typeMeaning, entryMeaning, fieldMeaning, typeOf, lookupOf, pgnOf, packOf}
+use Rattle.pack.specs.Ready.{Ready, lookupIn, pgnIn, fieldIn, lookupPlace, pgnPlace, LookupAt, PgnAt, LookupIs, PgnIs}
 use Rattle.pack.specs.declared.cursor.Cursor.{Cursor}
-use Rattle.pack.specs.declared.records.LookupItem.{LookupItem}
-use Rattle.pack.specs.declared.records.PgnItem.{PgnItem}
 use Rattle.pack.specs.declared.records.FieldItem.{FieldItem}
 use Rattle.pack.specs.declared.cursor.TextItem.{TextItem}
-use Rattle.pack.proofs.Tables.{length-tab, length-concatBelow, getD-concatBelow, getD-tab}
+use Rattle.pack.proofs.Tables.{length-concatBelow, getD-concatBelow, getD-tab}
 use Rattle.pack.proofs.Reading.{if-all, number-fits, back, code-reader, scaling-reader, authored-reader, links-reader}
 use Rattle.pack.proofs.Places.{fields-turn}
 use Rattle.pack.proofs.Free.{index-below, lookup-free, field-free}

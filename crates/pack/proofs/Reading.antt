@@ -1,18 +1,16 @@
 -- Laws of readers: a refused cursor stays, reading stays within the bytes, and it never goes back.
 use Prim.Native.Nat.{ℕ, zero, suc, _+_, _-_, _*_, _≤_, _<_}
 use native.Mathlib.Omega.{arith}
-use native.Mathlib.Numerals.{add-one}
 use native.Mathlib.Decide.{ℕ-discrete}
-use mathlib.Core.Path.{_≡_, refl, ap, _∙_, sym, subst}
+use mathlib.Core.Path.{_≡_, refl, ap, _∙_, sym}
 use mathlib.Core.List.{List}
 use mathlib.Core.Bool.{Bool, true, false}
 use borrow.Author.Tests.{ne-eqb, eqb-false, ltb-true, leb-true}
 use lib.ListN.{length}
-use lib.Dec.{eqb, ltb, leb}
 use Rattle.pack.specs.Notation.{_==_, _<ᵇ_, _≤ᵇ_, if_then_else_}
-use Rattle.pack.specs.Items.{_≺_, bytesOf, refuse, moved, fresh, lastByte, shortest, capped, groups, largest32, largest64, wideAt, numberAt, judged, versionAt, codeAt, indexAt, sumAt, bytesAt, textAt, nameAt, floatAt, markAt, optTextAt, optNumberAt, optBytesAt, optSumAt, optFloatAt}
+use Rattle.pack.specs.Items.{_≺_, bytesOf, refuse, moved, lastByte, shortest, capped, groups, largest32, largest64, wideAt, numberAt, judged, versionAt, codeAt, indexAt, sumAt, bytesAt, textAt, nameAt, floatAt, markAt, optTextAt, optNumberAt, optBytesAt, optSumAt, optFloatAt}
 use Rattle.pack.specs.Records.{typeAt, firstAt, kindPartAt, entryAt, lookupAt, repeatingAt, optRepeatingAt, pgnAt, namesAt, scalingAt, authoredAt, optReferenceAt, linksAt, fieldAt}
-use Rattle.pack.specs.Format.{iter, typeNext, types, entryNext, entries, LookupState, lookupNext, lookups, noText, FieldState, fieldNext, fields, pgnNext, pgns}
+use Rattle.pack.specs.Format.{iter, types, entries, LookupState, lookupNext, lookups, noText, FieldState, fieldNext, fields, pgnNext, pgns}
 use Rattle.pack.specs.declared.text.OptText.{OptText}
 use Rattle.pack.specs.declared.number.Value.{Value}
 use Rattle.pack.specs.declared.cursor.Cursor.{Cursor}

@@ -1,15 +1,14 @@
 -- The records of the pack's value, by index.
-use Prim.Native.Nat.{ℕ, zero, suc, _+_, _-_, _≤_, _<_}
+use Prim.Native.Nat.{ℕ, zero, suc, _+_, _≤_, _<_}
 use native.Mathlib.Omega.{arith}
-use mathlib.Core.Path.{_≡_, refl, ap, _∙_, sym}
-use mathlib.Core.List.{List, [], _∷_, _++_}
+use mathlib.Core.Path.{_≡_, refl, ap}
+use mathlib.Core.List.{List}
 use lib.ListN.{length, getD, length-append}
-use Rattle.pack.specs.Notation.{concatBelow, tab}
-use Rattle.pack.specs.Value.{FieldType, Entry, Lookup, Field, Pgn, Pack, pgns-of, noFieldType, noEntry, noLookup, noField, noPgn}
-use Rattle.pack.specs.Records.{typeAt, entryAt, lookupAt, pgnAt, fieldAt}
-use Rattle.pack.specs.Format.{types, typeOffsets, entries, entryOffsets, LookupState, lookups, lookupRecords, lookupOffsets, fields, fieldOffsets, pgns, pgnRecords, pgnOffsets, typeList, lookupList, treeList, typePart, lookupPart, treePart, before, offsets, typeStart, lookupStart, pgnStart}
+use Rattle.pack.specs.Value.{pgns-of, noFieldType, noEntry, noLookup, noField, noPgn}
+use Rattle.pack.specs.Records.{entryAt, lookupAt, pgnAt, fieldAt}
+use Rattle.pack.specs.Format.{types, typeOffsets, entries, entryOffsets, LookupState, lookups, lookupRecords, lookupOffsets, fields, fieldOffsets, pgnRecords, pgnOffsets, typeList, lookupList, treeList, typePart, lookupPart, treePart, before, lookupStart, pgnStart}
 use Rattle.pack.specs.Meaning.{typeOf, lookupOf, pgnOf, treeOf, packOf, entryMeaning, fieldMeaning}
-use Rattle.pack.specs.Ready.{lookupIn, pgnIn, fieldIn, lookupPlace, pgnRecordsBelow, treePlace, pgnPlace}
+use Rattle.pack.specs.Ready.{lookupIn, pgnIn, fieldIn, lookupPlace, pgnRecordsBelow, treePlace}
 use Rattle.pack.proofs.Tables.{length-tab, getD-tab}
 use Rattle.pack.specs.declared.cursor.Cursor.{Cursor}
 use Rattle.pack.specs.declared.records.LookupItem.{LookupItem}

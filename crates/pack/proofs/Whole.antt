@@ -1,24 +1,21 @@
 -- The sections of a pack put together: what one walk over it reaches, counts and stores.
-use Prim.Native.Nat.{ℕ, zero, suc, _+_, _-_, _≤_, _<_}
+use Prim.Native.Nat.{ℕ, suc}
 use native.Mathlib.Omega.{arith}
 use native.Mathlib.Decide.{ℕ-discrete}
-use mathlib.Core.Path.{_≡_, refl, ap, _∙_, sym, subst}
-use mathlib.Core.List.{List, [], _∷_, _++_}
-use borrow.Author.Tests.{eq-eqb, ne-eqb}
-use lib.ListN.{length, set}
-use lib.Seq.{sets}
-use Rattle.pack.specs.Notation.{_==_, _<ᵇ_, if_then_else_}
-use Rattle.pack.specs.Items.{fresh, refuse, numberAt, versionAt, finish}
-use Rattle.pack.specs.Format.{types, typeOffsets, lookups, lookupOffsets, pgns, pgnOffsets, typeList, lookupList, treeStart, treeList, packEnd, typePart, lookupPart, treePart, before, offsets}
+use mathlib.Core.Path.{_≡_, ap, _∙_}
+use mathlib.Core.List.{List}
+use borrow.Author.Tests.{ne-eqb}
+use lib.ListN.{length}
+use Rattle.pack.specs.Items.{fresh, numberAt, versionAt, finish}
+use Rattle.pack.specs.Format.{types, typeOffsets, lookups, lookupOffsets, pgns, typeList, lookupList, treeStart, treeList, packEnd, typePart, lookupPart, treePart, before, offsets}
 use Rattle.pack.specs.Load.{indexOf}
-use Rattle.pack.specs.Placing.{Room, Stored, PlacedTo, TreePlacing, Walking}
+use Rattle.pack.specs.Placing.{Stored, PlacedTo, TreePlacing, Walking}
 use Rattle.pack.specs.declared.cursor.Cursor.{Cursor}
 use Rattle.pack.specs.declared.cursor.NumberItem.{NumberItem}
 use Rattle.pack.specs.declared.load.Index.{Index}
 use Rattle.pack.specs.declared.load.Placed.{Placed}
 use Rattle.pack.specs.declared.load.TreePlaced.{TreePlaced}
-use Rattle.pack.specs.declared.load.Walked.{Walked}
-use Rattle.pack.proofs.Reading.{Reader, back, followed, if-all, number-reader, version-reader, types-reader, lookups-reader, pgns-reader}
+use Rattle.pack.proofs.Reading.{Reader, back, followed, number-reader, lookups-reader, pgns-reader}
 use Rattle.pack.proofs.Stores.{stored-append}
 
 -- the end is refused where what stands before it is

@@ -2,8 +2,7 @@
 use Prim.Native.Nat.{ℕ, zero, suc, _+_}
 use mathlib.Core.Bool.{false, true}
 use mathlib.Core.List.{List, [], _∷_, _++_}
-use lib.ListN.{length}
-use Rattle.pack.specs.Notation.{concatBelow, tab}
+use Rattle.pack.specs.Notation.{concatBelow}
 use Rattle.pack.specs.Items.{fresh, numberAt, versionAt, finish}
 use Rattle.pack.specs.Records.{typeAt, entryAt, lookupAt, pgnAt, fieldAt}
 use Rattle.pack.specs.declared.text.OptText.{OptText}

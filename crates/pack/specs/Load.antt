@@ -1,11 +1,9 @@
 -- What `load` answers, and what it leaves in the work buffer.
-use Prim.Native.Nat.{ℕ, zero, suc, _+_}
-use mathlib.Core.Bool.{Bool, true, false}
-use mathlib.Core.List.{List, [], _∷_, _++_}
+use Prim.Native.Nat.{ℕ}
+use mathlib.Core.List.{List, _++_}
 use lib.ListN.{length, drop}
 use Rattle.pack.specs.Notation.{_<ᵇ_, _≤ᵇ_, _==_, if_then_else_}
 use Rattle.pack.specs.Format.{typeList, lookupList, treeList, typePart, before, offsets, packEnd}
-use Rattle.pack.specs.declared.load.Section.{Section}
 use Rattle.pack.specs.declared.load.Index.{Index}
 use Rattle.pack.specs.declared.load.Refusal.{Refusal}
 use Rattle.pack.specs.declared.load.Refusal.the-variants.{Input, TooLong, Work, Findings, Absent, Place, Visits}

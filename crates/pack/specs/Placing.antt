@@ -1,5 +1,5 @@
 -- What the steps of `load` promise each other: the cursor that they reach, and the offsets that they stored on the way.
-use Prim.Native.Nat.{ℕ, zero, suc, _+_, _≤_, _<_}
+use Prim.Native.Nat.{ℕ, _+_, _≤_, _<_}
 use mathlib.Core.Path.{_≡_}
 use mathlib.Core.List.{List}
 use lib.ListN.{length}

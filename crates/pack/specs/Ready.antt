@@ -1,12 +1,11 @@
 -- For the layers above: a pack that `load` accepted with its work list, the work positions of its records, and what a view there is.
-use Prim.Native.Nat.{ℕ, zero, suc, _+_, _<_, _≤_}
+use Prim.Native.Nat.{ℕ, zero, suc, _+_, _<_}
 use mathlib.Core.Path.{_≡_}
 use mathlib.Core.List.{List}
 use lib.ListN.{length, getD, take}
-use Rattle.pack.specs.Value.{Bytes, FieldType, Entry, Lookup, Field, Pgn, Pack, pgns-of, noFieldType, noEntry, noLookup, noField, noPgn}
-use Rattle.pack.specs.Items.{bytesOf}
+use Rattle.pack.specs.Value.{Lookup, Field, Pgn, Pack, pgns-of, noLookup, noField, noPgn}
 use Rattle.pack.specs.Format.{offsets}
-use Rattle.pack.specs.Load.{Verdict, accepted, verdict}
+use Rattle.pack.specs.Load.{accepted, verdict}
 use Rattle.pack.specs.Meaning.{lookupMeaning, pgnMeaning, packOf}
 use Rattle.pack.specs.declared.records.LookupView.{LookupView}
 use Rattle.pack.specs.declared.records.PgnView.{PgnView}

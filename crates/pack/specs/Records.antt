@@ -1,7 +1,7 @@
 -- The five kinds of record, item by item in document 01's order, as views: numbers, float patterns, and texts as parts of the pack.
 use Prim.Native.Nat.{ℕ, _/_, _%_}
 use mathlib.Core.List.{List}
-use mathlib.Core.Bool.{Bool, true, false}
+use mathlib.Core.Bool.{true, false}
 use Rattle.pack.specs.Notation.{_==_, if_then_else_}
 use Rattle.pack.specs.Items.{largest64, wideAt, numberAt, codeAt, indexAt, sumAt, markAt, textAt, nameAt, floatAt, optTextAt, optNumberAt, optFloatAt, optBytesAt, optSumAt}
 use Rattle.pack.specs.declared.text.OptText.{OptText}

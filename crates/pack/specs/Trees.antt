@@ -1,6 +1,6 @@
 -- The three trees by number and by name: "trees 0 NMEA 2000, 1 J1939, 2 Quick".
 use Prim.Native.Nat.{ℕ}
-use mathlib.Core.List.{List, [], _∷_}
+use mathlib.Core.List.{[], _∷_}
 use Rattle.pack.specs.Notation.{_==_, if_then_else_}
 use Rattle.pack.specs.declared.load.Index.{Index}
 use Rattle.pack.specs.declared.load.Section.{Section}

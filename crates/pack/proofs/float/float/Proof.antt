@@ -6,8 +6,6 @@ use lib.Ieee.{Float, nan, inf, fin, binary64, ofBits, div, isNan}
 use lib.Ieee.Bits.{nanBits-is, nanBits-above}
 use Rattle.pack.proofs.float.float.Statement.{statement}
 use Rattle.pack.proofs.float.float.Tie as tie
-use Rattle.pack.proofs.float.float.Reads as reads
-use Rattle.pack.proofs.float.float.Lts as lts
 
 is-nan : (x : Float) → isNan x ≡ true → nan ≡ x
 unfolding isNan

@@ -1,51 +1,36 @@
-use Rattle.pack.proofs.Loading.{Answers, too-long, input-refused, work-short, loads}
+use Rattle.pack.proofs.Loading.{too-long, input-refused, work-short, loads}
 use Rattle.pack.specs.declared.load.Index.{Index}
-use Rattle.pack.specs.declared.cursor.Cursor.{Cursor}
 use Rattle.pack.specs.Load.{indexOf}
 use Rattle.pack.specs.Format.{packEnd, offsets}
-use lib.Seq.{sets}
-use Prim.Native.Nat.{ℕ, zero, suc, _+_, _-_, _*_, _/_, _%_, _^_, _≤_, _<_}
+use Prim.Native.Nat.{ℕ}
 use native.Mathlib.Omega.{arith}
-use native.Mathlib.Numerals.{add-one}
-use mathlib.Core.Path.{_≡_, refl, ap, _∙_, sym}
+use mathlib.Core.Path.{_≡_, refl, ap, _∙_}
 use mathlib.Core.List.{List, [], _∷_, _++_}
-use mathlib.Core.Bool.{Bool, true, false}
 use borrow.Author.Needs.{needs}
-use borrow.Author.Tests.{lt-ltb, le-ltb, le-leb, lt-leb, eq-eqb, ne-eqb, leb-true, leb-false, ltb-true, ltb-false, eqb-true, eqb-false, not-true, not-false}
 use denote.Ref.{now}
-use lib.ListN.{length, getD, take, drop, set}
-use lib.Dec.{ltb, leb, eqb}
+use lib.ListN.{length}
 use Rattle.pack.proofs.load.load.Statement.{statement}
 use Rattle.pack.proofs.load.load.Tie as tie
-use Rattle.pack.proofs.load.load.Reads as reads
-use Rattle.pack.proofs.load.load.Lts as lts
-use Rattle.pack.proofs.load.place_all.Reads as place-all-reads
 
 none : (l : List ℕ) → length l ≡ 0 → l ≡ []
 none [] e = refl
 none (x ∷ xs) e = absurd (omega arith)
 
--- src/load.rt:303:9
 returns : tie.Need-returns
 returns c = let a = too-long (now (c .before .before .before .args .pack)) (now (c .before .before .before .args .work)) (c .if1 .taken) in (a .answer, a .work)
 
--- src/load.rt:305:34
 slice-relend-prefix-place-all : tie.Need-slice-relend-prefix-place-all
 slice-relend-prefix-place-all c = search needs
 
--- src/load.rt:305:34
 slice-aggregate-place-all : tie.Need-slice-aggregate-place-all
 slice-aggregate-place-all c = search needs
 
--- src/load.rt:305:9
 place-all-requires : tie.Need-place-all-requires
 place-all-requires c κs = search needs
 
--- src/load.rt:308:9
 same-length : tie.Need-same-length
 same-length c = search needs
 
--- src/load.rt:308:9
 returns-2 : tie.Need-returns-2
 returns-2 c =
     let s = now (c .before .before .before .before .before .before .before .before .before .before .args .pack) in
@@ -55,11 +40,9 @@ returns-2 c =
     let a = input-refused s w (omega arith) (rw (← e) (c .if2 .taken)) in
     ((rw e (a .answer)), x ∙ a .work)
 
--- src/load.rt:315:9
 same-length-2 : tie.Need-same-length-2
 same-length-2 c = search needs
 
--- src/load.rt:315:9
 returns-3 : tie.Need-returns-3
 unfolding indexOf
 returns-3 c =
@@ -71,15 +54,12 @@ returns-3 c =
     let a = work-short s w (omega arith) z (rw (x, n) at (c .if3 .taken)) in
     ((rw n (a .answer)), x ∙ a .work)
 
--- src/load.rt:317:5
 place-all-requires-2 : tie.Need-place-all-requires-2
 place-all-requires-2 c κs = search needs
 
--- src/load.rt:298:1
 same-length-3 : tie.Need-same-length-3
 same-length-3 c = search needs
 
--- src/load.rt:298:1
 returns-4 : tie.Need-returns-4
 unfolding indexOf
 returns-4 c =

@@ -4,29 +4,16 @@ use Rattle.pack.proofs.Whole.{whole, tree-reader}
 use Rattle.pack.proofs.Places.{room-read, room-after}
 use Rattle.pack.proofs.Reading.{version-reader, number-reader, types-reader, lookups-reader}
 use Rattle.pack.specs.Placing.{Room}
-use Rattle.pack.specs.Format.{types, lookups}
 use Rattle.pack.specs.Items.{fresh, versionAt, numberAt}
-use Prim.Native.Nat.{ℕ, zero, suc, _+_, _-_, _*_, _/_, _%_, _^_, _≤_, _<_}
+use Prim.Native.Nat.{ℕ, _<_}
 use native.Mathlib.Omega.{arith}
-use native.Mathlib.Numerals.{add-one}
-use mathlib.Core.Path.{_≡_, refl, ap, _∙_, sym}
-use mathlib.Core.List.{List, [], _∷_, _++_}
-use mathlib.Core.Bool.{Bool, true, false}
+use mathlib.Core.Path.{_≡_, _∙_}
+use mathlib.Core.List.{List}
 use borrow.Author.Needs.{needs}
-use borrow.Author.Tests.{lt-ltb, le-ltb, le-leb, lt-leb, eq-eqb, ne-eqb, leb-true, leb-false, ltb-true, ltb-false, eqb-true, eqb-false, not-true, not-false}
 use denote.Ref.{now}
-use lib.ListN.{length, getD, take, drop, set}
-use lib.Dec.{ltb, leb, eqb}
+use lib.ListN.{length}
 use Rattle.pack.proofs.load.place_all.Statement.{statement}
 use Rattle.pack.proofs.load.place_all.Tie as tie
-use Rattle.pack.proofs.load.place_all.Reads as reads
-use Rattle.pack.proofs.load.place_all.Lts as lts
-use Rattle.pack.proofs.cursor.Cursor.finish.Reads as finish-reads
-use Rattle.pack.proofs.cursor.Cursor.number.Reads as number-reads
-use Rattle.pack.proofs.cursor.Cursor.version.Reads as version-reads
-use Rattle.pack.proofs.load.place_lookups.Reads as place-lookups-reads
-use Rattle.pack.proofs.load.place_tree.Reads as place-tree-reads
-use Rattle.pack.proofs.load.place_types.Reads as place-types-reads
 
 -- room for the first section
 room-first : (s : List ℕ) (v n : NumberItem) → length s < 4294967296 → v ≡ versionAt s (fresh 0) → n ≡ numberAt s (v .next) → Room s (n .next) 0
@@ -38,23 +25,18 @@ room-first s v n h ev en =
 room-number : (s : List ℕ) (c : Cursor) (p : ℕ) (n : NumberItem) → Room s c p → n ≡ numberAt s c → Room s (n .next) p
 room-number s c p n r e = rw e (room-read (number-reader s) c p r)
 
--- src/load.rt:263:9
 version-requires : tie.Need-version-requires
 version-requires c κs = search needs
 
--- src/load.rt:264:9
 number-requires : tie.Need-number-requires
 number-requires c κs = search needs
 
--- src/load.rt:266:9
 place-types-requires : tie.Need-place-types-requires
 place-types-requires c κs = room-first (now (c .before .before .before .before .before .args .s)) (c .before .before .version .result) (c .before .number .result) (c .before .before .before .before .before .pre) (c .before .before .version .ensures) (c .before .number .ensures)
 
--- src/load.rt:267:9
 number-requires-2 : tie.Need-number-requires-2
 number-requires-2 c κs = search needs
 
--- src/load.rt:268:9
 place-lookups-requires : tie.Need-place-lookups-requires
 place-lookups-requires c κs =
     let s = now (c .before .before .before .before .before .before .before .before .before .before .args .s) in
@@ -62,7 +44,6 @@ place-lookups-requires c κs =
     let b = room-after (types-reader s (c .before .before .before .before .before .before .number .result .value)) (c .before .before .before .before .before .before .number .result .next) 0 a (c .before .before .before .before .place-types .ensures) in
     room-number s _ _ (c .before .number2 .result) b (c .before .number2 .ensures)
 
--- src/load.rt:269:9
 place-tree-requires : tie.Need-place-tree-requires
 place-tree-requires c κs =
     let s = now (c .before .before .before .before .before .before .before .before .before .before .before .before .before .before .args .s) in
@@ -71,7 +52,6 @@ place-tree-requires c κs =
     let d = room-number s _ _ (c .before .before .before .before .before .number2 .result) b (c .before .before .before .before .before .number2 .ensures) in
     room-after (lookups-reader s (c .before .before .before .before .before .number2 .result .value)) (c .before .before .before .before .before .number2 .result .next) _ d (c .before .before .before .place-lookups .ensures)
 
--- src/load.rt:270:9
 place-tree-requires-2 : tie.Need-place-tree-requires-2
 place-tree-requires-2 c κs =
     let s = now (c .before .before .before .before .before .before .before .before .before .before .before .before .before .before .before .before .before .before .args .s) in
@@ -81,7 +61,6 @@ place-tree-requires-2 c κs =
     let e = room-after (lookups-reader s (c .before .before .before .before .before .before .before .before .before .number2 .result .value)) (c .before .before .before .before .before .before .before .before .before .number2 .result .next) _ d (c .before .before .before .before .before .before .before .place-lookups .ensures) in
     room-after (tree-reader s (c .before .before .before .before .before .before .before .before .before .before .before .before .before .before .number .result .value)) (c .before .before .before .before .before .before .before .place-lookups .result .next) _ e (c .before .before .before .place-tree .ensures .placed)
 
--- src/load.rt:271:9
 place-tree-requires-3 : tie.Need-place-tree-requires-3
 place-tree-requires-3 c κs =
     let s = now (c .before .before .before .before .before .before .before .before .before .before .before .before .before .before .before .before .before .before .before .before .before .before .args .s) in
@@ -92,15 +71,12 @@ place-tree-requires-3 c κs =
     let f = room-after (tree-reader s (c .before .before .before .before .before .before .before .before .before .before .before .before .before .before .before .before .before .before .number .result .value)) (c .before .before .before .before .before .before .before .before .before .before .before .place-lookups .result .next) _ e (c .before .before .before .before .before .before .before .place-tree .ensures .placed) in
     room-after (tree-reader s (c .before .before .before .before .before .before .before .before .before .before .before .before .before .before .before .before .before .before .number .result .value)) (c .before .before .before .before .before .before .before .place-tree .result .next) _ f (c .before .before .before .place-tree2 .ensures .placed)
 
--- src/load.rt:272:9
 finish-requires : tie.Need-finish-requires
 finish-requires c κs = search needs
 
--- src/load.rt:258:1
 same-length : tie.Need-same-length
 same-length c = c .before .before .before .place-tree3 .kept .1 .0 ∙ c .before .before .before .before .before .before .before .place-tree2 .kept .1 .0 ∙ c .before .before .before .before .before .before .before .before .before .before .before .place-tree .kept .1 .0 ∙ c .before .before .before .before .before .before .before .before .before .before .before .before .before .before .before .place-lookups .kept .1 .0 ∙ c .before .before .before .before .before .before .before .before .before .before .before .before .before .before .before .before .before .before .before .before .place-types .kept .1 .0
 
--- src/load.rt:258:1
 returns : tie.Need-returns
 returns c = whole (now (c .before .before .before .before .before .before .before .before .before .before .before .before .before .before .before .before .before .before .before .before .before .before .before .before .before .before .args .s)) _ _ _ _ _ _ _ _ _ _ _ _ _ _ _ (c .before .before .before .before .before .before .before .before .before .before .before .before .before .before .before .before .before .before .before .before .before .before .before .version .ensures) (c .before .before .before .before .before .before .before .before .before .before .before .before .before .before .before .before .before .before .before .before .before .before .number .ensures) (c .before .before .before .before .before .before .before .before .before .before .before .before .before .before .before .before .before .before .before .before .place-types .ensures) (c .before .before .before .before .before .before .before .before .before .before .before .before .before .before .before .before .before .number2 .ensures) (c .before .before .before .before .before .before .before .before .before .before .before .before .before .before .before .place-lookups .ensures) (c .before .before .before .before .before .before .before .before .before .before .before .place-tree .ensures) (c .before .before .before .before .before .before .before .place-tree2 .ensures) (c .before .before .before .place-tree3 .ensures) (c .finish .ensures)
 

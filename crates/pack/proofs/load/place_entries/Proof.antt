@@ -2,24 +2,14 @@ use Rattle.pack.proofs.Places.{placed-none, placed-one, placed-append, 
 use Rattle.pack.proofs.Reading.{entry-reader, entry-moves}
 use Rattle.pack.specs.Placing.{Room, PlacedTo}
 use Rattle.pack.specs.Format.{entries, entryOffsets}
-use Prim.Native.Nat.{ℕ, zero, suc, _+_, _-_, _*_, _/_, _%_, _^_, _≤_, _<_}
+use Prim.Native.Nat.{_-_, _≤_}
 use native.Mathlib.Omega.{arith}
-use native.Mathlib.Numerals.{add-one}
 use mathlib.Core.Path.{_≡_, refl, ap, _∙_, sym}
-use mathlib.Core.List.{List, [], _∷_, _++_}
-use mathlib.Core.Bool.{Bool, true, false}
 use borrow.Author.Needs.{needs}
-use borrow.Author.Tests.{lt-ltb, le-ltb, le-leb, lt-leb, eq-eqb, ne-eqb, leb-true, leb-false, ltb-true, ltb-false, eqb-true, eqb-false, not-true, not-false}
 use denote.Ref.{now}
-use lib.ListN.{length, getD, take, drop, set}
-use lib.Dec.{ltb, leb, eqb}
+use lib.ListN.{length}
 use Rattle.pack.proofs.load.place_entries.Statement.{statement}
 use Rattle.pack.proofs.load.place_entries.Tie as tie
-use Rattle.pack.proofs.load.place_entries.Reads as reads
-use Rattle.pack.proofs.load.place_entries.Lts as lts
-use Rattle.pack.proofs.cursor.Cursor.entry.Reads as entry-reads
-use Rattle.pack.proofs.load.past.Reads as past-reads
-use Rattle.pack.proofs.load.put.Reads as put-reads
 
 abbrev Inv-loop : tie.InvT-loop
 Inv-loop s work₀ kind n p c₀ p₀ i₀ work c p' i = (i ≤ n) × (length work ≡ length work₀) × PlacedTo (entries kind s c₀ i) work₀ p₀ (entryOffsets kind s c₀ i) work c p' × Room s c p'
@@ -27,16 +17,13 @@ Inv-loop s work₀ kind n p c₀ p₀ i₀ work c p' i = (i ≤ n) × (length wo
 abbrev μ-loop : tie.MeasureT-loop
 μ-loop s work₀ kind n p c₀ p₀ i₀ work c p' i = n - i
 
--- src/load.rt:121:5
 loop-holds : tie.Need-loop-holds Inv-loop μ-loop
 unfolding entries entryOffsets
 loop-holds c = (search needs, refl, placed-none (now (c .before .before .args .s)) _ _ _ (c .before .before .pre), c .before .before .pre)
 
--- src/load.rt:123:13
 same-length : tie.Need-same-length Inv-loop μ-loop
 same-length c = c .before .before .before .loop .inv .1
 
--- src/load.rt:123:13
 returns : tie.Need-returns Inv-loop μ-loop
 returns c =
     let s = now (c .before .before .before .before .before .before .args .s) in
@@ -44,27 +31,21 @@ returns c =
     let n = c .if1 .taken in
     placed-refused _ _ _ (a .next ∙ sym (entries-stay s (c .before .before .before .before .before .before .args .c) (c .before .before .before .before .before .before .args .kind) (c .before .before .before .loop .i) (c .before .before .before .before .before .before .args .n) (search needs) (λ z. n ((rw (a .next) z))))) n (a .few)
 
--- src/load.rt:126:9
 put-requires : tie.Need-put-requires Inv-loop μ-loop
 put-requires c κs = omega (arith, c .before .before .before .before .loop .inv .3 .short, c .before .before .before .before .loop .inv .3 .inside)
 
--- src/load.rt:127:13
 entry-requires : tie.Need-entry-requires Inv-loop μ-loop
 entry-requires c κs = search needs
 
--- src/load.rt:129:9
 past-requires : tie.Need-past-requires Inv-loop μ-loop
 past-requires c κs = omega (arith, c .before .before .before .before .before .before .before .before .before .loop .inv .3 .short, c .before .before .before .before .before .before .before .before .before .loop .inv .3 .inside, c .before .before .before .before .before .before .before .before .before .loop .inv .3 .few)
 
--- src/load.rt:130:9
 add-i : tie.Need-add-i Inv-loop μ-loop
 add-i c = search needs
 
--- src/load.rt:121:5
 loop-less : tie.Need-loop-less Inv-loop μ-loop
 loop-less c = search needs
 
--- src/load.rt:121:5
 loop-again : tie.Need-loop-again Inv-loop μ-loop
 loop-again c =
     let s = now (c .before .before .before .before .before .before .before .before .before .before .before .before .before .args .s) in
@@ -74,11 +55,9 @@ loop-again c =
     let all = placed-append a (c .before .before .before .before .before .before .before .if1 .left) one in
     (search needs, c .before .before .before .before .before .put .kept .0 ∙ c .before .before .before .before .before .before .before .before .before .before .loop .inv .1, (rw (entries-turn s (c .before .before .before .before .before .before .before .before .before .before .before .before .before .args .c) (c .before .before .before .before .before .before .before .before .before .before .before .before .before .args .kind) i, entryOffsets-turn s (c .before .before .before .before .before .before .before .before .before .before .before .before .before .args .c) (c .before .before .before .before .before .before .before .before .before .before .before .before .before .args .kind) i, ← a .next) all), room-after (entry-reader s (c .before .before .before .before .before .before .before .before .before .before .before .before .before .args .kind)) (c .before .before .before .before .before .before .before .before .before .before .loop .c) (c .before .before .before .before .before .before .before .before .before .before .loop .p) (c .before .before .before .before .before .before .before .before .before .before .loop .inv .3) one)
 
--- src/load.rt:114:1
 same-length-2 : tie.Need-same-length-2 Inv-loop μ-loop
 same-length-2 c = c .before .loop .inv .1
 
--- src/load.rt:114:1
 returns-2 : tie.Need-returns-2 Inv-loop μ-loop
 returns-2 c = let e : c .before .before .before .before .args .n ≡ c .before .loop .i = omega arith in rw e (c .before .loop .inv .2)
 

@@ -2,24 +2,14 @@ use Rattle.pack.proofs.Places.{placed-none, placed-one, placed-append, 
 use Rattle.pack.proofs.Reading.{field-reader, field-moves}
 use Rattle.pack.specs.Placing.{Room, PlacedTo}
 use Rattle.pack.specs.Format.{fields, fieldOffsets, fieldNext}
-use Prim.Native.Nat.{ℕ, zero, suc, _+_, _-_, _*_, _/_, _%_, _^_, _≤_, _<_}
+use Prim.Native.Nat.{_+_, _-_, _≤_}
 use native.Mathlib.Omega.{arith}
-use native.Mathlib.Numerals.{add-one}
 use mathlib.Core.Path.{_≡_, refl, ap, _∙_, sym}
-use mathlib.Core.List.{List, [], _∷_, _++_}
-use mathlib.Core.Bool.{Bool, true, false}
 use borrow.Author.Needs.{needs}
-use borrow.Author.Tests.{lt-ltb, le-ltb, le-leb, lt-leb, eq-eqb, ne-eqb, leb-true, leb-false, ltb-true, ltb-false, eqb-true, eqb-false, not-true, not-false}
 use denote.Ref.{now}
-use lib.ListN.{length, getD, take, drop, set}
-use lib.Dec.{ltb, leb, eqb}
+use lib.ListN.{length}
 use Rattle.pack.proofs.load.place_fields.Statement.{statement}
 use Rattle.pack.proofs.load.place_fields.Tie as tie
-use Rattle.pack.proofs.load.place_fields.Reads as reads
-use Rattle.pack.proofs.load.place_fields.Lts as lts
-use Rattle.pack.proofs.cursor.Cursor.field.Reads as field-reads
-use Rattle.pack.proofs.load.past.Reads as past-reads
-use Rattle.pack.proofs.load.put.Reads as put-reads
 
 abbrev Inv-loop : tie.InvT-loop
 Inv-loop s work₀ types n p c₀ total₀ p₀ i₀ work c total p' i = (i ≤ n) × (length work ≡ length work₀) × PlacedTo (fields types s c₀ i .next) work₀ p₀ (fieldOffsets types s c₀ i) work c p' × Room s c p' × (total ≡ fields types s c₀ i .total)
@@ -27,16 +17,13 @@ Inv-loop s work₀ types n p c₀ total₀ p₀ i₀ work c total p' i = (i ≤ 
 abbrev μ-loop : tie.MeasureT-loop
 μ-loop s work₀ types n p c₀ total₀ p₀ i₀ work c total p' i = n - i
 
--- src/load.rt:194:5
 loop-holds : tie.Need-loop-holds Inv-loop μ-loop
 unfolding fields fieldOffsets
 loop-holds c = (search needs, refl, placed-none (now (c .before .before .args .s)) _ _ _ (c .before .before .pre), c .before .before .pre, refl)
 
--- src/load.rt:196:13
 same-length : tie.Need-same-length Inv-loop μ-loop
 same-length c = c .before .before .before .loop .inv .1
 
--- src/load.rt:196:13
 returns : tie.Need-returns Inv-loop μ-loop
 returns c =
     let s = now (c .before .before .before .before .before .before .args .s) in
@@ -44,31 +31,24 @@ returns c =
     let n = c .if1 .taken in
     placed-refused _ _ _ (a .next ∙ sym (fields-stay s (c .before .before .before .before .before .before .args .c) (c .before .before .before .before .before .before .args .types) (c .before .before .before .loop .i) (c .before .before .before .before .before .before .args .n) (search needs) (λ z. n ((rw (a .next) z))))) n (a .few)
 
--- src/load.rt:199:9
 put-requires : tie.Need-put-requires Inv-loop μ-loop
 put-requires c κs = omega (arith, c .before .before .before .before .loop .inv .3 .short, c .before .before .before .before .loop .inv .3 .inside)
 
--- src/load.rt:200:13
 field-requires : tie.Need-field-requires Inv-loop μ-loop
 field-requires c κs = search needs
 
--- src/load.rt:202:17
 add-total : tie.Need-add-total Inv-loop μ-loop
 add-total c = search needs
 
--- src/load.rt:203:9
 past-requires : tie.Need-past-requires Inv-loop μ-loop
 past-requires c κs = omega (arith, c .before .before .before .before .before .before .before .before .before .before .loop .inv .3 .short, c .before .before .before .before .before .before .before .before .before .before .loop .inv .3 .inside, c .before .before .before .before .before .before .before .before .before .before .loop .inv .3 .few)
 
--- src/load.rt:204:9
 add-i : tie.Need-add-i Inv-loop μ-loop
 add-i c = omega (arith, c .before .before .before .before .before .before .before .before .before .before .loop-test .taken, c .before .before .before .before .before .before .before .before .before .before .before .before .before .before .fits .n)
 
--- src/load.rt:194:5
 loop-less : tie.Need-loop-less Inv-loop μ-loop
 loop-less c = omega (arith, c .before .before .before .before .before .before .before .before .before .before .loop-test .taken)
 
--- src/load.rt:194:5
 loop-again : tie.Need-loop-again Inv-loop μ-loop
 unfolding fieldNext
 loop-again c =
@@ -79,11 +59,9 @@ loop-again c =
     let all = placed-append a (c .before .before .before .before .before .before .before .before .if1 .left) one in
     (omega (arith, c .before .before .before .before .before .before .before .before .before .before .loop-test .taken), c .before .before .before .before .before .before .put .kept .0 ∙ c .before .before .before .before .before .before .before .before .before .before .before .loop .inv .1, (rw (fields-turn s (c .before .before .before .before .before .before .before .before .before .before .before .before .before .before .args .c) (c .before .before .before .before .before .before .before .before .before .before .before .before .before .before .args .types) i, fieldOffsets-turn s (c .before .before .before .before .before .before .before .before .before .before .before .before .before .before .args .c) (c .before .before .before .before .before .before .before .before .before .before .before .before .before .before .args .types) i, ← a .next, ← c .before .before .before .before .before .before .before .before .before .before .before .loop .inv .4) all), room-after (field-reader s (c .before .before .before .before .before .before .before .before .before .before .before .before .before .before .args .types) (c .before .before .before .before .before .before .before .before .before .before .before .loop .total)) (c .before .before .before .before .before .before .before .before .before .before .before .loop .c) (c .before .before .before .before .before .before .before .before .before .before .before .loop .p) (c .before .before .before .before .before .before .before .before .before .before .before .loop .inv .3) one, (rw (fields-turn s (c .before .before .before .before .before .before .before .before .before .before .before .before .before .before .args .c) (c .before .before .before .before .before .before .before .before .before .before .before .before .before .before .args .types) i, ← a .next, ← c .before .before .before .before .before .before .before .before .before .before .before .loop .inv .4) (ap (λ r. c .before .before .before .before .before .before .before .before .before .before .before .loop .total + r .value .scaling .bits) (c .before .before .before .field .ensures .0))))
 
--- src/load.rt:186:1
 same-length-2 : tie.Need-same-length-2 Inv-loop μ-loop
 same-length-2 c = c .before .loop .inv .1
 
--- src/load.rt:186:1
 returns-2 : tie.Need-returns-2 Inv-loop μ-loop
 returns-2 c = let e : c .before .before .before .before .args .n ≡ c .before .loop .i = omega arith in rw e (c .before .loop .inv .2)
 

@@ -1,41 +1,24 @@
 use Rattle.pack.proofs.Places.{placed-refused, placed-parts, room-head}
 use Rattle.pack.proofs.Reading.{lookup-reader, lookup-moves, entries-reader}
 use Rattle.pack.specs.declared.records.LookupItem.{LookupItem}
-use Rattle.pack.specs.Placing.{Room, PlacedTo}
 use Rattle.pack.specs.Format.{entries, lookupNext, lookupRecords}
 use Rattle.pack.specs.Records.{lookupAt}
-use Prim.Native.Nat.{ℕ, zero, suc, _+_, _-_, _*_, _/_, _%_, _^_, _≤_, _<_}
 use native.Mathlib.Omega.{arith}
-use native.Mathlib.Numerals.{add-one}
-use mathlib.Core.Path.{_≡_, refl, ap, _∙_, sym}
-use mathlib.Core.List.{List, [], _∷_, _++_}
-use mathlib.Core.Bool.{Bool, true, false}
+use mathlib.Core.Path.{_≡_, ap, _∙_, sym}
 use borrow.Author.Needs.{needs}
-use borrow.Author.Tests.{lt-ltb, le-ltb, le-leb, lt-leb, eq-eqb, ne-eqb, leb-true, leb-false, ltb-true, ltb-false, eqb-true, eqb-false, not-true, not-false}
 use denote.Ref.{now}
-use lib.ListN.{length, getD, take, drop, set}
-use lib.Dec.{ltb, leb, eqb}
 use Rattle.pack.proofs.load.place_lookup.Statement.{statement}
 use Rattle.pack.proofs.load.place_lookup.Tie as tie
-use Rattle.pack.proofs.load.place_lookup.Reads as reads
-use Rattle.pack.proofs.load.place_lookup.Lts as lts
-use Rattle.pack.proofs.cursor.Cursor.lookup.Reads as lookup-reads
-use Rattle.pack.proofs.load.place_entries.Reads as place-entries-reads
-use Rattle.pack.proofs.load.put.Reads as put-reads
 
--- src/load.rt:141:5
 put-requires : tie.Need-put-requires
 put-requires c κs = omega (arith, c .before .before .before .pre .short, c .before .before .before .pre .inside)
 
--- src/load.rt:142:9
 lookup-requires : tie.Need-lookup-requires
 lookup-requires c κs = search needs
 
--- src/load.rt:146:9
 same-length : tie.Need-same-length
 same-length c = search needs
 
--- src/load.rt:146:9
 returns : tie.Need-returns
 unfolding lookupNext
 returns c =
@@ -48,22 +31,18 @@ returns c =
       before = (rw (c .before .before .before .before .lookup .ensures));
     }
 
--- src/load.rt:152:73
 add-place-entries : tie.Need-add-place-entries
 add-place-entries c = omega (arith, c .before .before .before .before .before .before .before .before .before .before .before .before .pre .short, c .before .before .before .before .before .before .before .before .before .before .before .before .pre .inside, c .before .before .before .before .before .before .before .before .before .before .before .before .pre .few)
 
--- src/load.rt:152:9
 place-entries-requires : tie.Need-place-entries-requires
 place-entries-requires c κs =
     let s = now (c .before .before .before .before .before .before .before .before .before .before .before .before .args .s) in
     let e : c .before .before .before .before .before .lookup .result .next ≡ lookupAt (c .before .before .before .before .before .before .before .before .before .before .before .before .args .before) s (c .before .before .before .before .before .before .before .before .before .before .before .before .args .c) .next = ap (λ (r : LookupItem). r .next) (c .before .before .before .before .before .lookup .ensures) in
     rw e (room-head (lookup-reader s (c .before .before .before .before .before .before .before .before .before .before .before .before .args .before)) (lookup-moves s (c .before .before .before .before .before .before .before .before .before .before .before .before .args .before)) (c .before .before .before .before .before .before .before .before .before .before .before .before .args .c) (c .before .before .before .before .before .before .before .before .before .before .before .before .args .p) (c .before .before .before .before .before .before .before .before .before .before .before .before .pre) (rw (← e) (c .before .if1 .left)))
 
--- src/load.rt:136:1
 same-length-2 : tie.Need-same-length-2
 same-length-2 c = search needs
 
--- src/load.rt:136:1
 returns-2 : tie.Need-returns-2
 unfolding lookupNext lookupRecords
 returns-2 c = record { placed = (rw (← c .before .before .before .before .before .before .before .before .before .lookup .ensures) (placed-parts (rw (c .before .before .before .before .before .before .before .before .before .before .before .before .put .ensures) at (c .before .before .before .place-entries .ensures)))); before = (rw (c .before .before .before .before .before .before .before .before .before .lookup .ensures)) }

@@ -1,23 +1,15 @@
 use Rattle.pack.proofs.Places.{placed-none, placed-append, placed-refused, room-after, lookups-turn, lookupOffsets-turn, lookups-stay}
 use Rattle.pack.proofs.Reading.{lookup-next-reader}
 use Rattle.pack.specs.Placing.{Room, PlacedTo}
-use Rattle.pack.specs.Format.{LookupState, lookups, lookupOffsets, lookupNext, lookupRecords}
-use Prim.Native.Nat.{ℕ, zero, suc, _+_, _-_, _*_, _/_, _%_, _^_, _≤_, _<_}
+use Rattle.pack.specs.Format.{LookupState, lookups, lookupOffsets}
+use Prim.Native.Nat.{_-_, _≤_}
 use native.Mathlib.Omega.{arith}
-use native.Mathlib.Numerals.{add-one}
-use mathlib.Core.Path.{_≡_, refl, ap, _∙_, sym}
-use mathlib.Core.List.{List, [], _∷_, _++_}
-use mathlib.Core.Bool.{Bool, true, false}
+use mathlib.Core.Path.{_≡_, refl, _∙_, sym}
 use borrow.Author.Needs.{needs}
-use borrow.Author.Tests.{lt-ltb, le-ltb, le-leb, lt-leb, eq-eqb, ne-eqb, leb-true, leb-false, ltb-true, ltb-false, eqb-true, eqb-false, not-true, not-false}
 use denote.Ref.{now}
-use lib.ListN.{length, getD, take, drop, set}
-use lib.Dec.{ltb, leb, eqb}
+use lib.ListN.{length}
 use Rattle.pack.proofs.load.place_lookups.Statement.{statement}
 use Rattle.pack.proofs.load.place_lookups.Tie as tie
-use Rattle.pack.proofs.load.place_lookups.Reads as reads
-use Rattle.pack.proofs.load.place_lookups.Lts as lts
-use Rattle.pack.proofs.load.place_lookup.Reads as place-lookup-reads
 
 abbrev Inv-loop : tie.InvT-loop
 Inv-loop s work₀ n p c₀ before₀ p₀ i₀ work c before p' i = (i ≤ n) × (length work ≡ length work₀) × PlacedTo (lookups s c₀ i .next) work₀ p₀ (lookupOffsets s c₀ i) work c p' × Room s c p' × (before ≡ lookups s c₀ i .before)
@@ -25,16 +17,13 @@ Inv-loop s work₀ n p c₀ before₀ p₀ i₀ work c before p' i = (i ≤ n) �
 abbrev μ-loop : tie.MeasureT-loop
 μ-loop s work₀ n p c₀ before₀ p₀ i₀ work c before p' i = n - i
 
--- src/load.rt:172:5
 loop-holds : tie.Need-loop-holds Inv-loop μ-loop
 unfolding lookups lookupOffsets
 loop-holds c = (search needs, refl, placed-none (now (c .before .before .args .s)) _ _ _ (c .before .before .pre), c .before .before .pre, refl)
 
--- src/load.rt:174:13
 same-length : tie.Need-same-length Inv-loop μ-loop
 same-length c = c .before .before .before .loop .inv .1
 
--- src/load.rt:174:13
 returns : tie.Need-returns Inv-loop μ-loop
 returns c =
     let s = now (c .before .before .before .before .before .before .args .s) in
@@ -42,19 +31,15 @@ returns c =
     let n = c .if1 .taken in
     placed-refused _ _ _ (a .next ∙ sym (lookups-stay s (c .before .before .before .before .before .before .args .c) (c .before .before .before .loop .i) (c .before .before .before .before .before .before .args .n) (search needs) (λ z. n ((rw (a .next) z))))) n (a .few)
 
--- src/load.rt:176:13
 place-lookup-requires : tie.Need-place-lookup-requires Inv-loop μ-loop
 place-lookup-requires c κs = c .before .before .before .before .loop .inv .3
 
--- src/load.rt:180:9
 add-i : tie.Need-add-i Inv-loop μ-loop
 add-i c = search needs
 
--- src/load.rt:172:5
 loop-less : tie.Need-loop-less Inv-loop μ-loop
 loop-less c = search needs
 
--- src/load.rt:172:5
 loop-again : tie.Need-loop-again Inv-loop μ-loop
 loop-again c =
     let s = now (c .before .before .before .before .before .before .before .before .before .before .before .before .args .s) in
@@ -65,11 +50,9 @@ loop-again c =
     let st : _≡_ {A = LookupState} (lookups s (c .before .before .before .before .before .before .before .before .before .before .before .before .args .c) i) (record { next = c .before .before .before .before .before .before .before .before .before .loop .c; before = c .before .before .before .before .before .before .before .before .before .loop .before }) = λ j. record { next = sym (a .next) j; before = sym (c .before .before .before .before .before .before .before .before .before .loop .inv .4) j } in
     (search needs, c .before .before .before .before .place-lookup .kept .1 .0 ∙ c .before .before .before .before .before .before .before .before .before .loop .inv .1, (rw (lookups-turn s (c .before .before .before .before .before .before .before .before .before .before .before .before .args .c) i, lookupOffsets-turn s (c .before .before .before .before .before .before .before .before .before .before .before .before .args .c) i, st) all), room-after (lookup-next-reader s (c .before .before .before .before .before .before .before .before .before .loop .before)) (c .before .before .before .before .before .before .before .before .before .loop .c) (c .before .before .before .before .before .before .before .before .before .loop .p) (c .before .before .before .before .before .before .before .before .before .loop .inv .3) (b .placed), (rw (lookups-turn s (c .before .before .before .before .before .before .before .before .before .before .before .before .args .c) i, st) (b .before)))
 
--- src/load.rt:161:1
 same-length-2 : tie.Need-same-length-2 Inv-loop μ-loop
 same-length-2 c = c .before .loop .inv .1
 
--- src/load.rt:161:1
 returns-2 : tie.Need-returns-2 Inv-loop μ-loop
 returns-2 c = let e : c .before .before .before .before .args .n ≡ c .before .loop .i = omega arith in rw e (c .before .loop .inv .2)
 

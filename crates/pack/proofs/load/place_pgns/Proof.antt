@@ -2,22 +2,14 @@ use Rattle.pack.proofs.Places.{placed-none, placed-append, placed-refus
 use Rattle.pack.proofs.Reading.{pgn-next-reader}
 use Rattle.pack.specs.Placing.{Room, PlacedTo}
 use Rattle.pack.specs.Format.{pgns, pgnOffsets}
-use Prim.Native.Nat.{ℕ, zero, suc, _+_, _-_, _*_, _/_, _%_, _^_, _≤_, _<_}
+use Prim.Native.Nat.{_-_, _≤_}
 use native.Mathlib.Omega.{arith}
-use native.Mathlib.Numerals.{add-one}
-use mathlib.Core.Path.{_≡_, refl, ap, _∙_, sym}
-use mathlib.Core.List.{List, [], _∷_, _++_}
-use mathlib.Core.Bool.{Bool, true, false}
+use mathlib.Core.Path.{_≡_, refl, _∙_, sym}
 use borrow.Author.Needs.{needs}
-use borrow.Author.Tests.{lt-ltb, le-ltb, le-leb, lt-leb, eq-eqb, ne-eqb, leb-true, leb-false, ltb-true, ltb-false, eqb-true, eqb-false, not-true, not-false}
 use denote.Ref.{now}
-use lib.ListN.{length, getD, take, drop, set}
-use lib.Dec.{ltb, leb, eqb}
+use lib.ListN.{length}
 use Rattle.pack.proofs.load.place_pgns.Statement.{statement}
 use Rattle.pack.proofs.load.place_pgns.Tie as tie
-use Rattle.pack.proofs.load.place_pgns.Reads as reads
-use Rattle.pack.proofs.load.place_pgns.Lts as lts
-use Rattle.pack.proofs.load.place_pgn.Reads as place-pgn-reads
 
 abbrev Inv-loop : tie.InvT-loop
 Inv-loop s work₀ types n p c₀ p₀ i₀ work c p' i = (i ≤ n) × (length work ≡ length work₀) × PlacedTo (pgns types s c₀ i) work₀ p₀ (pgnOffsets types s c₀ i) work c p' × Room s c p'
@@ -25,16 +17,13 @@ Inv-loop s work₀ types n p c₀ p₀ i₀ work c p' i = (i ≤ n) × (length w
 abbrev μ-loop : tie.MeasureT-loop
 μ-loop s work₀ types n p c₀ p₀ i₀ work c p' i = n - i
 
--- src/load.rt:231:5
 loop-holds : tie.Need-loop-holds Inv-loop μ-loop
 unfolding pgns pgnOffsets
 loop-holds c = (search needs, refl, placed-none (now (c .before .before .args .s)) _ _ _ (c .before .before .pre), c .before .before .pre)
 
--- src/load.rt:233:13
 same-length : tie.Need-same-length Inv-loop μ-loop
 same-length c = c .before .before .before .loop .inv .1
 
--- src/load.rt:233:13
 returns : tie.Need-returns Inv-loop μ-loop
 returns c =
     let s = now (c .before .before .before .before .before .before .args .s) in
@@ -42,19 +31,15 @@ returns c =
     let n = c .if1 .taken in
     placed-refused _ _ _ (a .next ∙ sym (pgns-stay s (c .before .before .before .before .before .before .args .c) (c .before .before .before .before .before .before .args .types) (c .before .before .before .loop .i) (c .before .before .before .before .before .before .args .n) (search needs) (λ z. n ((rw (a .next) z))))) n (a .few)
 
--- src/load.rt:235:13
 place-pgn-requires : tie.Need-place-pgn-requires Inv-loop μ-loop
 place-pgn-requires c κs = c .before .before .before .before .loop .inv .3
 
--- src/load.rt:238:9
 add-i : tie.Need-add-i Inv-loop μ-loop
 add-i c = search needs
 
--- src/load.rt:231:5
 loop-less : tie.Need-loop-less Inv-loop μ-loop
 loop-less c = search needs
 
--- src/load.rt:231:5
 loop-again : tie.Need-loop-again Inv-loop μ-loop
 loop-again c =
     let s = now (c .before .before .before .before .before .before .before .before .before .before .before .args .s) in
@@ -63,11 +48,9 @@ loop-again c =
     let all = placed-append a (c .before .before .before .before .before .if1 .left) (c .before .before .before .place-pgn .ensures) in
     (search needs, c .before .before .before .place-pgn .kept .1 .0 ∙ c .before .before .before .before .before .before .before .before .loop .inv .1, (rw (pgns-turn s (c .before .before .before .before .before .before .before .before .before .before .before .args .c) (c .before .before .before .before .before .before .before .before .before .before .before .args .types) i, pgnOffsets-turn s (c .before .before .before .before .before .before .before .before .before .before .before .args .c) (c .before .before .before .before .before .before .before .before .before .before .before .args .types) i, ← a .next) all), room-after (pgn-next-reader s (c .before .before .before .before .before .before .before .before .before .before .before .args .types)) (c .before .before .before .before .before .before .before .before .loop .c) (c .before .before .before .before .before .before .before .before .loop .p) (c .before .before .before .before .before .before .before .before .loop .inv .3) (c .before .before .before .place-pgn .ensures))
 
--- src/load.rt:224:1
 same-length-2 : tie.Need-same-length-2 Inv-loop μ-loop
 same-length-2 c = c .before .loop .inv .1
 
--- src/load.rt:224:1
 returns-2 : tie.Need-returns-2 Inv-loop μ-loop
 returns-2 c = let e : c .before .before .before .before .args .n ≡ c .before .loop .i = omega arith in rw e (c .before .loop .inv .2)
 

@@ -2,25 +2,14 @@ use Rattle.pack.proofs.Places.{placed-none, placed-one, placed-append, 
 use Rattle.pack.proofs.Reading.{type-reader, type-moves}
 use Rattle.pack.specs.Placing.{Room, PlacedTo}
 use Rattle.pack.specs.Format.{types, typeOffsets}
-use lib.ListN.{length-set}
-use Prim.Native.Nat.{ℕ, zero, suc, _+_, _-_, _*_, _/_, _%_, _^_, _≤_, _<_}
+use lib.ListN.{length}
+use Prim.Native.Nat.{_-_, _≤_}
 use native.Mathlib.Omega.{arith}
-use native.Mathlib.Numerals.{add-one}
 use mathlib.Core.Path.{_≡_, refl, ap, _∙_, sym}
-use mathlib.Core.List.{List, [], _∷_, _++_}
-use mathlib.Core.Bool.{Bool, true, false}
 use borrow.Author.Needs.{needs}
-use borrow.Author.Tests.{lt-ltb, le-ltb, le-leb, lt-leb, eq-eqb, ne-eqb, leb-true, leb-false, ltb-true, ltb-false, eqb-true, eqb-false, not-true, not-false}
 use denote.Ref.{now}
-use lib.ListN.{length, getD, take, drop, set}
-use lib.Dec.{ltb, leb, eqb}
 use Rattle.pack.proofs.load.place_types.Statement.{statement}
 use Rattle.pack.proofs.load.place_types.Tie as tie
-use Rattle.pack.proofs.load.place_types.Reads as reads
-use Rattle.pack.proofs.load.place_types.Lts as lts
-use Rattle.pack.proofs.cursor.Cursor.field_type.Reads as field-type-reads
-use Rattle.pack.proofs.load.past.Reads as past-reads
-use Rattle.pack.proofs.load.put.Reads as put-reads
 
 abbrev Inv-loop : tie.InvT-loop
 Inv-loop s work₀ n p c₀ p₀ i₀ work c p' i = (i ≤ n) × (length work ≡ length work₀) × PlacedTo (types s c₀ i) work₀ p₀ (typeOffsets s c₀ i) work c p' × Room s c p'
@@ -28,16 +17,13 @@ Inv-loop s work₀ n p c₀ p₀ i₀ work c p' i = (i ≤ n) × (length work �
 abbrev μ-loop : tie.MeasureT-loop
 μ-loop s work₀ n p c₀ p₀ i₀ work c p' i = n - i
 
--- src/load.rt:100:5
 loop-holds : tie.Need-loop-holds Inv-loop μ-loop
 unfolding types typeOffsets
 loop-holds c = (search needs, refl, placed-none (now (c .before .before .args .s)) _ _ _ (c .before .before .pre), c .before .before .pre)
 
--- src/load.rt:102:13
 same-length : tie.Need-same-length Inv-loop μ-loop
 same-length c = c .before .before .before .loop .inv .1
 
--- src/load.rt:102:13
 returns : tie.Need-returns Inv-loop μ-loop
 returns c =
     let s = now (c .before .before .before .before .before .before .args .s) in
@@ -45,27 +31,21 @@ returns c =
     let n = c .if1 .taken in
     placed-refused _ _ _ (a .next ∙ sym (types-stay s (c .before .before .before .before .before .before .args .c) (c .before .before .before .loop .i) (c .before .before .before .before .before .before .args .n) (search needs) (λ z. n ((rw (a .next) z))))) n (a .few)
 
--- src/load.rt:105:9
 put-requires : tie.Need-put-requires Inv-loop μ-loop
 put-requires c κs = omega (arith, c .before .before .before .before .loop .inv .3 .short, c .before .before .before .before .loop .inv .3 .inside)
 
--- src/load.rt:106:13
 field-type-requires : tie.Need-field-type-requires Inv-loop μ-loop
 field-type-requires c κs = search needs
 
--- src/load.rt:108:9
 past-requires : tie.Need-past-requires Inv-loop μ-loop
 past-requires c κs = omega (arith, c .before .before .before .before .before .before .before .before .before .loop .inv .3 .short, c .before .before .before .before .before .before .before .before .before .loop .inv .3 .inside, c .before .before .before .before .before .before .before .before .before .loop .inv .3 .few)
 
--- src/load.rt:109:9
 add-i : tie.Need-add-i Inv-loop μ-loop
 add-i c = search needs
 
--- src/load.rt:100:5
 loop-less : tie.Need-loop-less Inv-loop μ-loop
 loop-less c = search needs
 
--- src/load.rt:100:5
 loop-again : tie.Need-loop-again Inv-loop μ-loop
 loop-again c =
     let s = now (c .before .before .before .before .before .before .before .before .before .before .before .before .before .args .s) in
@@ -75,11 +55,9 @@ loop-again c =
     let all = placed-append a (c .before .before .before .before .before .before .before .if1 .left) one in
     (search needs, c .before .before .before .before .before .put .kept .0 ∙ c .before .before .before .before .before .before .before .before .before .before .loop .inv .1, (rw (types-turn s (c .before .before .before .before .before .before .before .before .before .before .before .before .before .args .c) i, typeOffsets-turn s (c .before .before .before .before .before .before .before .before .before .before .before .before .before .args .c) i, ← a .next) all), room-after (type-reader s) (c .before .before .before .before .before .before .before .before .before .before .loop .c) (c .before .before .before .before .before .before .before .before .before .before .loop .p) (c .before .before .before .before .before .before .before .before .before .before .loop .inv .3) one)
 
--- src/load.rt:93:1
 same-length-2 : tie.Need-same-length-2 Inv-loop μ-loop
 same-length-2 c = c .before .loop .inv .1
 
--- src/load.rt:93:1
 returns-2 : tie.Need-returns-2 Inv-loop μ-loop
 returns-2 c = let e : c .before .before .before .before .args .n ≡ c .before .loop .i = omega arith in rw e (c .before .loop .inv .2)
 

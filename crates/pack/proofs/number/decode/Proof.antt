@@ -1,20 +1,15 @@
 use Rattle.pack.specs.Items.{groups, capped}
-use Prim.Native.Nat.{ℕ, zero, suc, _+_, _-_, _*_, _/_, _%_, _^_, _≤_, _<_}
+use Prim.Native.Nat.{ℕ, zero, suc, _+_, _-_, _*_, _%_, _^_, _≤_, _<_}
 use native.Mathlib.Omega.{arith}
 use native.Mathlib.Numerals.{add-one}
-use mathlib.Core.Path.{_≡_, refl, ap, _∙_, sym}
-use mathlib.Core.List.{List, [], _∷_, _++_}
-use mathlib.Core.Bool.{Bool, true, false}
+use mathlib.Core.Path.{_≡_, refl}
+use mathlib.Core.List.{List}
 use borrow.Author.Needs.{needs}
-use borrow.Author.Tests.{lt-ltb, le-ltb, le-leb, lt-leb, eq-eqb, ne-eqb, leb-true, leb-false, ltb-true, ltb-false, eqb-true, eqb-false, not-true, not-false}
+use borrow.Author.Tests.{le-leb, lt-leb}
 use denote.Ref.{now}
-use lib.ListN.{length, getD, take, drop, set}
-use lib.Dec.{ltb, leb, eqb}
+use lib.ListN.{getD}
 use Rattle.pack.proofs.number.decode.Statement.{statement}
 use Rattle.pack.proofs.number.decode.Tie as tie
-use Rattle.pack.proofs.number.decode.Reads as reads
-use Rattle.pack.proofs.number.decode.Lts as lts
-use Rattle.pack.proofs.number.wide.Reads as wide-reads
 
 abbrev Inv-loop : tie.InvT-loop
 Inv-loop s end n most v₀ k₀ v k = (k ≤ n) × (v ≡ groups s end k) × (v < 2 ^ 64)
@@ -22,7 +17,6 @@ Inv-loop s end n most v₀ k₀ v k = (k ≤ n) × (v ≡ groups s end k) × (v 
 abbrev μ-loop : tie.MeasureT-loop
 μ-loop s end n most v₀ k₀ v k = n - k
 
--- src/number.rt:54:5
 one-more : (s : List ℕ) (e k : ℕ) → groups s e (k + 1) ≡ getD s (e - (k + 1)) 0 % 128 + 128 * groups s e k
 one-more s e k = rw add-one
 
@@ -33,7 +27,6 @@ no-less s e k (suc j) = let z : k + suc j ≡ suc (k + j) = omega arith in rw z 
 loop-holds : tie.Need-loop-holds Inv-loop μ-loop
 loop-holds c = (search needs, refl, search needs)
 
--- src/number.rt:56:13
 returns : tie.Need-returns Inv-loop μ-loop
 unfolding capped
 returns c =
@@ -44,44 +37,34 @@ returns c =
     let o = one-more s (c .before .before .before .before .args .end) k in
     ((rw (lt-leb (groups s (c .before .before .before .before .args .end) (c .before .before .before .before .args .n)) (c .before .before .before .before .args .most) (omega (arith, c .before .before .before .before .fits .most)))), search needs)
 
--- src/number.rt:61:9
 add-k : tie.Need-add-k Inv-loop μ-loop
 add-k c = search needs
 
--- src/number.rt:62:13
 mul-v : tie.Need-mul-v Inv-loop μ-loop
 mul-v c = search needs
 
--- src/number.rt:62:30
 sub-wide : tie.Need-sub-wide Inv-loop μ-loop
 sub-wide c = search needs
 
--- src/number.rt:62:28
 shared-slice-read-wide : tie.Need-shared-slice-read-wide Inv-loop μ-loop
 shared-slice-read-wide c = search needs
 
--- src/number.rt:62:23
 wide-requires : tie.Need-wide-requires Inv-loop μ-loop
 wide-requires c κs = search needs
 
--- src/number.rt:62:13
 add-v : tie.Need-add-v Inv-loop μ-loop
 add-v c = search needs
 
--- src/number.rt:54:5
 loop-less : tie.Need-loop-less Inv-loop μ-loop
 loop-less c = search needs
 
--- src/number.rt:54:5
 loop-again : tie.Need-loop-again Inv-loop μ-loop
 loop-again c = let o = one-more (now (c .before .before .before .before .before .before .args .s)) (c .before .before .before .before .before .before .args .end) (c .before .before .before .before .loop .k) in omega arith
 
--- src/number.rt:47:1
 returns-2 : tie.Need-returns-2 Inv-loop μ-loop
 unfolding capped
 returns-2 c = let e : c .before .before .before .before .args .n ≡ c .before .before .loop .k = omega arith in ((rw (e, ← c .before .before .loop .inv .1, le-leb _ _ (c .if2 .taken))), search needs)
 
--- src/number.rt:47:1
 returns-3 : tie.Need-returns-3 Inv-loop μ-loop
 unfolding capped
 returns-3 c = let e : c .before .before .before .before .args .n ≡ c .before .before .loop .k = omega arith in ((rw (e, ← c .before .before .loop .inv .1, lt-leb _ _ (c .if2 .left))), search needs)

@@ -1,21 +1,16 @@
 use Rattle.pack.specs.Items.{run}
 use lib.Seq.{drop-cons}
-use lib.ListN.{drop-of-length-le}
-use Prim.Native.Nat.{ℕ, zero, suc, _+_, _-_, _*_, _/_, _%_, _^_, _≤_, _<_}
+use lib.ListN.{drop-of-length-le, length, getD, drop}
+use Prim.Native.Nat.{ℕ, suc, _+_, _-_, _≤_, _<_}
 use native.Mathlib.Omega.{arith}
 use native.Mathlib.Numerals.{add-one}
-use mathlib.Core.Path.{_≡_, refl, ap, _∙_, sym}
-use mathlib.Core.List.{List, [], _∷_, _++_}
-use mathlib.Core.Bool.{Bool, true, false}
+use mathlib.Core.Path.{_≡_}
+use mathlib.Core.List.{List}
 use borrow.Author.Needs.{needs}
-use borrow.Author.Tests.{lt-ltb, le-ltb, le-leb, lt-leb, eq-eqb, ne-eqb, leb-true, leb-false, ltb-true, ltb-false, eqb-true, eqb-false, not-true, not-false}
+use borrow.Author.Tests.{lt-ltb, le-ltb}
 use denote.Ref.{now}
-use lib.ListN.{length, getD, take, drop, set}
-use lib.Dec.{ltb, leb, eqb}
 use Rattle.pack.proofs.number.last_byte.Statement.{statement}
 use Rattle.pack.proofs.number.last_byte.Tie as tie
-use Rattle.pack.proofs.number.last_byte.Reads as reads
-use Rattle.pack.proofs.number.last_byte.Lts as lts
 
 abbrev Inv-loop : tie.InvT-loop
 Inv-loop s at i₀ i = at + run (drop at s) ≡ i + run (drop i s)
@@ -32,31 +27,24 @@ stay s i h l = rw (drop-cons s i 0 h, lt-ltb _ _ l)
 go : (s : List ℕ) (i : ℕ) → i < length s → 128 ≤ getD s i 0 → run (drop i s) ≡ suc (run (drop (i + 1) s))
 go s i h l = rw (add-one, drop-cons s i 0 h, le-ltb _ _ l)
 
--- src/number.rt:24:5
 loop-holds : tie.Need-loop-holds Inv-loop μ-loop
 loop-holds c = search needs
 
--- src/number.rt:25:12
 shared-slice-read-if1 : tie.Need-shared-slice-read-if1 Inv-loop μ-loop
 shared-slice-read-if1 c = search needs
 
--- src/number.rt:26:13
 returns : tie.Need-returns Inv-loop μ-loop
 returns c = omega (arith, stay (now (c .before .before .before .before .args .s)) (c .before .before .before .loop .i) (c .before .before .loop-test .taken) (c .if1 .taken))
 
--- src/number.rt:28:9
 add-i : tie.Need-add-i Inv-loop μ-loop
 add-i c = search needs
 
--- src/number.rt:24:5
 loop-less : tie.Need-loop-less Inv-loop μ-loop
 loop-less c = search needs
 
--- src/number.rt:24:5
 loop-again : tie.Need-loop-again Inv-loop μ-loop
 loop-again c = omega (arith, go (now (c .before .before .before .before .args .s)) (c .before .before .before .loop .i) (c .before .before .loop-test .taken) (c .if1 .left))
 
--- src/number.rt:20:1
 returns-2 : tie.Need-returns-2 Inv-loop μ-loop
 returns-2 c = omega (arith, end (now (c .before .before .args .s)) (c .before .loop .i) (c .loop-test .left))
 

@@ -1,39 +1,21 @@
 use Rattle.pack.proofs.Positions.{field-law, pgn-room}
-use Prim.Native.Nat.{ℕ, zero, suc, _+_, _-_, _*_, _/_, _%_, _^_, _≤_, _<_}
 use native.Mathlib.Omega.{arith}
-use native.Mathlib.Numerals.{add-one}
-use mathlib.Core.Path.{_≡_, refl, ap, _∙_, sym}
-use mathlib.Core.List.{List, [], _∷_, _++_}
-use mathlib.Core.Bool.{Bool, true, false}
 use borrow.Author.Needs.{needs}
-use borrow.Author.Tests.{lt-ltb, le-ltb, le-leb, lt-leb, eq-eqb, ne-eqb, leb-true, leb-false, ltb-true, ltb-false, eqb-true, eqb-false, not-true, not-false}
-use denote.Ref.{now}
-use lib.ListN.{length, getD, take, drop, set}
-use lib.Dec.{ltb, leb, eqb}
 use Rattle.pack.proofs.of.field_of.Statement.{statement}
 use Rattle.pack.proofs.of.field_of.Tie as tie
-use Rattle.pack.proofs.of.field_of.Reads as reads
-use Rattle.pack.proofs.of.field_of.Lts as lts
-use Rattle.pack.proofs.at.field_at.Reads as field-at-reads
-use Rattle.pack.proofs.of.offset.Reads as offset-reads
 
--- src/of.rt:82:13
 add-q : tie.Need-add-q
 add-q c = omega (arith, pgn-room (c .before .before .pre .0), c .before .before .pre .1)
 
--- src/of.rt:82:13
 add-q-2 : tie.Need-add-q-2
 add-q-2 c = omega (arith, pgn-room (c .before .before .pre .0), c .before .before .pre .1)
 
--- src/of.rt:83:9
 offset-requires : tie.Need-offset-requires
 offset-requires c κs = omega (arith, pgn-room (c .before .before .pre .0), c .before .before .pre .1)
 
--- src/of.rt:84:5
 field-at-requires : tie.Need-field-at-requires
 field-at-requires c κs = search needs
 
--- src/of.rt:78:1
 returns : tie.Need-returns
 returns c = rw (c .field-at .ensures, c .before .offset .ensures) (field-law (c .before .before .before .before .pre .0) (c .before .before .before .before .args .j) (c .before .before .before .before .pre .1))
 

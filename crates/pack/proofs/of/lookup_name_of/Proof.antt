@@ -1,31 +1,15 @@
 use Rattle.pack.proofs.Positions.{lookup-name-law, lookup-room}
-use Prim.Native.Nat.{ℕ, zero, suc, _+_, _-_, _*_, _/_, _%_, _^_, _≤_, _<_}
 use native.Mathlib.Omega.{arith}
-use native.Mathlib.Numerals.{add-one}
-use mathlib.Core.Path.{_≡_, refl, ap, _∙_, sym}
-use mathlib.Core.List.{List, [], _∷_, _++_}
-use mathlib.Core.Bool.{Bool, true, false}
 use borrow.Author.Needs.{needs}
-use borrow.Author.Tests.{lt-ltb, le-ltb, le-leb, lt-leb, eq-eqb, ne-eqb, leb-true, leb-false, ltb-true, ltb-false, eqb-true, eqb-false, not-true, not-false}
-use denote.Ref.{now}
-use lib.ListN.{length, getD, take, drop, set}
-use lib.Dec.{ltb, leb, eqb}
 use Rattle.pack.proofs.of.lookup_name_of.Statement.{statement}
 use Rattle.pack.proofs.of.lookup_name_of.Tie as tie
-use Rattle.pack.proofs.of.lookup_name_of.Reads as reads
-use Rattle.pack.proofs.of.lookup_name_of.Lts as lts
-use Rattle.pack.proofs.at.text_at.Reads as text-at-reads
-use Rattle.pack.proofs.of.offset.Reads as offset-reads
 
--- src/of.rt:45:9
 offset-requires : tie.Need-offset-requires
 offset-requires c κs = omega (arith, lookup-room (c .before .before .pre))
 
--- src/of.rt:46:5
 text-at-requires : tie.Need-text-at-requires
 text-at-requires c κs = search needs
 
--- src/of.rt:41:1
 returns : tie.Need-returns
 returns c = rw (c .text-at .ensures, c .before .offset .ensures) (lookup-name-law (c .before .before .before .before .pre))
 

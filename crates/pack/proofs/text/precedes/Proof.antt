@@ -1,21 +1,18 @@
 use Rattle.pack.specs.Items.{_≺_}
-use lib.ListN.{drop-of-length-le, length-drop}
+use lib.ListN.{drop-of-length-le, length, getD, drop}
 use lib.Seq.{drop-cons}
-use Prim.Native.Nat.{ℕ, zero, suc, _+_, _-_, _*_, _/_, _%_, _^_, _≤_, _<_}
+use Prim.Native.Nat.{ℕ, _+_, _-_, _≤_, _<_}
 use native.Mathlib.Omega.{arith}
 use native.Mathlib.Numerals.{add-one}
-use mathlib.Core.Path.{_≡_, refl, ap, _∙_, sym}
-use mathlib.Core.List.{List, [], _∷_, _++_}
+use mathlib.Core.Path.{_≡_, refl, _∙_, sym}
+use mathlib.Core.List.{List}
 use mathlib.Core.Bool.{Bool, true, false}
 use borrow.Author.Needs.{needs}
-use borrow.Author.Tests.{lt-ltb, le-ltb, le-leb, lt-leb, eq-eqb, ne-eqb, leb-true, leb-false, ltb-true, ltb-false, eqb-true, eqb-false, not-true, not-false}
+use borrow.Author.Tests.{lt-ltb, le-ltb, ltb-true, ltb-false}
 use denote.Ref.{now}
-use lib.ListN.{length, getD, take, drop, set}
-use lib.Dec.{ltb, leb, eqb}
+use lib.Dec.{ltb}
 use Rattle.pack.proofs.text.precedes.Statement.{statement}
 use Rattle.pack.proofs.text.precedes.Tie as tie
-use Rattle.pack.proofs.text.precedes.Reads as reads
-use Rattle.pack.proofs.text.precedes.Lts as lts
 
 abbrev Inv-loop : tie.InvT-loop
 Inv-loop a b i₀ i = (i ≤ length a) × (i ≤ length b) × ((a ≺ b) ≡ (drop i a ≺ drop i b))
@@ -23,7 +20,6 @@ Inv-loop a b i₀ i = (i ≤ length a) × (i ≤ length b) × ((a ≺ b) ≡ (dr
 abbrev μ-loop : tie.MeasureT-loop
 μ-loop a b i₀ i = length a - i
 
--- src/text.rt:57:5
 -- what is left of a and b from i on
 short : (a b : List ℕ) (i : ℕ) → i < length a → length b ≤ i → (drop i a ≺ drop i b) ≡ false
 short a b i h k = rw (drop-cons a i 0 h, drop-of-length-le b k)
@@ -48,47 +44,36 @@ module _ (a b : List ℕ) (i : ℕ) (h : i < length a) (k : i < length b) where
 loop-holds : tie.Need-loop-holds Inv-loop μ-loop
 loop-holds c = search needs
 
--- src/text.rt:59:13
 returns : tie.Need-returns Inv-loop μ-loop
 returns c = sym (c .before .before .loop .inv .2 ∙ short (now (c .before .before .before .args .a)) (now (c .before .before .before .args .b)) (c .before .before .loop .i) (search needs) (search needs))
 
--- src/text.rt:61:12
 shared-slice-read-if2 : tie.Need-shared-slice-read-if2 Inv-loop μ-loop
 shared-slice-read-if2 c = search needs
 
--- src/text.rt:61:19
 shared-slice-read-if2-2 : tie.Need-shared-slice-read-if2-2 Inv-loop μ-loop
 shared-slice-read-if2-2 c = search needs
 
--- src/text.rt:62:13
 returns-2 : tie.Need-returns-2 Inv-loop μ-loop
 returns-2 c = sym (c .before .before .before .before .before .loop .inv .2 ∙ lower (now (c .before .before .before .before .before .before .args .a)) (now (c .before .before .before .before .before .before .args .b)) (c .before .before .before .before .before .loop .i) (search needs) (search needs) (c .if2 .taken))
 
--- src/text.rt:64:12
 shared-slice-read-if3 : tie.Need-shared-slice-read-if3 Inv-loop μ-loop
 shared-slice-read-if3 c = search needs
 
--- src/text.rt:64:19
 shared-slice-read-if3-2 : tie.Need-shared-slice-read-if3-2 Inv-loop μ-loop
 shared-slice-read-if3-2 c = search needs
 
--- src/text.rt:65:13
 returns-3 : tie.Need-returns-3 Inv-loop μ-loop
 returns-3 c = sym (c .before .before .before .before .before .before .before .before .loop .inv .2 ∙ higher (now (c .before .before .before .before .before .before .before .before .before .args .a)) (now (c .before .before .before .before .before .before .before .before .before .args .b)) (c .before .before .before .before .before .before .before .before .loop .i) (search needs) (search needs) (c .if3 .taken))
 
--- src/text.rt:67:9
 add-i : tie.Need-add-i Inv-loop μ-loop
 add-i c = search needs
 
--- src/text.rt:57:5
 loop-less : tie.Need-loop-less Inv-loop μ-loop
 loop-less c = search needs
 
--- src/text.rt:57:5
 loop-again : tie.Need-loop-again Inv-loop μ-loop
 loop-again c = (search needs, search needs, c .before .before .before .before .before .before .before .before .loop .inv .2 ∙ level (now (c .before .before .before .before .before .before .before .before .before .args .a)) (now (c .before .before .before .before .before .before .before .before .before .args .b)) (c .before .before .before .before .before .before .before .before .loop .i) (search needs) (search needs) (c .before .before .before .if2 .left) (c .if3 .left))
 
--- src/text.rt:53:1
 returns-4 : tie.Need-returns-4 Inv-loop μ-loop
 returns-4 c = sym (c .before .loop .inv .2 ∙ ended (now (c .before .before .args .a)) (now (c .before .before .args .b)) (c .before .loop .i) (c .loop-test .left))
 

@@ -1,22 +1,18 @@
 use Rattle.pack.specs.Notation.{_≐_}
-use mathlib.Core.Bool.{_&&_}
-use lib.ListN.{drop-of-length-le}
+use mathlib.Core.Bool.{_&&_, Bool, true, false}
+use lib.ListN.{drop-of-length-le, length, getD, drop}
 use lib.Seq.{drop-cons}
-use Prim.Native.Nat.{ℕ, zero, suc, _+_, _-_, _*_, _/_, _%_, _^_, _≤_, _<_}
+use Prim.Native.Nat.{ℕ, suc, _+_, _-_, _<_}
 use native.Mathlib.Omega.{arith}
 use native.Mathlib.Numerals.{add-one}
 use mathlib.Core.Path.{_≡_, refl, ap, _∙_, sym}
-use mathlib.Core.List.{List, [], _∷_, _++_}
-use mathlib.Core.Bool.{Bool, true, false}
+use mathlib.Core.List.{List, [], _∷_}
 use borrow.Author.Needs.{needs}
-use borrow.Author.Tests.{lt-ltb, le-ltb, le-leb, lt-leb, eq-eqb, ne-eqb, leb-true, leb-false, ltb-true, ltb-false, eqb-true, eqb-false, not-true, not-false}
+use borrow.Author.Tests.{eq-eqb, ne-eqb}
 use denote.Ref.{now}
-use lib.ListN.{length, getD, take, drop, set}
-use lib.Dec.{ltb, leb, eqb}
+use lib.Dec.{eqb}
 use Rattle.pack.proofs.text.same.Statement.{statement}
 use Rattle.pack.proofs.text.same.Tie as tie
-use Rattle.pack.proofs.text.same.Reads as reads
-use Rattle.pack.proofs.text.same.Lts as lts
 
 abbrev Inv-loop : tie.InvT-loop
 Inv-loop a b i₀ i = (length a ≡ length b) × ((a ≐ b) ≡ (drop i a ≐ drop i b))
@@ -41,39 +37,30 @@ module _ (a b : List ℕ) (i : ℕ) (h : i < length a) (k : i < length b) where
   agree : getD a i 0 ≡ getD b i 0 → (drop i a ≐ drop i b) ≡ (drop (i + 1) a ≐ drop (i + 1) b)
   agree e = rw (add-one, drop-cons a i 0 h, drop-cons b i 0 k, eq-eqb _ _ e)
 
--- src/text.rt:40:9
 returns : tie.Need-returns Inv-loop μ-loop
 returns c = sym (unlike (now (c .before .args .a)) (now (c .before .args .b)) (c .if1 .taken))
 
--- src/text.rt:43:5
 loop-holds : tie.Need-loop-holds Inv-loop μ-loop
 loop-holds c = search needs
 
--- src/text.rt:44:12
 shared-slice-read-if2 : tie.Need-shared-slice-read-if2 Inv-loop μ-loop
 shared-slice-read-if2 c = search needs
 
--- src/text.rt:44:20
 shared-slice-read-if2-2 : tie.Need-shared-slice-read-if2-2 Inv-loop μ-loop
 shared-slice-read-if2-2 c = search needs
 
--- src/text.rt:45:13
 returns-2 : tie.Need-returns-2 Inv-loop μ-loop
 returns-2 c = sym (c .before .before .before .before .loop .inv .1 ∙ differ (now (c .before .before .before .before .before .before .args .a)) (now (c .before .before .before .before .before .before .args .b)) (c .before .before .before .before .loop .i) (search needs) (omega arith) (c .if2 .taken))
 
--- src/text.rt:47:9
 add-i : tie.Need-add-i Inv-loop μ-loop
 add-i c = search needs
 
--- src/text.rt:43:5
 loop-less : tie.Need-loop-less Inv-loop μ-loop
 loop-less c = search needs
 
--- src/text.rt:43:5
 loop-again : tie.Need-loop-again Inv-loop μ-loop
 loop-again c = (c .before .before .before .before .loop .inv .0, c .before .before .before .before .loop .inv .1 ∙ agree (now (c .before .before .before .before .before .before .args .a)) (now (c .before .before .before .before .before .before .args .b)) (c .before .before .before .before .loop .i) (search needs) (omega arith) (c .if2 .left))
 
--- src/text.rt:36:1
 returns-3 : tie.Need-returns-3 Inv-loop μ-loop
 returns-3 c =
     let x = drop-of-length-le (now (c .before .before .before .args .a)) {i = c .before .loop .i} (omega arith) in

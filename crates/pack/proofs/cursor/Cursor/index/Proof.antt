@@ -1,35 +1,17 @@
 use Rattle.pack.specs.Items.{indexAt}
-use Prim.Native.Nat.{ℕ, zero, suc, _+_, _-_, _*_, _/_, _%_, _^_, _≤_, _<_}
-use native.Mathlib.Omega.{arith}
-use native.Mathlib.Numerals.{add-one}
-use mathlib.Core.Path.{_≡_, refl, ap, _∙_, sym}
-use mathlib.Core.List.{List, [], _∷_, _++_}
-use mathlib.Core.Bool.{Bool, true, false}
 use borrow.Author.Needs.{needs}
-use borrow.Author.Tests.{lt-ltb, le-ltb, le-leb, lt-leb, eq-eqb, ne-eqb, leb-true, leb-false, ltb-true, ltb-false, eqb-true, eqb-false, not-true, not-false}
-use denote.Ref.{now}
-use lib.ListN.{length, getD, take, drop, set}
-use lib.Dec.{ltb, leb, eqb}
 use Rattle.pack.proofs.cursor.Cursor.index.Statement.{statement}
 use Rattle.pack.proofs.cursor.Cursor.index.Tie as tie
-use Rattle.pack.proofs.cursor.Cursor.index.Reads as reads
-use Rattle.pack.proofs.cursor.Cursor.index.Lts as lts
-use Rattle.pack.proofs.cursor.Cursor.judged.Reads as judged-reads
-use Rattle.pack.proofs.cursor.Cursor.number.Reads as number-reads
 
--- src/cursor.rt:179:13
 number-requires : tie.Need-number-requires
 number-requires c κs = search needs
 
--- src/cursor.rt:180:17
 cast-v : tie.Need-cast-v
 cast-v c = search needs
 
--- src/cursor.rt:181:9
 judged-requires : tie.Need-judged-requires
 judged-requires c κs = search needs
 
--- src/cursor.rt:176:5
 returns : tie.Need-returns
 unfolding indexAt
 returns c = cc

@@ -1,46 +1,24 @@
 use Rattle.pack.specs.Items.{optSumAt}
-use Prim.Native.Nat.{ℕ, zero, suc, _+_, _-_, _*_, _/_, _%_, _^_, _≤_, _<_}
-use native.Mathlib.Omega.{arith}
-use native.Mathlib.Numerals.{add-one}
-use mathlib.Core.Path.{_≡_, refl, ap, _∙_, sym}
-use mathlib.Core.List.{List, [], _∷_, _++_}
-use mathlib.Core.Bool.{Bool, true, false}
 use borrow.Author.Needs.{needs}
-use borrow.Author.Tests.{lt-ltb, le-ltb, le-leb, lt-leb, eq-eqb, ne-eqb, leb-true, leb-false, ltb-true, ltb-false, eqb-true, eqb-false, not-true, not-false}
-use denote.Ref.{now}
-use lib.ListN.{length, getD, take, drop, set}
-use lib.Dec.{ltb, leb, eqb}
 use Rattle.pack.proofs.cursor.Cursor.opt_sum.Statement.{statement}
 use Rattle.pack.proofs.cursor.Cursor.opt_sum.Tie as tie
-use Rattle.pack.proofs.cursor.Cursor.opt_sum.Reads as reads
-use Rattle.pack.proofs.cursor.Cursor.opt_sum.Lts as lts
-use Rattle.pack.proofs.cursor.Cursor.mark.Reads as mark-reads
-use Rattle.pack.proofs.cursor.Cursor.sum.Reads as sum-reads
-use Rattle.pack.proofs.cursor.no_number.Reads as no-number-reads
-use Rattle.pack.proofs.cursor.some_number.Reads as some-number-reads
 
--- src/cursor.rt:347:13
 mark-requires : tie.Need-mark-requires
 mark-requires c κs = search needs
 
--- src/cursor.rt:350:17
 sum-requires : tie.Need-sum-requires
 sum-requires c κs = search needs
 
--- src/cursor.rt:351:13
 some-number-requires : tie.Need-some-number-requires
 some-number-requires c κs = search needs
 
--- src/cursor.rt:351:13
 returns : tie.Need-returns
 unfolding optSumAt
 returns c = simp (c .some-number .ensures, ← c .before .before .before .before .mark .ensures, c .before .before .if1 .taken, c .before .sum .ensures .0)
 
--- src/cursor.rt:353:9
 no-number-requires : tie.Need-no-number-requires
 no-number-requires c κs = search needs
 
--- src/cursor.rt:344:5
 returns-2 : tie.Need-returns-2
 unfolding optSumAt
 returns-2 c = simp (c .no-number .ensures, ← c .before .before .before .mark .ensures, c .before .if1 .left)

@@ -7,26 +7,13 @@ use Rattle.pack.specs.declared.cursor.Cursor.{Cursor}
 use Rattle.pack.specs.Records.{optRepeatingAt, pgnAt}
 use Rattle.pack.specs.Items.{numberAt, textAt, codeAt, optBytesAt}
 use Rattle.pack.specs.Notation.{_==_}
-use Prim.Native.Nat.{ℕ, zero, suc, _+_, _-_, _*_, _/_, _%_, _^_, _≤_, _<_}
-use native.Mathlib.Omega.{arith}
-use native.Mathlib.Numerals.{add-one}
-use mathlib.Core.Path.{_≡_, refl, ap, _∙_, sym}
-use mathlib.Core.List.{List, [], _∷_, _++_}
-use mathlib.Core.Bool.{Bool, true, false}
+use Prim.Native.Nat.{ℕ, _/_, _%_}
+use mathlib.Core.Path.{_≡_}
+use mathlib.Core.List.{List}
 use borrow.Author.Needs.{needs}
-use borrow.Author.Tests.{lt-ltb, le-ltb, le-leb, lt-leb, eq-eqb, ne-eqb, leb-true, leb-false, ltb-true, ltb-false, eqb-true, eqb-false, not-true, not-false}
-use denote.Ref.{now}
-use lib.ListN.{length, getD, take, drop, set}
-use lib.Dec.{ltb, leb, eqb}
+use lib.ListN.{length}
 use Rattle.pack.proofs.cursor.Cursor.pgn.Statement.{statement}
 use Rattle.pack.proofs.cursor.Cursor.pgn.Tie as tie
-use Rattle.pack.proofs.cursor.Cursor.pgn.Reads as reads
-use Rattle.pack.proofs.cursor.Cursor.pgn.Lts as lts
-use Rattle.pack.proofs.cursor.Cursor.code.Reads as code-reads
-use Rattle.pack.proofs.cursor.Cursor.number.Reads as number-reads
-use Rattle.pack.proofs.cursor.Cursor.opt_bytes.Reads as opt-bytes-reads
-use Rattle.pack.proofs.cursor.Cursor.opt_repeating.Reads as opt-repeating-reads
-use Rattle.pack.proofs.cursor.Cursor.text.Reads as text-reads
 
 -- the record that the nine reads give, over variables: `cc` at the function's own context is too dear
 joined : (s : List ℕ) (c : Cursor) (n : NumberItem) (i : TextItem) (k f l : NumberItem) (m : OptNumberItem) (a b : OptRepeatingItem) (d : NumberItem)
@@ -36,43 +23,33 @@ joined : (s : List ℕ) (c : Cursor) (n : NumberItem) (i : TextItem) (k f l : Nu
 unfolding pgnAt
 joined s c n i k f l m a b d e1 e2 e3 e4 e5 e6 e7 e8 e9 = rw (e9, e8, e7, e6, e5, e4, e3, e2, e1)
 
--- src/records.rt:368:13
 number-requires : tie.Need-number-requires
 number-requires c κs = search needs
 
--- src/records.rt:369:13
 text-requires : tie.Need-text-requires
 text-requires c κs = search needs
 
--- src/records.rt:370:13
 code-requires : tie.Need-code-requires
 code-requires c κs = search needs
 
--- src/records.rt:371:13
 code-requires-2 : tie.Need-code-requires-2
 code-requires-2 c κs = search needs
 
--- src/records.rt:372:13
 number-requires-2 : tie.Need-number-requires-2
 number-requires-2 c κs = search needs
 
--- src/records.rt:373:13
 opt-bytes-requires : tie.Need-opt-bytes-requires
 opt-bytes-requires c κs = search needs
 
--- src/records.rt:374:13
 opt-repeating-requires : tie.Need-opt-repeating-requires
 opt-repeating-requires c κs = search needs
 
--- src/records.rt:375:13
 opt-repeating-requires-2 : tie.Need-opt-repeating-requires-2
 opt-repeating-requires-2 c κs = search needs
 
--- src/records.rt:376:13
 number-requires-3 : tie.Need-number-requires-3
 number-requires-3 c κs = search needs
 
--- src/records.rt:365:5
 returns : tie.Need-returns
 returns c = joined _ _ _ _ _ _ _ _ _ _ _ (c .before .before .before .before .before .before .before .before .before .before .before .before .before .number .ensures) (c .before .before .before .before .before .before .before .before .before .before .before .before .text .ensures) (c .before .before .before .before .before .before .before .before .before .before .before .code .ensures) (c .before .before .before .before .before .before .before .before .before .before .code2 .ensures) (c .before .before .before .before .before .before .before .before .before .number2 .ensures) (c .before .before .before .before .before .before .before .before .opt-bytes .ensures) (c .before .before .before .before .before .before .before .opt-repeating .ensures) (c .before .before .before .before .before .before .opt-repeating2 .ensures) (c .before .before .before .before .before .number3 .ensures)
 

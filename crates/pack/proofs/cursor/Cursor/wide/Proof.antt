@@ -1,85 +1,55 @@
 use Rattle.pack.specs.Items.{wideAt}
-use Prim.Native.Nat.{ℕ, zero, suc, _+_, _-_, _*_, _/_, _%_, _^_, _≤_, _<_}
-use native.Mathlib.Omega.{arith}
-use native.Mathlib.Numerals.{add-one}
-use mathlib.Core.Path.{_≡_, refl, ap, _∙_, sym}
-use mathlib.Core.List.{List, [], _∷_, _++_}
-use mathlib.Core.Bool.{Bool, true, false}
 use borrow.Author.Needs.{needs}
-use borrow.Author.Tests.{lt-ltb, le-ltb, le-leb, lt-leb, eq-eqb, ne-eqb, leb-true, leb-false, ltb-true, ltb-false, eqb-true, eqb-false, not-true, not-false}
-use denote.Ref.{now}
-use lib.ListN.{length, getD, take, drop, set}
-use lib.Dec.{ltb, leb, eqb}
+use borrow.Author.Tests.{lt-ltb, le-ltb, eq-eqb, ne-eqb, not-true, not-false}
 use Rattle.pack.proofs.cursor.Cursor.wide.Statement.{statement}
 use Rattle.pack.proofs.cursor.Cursor.wide.Tie as tie
-use Rattle.pack.proofs.cursor.Cursor.wide.Reads as reads
-use Rattle.pack.proofs.cursor.Cursor.wide.Lts as lts
-use Rattle.pack.proofs.cursor.Cursor.refuse.Reads as refuse-reads
-use Rattle.pack.proofs.number.decode.Reads as decode-reads
-use Rattle.pack.proofs.number.is_shortest.Reads as is-shortest-reads
-use Rattle.pack.proofs.number.last_byte.Reads as last-byte-reads
 
--- src/cursor.rt:106:13
 returns : tie.Need-returns
 unfolding wideAt
 returns c = (simp (ne-eqb _ _ (c .if1 .taken)), search needs)
 
--- src/cursor.rt:111:13
 last-byte-requires : tie.Need-last-byte-requires
 last-byte-requires c κs = search needs
 
--- src/cursor.rt:113:17
 refuse-requires : tie.Need-refuse-requires
 refuse-requires c κs = search needs
 
--- src/cursor.rt:114:13
 returns-2 : tie.Need-returns-2
 unfolding wideAt
 returns-2 c = (simp (c .refuse .ensures, eq-eqb _ _ (c .before .before .before .if1 .left), ← c .before .before .last-byte .ensures, le-ltb _ _ (c .before .if2 .taken)), search needs)
 
--- src/cursor.rt:116:13
 is-shortest-requires : tie.Need-is-shortest-requires
 is-shortest-requires c κs = search needs
 
--- src/cursor.rt:117:17
 refuse-requires-2 : tie.Need-refuse-requires-2
 refuse-requires-2 c κs = search needs
 
--- src/cursor.rt:118:13
 returns-3 : tie.Need-returns-3
 unfolding wideAt
 returns-3 c = (simp (c .refuse2 .ensures, eq-eqb _ _ (c .before .before .before .before .before .if1 .left), ← c .before .before .before .before .last-byte .ensures, lt-ltb _ _ (c .before .before .before .if2 .left), ← c .before .before .is-shortest .ensures, not-true (c .before .before .is-shortest .result) (c .before .if3 .taken)), search needs)
 
--- src/cursor.rt:120:27
 add-decode : tie.Need-add-decode
 add-decode c = search needs
 
--- src/cursor.rt:120:34
 add-decode-2 : tie.Need-add-decode-2
 add-decode-2 c = search needs
 
--- src/cursor.rt:120:34
 sub-decode : tie.Need-sub-decode
 sub-decode c = search needs
 
--- src/cursor.rt:120:13
 decode-requires : tie.Need-decode-requires
 decode-requires c κs = search needs
 
--- src/cursor.rt:122:17
 refuse-requires-3 : tie.Need-refuse-requires-3
 refuse-requires-3 c κs = search needs
 
--- src/cursor.rt:123:13
 returns-4 : tie.Need-returns-4
 unfolding wideAt
 returns-4 c = (simp (c .refuse3 .ensures, eq-eqb _ _ (c .before .before .before .before .before .before .before .if1 .left), ← c .before .before .before .before .before .before .last-byte .ensures, lt-ltb _ _ (c .before .before .before .before .before .if2 .left), ← c .before .before .before .before .is-shortest .ensures, not-false (c .before .before .before .before .is-shortest .result) (c .before .before .before .if3 .left), ← c .before .before .decode .ensures .0, c .before .if4 .taken), search needs)
 
--- src/cursor.rt:128:21
 add-t14 : tie.Need-add-t14
 add-t14 c = search needs
 
--- src/cursor.rt:100:5
 returns-5 : tie.Need-returns-5
 unfolding wideAt
 returns-5 c = (simp (eq-eqb _ _ (c .before .before .before .before .before .before .if1 .left), ← c .before .before .before .before .before .last-byte .ensures, lt-ltb _ _ (c .before .before .before .before .if2 .left), ← c .before .before .before .is-shortest .ensures, not-false (c .before .before .before .is-shortest .result) (c .before .before .if3 .left), ← c .before .decode .ensures .0, c .if4 .left), c .before .decode .ensures .1)
