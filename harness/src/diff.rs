@@ -1,16 +1,27 @@
 //! The differential runs: random packs, the same question to two sides, a table of what was reached.
 
-use crate::generate::Generator;
+use crate::calls;
+use crate::damage::damage;
+use crate::encode::encode;
+use crate::generate::{Generator, largest_packs};
+use crate::reader::{LIMIT, Refusal, read};
 use crate::table::{RuleTable, Table};
 use crate::value::Pack;
-use crate::words::{Words, words};
-use crate::{oracle, rules};
+use crate::walk::{End, held, walk};
+use crate::words::{Words, place_text, words};
+use crate::{library, oracle, rules};
 
 /// What went wrong, in words; the run goes no further.
 pub type Failure = String;
 
+type Run = Result<(), Failure>;
+
+/// The runs by name.
+pub const RUNS: [(&str, fn(u64, usize) -> Run); 4] =
+    [("oracle", oracle), ("load", load), ("check", check), ("walk", walks)];
+
 /// The oracle against `rules`, through the words.
-pub fn oracle(seed: u64, count: usize) -> Result<(), Failure> {
+pub fn oracle(seed: u64, count: usize) -> Run {
     if !oracle::PRESENT {
         println!("oracle: skipped, its files were not there at build time (KEEL_SRC names their folder)");
         return Ok(());
@@ -37,7 +48,7 @@ pub fn oracle(seed: u64, count: usize) -> Result<(), Failure> {
             "no error"
         });
     }
-    println!("oracle: {count} packs, seed {seed}, no difference");
+    println!("oracle: {count} packs, seed {seed}: the rules' findings are the oracle's violations, word for word");
     finish(&[&table.table, &kinds])
 }
 
@@ -47,11 +58,217 @@ fn difference(case: usize, pack: &Pack, ours: &[Words], expected: &[Words]) -> F
 }
 
 /// Prints the tables; a row never reached is a failure.
-fn finish(tables: &[&Table]) -> Result<(), Failure> {
+fn finish(tables: &[&Table]) -> Run {
     let mut never = Vec::new();
     for table in tables {
         print!("{table}");
         never.extend(table.never_reached());
     }
     if never.is_empty() { Ok(()) } else { Err(format!("never reached: {}", never.join(", "))) }
+}
+
+/// The reader against the encoder and against what damage must bring; `load` against the library, where it is linked.
+pub fn load(seed: u64, count: usize) -> Run {
+    if !library::PRESENT {
+        println!("load: no library linked (SARWYMP_LIB names its folder), so only the reader is tried");
+    }
+    let mut generator = Generator::new(seed);
+    let numbers = (1..=9).chain([21]).map(|number| number.to_string());
+    let mut table = Table::new("answers of load", ["accepted".to_string()].into_iter().chain(numbers));
+    let mut known = Table::new("refusals known from the damage", (1..=8).map(|number| number.to_string()));
+    for pack in largest_packs(seed) {
+        let bytes = encode(&pack).bytes;
+        let expected = (bytes.len() > LIMIT).then_some(Refusal { number: 9, detail: 0 });
+        if read(&bytes).err() != expected {
+            return Err(format!("a pack of {} bytes: {:?}", bytes.len(), read(&bytes).err()));
+        }
+        one_load(&mut generator, &bytes, &mut table)?;
+    }
+    for case in 0..count {
+        let within = |failure: Failure| format!("case {case}: {failure}");
+        let bytes = generator.rng.chance(1, 2);
+        let pack = generator.pack(bytes);
+        let encoded = encode(&pack);
+        match read(&encoded.bytes) {
+            Ok(loaded) if loaded.pack == pack && loaded.records == encoded.records => {}
+            other => return Err(within(format!("read back {other:?}\n{pack:#?}"))),
+        }
+        one_load(&mut generator, &encoded.bytes, &mut table).map_err(within)?;
+        for _ in 0..3 {
+            let damaged = damage(&mut generator.rng, &encoded);
+            let answer = read(&damaged.bytes);
+            if let Some(expected) = damaged.expected {
+                known.reached(&expected.number.to_string());
+                if answer.as_ref().err() != Some(&expected) {
+                    return Err(within(format!("expected {expected:?}, read {:?}\n{:02x?}", answer, damaged.bytes)));
+                }
+            }
+            // No other bytes give the same pack.
+            if let Ok(loaded) = answer
+                && encode(&loaded.pack).bytes != damaged.bytes
+            {
+                return Err(within(format!("accepted, but written otherwise: {:02x?}", damaged.bytes)));
+            }
+            one_load(&mut generator, &damaged.bytes, &mut table).map_err(within)?;
+        }
+    }
+    println!("load: {count} packs with 3 damaged copies each, seed {seed}: no difference");
+    finish(&[&table, &known])
+}
+
+/// What a buffer holds before a call.
+const PATTERN: u32 = 0xa5a5_a5a5;
+
+/// One call of load with some length of work buffer, by the model and by the library; numbers beyond the part that is
+/// lent stay as they are.
+fn one_load(generator: &mut Generator, bytes: &[u8], table: &mut Table) -> Run {
+    let needed = read(bytes).map_or(4, |loaded| loaded.records.len());
+    let lent = match generator.rng.below(8) {
+        0 if needed > 0 => needed - 1,
+        1 => generator.rng.below(needed + 1),
+        2 => needed + generator.rng.below(5),
+        _ => needed,
+    };
+    let mut work = vec![PATTERN; needed + 8];
+    let answer = calls::load(bytes, &mut work[..lent]);
+    table.reached(&answer.map_or_else(|refusal| refusal.number.to_string(), |_| "accepted".into()));
+    let mut other = vec![PATTERN; needed + 8];
+    if let Some(theirs) = library::load(bytes, &mut other[..lent])
+        && (theirs != answer || other != work)
+    {
+        let changed = work.iter().zip(&other).position(|(a, b)| a != b);
+        return Err(format!(
+            "work of {lent}: {answer:?}, the library {theirs:?}; work differs at {changed:?}\n{bytes:02x?}"
+        ));
+    }
+    Ok(())
+}
+
+/// The check and place text calls of the model, with buffers of many lengths: what 21 to 24 leave unchanged.
+pub fn check(seed: u64, count: usize) -> Run {
+    println!("check: the library exports no check yet, so only the model of the calls is tried");
+    let mut generator = Generator::new(seed);
+    let mut table =
+        Table::new("answers of check and place text", ["findings", "text", "21", "22", "23", "24"].map(String::from));
+    let mut rule_table = RuleTable::new();
+    for case in 0..count {
+        let pack = generator.pack(true);
+        let bytes = encode(&pack).bytes;
+        let findings = rules::check(&pack);
+        for finding in &findings {
+            rule_table.hit(finding.rule, finding.cause);
+        }
+        let needed = read(&bytes).map_err(|refusal| format!("case {case}: {refusal:?}"))?.records.len();
+        let short =
+            |generator: &mut Generator, length: usize| length - usize::from(length > 0 && generator.rng.chance(1, 8));
+        let mut work = vec![PATTERN; short(&mut generator, needed)];
+        let mut buffer = vec![PATTERN; short(&mut generator, 8 * findings.len())];
+        match calls::check(&bytes, &mut work, &mut buffer) {
+            Ok(found) => {
+                table.reached("findings");
+                let numbers: Vec<u32> = findings.iter().flat_map(|finding| finding.numbers()).collect();
+                if found != findings.len() || buffer != numbers {
+                    return Err(format!("case {case}: other findings"));
+                }
+            }
+            Err(refusal) => {
+                table.reached(&refusal.number.to_string());
+                let work_kept = work.iter().all(|number| *number == PATTERN);
+                if buffer.iter().any(|number| *number != PATTERN) || (refusal.number == 21) != work_kept {
+                    return Err(format!("case {case}: a buffer changed with {refusal:?}"));
+                }
+            }
+        }
+        let (place, tree, item) = match findings.len() {
+            0 => (generator.rng.below(5) as u32, generator.rng.below(4) as u32, generator.rng.below(4) as u32),
+            some => {
+                let finding = findings[generator.rng.below(some)];
+                (finding.place, finding.tree, finding.item + u32::from(generator.rng.chance(1, 8)))
+            }
+        };
+        let expected = place_text(&pack, place, tree, item);
+        let mut work = vec![PATTERN; needed];
+        let mut text = vec![b'#'; short(&mut generator, expected.as_ref().map_or(0, Vec::len))];
+        let answer = calls::place_text(&bytes, &mut work, place, tree, item, &mut text);
+        match answer {
+            Ok(_) => table.reached("text"),
+            Err(refusal) => table.reached(&refusal.number.to_string()),
+        }
+        if answer.is_ok() && Some(&text) != expected.as_ref()
+            || answer.is_err() && text.iter().any(|byte| *byte != b'#')
+        {
+            return Err(format!("case {case}: place text {answer:?}"));
+        }
+    }
+    println!("check: {count} packs, seed {seed}");
+    finish(&[&rule_table.table, &table])
+}
+
+/// The walk: on a held PGN of a pack without error no readings bring a stop.
+pub fn walks(seed: u64, count: usize) -> Run {
+    println!("walk: the library exports no walk yet, so only the model of the calls is tried");
+    let mut generator = Generator::new(seed);
+    let stops = (1..=9).map(|stop| format!("stop {stop}"));
+    let mut ends = Table::new("ends of walks", ["whole", "used up"].map(String::from).into_iter().chain(stops));
+    let mut pgns = Table::new(
+        "PGNs walked",
+        ["clean held", "clean only", "held only", "neither", "with pass 2", "stop at 0", "stop later"]
+            .map(String::from),
+    );
+    let mut refusals = Table::new("refusals of walk", ["21", "23", "25"].map(String::from));
+    for case in 0..count {
+        let bytes = generator.rng.chance(1, 4);
+        let pack = generator.pack(bytes);
+        let clean = !rules::check(&pack).iter().any(|finding| finding.is_error());
+        for pgn in pack.trees.iter().flatten() {
+            let held = held(&pack, pgn);
+            pgns.reached(match (clean, held) {
+                (true, true) => "clean held",
+                (true, false) => "clean only",
+                (false, true) => "held only",
+                (false, false) => "neither",
+            });
+            for _ in 0..3 {
+                let readings = generator.readings(40);
+                let walked = walk(&pack, pgn, &readings);
+                ends.reached(&match walked.end {
+                    End::Whole => "whole".into(),
+                    End::UsedUp => "used up".into(),
+                    End::Stop(stop) => format!("stop {stop}"),
+                });
+                if walked.visits.windows(2).any(|pair| pair[1] <= pair[0]) {
+                    pgns.reached("with pass 2");
+                }
+                if let End::Stop(_) = walked.end {
+                    pgns.reached(if walked.visits.is_empty() { "stop at 0" } else { "stop later" });
+                    if clean && held {
+                        return Err(format!("case {case}: {walked:?} over {readings:?}\n{pgn:#?}\n{pack:#?}"));
+                    }
+                }
+                if walked.end == End::UsedUp && walked.visits.len() != readings.len() {
+                    return Err(format!("case {case}: used up with readings left"));
+                }
+            }
+        }
+        walk_refusals(&mut generator, &pack, &mut refusals)?;
+    }
+    println!("walk: {count} packs, seed {seed}: no stop on a held PGN of a pack without error");
+    finish(&[&ends, &pgns, &refusals])
+}
+
+/// One call with some buffer too short or a PGN that is not there.
+fn walk_refusals(generator: &mut Generator, pack: &Pack, table: &mut Table) -> Run {
+    let encoded = encode(pack);
+    let (tree, item) = (generator.rng.below(4) as u32, generator.rng.below(3) as u32);
+    let readings = generator.readings(6);
+    let mut work = vec![PATTERN; encoded.records.len() - usize::from(generator.rng.chance(1, 8))];
+    let mut visits = vec![PATTERN; readings.len().saturating_sub(generator.rng.below(2))];
+    let answer = calls::walk_pgn(&encoded.bytes, &mut work, tree, item, &readings, &mut visits);
+    if let Err(refusal) = answer {
+        table.reached(&refusal.number.to_string());
+        if visits.iter().any(|number| *number != PATTERN) {
+            return Err(format!("a visit was written with {refusal:?}"));
+        }
+    }
+    Ok(())
 }

@@ -14,6 +14,8 @@ pub enum Item {
     LookupName,
     /// a mark, code or flags, with its largest value
     Code(u32),
+    /// the first item of a PGN
+    PgnNumber,
     FieldTypeIndex,
     SetStart,
     MinLength,
@@ -37,20 +39,29 @@ pub struct Encoded {
 }
 
 /// Groups of seven bits, lowest first, top bit on all but the last byte, in shortest form.
-pub fn number(mut value: u128) -> Vec<u8> {
-    let mut bytes = Vec::new();
+fn push_number(bytes: &mut Vec<u8>, mut value: u128) {
     while value >= 0x80 {
         bytes.push(value as u8 | 0x80);
         value >>= 7;
     }
     bytes.push(value as u8);
+}
+
+pub fn number(value: u128) -> Vec<u8> {
+    let mut bytes = Vec::new();
+    push_number(&mut bytes, value);
     bytes
 }
 
-pub fn text(bytes: &[u8]) -> Vec<u8> {
-    let mut item = number(bytes.len() as u128);
-    item.extend_from_slice(bytes);
-    item
+fn push_text(bytes: &mut Vec<u8>, text: &[u8]) {
+    push_number(bytes, text.len() as u128);
+    bytes.extend_from_slice(text);
+}
+
+pub fn text(value: &[u8]) -> Vec<u8> {
+    let mut bytes = Vec::new();
+    push_text(&mut bytes, value);
+    bytes
 }
 
 pub fn encode(pack: &Pack) -> Encoded {
@@ -84,14 +95,8 @@ impl Encoded {
         self.items.push(Placed { at, end: self.bytes.len(), item });
     }
 
-    fn number(&mut self, item: Item, mut value: u64) {
-        self.item(item, |bytes| {
-            while value >= 0x80 {
-                bytes.push(value as u8 | 0x80);
-                value >>= 7;
-            }
-            bytes.push(value as u8);
-        });
+    fn number(&mut self, item: Item, value: u64) {
+        self.item(item, |bytes| push_number(bytes, value.into()));
     }
 
     fn u32(&mut self, value: u32) {
@@ -111,7 +116,7 @@ impl Encoded {
     }
 
     fn text_as(&mut self, item: Item, value: &[u8]) {
-        self.item(item, |bytes| bytes.extend(text(value)));
+        self.item(item, |bytes| push_text(bytes, value));
     }
 
     fn text(&mut self, value: &[u8]) {
@@ -176,7 +181,7 @@ impl Encoded {
 
     fn pgn(&mut self, pgn: &Pgn) {
         self.record();
-        self.u32(pgn.pgn);
+        self.number(Item::PgnNumber, pgn.pgn.into());
         self.text(&pgn.id);
         self.code(3, pgn.packet as u32);
         self.code(7, flags(&[pgn.fallback, pgn.variable, pgn.missing_company_fields]));

@@ -1,1 +1,4 @@
 //! To come.
+pub fn show(_: &[u8]) -> String {
+    String::new()
+}
