@@ -16,17 +16,28 @@ fn refused<T>(number: u32, needed: usize) -> Answer<T> {
 /// Reads the pack and fills the work buffer: 1 to 9, then 21.
 fn open(pack: &[u8], work: &mut [u32]) -> Answer<Loaded> {
     let loaded = read(pack)?;
+    fill(&loaded, work)?;
+    Ok(loaded)
+}
+
+fn fill(loaded: &Loaded, work: &mut [u32]) -> Answer<()> {
     let needed = loaded.records.len();
     if work.len() < needed {
         return refused(21, needed);
     }
     work[..needed].copy_from_slice(&loaded.records);
-    Ok(loaded)
+    Ok(())
 }
 
 /// The number of records, then for field types, lookups and trees 0 to 2 the count and the work position of the first.
 pub fn load(pack: &[u8], work: &mut [u32]) -> Answer<[u64; 11]> {
-    let loaded = open(pack, work)?;
+    load_as_read(&read(pack), work)
+}
+
+/// As `load`, of a pack that has been read.
+pub fn load_as_read(read: &Answer<Loaded>, work: &mut [u32]) -> Answer<[u64; 11]> {
+    let loaded = read.as_ref().map_err(|refusal| *refusal)?;
+    fill(loaded, work)?;
     let mut answer = [0; 11];
     answer[0] = loaded.records.len() as u64;
     for (i, section) in loaded.sections.iter().enumerate() {

@@ -4,7 +4,7 @@ use crate::calls;
 use crate::damage::damage;
 use crate::encode::encode;
 use crate::generate::{Generator, largest_packs};
-use crate::reader::{LIMIT, Refusal, read};
+use crate::reader::{LIMIT, Loaded, Refusal, read};
 use crate::table::{RuleTable, Table};
 use crate::value::Pack;
 use crate::walk::{End, held, walk};
@@ -79,21 +79,22 @@ pub fn load(seed: u64, count: usize) -> Run {
     for pack in largest_packs(seed) {
         let bytes = encode(&pack).bytes;
         let expected = (bytes.len() > LIMIT).then_some(Refusal { number: 9, detail: 0 });
-        if read(&bytes).err() != expected {
-            return Err(format!("a pack of {} bytes: {:?}", bytes.len(), read(&bytes).err()));
+        let answer = read(&bytes);
+        if answer.as_ref().err() != expected.as_ref() {
+            return Err(format!("a pack of {} bytes: {:?}", bytes.len(), answer.err()));
         }
-        one_load(&mut generator, &bytes, &mut table)?;
+        one_load(&mut generator, &bytes, &answer, &mut table)?;
     }
     for case in 0..count {
         let within = |failure: Failure| format!("case {case}: {failure}");
         let bytes = generator.rng.chance(1, 2);
         let pack = generator.pack(bytes);
         let encoded = encode(&pack);
-        match read(&encoded.bytes) {
-            Ok(loaded) if loaded.pack == pack && loaded.records == encoded.records => {}
-            other => return Err(within(format!("read back {other:?}\n{pack:#?}"))),
+        let answer = read(&encoded.bytes);
+        if !answer.as_ref().is_ok_and(|loaded| loaded.pack == pack && loaded.records == encoded.records) {
+            return Err(within(format!("read back {answer:?}\n{pack:#?}")));
         }
-        one_load(&mut generator, &encoded.bytes, &mut table).map_err(within)?;
+        one_load(&mut generator, &encoded.bytes, &answer, &mut table).map_err(within)?;
         for _ in 0..3 {
             let damaged = damage(&mut generator.rng, &encoded);
             let answer = read(&damaged.bytes);
@@ -104,12 +105,12 @@ pub fn load(seed: u64, count: usize) -> Run {
                 }
             }
             // No other bytes give the same pack.
-            if let Ok(loaded) = answer
+            if let Ok(loaded) = &answer
                 && encode(&loaded.pack).bytes != damaged.bytes
             {
                 return Err(within(format!("accepted, but written otherwise: {:02x?}", damaged.bytes)));
             }
-            one_load(&mut generator, &damaged.bytes, &mut table).map_err(within)?;
+            one_load(&mut generator, &damaged.bytes, &answer, &mut table).map_err(within)?;
         }
     }
     println!("load: {count} packs with 3 damaged copies each, seed {seed}: no difference");
@@ -121,8 +122,8 @@ const PATTERN: u32 = 0xa5a5_a5a5;
 
 /// One call of load with some length of work buffer, by the model and by the library; numbers beyond the part that is
 /// lent stay as they are.
-fn one_load(generator: &mut Generator, bytes: &[u8], table: &mut Table) -> Run {
-    let needed = read(bytes).map_or(4, |loaded| loaded.records.len());
+fn one_load(generator: &mut Generator, bytes: &[u8], read: &Result<Loaded, Refusal>, table: &mut Table) -> Run {
+    let needed = read.as_ref().map_or(4, |loaded| loaded.records.len());
     let lent = match generator.rng.below(8) {
         0 if needed > 0 => needed - 1,
         1 => generator.rng.below(needed + 1),
@@ -130,7 +131,7 @@ fn one_load(generator: &mut Generator, bytes: &[u8], table: &mut Table) -> Run {
         _ => needed,
     };
     let mut work = vec![PATTERN; needed + 8];
-    let answer = calls::load(bytes, &mut work[..lent]);
+    let answer = calls::load_as_read(read, &mut work[..lent]);
     table.reached(&answer.map_or_else(|refusal| refusal.number.to_string(), |_| "accepted".into()));
     let mut other = vec![PATTERN; needed + 8];
     if let Some(theirs) = library::load(bytes, &mut other[..lent])
