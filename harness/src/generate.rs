@@ -204,11 +204,13 @@ impl Generator {
             let tree = self.rng.below(3);
             let fields = self.field_count().max(3);
             let mut pgns = std::mem::take(&mut pack.trees[tree]);
-            // Distinct ids and numbers keep the pack without error however long it gets.
             self.add_pgn(tree, fields, &mut pgns);
             let added = pgns.last_mut().unwrap();
-            added.id = text(format!("p{}", length));
-            if slip == 0 {
+            added.id = text(format!("p{length}"));
+            // Numbers of their own, or fallback, keep the pack without error however long it gets.
+            if slip == 0 && self.coin() {
+                added.pgn = 0x40000 + length as u32;
+            } else if slip == 0 {
                 added.fallback = true;
             }
             let one = Pack { trees: [vec![added.clone()], vec![], vec![]], ..Pack::default() };

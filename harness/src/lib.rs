@@ -15,6 +15,7 @@ pub mod walk;
 pub mod calls;
 pub mod library;
 pub mod oracle;
+pub mod report;
 
 pub mod damage;
 pub mod generate;

@@ -1,6 +1,6 @@
 //! The harness's commands.
 
-use harness::{bench, diff, record, show, text};
+use harness::{bench, diff, record, report, show, text};
 use std::io::{Read, Write};
 use std::process::ExitCode;
 
@@ -10,7 +10,8 @@ const USAGE: &str = "usage:
   harness record DIR    write a fixed list of packs with their answers
   harness bench         time the same inputs on each side, 1 KiB to 1 MiB
   harness pack FILE     turn the readable form into a pack on standard output
-  harness show          list the pack on standard input in words";
+  harness show          list the pack on standard input in words
+  harness report        print what the report program prints for the pack on standard input";
 
 fn main() -> ExitCode {
     let arguments: Vec<String> = std::env::args().skip(1).collect();
@@ -20,7 +21,8 @@ fn main() -> ExitCode {
         ["record", folder] => record::record(folder.as_ref()),
         ["bench"] => bench::bench(),
         ["pack", file] => pack(file),
-        ["show"] => list(),
+        ["show"] => answer(|bytes| show::show(bytes).into_bytes()),
+        ["report"] => answer(report::report),
         _ => Err(USAGE.into()),
     };
     match result {
@@ -55,9 +57,9 @@ fn pack(file: &str) -> Result<(), String> {
     std::io::stdout().write_all(&bytes).map_err(|error| error.to_string())
 }
 
-fn list() -> Result<(), String> {
+/// Writes what is said of the pack on standard input.
+fn answer(of: impl Fn(&[u8]) -> Vec<u8>) -> Result<(), String> {
     let mut bytes = Vec::new();
     std::io::stdin().read_to_end(&mut bytes).map_err(|error| error.to_string())?;
-    print!("{}", show::show(&bytes));
-    Ok(())
+    std::io::stdout().write_all(&of(&bytes)).map_err(|error| error.to_string())
 }
