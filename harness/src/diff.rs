@@ -3,7 +3,7 @@
 use crate::calls;
 use crate::damage::damage;
 use crate::encode::encode;
-use crate::generate::{Generator, largest_packs};
+use crate::generate::{Generator, packs_of_sizes};
 use crate::reader::{LIMIT, Loaded, Refusal, read};
 use crate::table::{RuleTable, Table};
 use crate::value::Pack;
@@ -57,6 +57,15 @@ fn difference(case: usize, pack: &Pack, ours: &[Words], expected: &[Words]) -> F
     format!("case {case}, finding {at}:\n  ours   {:?}\n  oracle {:?}\n{pack:#?}", ours.get(at), expected.get(at))
 }
 
+/// Keeps a pack that shows a difference, and says where.
+fn keep(bytes: &[u8]) -> String {
+    let path = std::env::temp_dir().join("difference.pack");
+    match std::fs::write(&path, bytes) {
+        Ok(()) => format!("the pack of {} bytes is in {}", bytes.len(), path.display()),
+        Err(error) => format!("the pack of {} bytes could not be written: {error}", bytes.len()),
+    }
+}
+
 /// Prints the tables; a row never reached is a failure.
 fn finish(tables: &[&Table]) -> Run {
     let mut never = Vec::new();
@@ -75,46 +84,53 @@ pub fn load(seed: u64, count: usize) -> Run {
     let mut generator = Generator::new(seed);
     let numbers = (1..=9).chain([21]).map(|number| number.to_string());
     let mut table = Table::new("answers of load", ["accepted".to_string()].into_iter().chain(numbers));
-    let mut known = Table::new("refusals known from the damage", (1..=8).map(|number| number.to_string()));
-    for pack in largest_packs(seed) {
-        let bytes = encode(&pack).bytes;
-        let expected = (bytes.len() > LIMIT).then_some(Refusal { number: 9, detail: 0 });
-        let answer = read(&bytes);
-        if answer.as_ref().err() != expected.as_ref() {
-            return Err(format!("a pack of {} bytes: {:?}", bytes.len(), answer.err()));
-        }
-        one_load(&mut generator, &bytes, &answer, &mut table)?;
+    let mut known = Table::new("refusals known from the damage", (1..=9).map(|number| number.to_string()));
+    for pack in packs_of_sizes(seed) {
+        one_pack(&mut generator, &pack, &mut table, &mut known)?;
     }
     for case in 0..count {
-        let within = |failure: Failure| format!("case {case}: {failure}");
         let bytes = generator.rng.chance(1, 2);
         let pack = generator.pack(bytes);
-        let encoded = encode(&pack);
-        let answer = read(&encoded.bytes);
-        if !answer.as_ref().is_ok_and(|loaded| loaded.pack == pack && loaded.records == encoded.records) {
-            return Err(within(format!("read back {answer:?}\n{pack:#?}")));
-        }
-        one_load(&mut generator, &encoded.bytes, &answer, &mut table).map_err(within)?;
-        for _ in 0..3 {
-            let damaged = damage(&mut generator.rng, &encoded);
-            let answer = read(&damaged.bytes);
-            if let Some(expected) = damaged.expected {
-                known.reached(&expected.number.to_string());
-                if answer.as_ref().err() != Some(&expected) {
-                    return Err(within(format!("expected {expected:?}, read {:?}\n{:02x?}", answer, damaged.bytes)));
-                }
-            }
-            // No other bytes give the same pack.
-            if let Ok(loaded) = &answer
-                && encode(&loaded.pack).bytes != damaged.bytes
-            {
-                return Err(within(format!("accepted, but written otherwise: {:02x?}", damaged.bytes)));
-            }
-            one_load(&mut generator, &damaged.bytes, &answer, &mut table).map_err(within)?;
-        }
+        one_pack(&mut generator, &pack, &mut table, &mut known).map_err(|failure| format!("case {case}: {failure}"))?;
     }
     println!("load: {count} packs with 3 damaged copies each, seed {seed}: no difference");
     finish(&[&table, &known])
+}
+
+/// 9 is tested first.
+const TOO_LONG: Refusal = Refusal { number: 9, detail: 0 };
+
+/// A pack and three damaged copies of it, read and loaded.
+fn one_pack(generator: &mut Generator, pack: &Pack, table: &mut Table, known: &mut Table) -> Run {
+    let encoded = encode(pack);
+    let answer = read(&encoded.bytes);
+    let good = match &answer {
+        Ok(loaded) => loaded.pack == *pack && loaded.records == encoded.records && encoded.bytes.len() <= LIMIT,
+        Err(refusal) => *refusal == TOO_LONG && encoded.bytes.len() > LIMIT,
+    };
+    if !good {
+        return Err(format!("{} bytes, read back {answer:?}\n{pack:#?}", encoded.bytes.len()));
+    }
+    one_load(generator, &encoded.bytes, &answer, table)?;
+    for _ in 0..3 {
+        let damaged = damage(&mut generator.rng, &encoded);
+        let expected = if damaged.bytes.len() > LIMIT { Some(TOO_LONG) } else { damaged.expected };
+        let answer = read(&damaged.bytes);
+        if let Some(expected) = expected {
+            known.hit(expected.number as usize - 1);
+            if answer.as_ref().err() != Some(&expected) {
+                return Err(format!("expected {expected:?}, read {answer:?}\n{}", keep(&damaged.bytes)));
+            }
+        }
+        // No other bytes give the same pack.
+        if let Ok(loaded) = &answer
+            && encode(&loaded.pack).bytes != damaged.bytes
+        {
+            return Err(format!("accepted, but written otherwise: {}", keep(&damaged.bytes)));
+        }
+        one_load(generator, &damaged.bytes, &answer, table)?;
+    }
+    Ok(())
 }
 
 /// What a buffer holds before a call.
@@ -132,14 +148,16 @@ fn one_load(generator: &mut Generator, bytes: &[u8], read: &Result<Loaded, Refus
     };
     let mut work = vec![PATTERN; needed + 8];
     let answer = calls::load_as_read(read, &mut work[..lent]);
-    table.reached(&answer.map_or_else(|refusal| refusal.number.to_string(), |_| "accepted".into()));
+    // rows: accepted, 1 to 9, 21
+    table.hit(answer.map_or_else(|refusal| refusal.number.min(10) as usize, |_| 0));
     let mut other = vec![PATTERN; needed + 8];
     if let Some(theirs) = library::load(bytes, &mut other[..lent])
-        && (theirs != answer || other != work)
+        && (theirs != library::as_numbers(answer) || other != work)
     {
         let changed = work.iter().zip(&other).position(|(a, b)| a != b);
         return Err(format!(
-            "work of {lent}: {answer:?}, the library {theirs:?}; work differs at {changed:?}\n{bytes:02x?}"
+            "work of {lent}: {answer:?}, the library {theirs:?}; work differs at {changed:?}\n{}",
+            keep(bytes)
         ));
     }
     Ok(())

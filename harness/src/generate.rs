@@ -174,8 +174,14 @@ impl Generator {
 
     /// A small pack; with `bytes` its texts may be other than UTF-8.
     pub fn pack(&mut self, bytes: bool) -> Pack {
+        let slip = *self.rng.pick(&[0, 0, 0, 0, 5, 5, 20, 20, 100, 400]);
+        self.pack_with(slip, bytes)
+    }
+
+    /// A small pack in which something is changed as often as `slip` of 1000 says.
+    pub fn pack_with(&mut self, slip: usize, bytes: bool) -> Pack {
         self.bytes = bytes;
-        self.slip = *self.rng.pick(&[0, 0, 0, 0, 5, 5, 20, 20, 100, 400]);
+        self.slip = slip;
         self.begin();
         let mut trees = [const { Vec::new() }; 3];
         for (tree, pgns) in trees.iter_mut().enumerate() {
@@ -328,7 +334,8 @@ impl Generator {
             if i >= room {
                 break;
             }
-            let value = if self.coin() { i } else { room - 1 - i };
+            // small ones are met by readings
+            let value = if kind == Kind::Fieldtype || self.coin() { i } else { room - 1 - i };
             let mut entry = Entry { value, name: text(format!("n{i}")), ..Entry::default() };
             match kind {
                 Kind::Triplet => entry.first = self.rng.below(3) as u64,
@@ -796,8 +803,9 @@ pub fn pad(pack: &mut Pack, size: usize) {
     }
 }
 
-/// A pack of the largest size that is read, and one byte longer.
-pub fn largest_packs(seed: u64) -> [Pack; 2] {
+/// Packs of many sizes, the largest that is read and one byte more among them.
+pub fn packs_of_sizes(seed: u64) -> impl Iterator<Item = Pack> {
     let mut generator = Generator::new(seed);
-    [LIMIT, LIMIT + 1].map(|size| generator.pack_of_size(size, 0))
+    let sizes = [1 << 10, 1 << 13, 1 << 16, 1 << 18, LIMIT - 1, LIMIT, LIMIT + 1];
+    sizes.into_iter().map(move |size| generator.pack_of_size(size, 20))
 }

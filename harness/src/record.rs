@@ -210,10 +210,13 @@ fn check() -> Recording {
     for bytes in first_packs() {
         one(&mut out, &bytes, 0);
     }
-    for case in 0..60_000 {
-        let bytes = encode(&generator.pack(false)).bytes;
-        if bytes.len() < LONGEST {
-            one(&mut out, &bytes, usize::from(case % 32 == 0));
+    // R11 wants more fields than a short pack has
+    for (longest, count) in [(LONGEST, 60_000), (4 * LONGEST, 4_000)] {
+        for case in 0..count {
+            let bytes = encode(&generator.pack(false)).bytes;
+            if bytes.len() < longest {
+                one(&mut out, &bytes, usize::from(case % 32 == 0));
+            }
         }
     }
     out
@@ -222,9 +225,11 @@ fn check() -> Recording {
 fn walks() -> Recording {
     let mut out = Recording::default();
     let mut generator = Generator::new(SEED);
-    for _ in 0..20_000 {
+    for case in 0..40_000 {
         let pack = generator.pack(false);
         let bytes = encode(&pack).bytes;
+        // what no short pack has reached a longer one may
+        let longest = if case < 20_000 { LONGEST } else { 2 * LONGEST };
         let (tree, item) = (generator.rng.below(3), generator.rng.below(3));
         let readings = generator.readings(24);
         let short = usize::from(generator.rng.chance(1, 8));
@@ -241,7 +246,7 @@ fn walks() -> Recording {
                 vec![format!("{end:?}"), format!("{end:?} {} {again} {sets}", held(&pack, pgn))]
             }
         };
-        if bytes.len() > LONGEST || !out.wants(2, &keys) {
+        if bytes.len() > longest || !out.wants(2, &keys) {
             continue;
         }
         out.pack(&bytes);
