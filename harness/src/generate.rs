@@ -98,7 +98,8 @@ const GOOD_NUMBERS: [&[(u32, PacketType)]; 3] = {
         &[(0, Single), (1, Single), (1, Single), (256, Single), (2047, Single), (262144, Fast)],
     ]
 };
-const TEXTS: [&str; 10] = ["", "a", "f0", "f1", "reserved", "reserved7", "spare", "é", "n0", "a,1=2"];
+const TEXTS: [&str; 12] =
+    ["", "a", "f0", "f1", "reserved", "reserved7", "reservedX", "spare", "spare1a", "é", "n0", "a,1=2"];
 const NAMES: [&str; 6] = ["Reserved", "Spare", "SPN 1", "SPN 2", "x", ""];
 const MATCHES: [&str; 18] = [
     "0",
@@ -240,7 +241,8 @@ impl Generator {
             .map(|_| match self.rng.below(8) {
                 0..=4 => self.rng.below(4) as u64,
                 5 => self.rng.below(12) as u64,
-                6 => u64::MAX,
+                // a count of which 32 bits are small
+                6 => *self.rng.pick(&[u64::MAX, 1 << 32, (1 << 32) + 1]),
                 _ => self.rng.u64(),
             })
             .collect()
@@ -375,6 +377,20 @@ impl Generator {
             // a second record of one number, and maybe of one id
             let copied = self.rng.pick(pgns).clone();
             pgn = Pgn { id: if self.coin() { copied.id.clone() } else { pgn.id }, ..copied };
+            if self.coin() {
+                // other SPNs with the same names
+                pgn.fields.iter_mut().for_each(|field| field.spn = field.spn.map(|spn| spn ^ 0x100));
+            }
+        }
+        if self.slips()
+            && let Some(earlier) = pgns.last_mut().filter(|earlier| earlier.fields.len() > 1)
+        {
+            // two variants whose match sets are one text
+            earlier.fields[0].match_ = Some(text("1"));
+            earlier.fields[1].match_ = Some(text("2"));
+            pgn = Pgn { id: pgn.id, ..earlier.clone() };
+            pgn.fields[0].match_ = Some(text("1,1=2"));
+            pgn.fields[1].match_ = None;
         }
         while self.slips() {
             self.change_pgn(&mut pgn, pgns);
@@ -405,6 +421,9 @@ impl Generator {
             }
             pgn.fields.push(field);
         }
+        if count > 0 && self.slips() {
+            self.refer_anywhere(&mut pgn);
+        }
         pgn.variable = self.coin();
         pgn.length = match packet {
             PacketType::Single if pgn.variable => self.rng.below(9) as u32,
@@ -415,6 +434,24 @@ impl Generator {
             pgn.min_length = self.boundary(&pgn);
         }
         pgn
+    }
+
+    /// Some field refers to some other, a later one too; often from within the inner of two sets, which the first pass of
+    /// the outer may skip.
+    fn refer_anywhere(&mut self, pgn: &mut Pgn) {
+        let count = pgn.fields.len();
+        let inner = pgn.sets[1].as_ref().filter(|set| set.count > 0 && set.start > 0 && self.rng.chance(3, 4));
+        let user = match inner {
+            Some(set) => (set.start as usize - 1 + self.rng.below(set.count as usize)).min(count - 1),
+            None => self.rng.below(count),
+        };
+        let id = Some(pgn.fields[self.rng.below(count)].id.clone());
+        let field = &mut pgn.fields[user];
+        match self.rng.below(3) {
+            0 => field.bit_length_field = id,
+            1 => field.continues = id,
+            _ => field.trailing_zero = id,
+        }
     }
 
     /// A minimum length that ends between two fields.
