@@ -62,7 +62,7 @@ fn value(pack: &Encoded, item: usize) -> u64 {
 }
 
 /// The bytes of an item's number, a text's length included, and the rest of it.
-fn split<'a>(pack: &'a Encoded, item: usize) -> (&'a [u8], &'a [u8]) {
+fn split(pack: &Encoded, item: usize) -> (&[u8], &[u8]) {
     let Placed { at, end, .. } = pack.items[item];
     let bytes = &pack.bytes[at..end];
     bytes.split_at(bytes.iter().position(|byte| byte & 0x80 == 0).unwrap() + 1)

@@ -2,7 +2,8 @@
 
 use crate::calls;
 use crate::damage::damage;
-use crate::encode::encode;
+use crate::encode::{Encoded, encode};
+use crate::finding::Finding;
 use crate::generate::{Generator, packs_of_sizes};
 use crate::reader::{LIMIT, Loaded, Refusal, read};
 use crate::table::{RuleTable, Table};
@@ -16,9 +17,11 @@ pub type Failure = String;
 
 type Run = Result<(), Failure>;
 
+/// A run over so many packs from a seed.
+pub type RunOver = fn(u64, usize) -> Run;
+
 /// The runs by name.
-pub const RUNS: [(&str, fn(u64, usize) -> Run); 4] =
-    [("oracle", oracle), ("load", load), ("check", check), ("walk", walks)];
+pub const RUNS: [(&str, RunOver); 4] = [("oracle", oracle), ("load", load), ("check", check), ("walk", walks)];
 
 /// The oracle against `rules`, through the words.
 pub fn oracle(seed: u64, count: usize) -> Run {
@@ -167,60 +170,81 @@ fn one_load(generator: &mut Generator, bytes: &[u8], read: &Result<Loaded, Refus
 pub fn check(seed: u64, count: usize) -> Run {
     println!("check: the library exports no check yet, so only the model of the calls is tried");
     let mut generator = Generator::new(seed);
-    let mut table =
-        Table::new("answers of check and place text", ["findings", "text", "21", "22", "23", "24"].map(String::from));
+    let answers = ["findings", "text", "21", "22", "23", "24"];
+    let mut table = Table::new("answers of check and place text", answers.map(String::from));
     let mut rule_table = RuleTable::new();
     for case in 0..count {
         let pack = generator.pack(true);
-        let bytes = encode(&pack).bytes;
         let findings = rules::check(&pack);
         for finding in &findings {
             rule_table.hit(finding.rule, finding.cause);
         }
-        let needed = read(&bytes).map_err(|refusal| format!("case {case}: {refusal:?}"))?.records.len();
-        let short =
-            |generator: &mut Generator, length: usize| length - usize::from(length > 0 && generator.rng.chance(1, 8));
-        let mut work = vec![PATTERN; short(&mut generator, needed)];
-        let mut buffer = vec![PATTERN; short(&mut generator, 8 * findings.len())];
-        match calls::check(&bytes, &mut work, &mut buffer) {
-            Ok(found) => {
-                table.reached("findings");
-                let numbers: Vec<u32> = findings.iter().flat_map(|finding| finding.numbers()).collect();
-                if found != findings.len() || buffer != numbers {
-                    return Err(format!("case {case}: other findings"));
-                }
-            }
-            Err(refusal) => {
-                table.reached(&refusal.number.to_string());
-                let work_kept = work.iter().all(|number| *number == PATTERN);
-                if buffer.iter().any(|number| *number != PATTERN) || (refusal.number == 21) != work_kept {
-                    return Err(format!("case {case}: a buffer changed with {refusal:?}"));
-                }
+        let encoded = encode(&pack);
+        one_check(&mut generator, &encoded, &findings, &mut table)
+            .and_then(|()| one_place_text(&mut generator, &pack, &encoded, &findings, &mut table))
+            .map_err(|failure| format!("case {case}: {failure}\n{}", keep(&encoded.bytes)))?;
+    }
+    println!("check: {count} packs, seed {seed}: no difference");
+    finish(&[&rule_table.table, &table])
+}
+
+/// The length that is needed, or now and then one less.
+fn maybe_short(generator: &mut Generator, needed: usize) -> usize {
+    needed - usize::from(needed > 0 && generator.rng.chance(1, 8))
+}
+
+fn one_check(generator: &mut Generator, pack: &Encoded, findings: &[Finding], table: &mut Table) -> Run {
+    let mut work = vec![PATTERN; maybe_short(generator, pack.records.len())];
+    let mut buffer = vec![PATTERN; maybe_short(generator, 8 * findings.len())];
+    match calls::check(&pack.bytes, &mut work, &mut buffer) {
+        Ok(found) => {
+            table.reached("findings");
+            let numbers: Vec<u32> = findings.iter().flat_map(|finding| finding.numbers()).collect();
+            if found != findings.len() || buffer != numbers {
+                return Err("other findings".into());
             }
         }
-        let (place, tree, item) = match findings.len() {
-            0 => (generator.rng.below(5) as u32, generator.rng.below(4) as u32, generator.rng.below(4) as u32),
-            some => {
-                let finding = findings[generator.rng.below(some)];
-                (finding.place, finding.tree, finding.item + u32::from(generator.rng.chance(1, 8)))
+        Err(refusal) => {
+            table.reached(&refusal.number.to_string());
+            let work_kept = work.iter().all(|number| *number == PATTERN);
+            if buffer.iter().any(|number| *number != PATTERN) || (refusal.number == 21) != work_kept {
+                return Err(format!("a buffer changed with {refusal:?}"));
             }
-        };
-        let expected = place_text(&pack, place, tree, item);
-        let mut work = vec![PATTERN; needed];
-        let mut text = vec![b'#'; short(&mut generator, expected.as_ref().map_or(0, Vec::len))];
-        let answer = calls::place_text(&bytes, &mut work, place, tree, item, &mut text);
-        match answer {
-            Ok(_) => table.reached("text"),
-            Err(refusal) => table.reached(&refusal.number.to_string()),
-        }
-        if answer.is_ok() && Some(&text) != expected.as_ref()
-            || answer.is_err() && text.iter().any(|byte| *byte != b'#')
-        {
-            return Err(format!("case {case}: place text {answer:?}"));
         }
     }
-    println!("check: {count} packs, seed {seed}");
-    finish(&[&rule_table.table, &table])
+    Ok(())
+}
+
+/// The place text of a finding, of the item after it, or of anything.
+fn one_place_text(
+    generator: &mut Generator,
+    pack: &Pack,
+    encoded: &Encoded,
+    findings: &[Finding],
+    table: &mut Table,
+) -> Run {
+    let (place, tree, item) = match findings.len() {
+        0 => (generator.rng.below(5) as u32, generator.rng.below(4) as u32, generator.rng.below(4) as u32),
+        some => {
+            let finding = findings[generator.rng.below(some)];
+            (finding.place, finding.tree, finding.item.wrapping_add(generator.rng.chance(1, 8).into()))
+        }
+    };
+    let expected = place_text(pack, place, tree, item);
+    let mut work = vec![PATTERN; encoded.records.len()];
+    let mut text = vec![b'#'; maybe_short(generator, expected.as_ref().map_or(0, Vec::len))];
+    let answer = calls::place_text(&encoded.bytes, &mut work, place, tree, item, &mut text);
+    let good = match answer {
+        Ok(_) => {
+            table.reached("text");
+            Some(text) == expected
+        }
+        Err(refusal) => {
+            table.reached(&refusal.number.to_string());
+            text.iter().all(|byte| *byte == b'#')
+        }
+    };
+    if good { Ok(()) } else { Err(format!("place text {answer:?}")) }
 }
 
 /// The walk: on a held PGN of a pack without error no readings bring a stop.

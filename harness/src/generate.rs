@@ -460,7 +460,7 @@ impl Generator {
         let mut ends = Vec::new();
         for field in &pgn.fields {
             bits = bits.checked_add(field.res_bits)?;
-            if bits > 0 && bits % 8 == 0 && bits / 8 < pgn.length {
+            if bits > 0 && bits.is_multiple_of(8) && bits / 8 < pgn.length {
                 ends.push(bits / 8);
             }
         }

@@ -293,7 +293,7 @@ impl<'a> Findings<'a> {
         if pgn.pgn < *start {
             return self.pgn(2, 4, at, 0, 0);
         }
-        if *pdu1 && pgn.pgn % 256 != 0 {
+        if *pdu1 && pgn.pgn & 0xff != 0 {
             self.pgn(2, 5, at, 0, 0);
         }
         if *packet != pgn.packet && *packet != PacketType::Mixed && pgn.packet != PacketType::Iso {

@@ -317,7 +317,7 @@ fn measure(pgn: &mut Pgn) -> Answer<()> {
     let counted = &pgn.fields[..counted];
     let bits: u32 = counted.iter().map(|field| field.res_bits).sum();
     pgn.variable = repeated > 0 || counted.iter().any(|field| field.res_bits == 0);
-    if bits % 8 != 0 {
+    if !bits.is_multiple_of(8) {
         return Err(format!("a length of {bits} bits does not fill bytes"));
     }
     pgn.length = bits / 8;

@@ -188,7 +188,7 @@ impl Walk<'_> {
 
     fn match_fits(&self, field: &Field) -> bool {
         let value = self.pack.resolve_match(field);
-        value.is_some_and(|value| field.res_bits >= 64 || value <= (1 << field.res_bits) - 1)
+        value.is_some_and(|value| field.res_bits >= 64 || value >> field.res_bits == 0)
     }
 
     fn entry_names_missing(&self, field: &Field, reading: u64) -> bool {

@@ -32,7 +32,7 @@ fn every_pgn_is_held_and_walks_without_a_stop() {
     let pack = read(PACK).unwrap().pack;
     for pgn in pack.trees.iter().flatten() {
         assert!(held(&pack, pgn));
-        for reading in [0, 1, 3, 28, 81, u64::MAX] {
+        for reading in [0, 1, 3, 81, 5160, u64::MAX] {
             let end = walk(&pack, pgn, &[reading; 100]).end;
             assert!(!matches!(end, End::Stop(_)), "PGN {}: {end:?}", pgn.pgn);
         }
