@@ -1,126 +1,17 @@
 //! Structured packs from a seed. Each record is first made as the rules want it; then, as often as the pack's own
 //! `slip` says, one thing of it is changed to something out of a small pool. With no slips the pack is without error.
 
+mod change;
+mod fields;
+mod pools;
+
+use self::pools::*;
 use crate::encode::encode;
 use crate::reader::LIMIT;
 use crate::rng::Rng;
 use crate::rules::match_set;
 use crate::value::*;
 use std::collections::HashMap;
-
-/// (name, root name, size, resolution, signed)
-const TYPES: [(&str, &str, u32, f64, bool); 12] = [
-    ("NUMBER", "NUMBER", 0, 0.0, false),
-    ("LOOKUP", "LOOKUP", 0, 0.0, false),
-    ("RESERVED", "RESERVED", 0, 0.0, false),
-    ("BINARY", "BINARY", 0, 0.0, false),
-    ("DECIMAL", "DECIMAL", 0, 0.0, false),
-    ("DYNAMIC_FIELD_KEY", "DYNAMIC_FIELD_KEY", 0, 0.0, false),
-    ("DYNAMIC_FIELD_LENGTH", "DYNAMIC_FIELD_LENGTH", 0, 0.0, false),
-    ("DYNAMIC_FIELD_VALUE", "DYNAMIC_FIELD_VALUE", 0, 0.0, false),
-    ("STRING_FIX", "STRING_FIX", 0, 0.0, false),
-    ("UINT8", "NUMBER", 8, 1.0, false),
-    ("INT16", "NUMBER", 16, 1.0, true),
-    ("UFIX16", "NUMBER", 16, 0.01, false),
-];
-const LOOKUPS: [&str; 10] =
-    ["", "A", "A-", "AB", "INDUSTRY_CODE", "J1939_SPN", "KEYS", "MANUFACTURER_CODE", "YES_NO", "Ä"];
-const BITS: [u32; 12] = [1, 2, 3, 4, 8, 8, 11, 16, 32, 63, 64, 65];
-const WILD_BITS: [u32; 14] = [0, 0, 1, 2, 3, 7, 8, 11, 61, 63, 64, 65, 1_000_000, u32::MAX];
-const FLOATS: [f64; 10] = [0.0, -0.0, 1.0, 0.1, -40.0, f64::NAN, f64::INFINITY, f64::NEG_INFINITY, 1e300, 5e-324];
-const NUMBERS: [u32; 32] = [
-    0,
-    1,
-    255,
-    256,
-    0x7ff,
-    0x800,
-    0xe700,
-    0xe7ff,
-    0xe800,
-    59904,
-    59905,
-    61183,
-    0xef00,
-    0xf000,
-    0xfeff,
-    0xff00,
-    0xffff,
-    0x10000,
-    0x1ec00,
-    0x1ec01,
-    0x1ed00,
-    0x1ee01,
-    0x1ef00,
-    0x1ef01,
-    0x1f000,
-    0x1feff,
-    0x1ff00,
-    0x1ffff,
-    131072,
-    0x3ffff,
-    262144,
-    u32::MAX,
-];
-/// Numbers with a packet type that their range takes, by tree.
-const GOOD_NUMBERS: [&[(u32, PacketType)]; 3] = {
-    use PacketType::*;
-    [
-        &[
-            (59904, Single),
-            (60928, Single),
-            (61184, Single),
-            (61441, Single),
-            (65281, Single),
-            (65281, Iso),
-            (126208, Fast),
-            (126720, Fast),
-            (127488, Single),
-            (127489, Fast),
-            (129029, Fast),
-            (130816, Fast),
-            (262144, Mixed),
-        ],
-        &[
-            (0, Iso),
-            (256, Iso),
-            (59904, Single),
-            (61184, Single),
-            (61444, Single),
-            (61444, Single),
-            (65253, Single),
-            (65262, Iso),
-            (65280, Single),
-            (126720, Iso),
-            (126976, Iso),
-            (262145, Fast),
-        ],
-        &[(0, Single), (1, Single), (1, Single), (256, Single), (2047, Single), (262144, Fast)],
-    ]
-};
-const TEXTS: [&str; 12] =
-    ["", "a", "f0", "f1", "reserved", "reserved7", "reservedX", "spare", "spare1a", "é", "n0", "a,1=2"];
-const NAMES: [&str; 6] = ["Reserved", "Spare", "SPN 1", "SPN 2", "x", ""];
-const MATCHES: [&str; 18] = [
-    "0",
-    "1",
-    "2",
-    "+1",
-    "+5",
-    "-0",
-    "",
-    "+",
-    "++1",
-    "01",
-    "1,1=2",
-    "n0",
-    "n1",
-    "7",
-    "8",
-    "18446744073709551615",
-    "18446744073709551616",
-    "\"é\u{7f}",
-];
 
 pub struct Generator {
     pub rng: Rng,
@@ -132,30 +23,6 @@ pub struct Generator {
     lookups: Vec<Lookup>,
     spns: HashMap<u32, (u32, Float, Float, Option<Text>)>,
 }
-
-/// What a field is to be.
-#[derive(Clone, Copy, PartialEq)]
-enum Role {
-    Plain,
-    Typed,
-    Lookup,
-    Reserved,
-    Binary,
-    Decimal,
-    Key,
-    Length,
-    Value,
-    Continues,
-    Str,
-}
-
-const ROLES: [Role; 16] = {
-    use Role::*;
-    [
-        Plain, Plain, Plain, Typed, Lookup, Lookup, Lookup, Reserved, Binary, Binary, Decimal, Key, Length, Value,
-        Continues, Str,
-    ]
-};
 
 fn text(s: impl AsRef<str>) -> Text {
     s.as_ref().as_bytes().to_vec()
@@ -306,18 +173,6 @@ impl Generator {
         }
     }
 
-    fn change_fieldtype(&mut self, ft: &mut FieldType) {
-        match self.rng.below(7) {
-            0 => ft.name = self.pool(&["NUMBER", "x"]),
-            1 => ft.base = !ft.base,
-            2 => ft.print_function = !ft.print_function,
-            3 => ft.signed = !ft.signed,
-            4 => ft.size = *self.rng.pick(&WILD_BITS),
-            5 => ft.resolution = Float::of(*self.rng.pick(&FLOATS)),
-            _ => ft.root_name = text(self.rng.pick(&TYPES).1),
-        }
-    }
-
     fn lookup(&mut self, name: &str, names: &[&str]) -> Lookup {
         let (kind, bits) = match name {
             "MANUFACTURER_CODE" => (Kind::Pair, 11),
@@ -359,16 +214,6 @@ impl Generator {
             }
         }
         lookup
-    }
-
-    fn change_entry(&mut self, kind: Kind, entry: &mut Entry) {
-        match (self.rng.below(4), kind) {
-            (0, Kind::Fieldtype) => entry.fieldtype = self.pool(&["NUMBER", "missing"]),
-            (1, Kind::Fieldtype) => entry.nested = self.maybe(|g| g.pool(&["A", "missing"])),
-            (0 | 1, Kind::Triplet) => entry.first = u64::MAX,
-            (2, _) => entry.name = self.pool(&["n0", "n1", "7", ""]),
-            _ => entry.value = *self.rng.pick(&[0, 1, 7, 8, 255, 1 << 63, u64::MAX]),
-        }
     }
 
     fn add_pgn(&mut self, tree: usize, fields: usize, pgns: &mut Vec<Pgn>) {
@@ -434,24 +279,6 @@ impl Generator {
             pgn.min_length = self.boundary(&pgn);
         }
         pgn
-    }
-
-    /// Some field refers to some other, a later one too; often from within the inner of two sets, which the first pass of
-    /// the outer may skip.
-    fn refer_anywhere(&mut self, pgn: &mut Pgn) {
-        let count = pgn.fields.len();
-        let inner = pgn.sets[1].as_ref().filter(|set| set.count > 0 && set.start > 0 && self.rng.chance(3, 4));
-        let user = match inner {
-            Some(set) => (set.start as usize - 1 + self.rng.below(set.count as usize)).min(count - 1),
-            None => self.rng.below(count),
-        };
-        let id = Some(pgn.fields[self.rng.below(count)].id.clone());
-        let field = &mut pgn.fields[user];
-        match self.rng.below(3) {
-            0 => field.bit_length_field = id,
-            1 => field.continues = id,
-            _ => field.trailing_zero = id,
-        }
     }
 
     /// A minimum length that ends between two fields.
@@ -522,295 +349,6 @@ impl Generator {
         let counted = start > least && self.rng.chance(3, 4);
         let count_field = counted.then(|| self.rng.between(least as usize, start as usize - 1) as u32);
         Repeating { count, start, count_field, nested: false }
-    }
-
-    fn wild_set(&mut self, count: u32) -> Repeating {
-        let order = |g: &mut Self| match g.rng.below(40) {
-            0 => u32::MAX,
-            _ => g.rng.below(count as usize + 3) as u32,
-        };
-        let start = order(self);
-        // their sum stays within 32 bits
-        let count = order(self).min(u32::MAX - start);
-        Repeating { count, start, count_field: self.maybe(order), nested: self.rng.chance(1, 3) }
-    }
-
-    fn type_index(&self, name: &str) -> Option<u32> {
-        self.types.iter().position(|ft| ft.name == name.as_bytes()).map(|i| i as u32)
-    }
-
-    /// Manufacturer Code, Reserved, Industry Code, where the pack has what they need.
-    fn company_fields(&mut self) -> Option<[Field; 3]> {
-        let has = |name: &str| self.lookups.iter().any(|l| l.name == name.as_bytes() && l.kind == Kind::Pair);
-        if !has("MANUFACTURER_CODE") || !has("INDUSTRY_CODE") {
-            return None;
-        }
-        let (lookup, reserved) = (self.type_index("LOOKUP")?, self.type_index("RESERVED")?);
-        let field = |id: &str, ft: u32, type_: &str, bits: u32, name: Option<&str>| Field {
-            id: text(id),
-            name: text(if id == "reserved" { "Reserved" } else { id }),
-            type_: text(type_),
-            ft,
-            bits_given: true,
-            res_bits: bits,
-            res_resolution: Float::of(1.0),
-            reference: name.map(|name| (Kind::Pair, text(name))),
-            ..Field::default()
-        };
-        let mut maker = field("manufacturerCode", lookup, "LOOKUP", 11, Some("MANUFACTURER_CODE"));
-        if self.coin() {
-            maker.match_ = Some(text(self.rng.below(4).to_string()));
-        }
-        Some([
-            maker,
-            field("reserved", reserved, "RESERVED", 2, None),
-            field("industryCode", lookup, "LOOKUP", 3, Some("INDUSTRY_CODE")),
-        ])
-    }
-
-    /// A field that no rule finds fault with after `pgn.fields`; it may set the continuation of an earlier one.
-    fn field(&mut self, tree: usize, pgn: &mut Pgn, i: usize) -> Field {
-        let role = *self.rng.pick(&ROLES);
-        let type_name = match role {
-            Role::Typed => *self.rng.pick(&["UINT8", "INT16", "UFIX16"]),
-            Role::Lookup => "LOOKUP",
-            Role::Reserved => "RESERVED",
-            Role::Binary => "BINARY",
-            Role::Decimal => "DECIMAL",
-            Role::Key => "DYNAMIC_FIELD_KEY",
-            Role::Length => "DYNAMIC_FIELD_LENGTH",
-            Role::Value => "DYNAMIC_FIELD_VALUE",
-            Role::Str => "STRING_FIX",
-            Role::Plain | Role::Continues => "NUMBER",
-        };
-        let (ft, type_name, role) = match self.type_index(type_name) {
-            Some(ft) => (ft, type_name, role),
-            None => (0, "NUMBER", Role::Plain),
-        };
-        let size = self.types[ft as usize].size;
-        let mut field = Field {
-            id: text(format!("f{i}")),
-            name: text(format!("Field {i}")),
-            type_: text(type_name),
-            ft,
-            bits_given: size == 0 && self.coin(),
-            res_bits: if size == 0 { *self.rng.pick(&BITS) } else { size },
-            res_resolution: Float::of(1.0),
-            proprietary: self.rng.chance(1, 16),
-            ..Field::default()
-        };
-        match role {
-            Role::Plain => self.plain(tree, &mut field),
-            Role::Lookup => self.refer(&mut field),
-            Role::Reserved => {
-                field.name = text(self.rng.pick(&["Reserved", "Spare"]));
-                let first = pgn.fields.iter().all(|earlier| earlier.name != field.name);
-                let number = if first { String::new() } else { i.to_string() };
-                field.id = text(String::from_utf8_lossy(&field.name).to_lowercase() + &number);
-            }
-            Role::Binary => {
-                if let Some(target) = self.target(pgn, |f| f.reference.is_none() && f.res_bits > 0) {
-                    field.res_bits = 0;
-                    field.bit_length_field = Some(target);
-                }
-            }
-            Role::Decimal => field.trailing_zero = self.digit_field(pgn),
-            Role::Length => {
-                field.dynamic_field_length = self.rng.chance(3, 4);
-                field.overhead = field.dynamic_field_length && self.coin();
-            }
-            Role::Value => {
-                let types = &self.types;
-                let source =
-                    |f: &Field| f.dynamic_field_length || types[f.ft as usize].root_name == b"DYNAMIC_FIELD_KEY";
-                if !pgn.fields.iter().any(source) {
-                    field.ft = 0;
-                    field.type_ = text("NUMBER");
-                }
-            }
-            Role::Continues => self.continue_earlier(pgn, i, &mut field),
-            Role::Key | Role::Str | Role::Typed => {}
-        }
-        if role != Role::Continues && field.res_bits > 0 && field.match_.is_none() && self.rng.chance(1, 6) {
-            field.match_ = Some(text(self.rng.pick(&["0", "1", "+1", "01"])));
-        }
-        if self.rng.chance(1, 6) {
-            let most = [0, 1].get(field.res_bits as usize).copied().unwrap_or(3);
-            field.special_values = Some(self.rng.below(most + 1) as u32);
-        }
-        field
-    }
-
-    fn plain(&mut self, tree: usize, field: &mut Field) {
-        if self.rng.chance(1, 3) {
-            field.res_resolution = Float::of(*self.rng.pick(&[0.1, 0.5, 1e-16]));
-            field.resolution = Some(field.res_resolution).filter(|_| self.types[field.ft as usize].size == 0);
-        }
-        if self.rng.chance(1, 6) {
-            field.res_offset = Float::of(-40.0);
-            field.offset = Some(field.res_offset);
-        }
-        if self.coin() {
-            field.res_unit = Some(text(self.rng.pick(&["m", "K", "rad"])));
-            field.unit_given = self.coin();
-        }
-        if tree == 1 && self.coin() {
-            let spn = *self.rng.pick(&[1, 2, 3, 4, 190, 247, 524287]);
-            let (bits, resolution, offset, unit) = self
-                .spns
-                .entry(spn)
-                .or_insert_with(|| (field.res_bits, field.res_resolution, field.res_offset, field.res_unit.clone()));
-            field.res_bits = *bits;
-            field.res_resolution = *resolution;
-            field.res_offset = *offset;
-            field.res_unit = unit.clone();
-            field.spn = Some(spn);
-            field.name = text(format!("SPN {spn}"));
-        }
-    }
-
-    /// A reference to a lookup of the pack, by its kind and width.
-    fn refer(&mut self, field: &mut Field) {
-        if self.lookups.is_empty() {
-            return;
-        }
-        let lookup = self.rng.pick(&self.lookups);
-        field.reference = Some((lookup.kind, lookup.name.clone()));
-        field.res_bits = lookup.bits;
-        field.bits_given = false;
-        if self.rng.chance(1, 5) {
-            field.allow_lookup_width_mismatch = true;
-            field.res_bits = field.res_bits.saturating_add(self.rng.below(3) as u32);
-        }
-        let searched = matches!(lookup.kind, Kind::Pair | Kind::Fieldtype);
-        if searched && !lookup.entries.is_empty() && self.rng.chance(1, 2) {
-            field.match_ = Some(self.rng.pick(&lookup.entries).name.clone());
-        }
-    }
-
-    /// The id of an earlier field that scales by 1 and has the property.
-    fn target(&mut self, pgn: &Pgn, property: impl Fn(&Field) -> bool) -> Option<Text> {
-        let fit: Vec<&Field> =
-            pgn.fields.iter().filter(|f| f.res_resolution == Float::of(1.0) && property(f)).collect();
-        (!fit.is_empty()).then(|| self.rng.pick(&fit).id.clone())
-    }
-
-    fn digit_field(&mut self, pgn: &Pgn) -> Option<Text> {
-        let before_sets = pgn.sets.iter().flatten().map(|set| set.start).min().unwrap_or(u32::MAX);
-        let fixed = pgn.fields.iter().take_while(|f| f.res_bits != 0 && !f.proprietary).count();
-        let reach = pgn.fields.len().min(fixed + 1).min((before_sets as usize).saturating_sub(1));
-        let fit: Vec<&Field> = pgn.fields[..reach]
-            .iter()
-            .filter(|f| {
-                matches!(f.type_.as_slice(), b"NUMBER" | b"LOOKUP" | b"UINT8")
-                    && f.res_resolution == Float::of(1.0)
-                    && f.res_offset == Float::of(0.0)
-                    && (1..=63).contains(&f.res_bits)
-            })
-            .collect();
-        (!fit.is_empty()).then(|| self.rng.pick(&fit).id.clone())
-    }
-
-    fn continue_earlier(&mut self, pgn: &mut Pgn, i: usize, field: &mut Field) {
-        let held_by =
-            |set: &Option<Repeating>, index: usize| set.as_ref().is_some_and(|set| set.holds(index as u32 + 1));
-        let same_sets = |a: usize, b: usize| pgn.sets.iter().all(|set| held_by(set, a) == held_by(set, b));
-        let fit: Vec<usize> = (0..i)
-            .filter(|t| {
-                let low = &pgn.fields[*t];
-                // a wider value could miss its lookup's width
-                matches!(low.type_.as_slice(), b"NUMBER" | b"UINT8")
-                    && low.reference.is_none()
-                    && low.continues.is_none()
-                    && low.continuation.is_none()
-                    && low.res_offset == Float::of(0.0)
-                    && low.res_bits <= 32
-                    && same_sets(*t, i)
-            })
-            .collect();
-        if fit.is_empty() {
-            return;
-        }
-        let low = &mut pgn.fields[*self.rng.pick(&fit)];
-        field.res_bits = field.res_bits.min(32);
-        low.continuation = Some(field.res_bits);
-        field.continues = Some(low.id.clone());
-        field.proprietary = false;
-    }
-
-    fn change_pgn(&mut self, pgn: &mut Pgn, earlier: &[Pgn]) {
-        match self.rng.below(9) {
-            0 => pgn.pgn = *self.rng.pick(&NUMBERS),
-            1 if !earlier.is_empty() => pgn.id = self.rng.pick(earlier).id.clone(),
-            1 => pgn.id = self.pool(&TEXTS),
-            2 => pgn.packet = *self.rng.pick(&PacketType::ALL),
-            3 => pgn.fallback = !pgn.fallback,
-            4 => pgn.variable = !pgn.variable,
-            5 => pgn.missing_company_fields = !pgn.missing_company_fields,
-            6 => pgn.length = *self.rng.pick(&[0, 1, 7, 8, 9, 223]),
-            7 => pgn.min_length = self.maybe(|g| *g.rng.pick(&[0, 1, 2, 4, 7, 8, 9, 536_870_911])),
-            _ => {
-                let set = self.rng.below(2);
-                pgn.sets[set] = self.maybe(|g| g.wild_set(pgn.fields.len() as u32));
-            }
-        }
-    }
-
-    /// The id of a field of most PGNs, or some text.
-    fn some_id(&mut self) -> Text {
-        if self.coin() { text(format!("f{}", self.rng.below(7))) } else { self.pool(&TEXTS) }
-    }
-
-    /// Changes what a field refers to, where it refers to something; that is where most causes lie.
-    fn change_reference(&mut self, field: &mut Field) -> bool {
-        if let Some(id) =
-            [&mut field.bit_length_field, &mut field.trailing_zero, &mut field.continues].into_iter().flatten().next()
-        {
-            *id = self.some_id();
-        } else if field.spn.is_some() {
-            match self.rng.below(3) {
-                0 => field.name = self.pool(&NAMES),
-                1 => field.res_unit = self.maybe(|g| g.pool(&["m", "K", ""])),
-                _ => field.res_resolution = Float::of(*self.rng.pick(&FLOATS)),
-            }
-        } else if field.reference.is_some() {
-            field.reference = Some((*self.rng.pick(&Kind::ALL), self.pool(&LOOKUPS)));
-        } else {
-            return false;
-        }
-        true
-    }
-
-    fn change_field(&mut self, field: &mut Field) {
-        if self.rng.chance(1, 3) && self.change_reference(field) {
-            return;
-        }
-        match self.rng.below(24) {
-            0 => field.id = self.pool(&TEXTS),
-            1 => field.name = self.pool(&NAMES),
-            2 => field.type_ = text(self.rng.pick(&TYPES).0),
-            3 => field.ft = self.rng.below(self.types.len()) as u32,
-            4 => field.bits_given = !field.bits_given,
-            5 => field.unit_given = !field.unit_given,
-            6 => field.proprietary = !field.proprietary,
-            7 => field.allow_lookup_width_mismatch = !field.allow_lookup_width_mismatch,
-            8 => field.dynamic_field_length = !field.dynamic_field_length,
-            9 => field.overhead = !field.overhead,
-            10 => field.res_bits = *self.rng.pick(&WILD_BITS),
-            11 => field.res_resolution = Float::of(*self.rng.pick(&FLOATS)),
-            12 => field.res_offset = Float::of(*self.rng.pick(&FLOATS)),
-            13 => field.res_unit = self.maybe(|g| g.pool(&["m", "K", ""])),
-            14 => field.resolution = self.maybe(|g| Float::of(*g.rng.pick(&FLOATS))),
-            15 => field.offset = self.maybe(|g| Float::of(*g.rng.pick(&FLOATS))),
-            16 => field.spn = self.maybe(|g| *g.rng.pick(&[0, 1, 2, 3, 524287, 524288, u32::MAX])),
-            17 | 23 => field.continues = self.maybe(Self::some_id),
-            18 => field.match_ = self.maybe(|g| g.pool(&MATCHES)),
-            19 => field.reference = self.maybe(|g| (*g.rng.pick(&Kind::ALL), g.pool(&LOOKUPS))),
-            20 => field.special_values = self.maybe(|g| *g.rng.pick(&[0, 1, 2, 3, 4, u32::MAX])),
-            21 if self.coin() => field.bit_length_field = self.maybe(Self::some_id),
-            21 => field.trailing_zero = self.maybe(Self::some_id),
-            _ => field.continuation = self.maybe(|g| *g.rng.pick(&[0, 1, 8, 61, 64, 1000])),
-        }
     }
 }
 
