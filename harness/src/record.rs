@@ -21,7 +21,7 @@ const LONGEST: usize = 1400;
 const README: &str = "\
 Recorded cases, made by `harness record` (seed 2000) from the harness's own reader, rules and walk, which its
 differential runs compare with the Rust checker. A case is kept where it reaches something that few before it reached:
-a refusal, a rule's cause, an end of the walk. A pack above 1,048,576 bytes (refusal 9) is not among them.
+a refusal, a rule's cause, an end of the walk. Refusals 9 (a pack above 1,048,576 bytes) and 24 are not among them.
 
 Each folder has `stdin`, the cases one after the other until the end of the file, and `stdout`, the lines that a program
 must write for them. In `stdin` a number has 4 bytes, lowest first, a reading 8; a pack is its length and its bytes.
