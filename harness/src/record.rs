@@ -6,7 +6,7 @@ use crate::damage::damage;
 use crate::encode::encode;
 use crate::finding::{CAUSES, Finding};
 use crate::generate::Generator;
-use crate::reader::{Refusal, read};
+use crate::reader::{LIMIT, Refusal, read};
 use crate::report::worked_example;
 use crate::walk::{End, held};
 use crate::{rules, text};
@@ -21,15 +21,16 @@ const LONGEST: usize = 1400;
 const README: &str = "\
 Recorded cases, made by `harness record` (seed 2000) from the harness's own reader, rules and walk, which its
 differential runs compare with the Rust checker. A case is kept where it reaches something that few before it reached:
-a refusal, a rule's cause, an end of the walk. Refusals 9 (a pack above 1,048,576 bytes) and 24 are not among them.
+a refusal, a rule's cause, an end of the walk. Refusal 24 is not among them.
 
-Each folder has `stdin`, the cases one after the other until the end of the file, and `stdout`, the lines that a program
-must write for them. In `stdin` a number has 4 bytes, lowest first, a reading 8; a pack is its length and its bytes.
+Each folder has `stdin`, the number of cases and then the cases, and `stdout`, the lines that a program must write for
+them. In `stdin` a number has 4 bytes, lowest first, a reading 8; a pack is its length and its bytes, but one of more
+than 65536 bytes is zeros, and only its length stands there. A work buffer of load holds 165 everywhere before the call.
 
-load    a case: pack, length of the work buffer
+load    a case: length of the work buffer, pack
         lines:  refused NUMBER DETAIL
            or   records N, then for field types, lookups and trees 0 to 2 the count and the work position of the first
-                work OFFSET ..
+                work NUMBER .. (the whole buffer after the call, refused or not)
 check   a case: pack, length of the work buffer, length of the findings buffer
         lines:  refused NUMBER DETAIL
            or   a line for each finding, its eight numbers and its place text, then: findings N errors N
@@ -38,6 +39,10 @@ walk    a case: pack, length of the work buffer, tree, index of the PGN, length 
         lines:  refused NUMBER DETAIL
            or   the end (whole, used up, or stop NUMBER), `held` or `not held`, then: visits INDEX ..
 ";
+/// A longer pack is recorded by its length alone.
+const SPELT: usize = 65_536;
+/// What load's work buffer holds before the call.
+const UNTOUCHED: u32 = 165;
 
 pub fn record(folder: &Path) -> Result<(), String> {
     let write = |name: &str, bytes: &[u8]| {
@@ -46,21 +51,17 @@ pub fn record(folder: &Path) -> Result<(), String> {
     };
     write("README.txt", README.as_bytes())?;
     for (name, recording, all) in [
-        ("load", load(), numbers((1..=8).chain([21]))),
+        ("load", load(), numbers((1..=9).chain([21]))),
         ("check", check(), numbers([22]).into_iter().chain(causes()).collect()),
         ("walk", walks(), numbers([23, 25]).into_iter().chain(ends()).collect()),
     ] {
         if let Some(missing) = all.iter().find(|key| !recording.reached.contains_key(*key)) {
             return Err(format!("{name}: no case for {missing}"));
         }
-        write(&format!("{name}/stdin"), &recording.stdin)?;
+        let stdin = [&(recording.cases as u32).to_le_bytes(), &recording.stdin[..]].concat();
+        write(&format!("{name}/stdin"), &stdin)?;
         write(&format!("{name}/stdout"), &recording.stdout)?;
-        println!(
-            "{name}: {} cases, {} bytes in, {} out",
-            recording.cases,
-            recording.stdin.len(),
-            recording.stdout.len()
-        );
+        println!("{name}: {} cases, {} bytes in, {} out", recording.cases, stdin.len(), recording.stdout.len());
     }
     Ok(())
 }
@@ -105,7 +106,11 @@ impl Recording {
 
     fn pack(&mut self, bytes: &[u8]) {
         self.number(bytes.len());
-        self.stdin.extend(bytes);
+        if bytes.len() <= SPELT {
+            self.stdin.extend(bytes);
+        } else {
+            assert!(bytes.iter().all(|byte| *byte == 0), "a long pack of zeros");
+        }
     }
 
     fn line(&mut self, line: &[u8]) {
@@ -132,34 +137,37 @@ fn first_packs() -> [Vec<u8>; 2] {
 fn load() -> Recording {
     let mut out = Recording::default();
     let mut generator = Generator::new(SEED);
-    let one = |out: &mut Recording, bytes: &[u8], less: usize| {
-        let lent = read(bytes).map_or(16, |loaded| loaded.records.len()).saturating_sub(less);
-        let mut work = vec![0; lent];
+    let one = |out: &mut Recording, bytes: &[u8], lent: fn(usize) -> usize| {
+        let lent = lent(read(bytes).map_or(3, |loaded| loaded.records.len()));
+        let mut work = vec![UNTOUCHED; lent];
         let answer = calls::load(bytes, &mut work);
         let key = answer.map_or_else(|refusal| refusal.number.to_string(), |_| "accepted".into());
         if !out.wants(6, &[key]) {
             return;
         }
-        out.pack(bytes);
         out.number(lent);
+        out.pack(bytes);
         match answer {
             Err(refusal) => out.refused(refusal),
-            Ok(answer) => {
-                out.line(format!("records{}", spaced(answer)).as_bytes());
-                out.line(format!("work{}", spaced(&work)).as_bytes());
-            }
+            Ok(answer) => out.line(format!("records{}", spaced(answer)).as_bytes()),
         }
+        out.line(format!("work{}", spaced(&work)).as_bytes());
     };
     for bytes in first_packs() {
-        one(&mut out, &bytes, 0);
+        one(&mut out, &bytes, |needed| needed);
+    }
+    for length in [LIMIT, LIMIT + 1] {
+        one(&mut out, &vec![0; length], |needed| needed);
     }
     for case in 0..1000 {
         let encoded = encode(&generator.pack(true));
         if encoded.bytes.len() > LONGEST {
             continue;
         }
-        one(&mut out, &encoded.bytes, usize::from(case % 4 == 0));
-        one(&mut out, &damage(&mut generator.rng, &encoded).bytes, 0);
+        let lent: fn(usize) -> usize =
+            if case % 4 == 0 { |needed| needed.saturating_sub(1) } else { |needed| needed + 2 };
+        one(&mut out, &encoded.bytes, lent);
+        one(&mut out, &damage(&mut generator.rng, &encoded).bytes, |needed| needed);
     }
     out
 }
