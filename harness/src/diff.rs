@@ -91,12 +91,15 @@ pub fn load(seed: u64, count: usize) -> Run {
     for pack in packs_of_sizes(seed) {
         one_pack(&mut generator, &pack, &mut table, &mut known)?;
     }
+    for bytes in short_inputs() {
+        one_input(&mut generator, &bytes, &read(&bytes), &mut table)?;
+    }
     for case in 0..count {
         let bytes = generator.rng.chance(1, 2);
         let pack = generator.pack(bytes);
         one_pack(&mut generator, &pack, &mut table, &mut known).map_err(|failure| format!("case {case}: {failure}"))?;
     }
-    println!("load: {count} packs with 3 damaged copies each, seed {seed}: no difference");
+    println!("load: {count} packs with 3 damaged copies each, seed {seed}, and every short input: no difference");
     finish(&[&table, &known])
 }
 
@@ -125,15 +128,30 @@ fn one_pack(generator: &mut Generator, pack: &Pack, table: &mut Table, known: &m
                 return Err(format!("expected {expected:?}, read {answer:?}\n{}", keep(&damaged.bytes)));
             }
         }
-        // No other bytes give the same pack.
-        if let Ok(loaded) = &answer
-            && encode(&loaded.pack).bytes != damaged.bytes
-        {
-            return Err(format!("accepted, but written otherwise: {}", keep(&damaged.bytes)));
-        }
-        one_load(generator, &damaged.bytes, &answer, table)?;
+        one_input(generator, &damaged.bytes, &answer, table)?;
     }
     Ok(())
+}
+
+/// Version 1, and every run of at most seven bytes that stand at an edge of what a byte can mean.
+fn short_inputs() -> impl Iterator<Item = Vec<u8>> {
+    const EDGES: [u8; 6] = [0, 1, 2, 0x7f, 0x80, 0xff];
+    let runs = |length: u32| (0..EDGES.len().pow(length)).map(move |which| (length, which));
+    (0..=7).flat_map(runs).map(|(length, which)| {
+        let edge = |place| EDGES[which / EDGES.len().pow(place) % EDGES.len()];
+        [1].into_iter().chain((0..length).map(edge)).collect()
+    })
+}
+
+/// Bytes that may be refused, read and loaded.
+fn one_input(generator: &mut Generator, bytes: &[u8], read: &Result<Loaded, Refusal>, table: &mut Table) -> Run {
+    // No other bytes give the same pack.
+    if let Ok(loaded) = read
+        && encode(&loaded.pack).bytes != bytes
+    {
+        return Err(format!("accepted, but written otherwise: {}", keep(bytes)));
+    }
+    one_load(generator, bytes, read, table)
 }
 
 /// What a buffer holds before a call.
