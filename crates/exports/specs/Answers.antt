@@ -1,0 +1,21 @@
+-- What the exported calls answer, as numbers.
+use Prim.Native.Nat.{ℕ}
+use mathlib.Core.List.{List, [], _∷_, _++_}
+use Rattle.pack.specs.Load.{refusalNumber, refusalDetail}
+use Rattle.pack.specs.declared.load.Section.{Section}
+use Rattle.pack.specs.declared.load.Loaded.{Loaded}
+use Rattle.pack.specs.declared.load.Loaded.the-variants.{Refused, Accepted}
+
+-- "A refusal gives its number"; 0 where there is none
+abbrev pub loadNumber : Loaded → ℕ
+loadNumber (Refused r) = refusalNumber r
+loadNumber (Accepted i) = 0
+
+-- the count of a list of records, and the work position at which it begins
+abbrev pub section : Section → List ℕ
+section s = s .count ∷ s .place ∷ []
+
+-- ".. and a detail", then zeros; or the number of records, then field types, lookups and trees 0 to 2
+abbrev pub loadAnswer : Loaded → List ℕ
+loadAnswer (Refused r) = refusalDetail r ∷ 0 ∷ 0 ∷ 0 ∷ 0 ∷ 0 ∷ 0 ∷ 0 ∷ 0 ∷ 0 ∷ 0 ∷ []
+loadAnswer (Accepted i) = i .records ∷ section (i .types) ++ section (i .lookups) ++ section (i .nmea2000) ++ section (i .j1939) ++ section (i .quick)

@@ -1,0 +1,55 @@
+-- `print_offsets` is safe and ends. The loop's invariant: `i` is at most the length; the measure is what is left of it.
+use Prim.Native.Nat.{_≤_, _-_}
+use borrow.Author.Needs.{needs}
+use lib.ListN.{length}
+use Rattle.replay_load.proofs.print_offsets.Statement.{statement}
+use Rattle.replay_load.proofs.print_offsets.Tie as tie
+
+abbrev Inv-loop : tie.InvT-loop
+Inv-loop work i₀ i = i ≤ length work
+
+abbrev μ-loop : tie.MeasureT-loop
+μ-loop work i₀ i = length work - i
+
+loop-holds : tie.Need-loop-holds Inv-loop μ-loop
+loop-holds c = search needs
+
+mul-wide : tie.Need-mul-wide Inv-loop μ-loop
+mul-wide c = search needs
+
+shared-slice-read-wide : tie.Need-shared-slice-read-wide Inv-loop μ-loop
+shared-slice-read-wide c = search needs
+
+wide-requires : tie.Need-wide-requires Inv-loop μ-loop
+wide-requires c κs = search needs
+
+spaced-requires : tie.Need-spaced-requires Inv-loop μ-loop
+spaced-requires c κs = search needs
+
+add-i : tie.Need-add-i Inv-loop μ-loop
+add-i c = search needs
+
+loop-less : tie.Need-loop-less Inv-loop μ-loop
+loop-less c = search needs
+
+loop-again : tie.Need-loop-again Inv-loop μ-loop
+loop-again c = search needs
+
+returns : tie.Need-returns Inv-loop μ-loop
+returns c = search needs
+
+pub print-offsets-spec : {M : Type 1} → statement M
+print-offsets-spec =
+    tie.close
+    (tie.spec
+    Inv-loop
+    μ-loop
+    loop-holds
+    mul-wide
+    shared-slice-read-wide
+    wide-requires
+    spaced-requires
+    add-i
+    loop-less
+    loop-again
+    returns)

@@ -1,0 +1,103 @@
+//! What each call answers, refusals and buffers included (document 01, "Refused for the state"): load, check, place text,
+//! walk and held, over the independent reader, rules and walk.
+
+use crate::finding::Finding;
+use crate::reader::{Loaded, Refusal, read};
+use crate::value::Pgn;
+use crate::walk::{End, held, walk};
+use crate::{rules, words};
+
+type Answer<T> = Result<T, Refusal>;
+
+fn refused<T>(number: u32, needed: usize) -> Answer<T> {
+    Err(Refusal { number, detail: needed as u64 })
+}
+
+/// Reads the pack and fills the work buffer: 1 to 9, then 21.
+fn open(pack: &[u8], work: &mut [u32]) -> Answer<Loaded> {
+    let loaded = read(pack)?;
+    fill(&loaded, work)?;
+    Ok(loaded)
+}
+
+fn fill(loaded: &Loaded, work: &mut [u32]) -> Answer<()> {
+    let needed = loaded.records.len();
+    if work.len() < needed {
+        return refused(21, needed);
+    }
+    work[..needed].copy_from_slice(&loaded.records);
+    Ok(())
+}
+
+/// The number of records, then for field types, lookups and trees 0 to 2 the count and the work position of the first.
+pub fn load(pack: &[u8], work: &mut [u32]) -> Answer<[u64; 11]> {
+    load_as_read(&read(pack), work)
+}
+
+/// As `load`, of a pack that has been read.
+pub fn load_as_read(read: &Answer<Loaded>, work: &mut [u32]) -> Answer<[u64; 11]> {
+    let loaded = read.as_ref().map_err(|refusal| *refusal)?;
+    fill(loaded, work)?;
+    let mut answer = [0; 11];
+    answer[0] = loaded.records.len() as u64;
+    for (i, section) in loaded.sections.iter().enumerate() {
+        answer[1 + 2 * i] = section.count.into();
+        answer[2 + 2 * i] = section.begins.into();
+    }
+    Ok(answer)
+}
+
+/// The number of findings, eight numbers each.
+pub fn check(pack: &[u8], work: &mut [u32], findings: &mut [u32]) -> Answer<usize> {
+    let loaded = open(pack, work)?;
+    let list = rules::check(&loaded.pack);
+    if findings.len() < 8 * list.len() {
+        return refused(22, 8 * list.len());
+    }
+    for (numbers, finding) in findings.chunks_exact_mut(8).zip(&list) {
+        numbers.copy_from_slice(&Finding::numbers(finding));
+    }
+    Ok(list.len())
+}
+
+/// The length of the place text.
+pub fn place_text(pack: &[u8], work: &mut [u32], place: u32, tree: u32, item: u32, text: &mut [u8]) -> Answer<usize> {
+    let loaded = open(pack, work)?;
+    let Some(bytes) = words::place_text(&loaded.pack, place, tree, item) else {
+        return refused(23, 0);
+    };
+    if text.len() < bytes.len() {
+        return refused(24, bytes.len());
+    }
+    text[..bytes.len()].copy_from_slice(&bytes);
+    Ok(bytes.len())
+}
+
+fn named(loaded: &Loaded, tree: u32, item: u32) -> Answer<&Pgn> {
+    let pgn = loaded.pack.trees.get(tree as usize).and_then(|pgns| pgns.get(item as usize));
+    pgn.ok_or(Refusal { number: 23, detail: 0 })
+}
+
+/// The end and the number of visits.
+pub fn walk_pgn(
+    pack: &[u8],
+    work: &mut [u32],
+    tree: u32,
+    item: u32,
+    readings: &[u64],
+    visits: &mut [u32],
+) -> Answer<(End, usize)> {
+    let loaded = open(pack, work)?;
+    let pgn = named(&loaded, tree, item)?;
+    if visits.len() < readings.len() {
+        return refused(25, readings.len());
+    }
+    let walked = walk(&loaded.pack, pgn, readings);
+    visits[..walked.visits.len()].copy_from_slice(&walked.visits);
+    Ok((walked.end, walked.visits.len()))
+}
+
+pub fn held_pgn(pack: &[u8], work: &mut [u32], tree: u32, item: u32) -> Answer<bool> {
+    let loaded = open(pack, work)?;
+    Ok(held(&loaded.pack, named(&loaded, tree, item)?))
+}

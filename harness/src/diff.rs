@@ -1,0 +1,335 @@
+//! The differential runs: random packs, the same question to two sides, a table of what was reached.
+
+use crate::calls;
+use crate::damage::damage;
+use crate::encode::{Encoded, encode};
+use crate::finding::Finding;
+use crate::generate::{Generator, packs_of_sizes};
+use crate::reader::{LIMIT, Loaded, Refusal, read};
+use crate::table::{RuleTable, Table};
+use crate::value::Pack;
+use crate::walk::{End, held, walk};
+use crate::words::{Words, place_text, words};
+use crate::{library, oracle, rules};
+
+/// What went wrong, in words; the run goes no further.
+pub type Failure = String;
+
+type Run = Result<(), Failure>;
+
+/// A run over so many packs from a seed.
+pub type RunOver = fn(u64, usize) -> Run;
+
+/// The runs by name.
+pub const RUNS: [(&str, RunOver); 4] = [("oracle", oracle), ("load", load), ("check", check), ("walk", walks)];
+
+/// The oracle against `rules`, through the words.
+pub fn oracle(seed: u64, count: usize) -> Run {
+    if !oracle::PRESENT {
+        println!("oracle: skipped, its files were not there at build time (KEEL_SRC names their folder)");
+        return Ok(());
+    }
+    let mut generator = Generator::new(seed);
+    let mut table = RuleTable::new();
+    let mut kinds = Table::new("packs", ["no finding", "no error", "errors"].map(String::from));
+    for case in 0..count {
+        let pack = generator.pack(false);
+        let findings = rules::check(&pack);
+        let expected = oracle::violations(&pack).ok_or("a generated pack is not UTF-8")?;
+        let ours: Vec<Words> = findings.iter().map(|finding| words(&pack, finding)).collect();
+        if ours != expected {
+            return Err(difference(case, &pack, &ours, &expected));
+        }
+        for finding in &findings {
+            table.hit(finding.rule, finding.cause);
+        }
+        kinds.reached(if findings.is_empty() {
+            "no finding"
+        } else if findings.iter().any(|finding| finding.is_error()) {
+            "errors"
+        } else {
+            "no error"
+        });
+    }
+    println!("oracle: {count} packs, seed {seed}: the rules' findings are the oracle's violations, word for word");
+    finish(&[&table.table, &kinds])
+}
+
+fn difference(case: usize, pack: &Pack, ours: &[Words], expected: &[Words]) -> Failure {
+    let at = ours.iter().zip(expected).take_while(|(a, b)| a == b).count();
+    format!("case {case}, finding {at}:\n  ours   {:?}\n  oracle {:?}\n{pack:#?}", ours.get(at), expected.get(at))
+}
+
+/// Keeps a pack that shows a difference, and says where.
+fn keep(bytes: &[u8]) -> String {
+    let path = std::env::temp_dir().join("difference.pack");
+    match std::fs::write(&path, bytes) {
+        Ok(()) => format!("the pack of {} bytes is in {}", bytes.len(), path.display()),
+        Err(error) => format!("the pack of {} bytes could not be written: {error}", bytes.len()),
+    }
+}
+
+/// Prints the tables; a row never reached is a failure.
+fn finish(tables: &[&Table]) -> Run {
+    let mut never = Vec::new();
+    for table in tables {
+        print!("{table}");
+        never.extend(table.never_reached());
+    }
+    if never.is_empty() { Ok(()) } else { Err(format!("never reached: {}", never.join(", "))) }
+}
+
+/// The reader against the encoder and against what damage must bring; `load` against the library, where it is linked.
+pub fn load(seed: u64, count: usize) -> Run {
+    if !library::PRESENT {
+        println!("load: no library linked (SARWYMP_LIB names its folder), so only the reader is tried");
+    }
+    let mut generator = Generator::new(seed);
+    let numbers = (1..=9).chain([21]).map(|number| number.to_string());
+    let mut table = Table::new("answers of load", ["accepted".to_string()].into_iter().chain(numbers));
+    let mut known = Table::new("refusals known from the damage", (1..=9).map(|number| number.to_string()));
+    for pack in packs_of_sizes(seed) {
+        one_pack(&mut generator, &pack, &mut table, &mut known)?;
+    }
+    for bytes in short_inputs() {
+        one_input(&mut generator, &bytes, &read(&bytes), &mut table)?;
+    }
+    for case in 0..count {
+        let bytes = generator.rng.chance(1, 2);
+        let pack = generator.pack(bytes);
+        one_pack(&mut generator, &pack, &mut table, &mut known).map_err(|failure| format!("case {case}: {failure}"))?;
+    }
+    println!("load: {count} packs with 3 damaged copies each, seed {seed}, and every short input: no difference");
+    finish(&[&table, &known])
+}
+
+/// 9 is tested first.
+const TOO_LONG: Refusal = Refusal { number: 9, detail: 0 };
+
+/// A pack and three damaged copies of it, read and loaded.
+fn one_pack(generator: &mut Generator, pack: &Pack, table: &mut Table, known: &mut Table) -> Run {
+    let encoded = encode(pack);
+    let answer = read(&encoded.bytes);
+    let good = match &answer {
+        Ok(loaded) => loaded.pack == *pack && loaded.records == encoded.records && encoded.bytes.len() <= LIMIT,
+        Err(refusal) => *refusal == TOO_LONG && encoded.bytes.len() > LIMIT,
+    };
+    if !good {
+        return Err(format!("{} bytes, read back {answer:?}\n{pack:#?}", encoded.bytes.len()));
+    }
+    one_load(generator, &encoded.bytes, &answer, table)?;
+    for _ in 0..3 {
+        let damaged = damage(&mut generator.rng, &encoded);
+        let expected = if damaged.bytes.len() > LIMIT { Some(TOO_LONG) } else { damaged.expected };
+        let answer = read(&damaged.bytes);
+        if let Some(expected) = expected {
+            known.hit(expected.number as usize - 1);
+            if answer.as_ref().err() != Some(&expected) {
+                return Err(format!("expected {expected:?}, read {answer:?}\n{}", keep(&damaged.bytes)));
+            }
+        }
+        one_input(generator, &damaged.bytes, &answer, table)?;
+    }
+    Ok(())
+}
+
+/// Version 1, and every run of at most seven bytes that stand at an edge of what a byte can mean.
+fn short_inputs() -> impl Iterator<Item = Vec<u8>> {
+    const EDGES: [u8; 6] = [0, 1, 2, 0x7f, 0x80, 0xff];
+    let runs = |length: u32| (0..EDGES.len().pow(length)).map(move |which| (length, which));
+    (0..=7).flat_map(runs).map(|(length, which)| {
+        let edge = |place| EDGES[which / EDGES.len().pow(place) % EDGES.len()];
+        [1].into_iter().chain((0..length).map(edge)).collect()
+    })
+}
+
+/// Bytes that may be refused, read and loaded.
+fn one_input(generator: &mut Generator, bytes: &[u8], read: &Result<Loaded, Refusal>, table: &mut Table) -> Run {
+    // No other bytes give the same pack.
+    if let Ok(loaded) = read
+        && encode(&loaded.pack).bytes != bytes
+    {
+        return Err(format!("accepted, but written otherwise: {}", keep(bytes)));
+    }
+    one_load(generator, bytes, read, table)
+}
+
+/// What a buffer holds before a call.
+const PATTERN: u32 = 0xa5a5_a5a5;
+
+/// One call of load with some length of work buffer, by the model and by the library; numbers beyond the part that is
+/// lent stay as they are.
+fn one_load(generator: &mut Generator, bytes: &[u8], read: &Result<Loaded, Refusal>, table: &mut Table) -> Run {
+    let needed = read.as_ref().map_or(4, |loaded| loaded.records.len());
+    let lent = match generator.rng.below(8) {
+        0 if needed > 0 => needed - 1,
+        1 => generator.rng.below(needed + 1),
+        2 => needed + generator.rng.below(5),
+        _ => needed,
+    };
+    let mut work = vec![PATTERN; needed + 8];
+    let answer = calls::load_as_read(read, &mut work[..lent]);
+    // rows: accepted, 1 to 9, 21
+    table.hit(answer.map_or_else(|refusal| refusal.number.min(10) as usize, |_| 0));
+    let mut other = vec![PATTERN; needed + 8];
+    if let Some(theirs) = library::load(bytes, &mut other[..lent])
+        && (theirs != library::as_numbers(answer) || other != work)
+    {
+        let changed = work.iter().zip(&other).position(|(a, b)| a != b);
+        return Err(format!(
+            "work of {lent}: {answer:?}, the library {theirs:?}; work differs at {changed:?}\n{}",
+            keep(bytes)
+        ));
+    }
+    Ok(())
+}
+
+/// The check and place text calls of the model, with buffers of many lengths: what 21 to 24 leave unchanged.
+pub fn check(seed: u64, count: usize) -> Run {
+    println!("check: the library exports no check yet, so only the model of the calls is tried");
+    let mut generator = Generator::new(seed);
+    let answers = ["findings", "text", "21", "22", "23", "24"];
+    let mut table = Table::new("answers of check and place text", answers.map(String::from));
+    let mut rule_table = RuleTable::new();
+    for case in 0..count {
+        let pack = generator.pack(true);
+        let findings = rules::check(&pack);
+        for finding in &findings {
+            rule_table.hit(finding.rule, finding.cause);
+        }
+        let encoded = encode(&pack);
+        one_check(&mut generator, &encoded, &findings, &mut table)
+            .and_then(|()| one_place_text(&mut generator, &pack, &encoded, &findings, &mut table))
+            .map_err(|failure| format!("case {case}: {failure}\n{}", keep(&encoded.bytes)))?;
+    }
+    println!("check: {count} packs, seed {seed}: no difference");
+    finish(&[&rule_table.table, &table])
+}
+
+/// The length that is needed, or now and then one less.
+fn maybe_short(generator: &mut Generator, needed: usize) -> usize {
+    needed - usize::from(needed > 0 && generator.rng.chance(1, 8))
+}
+
+fn one_check(generator: &mut Generator, pack: &Encoded, findings: &[Finding], table: &mut Table) -> Run {
+    let mut work = vec![PATTERN; maybe_short(generator, pack.records.len())];
+    let mut buffer = vec![PATTERN; maybe_short(generator, 8 * findings.len())];
+    match calls::check(&pack.bytes, &mut work, &mut buffer) {
+        Ok(found) => {
+            table.reached("findings");
+            let numbers: Vec<u32> = findings.iter().flat_map(|finding| finding.numbers()).collect();
+            if found != findings.len() || buffer != numbers {
+                return Err("other findings".into());
+            }
+        }
+        Err(refusal) => {
+            table.reached(&refusal.number.to_string());
+            let work_kept = work.iter().all(|number| *number == PATTERN);
+            if buffer.iter().any(|number| *number != PATTERN) || (refusal.number == 21) != work_kept {
+                return Err(format!("a buffer changed with {refusal:?}"));
+            }
+        }
+    }
+    Ok(())
+}
+
+/// The place text of a finding, of the item after it, or of anything.
+fn one_place_text(
+    generator: &mut Generator,
+    pack: &Pack,
+    encoded: &Encoded,
+    findings: &[Finding],
+    table: &mut Table,
+) -> Run {
+    let (place, tree, item) = match findings.len() {
+        0 => (generator.rng.below(5) as u32, generator.rng.below(4) as u32, generator.rng.below(4) as u32),
+        some => {
+            let finding = findings[generator.rng.below(some)];
+            (finding.place, finding.tree, finding.item.wrapping_add(generator.rng.chance(1, 8).into()))
+        }
+    };
+    let expected = place_text(pack, place, tree, item);
+    let mut work = vec![PATTERN; encoded.records.len()];
+    let mut text = vec![b'#'; maybe_short(generator, expected.as_ref().map_or(0, Vec::len))];
+    let answer = calls::place_text(&encoded.bytes, &mut work, place, tree, item, &mut text);
+    let good = match answer {
+        Ok(_) => {
+            table.reached("text");
+            Some(text) == expected
+        }
+        Err(refusal) => {
+            table.reached(&refusal.number.to_string());
+            text.iter().all(|byte| *byte == b'#')
+        }
+    };
+    if good { Ok(()) } else { Err(format!("place text {answer:?}")) }
+}
+
+/// The walk: on a held PGN of a pack without error no readings bring a stop.
+pub fn walks(seed: u64, count: usize) -> Run {
+    println!("walk: the library exports no walk yet, so only the model of the calls is tried");
+    let mut generator = Generator::new(seed);
+    let stops = (1..=9).map(|stop| format!("stop {stop}"));
+    let mut ends = Table::new("ends of walks", ["whole", "used up"].map(String::from).into_iter().chain(stops));
+    let mut pgns = Table::new(
+        "PGNs walked",
+        ["clean held", "clean only", "held only", "neither", "with pass 2", "stop at 0", "stop later"]
+            .map(String::from),
+    );
+    let mut refusals = Table::new("refusals of walk", ["21", "23", "25"].map(String::from));
+    for case in 0..count {
+        let bytes = generator.rng.chance(1, 4);
+        let pack = generator.pack(bytes);
+        let clean = !rules::check(&pack).iter().any(|finding| finding.is_error());
+        for pgn in pack.trees.iter().flatten() {
+            let held = held(&pack, pgn);
+            pgns.reached(match (clean, held) {
+                (true, true) => "clean held",
+                (true, false) => "clean only",
+                (false, true) => "held only",
+                (false, false) => "neither",
+            });
+            for _ in 0..3 {
+                let readings = generator.readings(40);
+                let walked = walk(&pack, pgn, &readings);
+                ends.reached(&match walked.end {
+                    End::Whole => "whole".into(),
+                    End::UsedUp => "used up".into(),
+                    End::Stop(stop) => format!("stop {stop}"),
+                });
+                if walked.visits.windows(2).any(|pair| pair[1] <= pair[0]) {
+                    pgns.reached("with pass 2");
+                }
+                if let End::Stop(_) = walked.end {
+                    pgns.reached(if walked.visits.is_empty() { "stop at 0" } else { "stop later" });
+                    if clean && held {
+                        return Err(format!("case {case}: {walked:?} over {readings:?}\n{pgn:#?}\n{pack:#?}"));
+                    }
+                }
+                if walked.end == End::UsedUp && walked.visits.len() != readings.len() {
+                    return Err(format!("case {case}: used up with readings left"));
+                }
+            }
+        }
+        walk_refusals(&mut generator, &pack, &mut refusals)?;
+    }
+    println!("walk: {count} packs, seed {seed}: no stop on a held PGN of a pack without error");
+    finish(&[&ends, &pgns, &refusals])
+}
+
+/// One call with some buffer too short or a PGN that is not there.
+fn walk_refusals(generator: &mut Generator, pack: &Pack, table: &mut Table) -> Run {
+    let encoded = encode(pack);
+    let (tree, item) = (generator.rng.below(4) as u32, generator.rng.below(3) as u32);
+    let readings = generator.readings(6);
+    let mut work = vec![PATTERN; encoded.records.len() - usize::from(generator.rng.chance(1, 8))];
+    let mut visits = vec![PATTERN; readings.len().saturating_sub(generator.rng.below(2))];
+    let answer = calls::walk_pgn(&encoded.bytes, &mut work, tree, item, &readings, &mut visits);
+    if let Err(refusal) = answer {
+        table.reached(&refusal.number.to_string());
+        if visits.iter().any(|number| *number != PATTERN) {
+            return Err(format!("a visit was written with {refusal:?}"));
+        }
+    }
+    Ok(())
+}
