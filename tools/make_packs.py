@@ -364,4 +364,5 @@ def main():
     print('%d packs, %d files' % (len(PACKS), len(made)))
 
 
-main()
+if __name__ == '__main__':
+    main()
