@@ -1,0 +1,50 @@
+// Lists the pack on standard input in words: every record with the byte at which it begins, or why the pack is refused.
+mod fields;
+mod lookups;
+mod pgns;
+mod refusal;
+mod say;
+mod types;
+mod work;
+
+use pack::load::Index;
+use pack::load::Loaded;
+use pack::load::load;
+
+fn list(s: &[u8], work: &[u32], index: Index) {
+    say::number(b"pack of ", s.len() as u64);
+    say::number(b" bytes, version ", pack::at::number_at(s, 0) as u64);
+    say::number(b", ", index.records as u64);
+    say::words(b" records\n");
+    types::list(s, work, index.types);
+    lookups::list(s, work, index.lookups);
+    pgns::list(s, work, b"tree 0 NMEA 2000", index.nmea2000);
+    pgns::list(s, work, b"tree 1 J1939", index.j1939);
+    pgns::list(s, work, b"tree 2 Quick", index.quick);
+}
+
+fn show(s: &[u8], work: &[u32], loaded: Loaded) {
+    match loaded {
+        Loaded::Refused(r) => refusal::show(r),
+        Loaded::Accepted(index) => list(s, work, index),
+    }
+}
+
+// A pack of at most 65,536 bytes has at most half as many records.
+fn list_pack(s: &[u8]) {
+    let mut space = [0u32; 32768];
+    let work: &mut [u32] = &mut space;
+    let loaded = load(s, work);
+    show(s, work, loaded);
+}
+
+fn main() {
+    let mut buf = io::large_buffer();
+    let n = io::read_full(0, &mut buf);
+    let mut more = [0u8; 1];
+    if n == 65536 && io::read_full(0, &mut more) == 1 {
+        say::words(b"too long\n");
+        return;
+    }
+    list_pack(&buf[..n]);
+}

@@ -1,0 +1,67 @@
+// The PGNs of a tree, each with its sets and fields.
+use crate::fields;
+use crate::say;
+use crate::work;
+use pack::load::Section;
+use pack::records::OptRepeating;
+use pack::records::PgnFlags;
+
+fn message_type(k: u32) {
+    match k {
+        0 => say::words(b": Single"),
+        1 => say::words(b": Fast"),
+        2 => say::words(b": ISO"),
+        _ => say::words(b": Mixed"),
+    }
+}
+
+fn flags(f: PgnFlags) {
+    say::flag(b", fallback", f.fallback);
+    say::flag(b", variable", f.variable);
+    say::flag(b", MissingCompanyFields", f.incomplete);
+}
+
+fn list_set(w: &[u8], r: OptRepeating) {
+    if !r.given {
+        return;
+    }
+    let set = r.set;
+    say::words(w);
+    say::number(b": start ", set.start as u64);
+    say::number(b", count ", set.count as u64);
+    say::opt_number(b", countField ", set.counter);
+    say::flag(b", nested", set.nested);
+    say::words(b"\n");
+}
+
+// Answers the place behind the PGN and its fields.
+fn list_pgn(s: &[u8], work: &[u32], p: usize) -> usize {
+    let at = work::offset(work, p);
+    let g = pack::at::pgn_at(s, at);
+    say::number(b"  ", g.pgn as u64);
+    say::text(b" ", s, g.id);
+    say::number(b" at byte ", at as u64);
+    message_type(g.kind);
+    say::number(b", length ", g.length as u64);
+    say::opt_number(b", minimum ", g.minimum);
+    flags(g.flags);
+    say::number(b", ", g.fields as u64);
+    say::words(b" fields\n");
+    list_set(b"    set 1", g.repeating1);
+    list_set(b"    set 2", g.repeating2);
+    fields::list(s, work, work::behind(p, 0), g.fields);
+    work::behind(p, g.fields)
+}
+
+pub fn list(s: &[u8], work: &[u32], tree: &[u8], section: Section) {
+    let n = section.count;
+    say::words(tree);
+    say::number(b", PGNs ", n as u64);
+    say::words(b"\n");
+    let mut p = section.place;
+    let mut i: u32 = 0;
+    while i < n {
+        p = list_pgn(s, work, p);
+        i += 1;
+    }
+}
