@@ -6,14 +6,16 @@ use mathlib.Core.List.{List}
 use mathlib.Core.Bool.{Bool, true, false}
 use lib.ListN.{length, drop}
 use lib.Seq.{take-append-seam}
-use Rattle.pack.specs.Notation.{_≤ᵇ_}
+use Rattle.pack.specs.Notation.{_≤ᵇ_, if_then_else_}
 use Rattle.pack.specs.Value.{Pack, pgns-of}
 use Rattle.pack.specs.Format.{types, lookups, typeList, offsets}
 use Rattle.pack.specs.Load.{Verdict, refused, accepted, verdict, indexOf, loaded, workAfter}
-use Rattle.pack.specs.Meaning.{packOf}
+use Rattle.pack.specs.Meaning.{packOf, Reading, refused-by, holds, read}
 use Rattle.pack.specs.Ready.{Ready, lookupPlace, treePlace}
 use Rattle.pack.specs.Trees.{protocolOf, sectionOf}
 use Rattle.pack.specs.declared.load.Index.{Index}
+use Rattle.pack.specs.declared.load.Refusal.the-variants.{Work}
+use Rattle.pack.specs.declared.load.Loaded.{Loaded}
 use Rattle.pack.specs.declared.load.Loaded.the-variants.{Refused, Accepted}
 use Rattle.pack.proofs.Values.{types-are, lookups-are, pgns-are, length-types, tree-place}
 
@@ -59,3 +61,16 @@ load-law s w i e = go (verdict s) refl (indexOf s .records ≤ᵇ length w) refl
         let z : Accepted (indexOf s) ≡ Accepted i = rw (x, y) at e in
         (record { accepted = x; begins = (rw (x, y) (take-append-seam (offsets s) (drop (length (offsets s)) w))) }, cc)
     go accepted x false y = let u : _≡_ {A = ℕ} 0 1 = (let z = rw (x, y) at e in cc) in absurd (omega arith)
+
+-- what `load` answers is what reading gives, and 21
+abbrev pub readAnswer : Reading → Index → ℕ → Loaded
+readAnswer (refused-by r) i m = Refused r
+readAnswer (holds P os) i m = if length os ≤ᵇ m then Accepted i else Refused (Work (length os))
+
+pub read-law : (s : List ℕ) (m : ℕ) → loaded s m ≡ readAnswer (read s) (indexOf s) m
+unfolding loaded read indexOf
+read-law s m = go (verdict s) refl
+  where
+    go : (v : Verdict) → verdict s ≡ v → loaded s m ≡ readAnswer (read s) (indexOf s) m
+    go (refused r) e = rw e
+    go accepted e = rw e

@@ -2,7 +2,7 @@
 use Prim.Native.Nat.{ℕ, zero, suc, _+_}
 use mathlib.Core.Bool.{false, true}
 use mathlib.Core.List.{List, [], _∷_, _++_}
-use Rattle.pack.specs.Notation.{concatBelow}
+use Rattle.pack.specs.Notation.{concatBelow, tab}
 use Rattle.pack.specs.Items.{fresh, numberAt, versionAt, finish}
 use Rattle.pack.specs.Records.{typeAt, entryAt, lookupAt, pgnAt, fieldAt}
 use Rattle.pack.specs.declared.text.OptText.{OptText}
@@ -24,7 +24,7 @@ unfoldable pub types : List ℕ → Cursor → ℕ → Cursor
 types s c n = iter (typeNext s) c n
 
 unfoldable pub typeOffsets : List ℕ → Cursor → ℕ → List ℕ
-typeOffsets s c n = concatBelow (λ i. types s c i .at ∷ []) n
+typeOffsets s c n = tab (λ i. types s c i .at) n
 
 -- ---- lookups, each with its entries behind it
 
@@ -36,7 +36,7 @@ unfoldable pub entries : ℕ → List ℕ → Cursor → ℕ → Cursor
 entries kind s c n = iter (entryNext kind s) c n
 
 unfoldable pub entryOffsets : ℕ → List ℕ → Cursor → ℕ → List ℕ
-entryOffsets kind s c n = concatBelow (λ j. entries kind s c j .at ∷ []) n
+entryOffsets kind s c n = tab (λ j. entries kind s c j .at) n
 
 -- between two lookups: the cursor, and the name of the lookup before it, if there is one
 pub record LookupState : Type 0 where
@@ -85,7 +85,7 @@ unfoldable pub fields : ℕ → List ℕ → Cursor → ℕ → FieldState
 fields k s c n = iter (fieldNext k s) (record { next = c; total = 0 }) n
 
 unfoldable pub fieldOffsets : ℕ → List ℕ → Cursor → ℕ → List ℕ
-fieldOffsets k s c n = concatBelow (λ j. fields k s c j .next .at ∷ []) n
+fieldOffsets k s c n = tab (λ j. fields k s c j .next .at) n
 
 -- past a PGN and its fields
 unfoldable pub pgnNext : ℕ → List ℕ → Cursor → Cursor
@@ -123,7 +123,7 @@ treeList s t = numberAt s (treeStart s t)
 unfoldable pub packEnd : List ℕ → Cursor
 packEnd s = finish s (treeStart s 3)
 
--- the cursor at field type i, the state at lookup i, the cursors at entry j of lookup i, at PGN i of tree t and at field j of it
+-- the cursor at field type i, the state at lookup i, the cursor at PGN i of tree t
 abbrev pub typeStart : List ℕ → ℕ → Cursor
 typeStart s i = types s (typeList s .next) i
 

@@ -25,7 +25,7 @@ infix 50 _≺_
 abbrev pub fresh : ℕ → Cursor
 fresh at = record { at = at; refused = 0 }
 
--- "the detail is the byte offset at which the offending item begins": the cursor stays where the item began
+-- "the detail is the byte offset at which the offending item (a number, text, 8-byte float) begins": the cursor stays where it began
 abbrev pub refuse : Cursor → ℕ → Cursor
 refuse c n = record { at = c .at; refused = n }
 

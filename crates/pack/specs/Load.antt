@@ -20,7 +20,8 @@ refusalNumber Absent = 23
 refusalNumber (Place n) = 24
 refusalNumber (Visits n) = 25
 
--- "For 1 to 8 the detail is the byte offset at which the offending item begins; for 9 it is 0." "The detail is the length needed; 0 for 23"
+-- "For 1 to 8 the detail is the byte offset at which the offending item (a number, text, 8-byte float) begins; for 9 it is 0."
+-- "The detail is the length needed; 0 for 23 .."
 abbrev pub refusalDetail : Refusal → ℕ
 refusalDetail (Input n at) = at
 refusalDetail TooLong = 0

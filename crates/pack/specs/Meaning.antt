@@ -119,7 +119,6 @@ pgnMeaning s v fs =
 unfoldable pub typeOf : List ℕ → ℕ → FieldType
 typeOf s i = typeMeaning s (typeAt s (typeStart s i) .value)
 
--- entry j of the lookup whose entries begin at a cursor
 unfoldable pub lookupOf : List ℕ → ℕ → Lookup
 lookupOf s i =
     let a = lookupStart s i in

@@ -1,5 +1,5 @@
 -- What a pack says, with no position in it: numbers, texts as their bytes, floats as their 64-bit patterns, and lists of records.
--- The names are those of the Rust's `model.rs`, where it has them.
+-- The names follow the Rust's `model.rs` and document 01, with hyphens.
 use Prim.Native.Nat.{ℕ, zero, suc}
 use mathlib.Core.Bool.{Bool, false}
 use mathlib.Core.List.{List, []}
@@ -98,11 +98,12 @@ pub record Pack : Type 0 where
   pub pgns-j1939 : List Pgn
   pub pgns-quick : List Pgn
 
--- the Rust's `pgns_of`, by the tree's number
+-- the Rust's `pgns_of`, by the tree's number; no other tree has any
 abbrev pub pgns-of : Pack → ℕ → List Pgn
 pgns-of P zero = P .pgns
 pgns-of P (suc zero) = P .pgns-j1939
-pgns-of P (suc (suc t)) = P .pgns-quick
+pgns-of P (suc (suc zero)) = P .pgns-quick
+pgns-of P (suc (suc (suc t))) = []
 
 -- What stands at an index beyond a list.
 abbrev pub noFieldType : FieldType

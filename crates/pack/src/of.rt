@@ -1,4 +1,5 @@
 // For the layers above: the records by their work positions, said of the pack's value. A caller proves that a position is the record's own.
+// Where in the pack a view's texts stand is left free, and so is what an absent item holds: only what a view means is promised.
 ghost use mathlib.Core.Path.{_≡_};
 ghost use Prim.Native.Nat.{_<_};
 ghost use lib.ListN.{length, getD};

@@ -1,5 +1,7 @@
 -- The report example of document 01, its edges, and for each of its errors to shut out an example that the wrong reading fails.
-use Prim.Native.Nat.{ℕ}
+use Prim.Native.Nat.{ℕ, suc}
+use native.Mathlib.Omega.{arith}
+use borrow.Author.Tests.{lt-ltb}
 use mathlib.Core.Bool.{Bool, true, false, _&&_}
 use mathlib.Core.List.{List, [], _∷_}
 use mathlib.Core.Option.{Option, none, some}
@@ -11,6 +13,7 @@ use Rattle.rules.specs.Check.{check}
 use Rattle.rules.specs.Computed.{computed}
 use Rattle.rules.specs.Findings.{pgn-error, group-error}
 use Rattle.rules.specs.Floats.{ONE}
+use Rattle.rules.specs.MatchValues.{resolved-at}
 use Rattle.rules.specs.PlaceText.{place-text}
 use Rattle.rules.specs.Texts.{bytes, NUMBER, DECIMAL}
 
@@ -165,6 +168,15 @@ all-as-expected (e ∷ es) = (causes (findings-of (e .rule) (e .pack)) ≐ e .ex
 edges-hold : all-as-expected edges ≡ true
 unfolding computed
 edges-hold = refl
+
+-- "64 bits take all", "0 bits only 0": of every value
+wide-takes-all : (t i k value : ℕ) → resolved-at t i k 64 (some value) ≡ []
+unfolding resolved-at
+wide-takes-all t i k value = refl
+
+no-bits-take-zero : (t i k value : ℕ) → resolved-at t i k 0 (some (suc value)) ≡ pgn-error 13 2 t i k 0 ∷ []
+unfolding resolved-at
+no-bits-take-zero t i k value = rw (lt-ltb 0 (suc value) (omega arith))
 
 -- ---- errors to shut out
 

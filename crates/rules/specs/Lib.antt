@@ -56,5 +56,5 @@ pub mod Pdu1
 pub mod NamedMax
 pub mod Bound
 -- examples
-mod Computed
+pub mod Computed
 mod Examples

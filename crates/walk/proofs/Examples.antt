@@ -13,7 +13,9 @@ use Rattle.rules.specs.LookupWiring.{is-fieldtype, lookup-ref-at, check-lookup-
 use Rattle.rules.specs.MatchValues.{match-value-at, check-match-values}
 use Rattle.rules.specs.Continues.{continues-at, check-continues}
 use Rattle.rules.specs.TrailingZero.{trailing-zero-at, check-trailing-zero-is-digit}
-use Rattle.rules.specs.Findings.{pgn-error}
+use Rattle.rules.specs.Check.{check}
+use Rattle.rules.specs.Computed.{computed}
+use Rattle.rules.specs.Findings.{pgn-error, without-error}
 use Rattle.rules.specs.Repeating.{set-bounds, set-count-field, set-nesting, check-set, check-repeating}
 use Rattle.rules.specs.BitLengthField.{variable-binary, bit-length-target-at, bit-length-field-at, check-bit-length-field}
 use Rattle.rules.specs.Texts.{bytes, BINARY, NUMBER, DYNAMIC-FIELD-KEY, DYNAMIC-FIELD-VALUE}
@@ -23,8 +25,8 @@ use Rattle.walk.specs.Passes.{put, arrives, look, close, stand}
 use Rattle.walk.specs.Visits.{visited, latest, is-current}
 use Rattle.walk.specs.Walk.{End, whole, used-up, stop, Answer, arrive, settle, settled, onward, walk-on, walk-with, by-visits, walk}
 use Rattle.walk.specs.Held.{shares-held, count-field-held, count-fields-held, bit-length-held, dynamic-value-held, held}
-use Rattle.walk.specs.Guarantee.{Unstopped, Quiet}
-use Rattle.walk.proofs.NoStop.{weaker, guarantee-by}
+use Rattle.walk.specs.Guarantee.{Unstopped}
+use Rattle.walk.proofs.NoStop.{guarantee}
 
 -- A PACK of three field types and one lookup, and fields that ask for something
 abbrev root : Bytes → FieldType
@@ -348,21 +350,13 @@ sharing-stops : run sharing [] ≡ answer (stop 1) []
 unfolding run
 sharing-stops = refl
 
--- THE GUARANTEE at work: the PGN with a nested set is quiet and held
-nested-quiet : Quiet Q 0 0 nested
-unfolding check-repeating check-set set-bounds set-count-field set-nesting check-lookup-refs lookup-ref-at check-match-values match-value-at check-bit-length-field bit-length-field-at variable-binary check-continues continues-at check-trailing-zero-is-digit trailing-zero-at
-nested-quiet = record {
-  repeating = refl;
-  lookup-refs = refl;
-  nested-refs = λ l h. absurd (omega arith);
-  match-values = refl;
-  bit-length-field = refl;
-  continues = refl;
-  trailing-zero = refl;
-}
+-- THE GUARANTEE at work: the pack with a nested set is checked without one error, and its PGN is held
+nested-clean : without-error (check Q) ≡ true
+unfolding computed
+nested-clean = refl
 
 nested-unstopped : (readings : List ℕ) → Unstopped (walk Q nested readings) (length readings)
-nested-unstopped = guarantee-by Q 0 0 nested nested-quiet (weaker Q nested nested-held)
+nested-unstopped = guarantee Q 0 0 (omega arith) (omega arith) nested-clean nested-held
 
 -- MORE THAN TWO SETS: a chain of three that end together, the outer without end, the middle one passed over once
 abbrev three : Layout

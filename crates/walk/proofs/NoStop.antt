@@ -17,6 +17,7 @@ use Rattle.rules.specs.MatchValues.{check-match-values}
 use Rattle.rules.specs.BitLengthField.{check-bit-length-field}
 use Rattle.rules.specs.Continues.{check-continues}
 use Rattle.rules.specs.TrailingZero.{check-trailing-zero-is-digit}
+use Rattle.rules.specs.Findings.{without-error}
 use Rattle.rules.specs.Check.{check}
 use Rattle.rules.specs.Clean.{Clean, clean-below, clean-pgn, clean-lookup-refs, clean-nested-refs, clean-continues}
 use Rattle.walk.specs.Layout.{layout, everyBelow, sets-hold, stop-1}
@@ -118,6 +119,11 @@ unfolding walk
 guarantee-by P t i p q h readings =
     unstopped _ _ (never (layout p) (stop-at P p) (sound P t i p q h) readings) (walk-counted (layout p) (by-visits (layout p)) (stop-at P p) readings)
 
+-- with countFields of nonempty sets only: the other reading of what is held
+pub guarantee-nonempty : (P : Pack) (t i : ℕ) → t < 3 → i < length (pgns-of P t) → without-error (check P) ≡ true → held-nonempty P (pgn-at P t i) ≡ true
+    → (readings : List ℕ) → Unstopped (walk P (pgn-at P t i) readings) (length readings)
+guarantee-nonempty P t i l m e h = guarantee-by P t i (pgn-at P t i) (quiet P t i l m e) h
+
 -- THE GUARANTEE
 pub guarantee : Guarantee
-guarantee P t i l m e h = guarantee-by P t i (pgn-at P t i) (quiet P t i l m e) (weaker P (pgn-at P t i) h)
+guarantee P t i l m e h = guarantee-nonempty P t i l m e (weaker P (pgn-at P t i) h)
