@@ -60,23 +60,11 @@ fn say_offsets(work: &[u32], n: usize) {
     }
 }
 
-fn say_refused(number: u32, detail: usize) {
-    say(b"refused ");
-    say_count(number);
-    say(b" detail ");
-    say_number(detail);
-}
-
 fn say_refusal(r: Refusal) {
-    match r {
-        Refusal::Input { number, offset } => say_refused(number, offset),
-        Refusal::TooLong => say_refused(9, 0),
-        Refusal::Work(n) => say_refused(21, n),
-        Refusal::Findings(n) => say_refused(22, n),
-        Refusal::Absent => say_refused(23, 0),
-        Refusal::Place(n) => say_refused(24, n),
-        Refusal::Visits(n) => say_refused(25, n),
-    }
+    say(b"refused ");
+    say_count(r.number());
+    say(b" detail ");
+    say_number(r.detail());
 }
 
 fn is_kept(work: &[u32], from: usize) -> bool {

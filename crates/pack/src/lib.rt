@@ -3,7 +3,7 @@ pub mod at;
 pub mod cursor;
 pub mod float;
 pub mod load;
-pub mod number;
+mod number;
 pub mod of;
 pub mod protocol;
 pub mod records;

@@ -4,7 +4,7 @@ ghost use mathlib.Core.Path.{_≡_};
 ghost use Prim.Native.Nat.{_≤_, _<_};
 ghost use lib.ListN.{length, set};
 ghost use Rattle.pack.specs.Format.{types, typeOffsets, entries, entryOffsets, lookupNext, lookupRecords, lookups, lookupOffsets, fields, fieldOffsets, pgnNext, pgnRecords, pgns, pgnOffsets};
-ghost use Rattle.pack.specs.Load.{loaded, workAfter};
+ghost use Rattle.pack.specs.Load.{refusalNumber, refusalDetail, loaded, workAfter};
 ghost use Rattle.pack.specs.Placing.{Room, Placing, LookupPlacing, TreePlacing, Walking, counted};
 use crate::cursor::Cursor;
 use crate::text::OptText;
@@ -43,6 +43,37 @@ pub enum Refusal {
     Place(usize),
     // 25
     Visits(usize),
+}
+
+// "A refusal gives its number and a detail."
+impl Refusal {
+    pub fn number(self) -> u32
+        ensures { λ n. ⌜ n ≡ refusalNumber self ⌝ }
+    {
+        match self {
+            Refusal::Input { number, offset: _ } => number,
+            Refusal::TooLong => 9,
+            Refusal::Work(_) => 21,
+            Refusal::Findings(_) => 22,
+            Refusal::Absent => 23,
+            Refusal::Place(_) => 24,
+            Refusal::Visits(_) => 25,
+        }
+    }
+
+    pub fn detail(self) -> usize
+        ensures { λ n. ⌜ n ≡ refusalDetail self ⌝ }
+    {
+        match self {
+            Refusal::Input { number: _, offset } => offset,
+            Refusal::TooLong => 0,
+            Refusal::Work(n) => n,
+            Refusal::Findings(n) => n,
+            Refusal::Absent => 0,
+            Refusal::Place(n) => n,
+            Refusal::Visits(n) => n,
+        }
+    }
 }
 
 pub enum Loaded {

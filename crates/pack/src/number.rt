@@ -5,7 +5,7 @@ ghost use lib.ListN.{length};
 ghost use Rattle.pack.specs.Items.{lastByte, groups, shortest, capped};
 
 // A number, or that it is above what its width holds.
-pub struct Value {
+pub(crate) struct Value {
     pub over: bool,
     pub value: u64,
 }
@@ -17,7 +17,7 @@ fn wide(b: u8) -> u64
 }
 
 // Where the number that begins at `at` has its last byte; the length or more where it has none.
-pub fn last_byte(s: &[u8], at: usize) -> usize
+pub(crate) fn last_byte(s: &[u8], at: usize) -> usize
     ensures { λ r. ⌜ r ≡ lastByte (now (s .entry)) at ⌝ }
 {
     let mut i = at;
@@ -31,7 +31,7 @@ pub fn last_byte(s: &[u8], at: usize) -> usize
 }
 
 // Whether the number from `at` to its last byte `e` is in shortest form.
-pub fn is_shortest(s: &[u8], at: usize, e: usize) -> bool
+pub(crate) fn is_shortest(s: &[u8], at: usize, e: usize) -> bool
     requires { ⌜ e < length (now s) ⌝ }
     ensures { λ r. ⌜ r ≡ shortest (now (s .entry)) at e ⌝ }
 {
@@ -44,7 +44,7 @@ pub fn is_shortest(s: &[u8], at: usize, e: usize) -> bool
 }
 
 // The value of the n groups before `end`, counted from the top, so that it can be left before it would wrap.
-pub fn decode(s: &[u8], end: usize, n: usize, most: u64) -> Value
+pub(crate) fn decode(s: &[u8], end: usize, n: usize, most: u64) -> Value
     requires { ⌜ (n ≤ end) × (end ≤ length (now s)) ⌝ }
     ensures { λ r. ⌜ r ≡ capped most (groups (now (s .entry)) end n) ⌝ }
     ensures { λ r. ⌜ r .value ≤ most ⌝ }
