@@ -4,14 +4,14 @@ use native.Mathlib.Omega.{arith}
 use mathlib.Core.Path.{_≡_}
 use mathlib.Core.List.{List, [], _∷_, _++_}
 use lib.ListN.{length, getD, length-append}
-use Rattle.pack.specs.Notation.{concatBelow}
-use Rattle.pack.specs.Items.{fresh}
+use Rattle.pack.specs.Notation.{_==_, _<ᵇ_, concatBelow}
+use Rattle.pack.specs.Items.{fresh, finish}
 use Rattle.pack.specs.Records.{lookupAt, pgnAt}
 use Rattle.pack.specs.Format.{types, typeOffsets, entries, entryOffsets, LookupState, lookupNext, lookups, lookupRecords, lookupOffsets, FieldState, fieldNext, fields, fieldOffsets, pgnNext, pgns, pgnRecords, pgnOffsets, typeList, lookupList, treeStart, treeList, typePart, lookupPart, treePart, before, offsets, packEnd, lookupStart, pgnStart}
 use Rattle.pack.specs.Load.{mostBytes}
 use Rattle.pack.specs.Ready.{Ready}
 use Rattle.pack.specs.declared.cursor.Cursor.{Cursor}
-use Rattle.pack.proofs.Reading.{back, number-reader, version-reader, type-reader, type-moves, types-reader, entry-reader, entry-moves, entries-reader, lookup-reader, lookup-moves, lookup-steps, lookups-reader, field-steps, field-moves, fields-reader, pgn-reader, pgn-moves, pgn-next-reader, pgns-reader}
+use Rattle.pack.proofs.Reading.{if-all, back, number-reader, version-reader, type-reader, type-moves, types-reader, entry-reader, entry-moves, entries-reader, lookup-reader, lookup-moves, lookup-steps, lookups-reader, field-steps, field-moves, fields-reader, pgn-reader, pgn-moves, pgn-next-reader, pgns-reader}
 use Rattle.pack.proofs.Clean.{accepted-end, tree-clean}
 use Rattle.pack.proofs.Values.{length-types, length-lookup, length-pgn}
 use Rattle.pack.proofs.Whole.{tree-reader}
@@ -96,6 +96,22 @@ module _ (s : List ℕ) where
   tree-within zero =
       lookups-reader s (lookupList s .value) .within _ (number-reader s .within _ (types-reader s (typeList s .value) .within _ (number-reader s .within _ (version-reader s .within (fresh 0) (omega arith)))))
   tree-within (suc t) = tree-reader s (typeList s .value) .within (treeStart s t) (tree-within t)
+
+-- an input refusal is one of 1 to 8, at an offset within the pack
+module _ (s : List ℕ) where
+  tree-numbered : (t : ℕ) → treeStart s t .refused ≤ 8
+  unfolding treeStart treeList lookupList typeList
+  tree-numbered zero =
+      lookups-reader s (lookupList s .value) .numbered _ (number-reader s .numbered _ (types-reader s (typeList s .value) .numbered _ (number-reader s .numbered _ (version-reader s .numbered (fresh 0) (omega arith)))))
+  tree-numbered (suc t) = tree-reader s (typeList s .value) .numbered (treeStart s t) (tree-numbered t)
+
+  pub input-bound : (packEnd s .refused ≤ 8) × (packEnd s .at ≤ length s)
+  unfolding packEnd finish
+  input-bound =
+      let c = treeStart s 3 in
+      let P : Cursor → Type 0 = λ d. (d .refused ≤ 8) × (d .at ≤ length s) in
+      let h : P c = (tree-numbered 3, tree-within s 3) in
+      if-all P (c .refused == 0) _ _ (λ _. if-all P (c .at <ᵇ length s) _ _ (λ _. (omega arith, h .1)) (λ _. h)) (λ _. h)
 
 -- "how many records": no more than bytes
 pub records-bound : (s w : List ℕ) → Ready s w → (length (offsets s) ≤ length s) × (length s ≤ mostBytes)

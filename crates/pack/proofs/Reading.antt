@@ -1,4 +1,4 @@
--- Laws of readers: a refused cursor stays, reading stays within the bytes, and it never goes back.
+-- Laws of readers: a refused cursor stays, reading stays within the bytes and never goes back, and it refuses by 1 to 8.
 use Prim.Native.Nat.{ℕ, zero, suc, _+_, _-_, _*_, _≤_, _<_}
 use native.Mathlib.Omega.{arith}
 use native.Mathlib.Decide.{ℕ-discrete}
@@ -24,6 +24,7 @@ pub record Steps (s : List ℕ) {A : Type 0} (cur : A → Cursor) (f : A → A) 
   pub sticky : (a : A) → (cur a .refused ≡ 0 → ⊥) → cur (f a) ≡ cur a
   pub within : (a : A) → cur a .at ≤ length s → cur (f a) .at ≤ length s
   pub grows : (a : A) → cur a .at ≤ cur (f a) .at
+  pub numbered : (a : A) → cur a .refused ≤ 8 → cur (f a) .refused ≤ 8
 
 -- a reader of one item or more
 abbrev pub Reader : List ℕ → (Cursor → Cursor) → Type 0
@@ -41,13 +42,14 @@ module _ {s : List ℕ} {A : Type 0} {cur : A → Cursor} {f : A → A} (r : Ste
       go (no n) = absurd (n (sym (ap (λ (d : Cursor). d .refused) (r .sticky a n)) ∙ e))
 
   pub often : (n : ℕ) → Steps s cur (λ a. iter f a n)
-  often zero = record { sticky = λ a h. refl; within = λ a h. h; grows = λ a. omega arith }
+  often zero = record { sticky = λ a h. refl; within = λ a h. h; grows = λ a. omega arith; numbered = λ a h. h }
   often (suc n) =
       let i = often n in
       record {
         sticky = λ a h. r .sticky (iter f a n) (λ e. h (sym (ap (λ (d : Cursor). d .refused) (i .sticky a h)) ∙ e)) ∙ i .sticky a h;
         within = λ a h. r .within (iter f a n) (i .within a h);
         grows = λ a. omega (arith, i .grows a, r .grows (iter f a n));
+        numbered = λ a h. r .numbered (iter f a n) (i .numbered a h);
       }
 
 pub iter-add : {A : Type 0} (f : A → A) (a : A) (k j : ℕ) → iter f a (k + j) ≡ iter f (iter f a k) j
@@ -79,13 +81,14 @@ module _ {s : List ℕ} where
         sticky = λ c h. ap (g c) (p .sticky c h) ∙ q c .sticky c h;
         within = λ c h. q c .within (f c) (p .within c h);
         grows = λ c. omega (arith, p .grows c, q c .grows (f c));
+        numbered = λ c h. q c .numbered (f c) (p .numbered c h);
       }
 
   -- one of two, as a test on the cursor says
   pub choose : (b : Cursor → Bool) (f g h : Cursor → Cursor) → ((c : Cursor) → b c ≡ true → h c ≡ f c) → ((c : Cursor) → b c ≡ false → h c ≡ g c)
       → Reader s f → Reader s g → Reader s h
   choose b f g h t e p q =
-      record { sticky = λ c n. st c n (b c) refl; within = λ c l. wi c l (b c) refl; grows = λ c. gr c (b c) refl }
+      record { sticky = λ c n. st c n (b c) refl; within = λ c l. wi c l (b c) refl; grows = λ c. gr c (b c) refl; numbered = λ c l. nu c l (b c) refl }
     where
       st : (c : Cursor) → (c .refused ≡ 0 → ⊥) → (v : Bool) → b c ≡ v → h c ≡ c
       st c n true d = t c d ∙ p .sticky c n
@@ -99,8 +102,12 @@ module _ {s : List ℕ} where
       gr c true d = rw (t c d) (p .grows c)
       gr c false d = rw (e c d) (q .grows c)
 
+      nu : (c : Cursor) → c .refused ≤ 8 → (v : Bool) → b c ≡ v → h c .refused ≤ 8
+      nu c l true d = rw (t c d) (p .numbered c l)
+      nu c l false d = rw (e c d) (q .numbered c l)
+
   pub stay : Reader s (λ c. c)
-  stay = record { sticky = λ c h. refl; within = λ c h. h; grows = λ c. omega arith }
+  stay = record { sticky = λ c h. refl; within = λ c h. h; grows = λ c. omega arith; numbered = λ c h. h }
 
 -- ---- the items
 
@@ -142,6 +149,7 @@ module _ (s : List ℕ) where
         sticky = λ c h. stick c h;
         within = λ c h. wide-all most (λ w. w .next .at ≤ length s) c (λ _. h) h h (λ v l. omega arith);
         grows = λ c. wide-all most (λ w. c .at ≤ w .next .at) c (λ _. omega arith) (omega arith) (omega arith) (λ v l. omega arith);
+        numbered = λ c h. wide-all most (λ w. w .next .refused ≤ 8) c (λ _. h) (omega arith) (omega arith) (λ v l. h);
       }
     where
       stick : (c : Cursor) → (c .refused ≡ 0 → ⊥) → wideAt most s c .next ≡ c
@@ -159,9 +167,9 @@ module _ (s : List ℕ) where
   unfolding numberAt
   number-moves = wide-moves largest32
 
-  judged-reader : (good : Cursor → Bool) (n : ℕ) → Reader s (λ c. judged c (numberAt s c) (good c) n .next)
+  judged-reader : (good : Cursor → Bool) (n : ℕ) → n ≤ 8 → Reader s (λ c. judged c (numberAt s c) (good c) n .next)
   unfolding judged
-  judged-reader good n =
+  judged-reader good n l =
       record {
         sticky = λ c h. stick c h;
         within =
@@ -174,6 +182,11 @@ module _ (s : List ℕ) where
             if-all (λ (w : NumberItem). c .at ≤ w .next .at) (numberAt s c .next .refused == 0) _ _
             (λ _. if-all (λ (w : NumberItem). c .at ≤ w .next .at) (good c) _ _ (λ _. number-reader .grows c) (λ _. omega arith))
             (λ _. number-reader .grows c);
+        numbered =
+            λ c h.
+            if-all (λ (w : NumberItem). w .next .refused ≤ 8) (numberAt s c .next .refused == 0) _ _
+            (λ _. if-all (λ (w : NumberItem). w .next .refused ≤ 8) (good c) _ _ (λ _. number-reader .numbered c h) (λ _. l))
+            (λ _. number-reader .numbered c h);
       }
     where
       stick : (c : Cursor) → (c .refused ≡ 0 → ⊥) → judged c (numberAt s c) (good c) n .next ≡ c
@@ -188,23 +201,23 @@ module _ (s : List ℕ) where
 
   pub version-reader : Reader s (λ c. versionAt s c .next)
   unfolding versionAt
-  version-reader = judged-reader (λ c. numberAt s c .value == 1) 3
+  version-reader = judged-reader (λ c. numberAt s c .value == 1) 3 (omega arith)
 
   pub code-reader : (most : ℕ) → Reader s (λ c. codeAt most s c .next)
   unfolding codeAt
-  code-reader most = judged-reader (λ c. numberAt s c .value ≤ᵇ most) 4
+  code-reader most = judged-reader (λ c. numberAt s c .value ≤ᵇ most) 4 (omega arith)
 
   pub index-reader : (k : ℕ) → Reader s (λ c. indexAt k s c .next)
   unfolding indexAt
-  index-reader k = judged-reader (λ c. numberAt s c .value <ᵇ k) 6
+  index-reader k = judged-reader (λ c. numberAt s c .value <ᵇ k) 6 (omega arith)
 
   pub sum-reader : (o : ℕ) → Reader s (λ c. sumAt o s c .next)
   unfolding sumAt
-  sum-reader o = judged-reader (λ c. o + numberAt s c .value ≤ᵇ largest32) 7
+  sum-reader o = judged-reader (λ c. o + numberAt s c .value ≤ᵇ largest32) 7 (omega arith)
 
   pub bytes-reader : Reader s (λ c. bytesAt s c .next)
   unfolding bytesAt
-  bytes-reader = judged-reader (λ c. numberAt s c .value * 8 ≤ᵇ largest32) 7
+  bytes-reader = judged-reader (λ c. numberAt s c .value * 8 ≤ᵇ largest32) 7 (omega arith)
 
   pub mark-reader : Reader s (λ c. markAt s c .next)
   unfolding markAt
@@ -226,6 +239,7 @@ module _ (s : List ℕ) where
         sticky = λ c h. stick c h;
         within = λ c h. text-all (λ w. w .next .at ≤ length s) c (λ _. number-reader .within c h) h (λ v e k l. l);
         grows = λ c. text-all (λ w. c .at ≤ w .next .at) c (λ _. number-reader .grows c) (omega arith) (λ v e k l. omega (arith, number-reader .grows c));
+        numbered = λ c h. text-all (λ w. w .next .refused ≤ 8) c (λ _. number-reader .numbered c h) (omega arith) (λ v e k l. number-reader .numbered c h);
       }
     where
       stick : (c : Cursor) → (c .refused ≡ 0 → ⊥) → textAt s c .next ≡ c
@@ -250,6 +264,7 @@ module _ (s : List ℕ) where
         sticky = λ c h. stick c h;
         within = λ c h. name-all before (λ w. w .next .at ≤ length s) c (text-reader .within c h) h;
         grows = λ c. name-all before (λ w. c .at ≤ w .next .at) c (text-reader .grows c) (omega arith);
+        numbered = λ c h. name-all before (λ w. w .next .refused ≤ 8) c (text-reader .numbered c h) (omega arith);
       }
     where
       stick : (c : Cursor) → (c .refused ≡ 0 → ⊥) → nameAt before s c .next ≡ c
@@ -273,6 +288,11 @@ module _ (s : List ℕ) where
             if-all (λ (w : WideItem). c .at ≤ w .next .at) (c .refused == 0) _ _
             (λ _. if-all (λ (w : WideItem). c .at ≤ w .next .at) (c .at + 8 ≤ᵇ length s) _ _ (λ l. omega arith) (λ _. omega arith))
             (λ _. omega arith);
+        numbered =
+            λ c h.
+            if-all (λ (w : WideItem). w .next .refused ≤ 8) (c .refused == 0) _ _
+            (λ _. if-all (λ (w : WideItem). w .next .refused ≤ 8) (c .at + 8 ≤ᵇ length s) _ _ (λ l. h) (λ _. omega arith))
+            (λ _. h);
       }
     where
       stick : (c : Cursor) → (c .refused ≡ 0 → ⊥) → floatAt s c .next ≡ c
@@ -418,6 +438,7 @@ module _ (s : List ℕ) where
         sticky = λ a. lookup-next-reader (a .before) .sticky (a .next);
         within = λ a. lookup-next-reader (a .before) .within (a .next);
         grows = λ a. lookup-next-reader (a .before) .grows (a .next);
+        numbered = λ a. lookup-next-reader (a .before) .numbered (a .next);
       }
 
   pub lookups-reader : (n : ℕ) → Reader s (λ c. lookups s c n .next)
@@ -428,6 +449,7 @@ module _ (s : List ℕ) where
         sticky = λ c. r .sticky (record { next = c; before = noText });
         within = λ c. r .within (record { next = c; before = noText });
         grows = λ c. r .grows (record { next = c; before = noText });
+        numbered = λ c. r .numbered (record { next = c; before = noText });
       }
 
   pub field-steps : (k : ℕ) → Steps s (λ (a : FieldState). a .next) (fieldNext k s)
@@ -437,6 +459,7 @@ module _ (s : List ℕ) where
         sticky = λ a. field-reader k (a .total) .sticky (a .next);
         within = λ a. field-reader k (a .total) .within (a .next);
         grows = λ a. field-reader k (a .total) .grows (a .next);
+        numbered = λ a. field-reader k (a .total) .numbered (a .next);
       }
 
   pub fields-reader : (k n : ℕ) → Reader s (λ c. fields k s c n .next)
@@ -447,6 +470,7 @@ module _ (s : List ℕ) where
         sticky = λ c. r .sticky (record { next = c; total = 0 });
         within = λ c. r .within (record { next = c; total = 0 });
         grows = λ c. r .grows (record { next = c; total = 0 });
+        numbered = λ c. r .numbered (record { next = c; total = 0 });
       }
 
   pub pgn-next-reader : (k : ℕ) → Reader s (pgnNext k s)
