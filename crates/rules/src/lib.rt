@@ -4,6 +4,9 @@ ghost use Rattle.rules.specs.Proprietary.{is-manufacturer-pgn};
 pub mod emit;
 pub mod floats;
 pub mod frame_length;
+pub mod lookups;
+pub mod matches;
+pub mod targets;
 
 // A finding's eight numbers.
 pub struct Finding {
