@@ -9,6 +9,7 @@ pub mod lookups;
 pub mod match_values;
 pub mod matches;
 pub mod targets;
+pub mod trailing_zero;
 pub mod widths;
 
 // A finding's eight numbers.
