@@ -8,8 +8,10 @@ pub mod frame_length;
 pub mod lookups;
 pub mod match_values;
 pub mod matches;
+pub mod searches;
 pub mod targets;
 pub mod trailing_zero;
+pub mod unique_ids;
 pub mod widths;
 
 // A finding's eight numbers.
