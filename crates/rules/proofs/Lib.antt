@@ -1,1 +1,2 @@
 pub mod Emits
+pub mod Sizes

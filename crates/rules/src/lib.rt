@@ -1,9 +1,18 @@
 ghost use mathlib.Core.Path.{_≡_};
 ghost use Rattle.rules.specs.Proprietary.{is-manufacturer-pgn};
 
+pub mod bit_length_field;
 pub mod emit;
 pub mod floats;
 pub mod frame_length;
+pub mod lookups;
+pub mod match_values;
+pub mod matches;
+pub mod searches;
+pub mod targets;
+pub mod trailing_zero;
+pub mod unique_ids;
+pub mod widths;
 
 // A finding's eight numbers.
 pub struct Finding {

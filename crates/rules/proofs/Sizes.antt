@@ -1,0 +1,43 @@
+-- Sizes of an accepted pack's lists, for the counters of loops.
+use Prim.Native.Nat.{ℕ, zero, suc, _+_, _≤_, _<_}
+use native.Mathlib.Omega.{arith}
+use mathlib.Core.List.{List}
+use lib.ListN.{length}
+use lib.Seq.{take-length}
+use mathlib.Core.Path.{_≡_}
+use Rattle.pack.specs.Value.{Pgn, Pack, pgns-of}
+use Rattle.pack.specs.Format.{offsets}
+use Rattle.pack.specs.Meaning.{packOf}
+use Rattle.pack.specs.Ready.{Ready, PgnAt, LookupAt, pgnIn, lookupIn, lookupPlace, pgnPlace, pgnRecordsBelow}
+use Rattle.pack.proofs.Positions.{pgn-room, lookup-room}
+use Rattle.pack.proofs.Bounds.{records-bound}
+
+-- its own record offsets are a work list
+own : {s w : List ℕ} → Ready s w → Ready s (offsets s)
+own {s} r = record { accepted = r .accepted; begins = take-length (offsets s) }
+
+pub fields-few : {s w : List ℕ} {t i p : ℕ} → PgnAt s w t i p → p + 1 + length (pgnIn (packOf s) t i .fields) ≤ 1048576
+fields-few {s} {w} a =
+    omega (arith, pgn-room (record { ready = own (a .ready); tree = a .tree; pgn = a .pgn; place = a .place }), records-bound s w (a .ready))
+
+pub entries-few : {s w : List ℕ} {l p : ℕ} → LookupAt s w l p → p + 1 + length (lookupIn (packOf s) l .entries) ≤ 1048576
+entries-few {s} {w} a =
+    omega (arith, lookup-room (record { ready = own (a .ready); lookup = a .lookup; place = a .place }), records-bound s w (a .ready))
+
+records-grow : (ps : List Pgn) (i : ℕ) → i ≤ pgnRecordsBelow ps i
+records-grow ps zero = omega arith
+records-grow ps (suc i) = omega (arith, records-grow ps i)
+
+pub pgns-few : {s w : List ℕ} {t i p : ℕ} → PgnAt s w t i p → i < 1048576
+pgns-few {s} {w} {t} {i} a = omega (arith, fields-few a, a .place, records-grow (pgns-of (packOf s) t) i)
+
+lookups-grow : (P : Pack) (i : ℕ) → i ≤ lookupPlace P i
+lookups-grow P zero = omega arith
+lookups-grow P (suc i) = omega (arith, lookups-grow P i)
+
+pub lookups-few : {s w : List ℕ} {l p : ℕ} → LookupAt s w l p → l < 1048576
+lookups-few {s} {w} {l} a = omega (arith, entries-few a, a .place, lookups-grow (packOf s) l)
+
+-- PGN i of a tree, at its place
+pub at-pgn : {s w : List ℕ} {t i p n : ℕ} → Ready s w → t < 3 → n ≤ length (pgns-of (packOf s) t) → i < n → p ≡ pgnPlace (packOf s) t i → PgnAt s w t i p
+at-pgn r h l k e = record { ready = r; tree = h; pgn = omega arith; place = e }

@@ -1,0 +1,119 @@
+use Rattle.rules.specs.MatchValues.{resolved-at, match-value-at}
+use Rattle.rules.specs.Model.{resolve-match}
+use lib.Pow.{pow-pos}
+use native.Mathlib.Decide.{decLt}
+use Rattle.rules.proofs.Emits.{emitted-none, emitted-append, emitted-turn, fits-left, fits-right, fits-turn}
+use Rattle.rules.specs.Model.{given, field-at}
+use Rattle.rules.specs.Findings.{report-if, pgn-error}
+use Rattle.rules.specs.Emit.{Emitted, Fits}
+use Rattle.rules.specs.declared.Finding.{Finding}
+use Rattle.pack.specs.declared.records.PgnView.{PgnView}
+use Rattle.pack.specs.declared.records.FieldView.{FieldView}
+use Rattle.pack.specs.Ready.{Ready, PgnAt, PgnIs, LookupAt, LookupIs, pgnIn, fieldIn, lookupIn}
+use Rattle.pack.specs.Meaning.{optBytes, optNumber, optFloat, optReference, optRepeating, fieldMeaning, packOf}
+use Rattle.pack.specs.Items.{bytesOf}
+use Rattle.pack.specs.Value.{Bytes, FieldType, Entry, Lookup, Repeating, Reference, Field, Pgn, Pack}
+use Rattle.pack.specs.Notation.{_==_, _<ᵇ_, _≤ᵇ_, _≐_, if_then_else_, optional, concatBelow}
+use mathlib.Core.Option.{Option, none, some}
+use mathlib.Core.Bool.{not, _&&_, _||_}
+use Prim.Native.Nat.{ℕ, zero, suc, _+_, _-_, _*_, _/_, _%_, _^_, _≤_, _<_}
+use native.Mathlib.Omega.{arith}
+use native.Mathlib.Numerals.{add-one}
+use mathlib.Core.Path.{_≡_, refl, ap, _∙_, sym}
+use mathlib.Core.List.{List, [], _∷_, _++_}
+use mathlib.Core.Bool.{Bool, true, false}
+use borrow.Author.Needs.{needs}
+use borrow.Author.Tests.{lt-ltb, le-ltb, le-leb, lt-leb, eq-eqb, ne-eqb, leb-true, leb-false, ltb-true, ltb-false, eqb-true, eqb-false, not-true, not-false}
+use denote.Ref.{now}
+use lib.ListN.{length, getD, take, drop, set}
+use lib.Dec.{ltb, leb, eqb}
+use Rattle.rules.proofs.match_values.match_value_at.Statement.{statement}
+use Rattle.rules.proofs.match_values.match_value_at.Tie as tie
+use Rattle.rules.proofs.match_values.match_value_at.Reads as reads
+use Rattle.rules.proofs.match_values.match_value_at.Lts as lts
+use Rattle.rules.proofs.emit.pgn_error.Reads as pgn-error-reads
+use Rattle.rules.proofs.emit.put.Reads as put-reads
+use Rattle.rules.proofs.emit.put_if.Reads as put-if-reads
+use Rattle.rules.proofs.matches.resolve_match.Reads as resolve-match-reads
+use Rattle.rules.proofs.widths.exceeds.Reads as exceeds-reads
+
+less-one : (a b : ℕ) → 0 < a → (a - 1 <ᵇ b) ≡ (a ≤ᵇ b)
+less-one a b h = go (decLt b a)
+  where
+    go : Dec (b < a) → (a - 1 <ᵇ b) ≡ (a ≤ᵇ b)
+    go (yes l) = rw (le-ltb (a - 1) b (omega arith), lt-leb a b l)
+    go (no l) = rw (lt-ltb (a - 1) b (omega arith), le-leb a b (omega arith))
+
+module _ (s : List ℕ) (ls : List Lookup) (t i k : ℕ) (p : Pgn) (f : FieldView) (is : fieldMeaning s f ≡ field-at p k) where
+  unmatched : f .authored .matched .given ≡ false → match-value-at ls t i p k ≡ []
+  unfolding match-value-at
+  unmatched h = rw (← is, h)
+
+  module _ (h : f .authored .matched .given ≡ true) (g : Bool) (v : ℕ) (e : optional g v ≡ resolve-match ls (fieldMeaning s f)) where
+    unresolved : g ≡ false → (F : Finding) → F ≡ pgn-error 13 1 t i k 0 → match-value-at ls t i p k ≡ F ∷ []
+    unfolding match-value-at resolved-at
+    unresolved x F y = rw (← is, ← e, h, x, y)
+
+    resolved : g ≡ true → (b : Bool) → b ≡ ((f .scaling .bits <ᵇ 64) && (2 ^ f .scaling .bits ≤ᵇ v)) → (F : Finding) → F ≡ pgn-error 13 2 t i k 0 → match-value-at ls t i p k ≡ report-if b F
+    unfolding match-value-at resolved-at
+    resolved x b z F y = rw (← is, ← e, h, x, y, z, less-one (2 ^ f .scaling .bits) v (pow-pos (f .scaling .bits)))
+
+-- src/match_values.rt:34:9
+returns : tie.Need-returns
+returns c = rw (unmatched (now (c .before .before .before .before .before .args .s)) (packOf (now (c .before .before .before .before .before .args .s)) .lookups) (c .before .before .before .before .before .args .t) (c .before .before .before .before .before .args .i) (c .before .before .before .before .before .args .k) (pgnIn (packOf (now (c .before .before .before .before .before .args .s))) (c .before .before .before .before .before .args .t) (c .before .before .before .before .before .args .i)) (c .before .before .before .before .before .args .f) (c .before .before .before .before .before .pre .4) (not-true (c .before .before .before .before .before .args .f .authored .matched .given) (c .if1 .taken))) (emitted-none (now (c .before .before .before .before .before .args .out)) (c .before .before .before .before .before .args .n))
+
+-- src/match_values.rt:36:9
+resolve-match-requires : tie.Need-resolve-match-requires
+resolve-match-requires c κs = (c .before .before .before .before .before .pre .1, c .before .before .before .before .before .pre .2, c .before .before .before .before .before .pre .3)
+
+-- src/match_values.rt:38:28
+pgn-error-requires : tie.Need-pgn-error-requires
+pgn-error-requires c κs = search needs
+
+-- src/match_values.rt:38:9
+put-requires : tie.Need-put-requires
+put-requires c κs = rw (unresolved (now (c .before .before .before .before .before .before .before .before .before .before .args .s)) (packOf (now (c .before .before .before .before .before .before .before .before .before .before .args .s)) .lookups) (c .before .before .before .before .before .before .before .before .before .before .args .t) (c .before .before .before .before .before .before .before .before .before .before .args .i) (c .before .before .before .before .before .before .before .before .before .before .args .k) (pgnIn (packOf (now (c .before .before .before .before .before .before .before .before .before .before .args .s))) (c .before .before .before .before .before .before .before .before .before .before .args .t) (c .before .before .before .before .before .before .before .before .before .before .args .i)) (c .before .before .before .before .before .before .before .before .before .before .args .f) (c .before .before .before .before .before .before .before .before .before .before .pre .4) (not-false (c .before .before .before .before .before .before .before .before .before .before .args .f .authored .matched .given) (c .before .before .before .before .before .if1 .left)) (c .before .before .before .before .resolve-match .result .given) (c .before .before .before .before .resolve-match .result .value) (c .before .before .before .before .resolve-match .ensures) (not-true (c .before .before .before .before .resolve-match .result .given) (c .before .before .if2 .taken)) (c .pgn-error .result) (c .pgn-error .ensures)) at (c .before .before .before .before .before .before .before .before .before .before .pre .0)
+
+-- src/match_values.rt:38:9
+same-length : tie.Need-same-length
+same-length c = search needs
+
+-- src/match_values.rt:38:9
+returns-2 : tie.Need-returns-2
+returns-2 c = rw (unresolved (now (c .before .before .before .before .before .before .before .before .before .before .before .before .before .args .s)) (packOf (now (c .before .before .before .before .before .before .before .before .before .before .before .before .before .args .s)) .lookups) (c .before .before .before .before .before .before .before .before .before .before .before .before .before .args .t) (c .before .before .before .before .before .before .before .before .before .before .before .before .before .args .i) (c .before .before .before .before .before .before .before .before .before .before .before .before .before .args .k) (pgnIn (packOf (now (c .before .before .before .before .before .before .before .before .before .before .before .before .before .args .s))) (c .before .before .before .before .before .before .before .before .before .before .before .before .before .args .t) (c .before .before .before .before .before .before .before .before .before .before .before .before .before .args .i)) (c .before .before .before .before .before .before .before .before .before .before .before .before .before .args .f) (c .before .before .before .before .before .before .before .before .before .before .before .before .before .pre .4) (not-false (c .before .before .before .before .before .before .before .before .before .before .before .before .before .args .f .authored .matched .given) (c .before .before .before .before .before .before .before .before .if1 .left)) (c .before .before .before .before .before .before .before .resolve-match .result .given) (c .before .before .before .before .before .before .before .resolve-match .result .value) (c .before .before .before .before .before .before .before .resolve-match .ensures) (not-true (c .before .before .before .before .before .before .before .resolve-match .result .given) (c .before .before .before .before .before .if2 .taken)) (c .before .before .before .pgn-error .result) (c .before .before .before .pgn-error .ensures)) (c .before .before .put .ensures)
+
+-- src/match_values.rt:40:9
+exceeds-requires : tie.Need-exceeds-requires
+exceeds-requires c κs = search needs
+
+-- src/match_values.rt:41:26
+pgn-error-requires-2 : tie.Need-pgn-error-requires-2
+pgn-error-requires-2 c κs = search needs
+
+-- src/match_values.rt:41:5
+put-if-requires : tie.Need-put-if-requires
+put-if-requires c κs = rw (resolved (now (c .before .before .before .before .before .before .before .before .before .before .before .args .s)) (packOf (now (c .before .before .before .before .before .before .before .before .before .before .before .args .s)) .lookups) (c .before .before .before .before .before .before .before .before .before .before .before .args .t) (c .before .before .before .before .before .before .before .before .before .before .before .args .i) (c .before .before .before .before .before .before .before .before .before .before .before .args .k) (pgnIn (packOf (now (c .before .before .before .before .before .before .before .before .before .before .before .args .s))) (c .before .before .before .before .before .before .before .before .before .before .before .args .t) (c .before .before .before .before .before .before .before .before .before .before .before .args .i)) (c .before .before .before .before .before .before .before .before .before .before .before .args .f) (c .before .before .before .before .before .before .before .before .before .before .before .pre .4) (not-false (c .before .before .before .before .before .before .before .before .before .before .before .args .f .authored .matched .given) (c .before .before .before .before .before .before .if1 .left)) (c .before .before .before .before .before .resolve-match .result .given) (c .before .before .before .before .before .resolve-match .result .value) (c .before .before .before .before .before .resolve-match .ensures) (not-false (c .before .before .before .before .before .resolve-match .result .given) (c .before .before .before .if2 .left)) (c .before .before .exceeds .result) (c .before .before .exceeds .ensures) (c .pgn-error2 .result) (c .pgn-error2 .ensures)) at (c .before .before .before .before .before .before .before .before .before .before .before .pre .0)
+
+-- src/match_values.rt:19:1
+same-length-2 : tie.Need-same-length-2
+same-length-2 c = search needs
+
+-- src/match_values.rt:19:1
+returns-3 : tie.Need-returns-3
+returns-3 c = rw (resolved (now (c .before .before .before .before .before .before .before .before .before .before .before .before .before .before .args .s)) (packOf (now (c .before .before .before .before .before .before .before .before .before .before .before .before .before .before .args .s)) .lookups) (c .before .before .before .before .before .before .before .before .before .before .before .before .before .before .args .t) (c .before .before .before .before .before .before .before .before .before .before .before .before .before .before .args .i) (c .before .before .before .before .before .before .before .before .before .before .before .before .before .before .args .k) (pgnIn (packOf (now (c .before .before .before .before .before .before .before .before .before .before .before .before .before .before .args .s))) (c .before .before .before .before .before .before .before .before .before .before .before .before .before .before .args .t) (c .before .before .before .before .before .before .before .before .before .before .before .before .before .before .args .i)) (c .before .before .before .before .before .before .before .before .before .before .before .before .before .before .args .f) (c .before .before .before .before .before .before .before .before .before .before .before .before .before .before .pre .4) (not-false (c .before .before .before .before .before .before .before .before .before .before .before .before .before .before .args .f .authored .matched .given) (c .before .before .before .before .before .before .before .before .before .if1 .left)) (c .before .before .before .before .before .before .before .before .resolve-match .result .given) (c .before .before .before .before .before .before .before .before .resolve-match .result .value) (c .before .before .before .before .before .before .before .before .resolve-match .ensures) (not-false (c .before .before .before .before .before .before .before .before .resolve-match .result .given) (c .before .before .before .before .before .before .if2 .left)) (c .before .before .before .before .before .exceeds .result) (c .before .before .before .before .before .exceeds .ensures) (c .before .before .before .pgn-error2 .result) (c .before .before .before .pgn-error2 .ensures)) (c .before .before .put-if .ensures)
+
+pub match-value-at-spec : {M : Type 1} → statement M
+match-value-at-spec =
+    tie.close
+    (tie.spec
+    returns
+    resolve-match-requires
+    pgn-error-requires
+    put-requires
+    same-length
+    returns-2
+    exceeds-requires
+    pgn-error-requires-2
+    put-if-requires
+    same-length-2
+    returns-3)

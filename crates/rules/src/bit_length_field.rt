@@ -1,0 +1,122 @@
+// R15
+ghost use mathlib.Core.Path.{_≡_};
+ghost use mathlib.Core.Bool.{not, _||_};
+ghost use Prim.Native.Nat.{_<_};
+ghost use lib.ListN.{length};
+ghost use Rattle.pack.specs.Notation.{_==_};
+ghost use Rattle.pack.specs.Meaning.{optNumber, fieldMeaning, packOf};
+ghost use Rattle.pack.specs.Ready.{PgnAt, PgnIs, pgnIn, fieldIn};
+ghost use Rattle.rules.specs.Emit.{Emitted, Fits};
+ghost use Rattle.rules.specs.Floats.{float-eq, ONE};
+ghost use Rattle.rules.specs.BitLengthField.{variable-binary, bit-length-target-at, bit-length-field-at, check-bit-length-field};
+use crate::emit::pgn_error;
+use crate::emit::put;
+use crate::emit::put_if;
+use crate::floats::ONE;
+use crate::floats::float_eq;
+use crate::targets::target;
+use pack::cursor::OptNumber;
+use pack::of::field_of;
+use pack::records::FieldView;
+use pack::records::PgnView;
+use pack::text::text_is;
+
+fn variable_binary(s: &[u8], f: FieldView) -> bool
+    ensures { λ r. ⌜ r ≡ variable-binary (fieldMeaning (now (s .entry)) f) ⌝ }
+{
+    if f.scaling.bits == 0 {
+        return text_is(s, f.names.kind, b"BINARY");
+    }
+    false
+}
+
+// "not an integer bit-count field"
+fn not_bit_count(f: FieldView) -> bool
+    ensures { λ r. ⌜ r ≡ (f .links .reference .given || not (float-eq (f .scaling .resolution) ONE) || (f .scaling .bits == 0)) ⌝ }
+{
+    if f.links.reference.given {
+        return true;
+    }
+    if !float_eq(f.scaling.resolution, ONE) {
+        return true;
+    }
+    f.scaling.bits == 0
+}
+
+// The target of field k.
+fn bit_length_target_at(
+    out: &mut [u32],
+    n: usize,
+    s: &[u8],
+    work: &[u32],
+    t: u32,
+    i: u32,
+    p: usize,
+    k: u32,
+    j: OptNumber,
+) -> usize
+    requires { ⌜ Fits n (bit-length-target-at t i (pgnIn (packOf (now s)) t i) k (optNumber j)) × PgnAt (now s) (now work) t i p × (k < length (pgnIn (packOf (now s)) t i .fields)) ⌝ }
+    ensures { λ r. ⌜ Emitted (now (out .entry)) n (bit-length-target-at t i (pgnIn (packOf (now (s .entry))) t i) k (optNumber j)) (now (out .exit)) r ⌝ }
+{
+    if !j.given {
+        return put(out, n, pgn_error(15, 3, t, i, k, 0));
+    }
+    if k <= j.value {
+        return put(out, n, pgn_error(15, 4, t, i, k, j.value));
+    }
+    let f = field_of(s, work, t, i, p, j.value);
+    let wrong = not_bit_count(f);
+    put_if(out, n, wrong, pgn_error(15, 5, t, i, k, j.value))
+}
+
+// Field k, which is f, of so many fields.
+fn bit_length_field_at(
+    out: &mut [u32],
+    n: usize,
+    s: &[u8],
+    work: &[u32],
+    t: u32,
+    i: u32,
+    p: usize,
+    fields: u32,
+    k: u32,
+    f: FieldView,
+) -> usize
+    requires { ⌜ Fits n (bit-length-field-at t i (pgnIn (packOf (now s)) t i) k (fieldIn (packOf (now s)) t i k .bit-length-field)) × PgnAt (now s) (now work) t i p × (fields ≡ length (pgnIn (packOf (now s)) t i .fields)) × (k < fields) × (fieldMeaning (now s) f ≡ fieldIn (packOf (now s)) t i k) ⌝ }
+    ensures { λ r. ⌜ Emitted (now (out .entry)) n (bit-length-field-at t i (pgnIn (packOf (now (s .entry))) t i) k (fieldIn (packOf (now (s .entry))) t i k .bit-length-field)) (now (out .exit)) r ⌝ }
+{
+    let binary = variable_binary(s, f);
+    if !f.links.length.given {
+        return put_if(out, n, binary, pgn_error(15, 1, t, i, k, 0));
+    }
+    if !binary {
+        return put(out, n, pgn_error(15, 2, t, i, k, 0));
+    }
+    let j = target(s, work, t, i, p, fields, f.links.length.text);
+    bit_length_target_at(out, n, s, work, t, i, p, k, j)
+}
+
+// R15: a variable-length BINARY field takes its length from an earlier integer field.
+pub fn check_bit_length_field(
+    out: &mut [u32],
+    n: usize,
+    s: &[u8],
+    work: &[u32],
+    t: u32,
+    i: u32,
+    p: usize,
+    g: PgnView,
+) -> usize
+    requires { ⌜ Fits n (check-bit-length-field t i (pgnIn (packOf (now s)) t i)) × PgnAt (now s) (now work) t i p × PgnIs (now s) (pgnIn (packOf (now s)) t i) g ⌝ }
+    ensures { λ r. ⌜ Emitted (now (out .entry)) n (check-bit-length-field t i (pgnIn (packOf (now (s .entry))) t i)) (now (out .exit)) r ⌝ }
+{
+    let fields = g.fields;
+    let mut m = n;
+    let mut k: u32 = 0;
+    while k < fields {
+        let f = field_of(s, work, t, i, p, k);
+        m = bit_length_field_at(out, m, s, work, t, i, p, fields, k, f);
+        k += 1;
+    }
+    m
+}

@@ -1,0 +1,157 @@
+// The number that a match stands for: the Rust's `resolve_match`.
+ghost use mathlib.Core.Path.{_≡_};
+ghost use mathlib.Core.Bool.{_||_};
+ghost use Prim.Native.Nat.{_≤_};
+ghost use lib.ListN.{length, drop};
+ghost use Rattle.pack.specs.Notation.{_==_, if_then_else_, optional};
+ghost use Rattle.pack.specs.Items.{bytesOf};
+ghost use Rattle.pack.specs.Meaning.{optReference, fieldMeaning, packOf};
+ghost use Rattle.pack.specs.Ready.{Ready, LookupAt, lookupIn, lookupPlace};
+ghost use Rattle.rules.specs.Model.{parse-digits, parse-u64, value-named, resolve-name, resolve-match};
+use crate::lookups::find_lookup;
+use pack::load::Section;
+use pack::of::entry_of;
+use pack::of::lookup_of;
+use pack::records::FieldView;
+use pack::records::OptReference;
+use pack::text::Text;
+use pack::text::part;
+use pack::text::same_text;
+
+// A number of 64 bits, if there is one.
+pub struct OptWide {
+    pub given: bool,
+    pub value: u64,
+}
+
+// The number that the bytes from an index on write in decimal.
+fn parse_digits(b: &[u8], from: usize) -> OptWide
+    requires { ⌜ from ≤ length (now b) ⌝ }
+    ensures { λ r. ⌜ optional (r .given) (r .value) ≡ parse-digits (drop from (now (b .entry))) ⌝ }
+{
+    let mut given = false;
+    let mut value: u64 = 0;
+    let mut i = from;
+    while i < b.len() {
+        let c = b[i];
+        if c < 48 {
+            return OptWide {
+                given: false,
+                value: 0,
+            };
+        }
+        if 57 < c {
+            return OptWide {
+                given: false,
+                value: 0,
+            };
+        }
+        let digit = (c - 48) as u64;
+        if (0xffff_ffff_ffff_ffff - digit) / 10 < value {
+            return OptWide {
+                given: false,
+                value: 0,
+            };
+        }
+        value = 10 * value + digit;
+        given = true;
+        i += 1;
+    }
+    OptWide { given, value }
+}
+
+// "digits, one leading + allowed"
+pub fn parse_u64(b: &[u8]) -> OptWide
+    ensures { λ r. ⌜ optional (r .given) (r .value) ≡ parse-u64 (now (b .entry)) ⌝ }
+{
+    if b.len() == 0 {
+        return OptWide {
+            given: false,
+            value: 0,
+        };
+    }
+    if b[0] == 43 {
+        return parse_digits(b, 1);
+    }
+    parse_digits(b, 0)
+}
+
+// The value of the first of the n entries with that name, of lookup l, which is at p and of that kind.
+fn value_named(s: &[u8], work: &[u32], l: u32, p: usize, kind: u32, n: u32, name: Text) -> OptWide
+    requires { ⌜ LookupAt (now s) (now work) l p × (kind ≡ lookupIn (packOf (now s)) l .kind) × (n ≡ length (lookupIn (packOf (now s)) l .entries)) ⌝ }
+    ensures { λ r. ⌜ optional (r .given) (r .value) ≡ value-named (lookupIn (packOf (now (s .entry))) l .entries) (bytesOf (now (s .entry)) name) ⌝ }
+{
+    let mut e: u32 = 0;
+    while e < n {
+        let entry = entry_of(s, work, l, p, kind, e);
+        if same_text(s, entry.name, name) {
+            return OptWide {
+                given: true,
+                value: entry.value,
+            };
+        }
+        e += 1;
+    }
+    OptWide {
+        given: false,
+        value: 0,
+    }
+}
+
+// Whether a reference of a kind goes to the entries of a lookup of that kind.
+fn has_entries(reference: u32, kind: u32) -> bool
+    ensures { λ r. ⌜ r ≡ (if reference == 3 then kind == 3 else ((kind == 0) || (kind == 2))) ⌝ }
+{
+    if reference == 3 {
+        return kind == 3;
+    }
+    if kind == 0 {
+        return true;
+    }
+    kind == 2
+}
+
+fn resolve_name(s: &[u8], work: &[u32], lookups: Section, m: Text, r: OptReference) -> OptWide
+    requires { ⌜ Ready (now s) (now work) × (lookups .count ≡ length (packOf (now s) .lookups)) × (lookups .place ≡ lookupPlace (packOf (now s)) 0) ⌝ }
+    ensures { λ v. ⌜ optional (v .given) (v .value) ≡ resolve-name (packOf (now (s .entry)) .lookups) (bytesOf (now (s .entry)) m) (optReference (now (s .entry)) r) ⌝ }
+{
+    if !r.given {
+        return OptWide {
+            given: false,
+            value: 0,
+        };
+    }
+    let found = find_lookup(s, work, lookups, r.name);
+    if !found.given {
+        return OptWide {
+            given: false,
+            value: 0,
+        };
+    }
+    let l = lookup_of(s, work, found.index, found.place);
+    if !has_entries(r.kind, l.kind) {
+        return OptWide {
+            given: false,
+            value: 0,
+        };
+    }
+    value_named(s, work, found.index, found.place, l.kind, l.entries, m)
+}
+
+pub fn resolve_match(s: &[u8], work: &[u32], lookups: Section, f: FieldView) -> OptWide
+    requires { ⌜ Ready (now s) (now work) × (lookups .count ≡ length (packOf (now s) .lookups)) × (lookups .place ≡ lookupPlace (packOf (now s)) 0) ⌝ }
+    ensures { λ r. ⌜ optional (r .given) (r .value) ≡ resolve-match (packOf (now (s .entry)) .lookups) (fieldMeaning (now (s .entry)) f) ⌝ }
+{
+    if !f.authored.matched.given {
+        return OptWide {
+            given: false,
+            value: 0,
+        };
+    }
+    let m = f.authored.matched.text;
+    let number = parse_u64(part(s, m));
+    if number.given {
+        return number;
+    }
+    resolve_name(s, work, lookups, m, f.links.reference)
+}

@@ -1,0 +1,66 @@
+// The fields that other fields name by their ids.
+ghost use mathlib.Core.Path.{_≡_};
+ghost use mathlib.Core.Bool.{_||_};
+ghost use Prim.Native.Nat.{_≤_};
+ghost use lib.ListN.{length};
+ghost use Rattle.pack.specs.Notation.{_≐_};
+ghost use Rattle.pack.specs.Items.{bytesOf};
+ghost use Rattle.pack.specs.Meaning.{optNumber, packOf};
+ghost use Rattle.pack.specs.Ready.{PgnAt, pgnIn, fieldIn};
+ghost use Rattle.rules.specs.Search.{firstBelow};
+ghost use Rattle.rules.specs.Model.{target};
+ghost use Rattle.rules.specs.Texts.{NUMBER, LOOKUP};
+use pack::cursor::OptNumber;
+use pack::of::field_id_of;
+use pack::records::FieldTypeView;
+use pack::text::Text;
+use pack::text::same_text;
+use pack::text::text_is;
+
+// The first of n fields of PGN i of tree t, which is at p, with that id.
+pub fn first_with_id(
+    s: &[u8],
+    work: &[u32],
+    t: u32,
+    i: u32,
+    p: usize,
+    n: u32,
+    id: Text,
+) -> OptNumber
+    requires { ⌜ PgnAt (now s) (now work) t i p × (n ≤ length (pgnIn (packOf (now s)) t i .fields)) ⌝ }
+    ensures { λ r. ⌜ optNumber r ≡ firstBelow (λ j. fieldIn (packOf (now (s .entry))) t i j .id ≐ bytesOf (now (s .entry)) id) n ⌝ }
+{
+    let mut j: u32 = 0;
+    while j < n {
+        let other = field_id_of(s, work, t, i, p, j);
+        if same_text(s, other, id) {
+            return OptNumber {
+                given: true,
+                value: j,
+            };
+        }
+        j += 1;
+    }
+    OptNumber {
+        given: false,
+        value: 0,
+    }
+}
+
+// "A target is the first field with that id", of n fields.
+pub fn target(s: &[u8], work: &[u32], t: u32, i: u32, p: usize, n: u32, id: Text) -> OptNumber
+    requires { ⌜ PgnAt (now s) (now work) t i p × (n ≡ length (pgnIn (packOf (now s)) t i .fields)) ⌝ }
+    ensures { λ r. ⌜ optNumber r ≡ target (pgnIn (packOf (now (s .entry))) t i) (bytesOf (now (s .entry)) id) ⌝ }
+{
+    first_with_id(s, work, t, i, p, n, id)
+}
+
+// `integer`: NUMBER or LOOKUP, by the root's name of a field type.
+pub fn integer(s: &[u8], v: FieldTypeView) -> bool
+    ensures { λ r. ⌜ r ≡ ((bytesOf (now (s .entry)) (v .root) ≐ NUMBER) || (bytesOf (now (s .entry)) (v .root) ≐ LOOKUP)) ⌝ }
+{
+    if text_is(s, v.root, b"NUMBER") {
+        return true;
+    }
+    text_is(s, v.root, b"LOOKUP")
+}

@@ -1,0 +1,182 @@
+// R44
+ghost use mathlib.Core.Path.{_≡_};
+ghost use mathlib.Core.Bool.{not, _||_};
+ghost use Prim.Native.Nat.{_≤_, _<_};
+ghost use lib.ListN.{length};
+ghost use Rattle.pack.specs.Notation.{_==_};
+ghost use Rattle.pack.specs.Meaning.{optNumber, optRepeating, fieldMeaning, packOf};
+ghost use Rattle.pack.specs.Ready.{Ready, PgnAt, PgnIs, pgnIn, fieldIn};
+ghost use Rattle.rules.specs.Emit.{Emitted, Fits};
+ghost use Rattle.rules.specs.Search.{anyBelow};
+ghost use Rattle.rules.specs.TrailingZero.{starts-behind, fixed, unsigned-integer, trailing-zero-target-at, trailing-zero-at, check-trailing-zero-is-digit};
+use crate::emit::pgn_error;
+use crate::emit::put;
+use crate::emit::put_if;
+use crate::floats::ONE;
+use crate::floats::ZERO;
+use crate::floats::float_eq;
+use crate::targets::integer;
+use crate::targets::target;
+use pack::cursor::OptNumber;
+use pack::of::field_of;
+use pack::of::type_of;
+use pack::records::FieldView;
+use pack::records::OptRepeating;
+use pack::records::PgnView;
+use pack::text::text_is;
+
+// The set, if any, starts behind the order.
+fn starts_behind(set: OptRepeating, order: u32) -> bool
+    ensures { λ r. ⌜ r ≡ starts-behind (optRepeating set) order ⌝ }
+{
+    if set.given {
+        return order < set.set.start;
+    }
+    true
+}
+
+// A variable-width field, or a proprietary one that may be absent.
+fn moves(f: FieldView) -> bool
+    ensures { λ r. ⌜ r ≡ ((f .scaling .bits == 0) || f .flags .proprietary) ⌝ }
+{
+    if f.scaling.bits == 0 {
+        return true;
+    }
+    f.flags.proprietary
+}
+
+// Whether such a field is among the first n.
+fn any_moves(s: &[u8], work: &[u32], t: u32, i: u32, p: usize, n: u32) -> bool
+    requires { ⌜ PgnAt (now s) (now work) t i p × (n ≤ length (pgnIn (packOf (now s)) t i .fields)) ⌝ }
+    ensures { λ r. ⌜ r ≡ anyBelow (λ k. (fieldIn (packOf (now (s .entry))) t i k .res-bits == 0) || fieldIn (packOf (now (s .entry))) t i k .proprietary) n ⌝ }
+{
+    let mut k: u32 = 0;
+    while k < n {
+        let f = field_of(s, work, t, i, p, k);
+        if moves(f) {
+            return true;
+        }
+        k += 1;
+    }
+    false
+}
+
+// Whether field j has a fixed position.
+fn fixed(s: &[u8], work: &[u32], t: u32, i: u32, p: usize, g: PgnView, j: u32) -> bool
+    requires { ⌜ PgnAt (now s) (now work) t i p × PgnIs (now s) (pgnIn (packOf (now s)) t i) g × (j < length (pgnIn (packOf (now s)) t i .fields)) ⌝ }
+    ensures { λ r. ⌜ r ≡ fixed (pgnIn (packOf (now (s .entry))) t i) j ⌝ }
+{
+    if any_moves(s, work, t, i, p, j) {
+        return false;
+    }
+    let order = j + 1;
+    if starts_behind(g.repeating1, order) {
+        return starts_behind(g.repeating2, order);
+    }
+    false
+}
+
+// "an unsigned, unscaled NUMBER or LOOKUP without an offset", of 1 to 63 bits
+fn unsigned_integer(s: &[u8], work: &[u32], f: FieldView) -> bool
+    requires { ⌜ Ready (now s) (now work) × (f .ft < length (packOf (now s) .fieldtypes)) ⌝ }
+    ensures { λ r. ⌜ r ≡ unsigned-integer (packOf (now (s .entry)) .fieldtypes) (fieldMeaning (now (s .entry)) f) ⌝ }
+{
+    let v = type_of(s, work, f.ft);
+    if !integer(s, v) {
+        return false;
+    }
+    if v.signed {
+        return false;
+    }
+    if !float_eq(f.scaling.resolution, ONE) {
+        return false;
+    }
+    if !float_eq(f.scaling.offset, ZERO) {
+        return false;
+    }
+    if f.scaling.bits == 0 {
+        return false;
+    }
+    f.scaling.bits <= 63
+}
+
+// The target of field k.
+fn trailing_zero_target_at(
+    out: &mut [u32],
+    n: usize,
+    s: &[u8],
+    work: &[u32],
+    t: u32,
+    i: u32,
+    p: usize,
+    g: PgnView,
+    k: u32,
+    j: OptNumber,
+) -> usize
+    requires { ⌜ Fits n (trailing-zero-target-at (packOf (now s) .fieldtypes) t i (pgnIn (packOf (now s)) t i) k (optNumber j)) × PgnAt (now s) (now work) t i p × PgnIs (now s) (pgnIn (packOf (now s)) t i) g × (k < g .fields) ⌝ }
+    ensures { λ r. ⌜ Emitted (now (out .entry)) n (trailing-zero-target-at (packOf (now (s .entry)) .fieldtypes) t i (pgnIn (packOf (now (s .entry))) t i) k (optNumber j)) (now (out .exit)) r ⌝ }
+{
+    if !j.given {
+        return put(out, n, pgn_error(44, 2, t, i, k, 0));
+    }
+    if k <= j.value {
+        return put(out, n, pgn_error(44, 3, t, i, k, j.value));
+    }
+    if !fixed(s, work, t, i, p, g, j.value) {
+        return put(out, n, pgn_error(44, 3, t, i, k, j.value));
+    }
+    let f = field_of(s, work, t, i, p, j.value);
+    let right = unsigned_integer(s, work, f);
+    put_if(out, n, !right, pgn_error(44, 4, t, i, k, j.value))
+}
+
+// Field k, which is f.
+fn trailing_zero_at(
+    out: &mut [u32],
+    n: usize,
+    s: &[u8],
+    work: &[u32],
+    t: u32,
+    i: u32,
+    p: usize,
+    g: PgnView,
+    k: u32,
+    f: FieldView,
+) -> usize
+    requires { ⌜ Fits n (trailing-zero-at (packOf (now s) .fieldtypes) t i (pgnIn (packOf (now s)) t i) k (fieldIn (packOf (now s)) t i k .trailing-zero)) × PgnAt (now s) (now work) t i p × PgnIs (now s) (pgnIn (packOf (now s)) t i) g × (k < g .fields) × (fieldMeaning (now s) f ≡ fieldIn (packOf (now s)) t i k) ⌝ }
+    ensures { λ r. ⌜ Emitted (now (out .entry)) n (trailing-zero-at (packOf (now (s .entry)) .fieldtypes) t i (pgnIn (packOf (now (s .entry))) t i) k (fieldIn (packOf (now (s .entry))) t i k .trailing-zero)) (now (out .exit)) r ⌝ }
+{
+    if !f.links.trailing.given {
+        return n;
+    }
+    if !text_is(s, f.names.kind, b"DECIMAL") {
+        return put(out, n, pgn_error(44, 1, t, i, k, 0));
+    }
+    let j = target(s, work, t, i, p, g.fields, f.links.trailing.text);
+    trailing_zero_target_at(out, n, s, work, t, i, p, g, k, j)
+}
+
+// R44: a DECIMAL's trailingZeroIsDigit names an earlier field of fixed position.
+pub fn check_trailing_zero_is_digit(
+    out: &mut [u32],
+    n: usize,
+    s: &[u8],
+    work: &[u32],
+    t: u32,
+    i: u32,
+    p: usize,
+    g: PgnView,
+) -> usize
+    requires { ⌜ Fits n (check-trailing-zero-is-digit (packOf (now s) .fieldtypes) t i (pgnIn (packOf (now s)) t i)) × PgnAt (now s) (now work) t i p × PgnIs (now s) (pgnIn (packOf (now s)) t i) g ⌝ }
+    ensures { λ r. ⌜ Emitted (now (out .entry)) n (check-trailing-zero-is-digit (packOf (now (s .entry)) .fieldtypes) t i (pgnIn (packOf (now (s .entry))) t i)) (now (out .exit)) r ⌝ }
+{
+    let fields = g.fields;
+    let mut m = n;
+    let mut k: u32 = 0;
+    while k < fields {
+        let f = field_of(s, work, t, i, p, k);
+        m = trailing_zero_at(out, m, s, work, t, i, p, g, k, f);
+        k += 1;
+    }
+    m
+}
