@@ -2,8 +2,11 @@ ghost use mathlib.Core.Path.{_≡_};
 ghost use Rattle.rules.specs.Proprietary.{is-manufacturer-pgn};
 
 pub mod emit;
+pub mod field_count;
+pub mod fieldtypes;
 pub mod floats;
 pub mod frame_length;
+pub mod special_values;
 
 // A finding's eight numbers.
 pub struct Finding {
