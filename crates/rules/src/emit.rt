@@ -5,7 +5,7 @@ ghost use mathlib.Core.List.{[], _∷_};
 ghost use Prim.Native.Nat.{_+_, _*_, _≤_};
 ghost use lib.ListN.{length};
 ghost use lib.Seq.{sets};
-ghost use Rattle.rules.specs.Findings.{report-if, pgn-error, pgn-finding, lookup-finding};
+ghost use Rattle.rules.specs.Findings.{report-if, fieldtype-error, pgn-error, pgn-finding, lookup-finding};
 ghost use Rattle.rules.specs.Emit.{numbers, Emitted, Fits};
 use crate::Finding;
 
@@ -46,6 +46,22 @@ pub fn put_if(out: &mut [u32], n: usize, report: bool, f: Finding) -> usize
         return put(out, n, f);
     }
     n
+}
+
+// An error at a field type.
+pub fn fieldtype_error(rule: u32, cause: u32, item: u32) -> Finding
+    ensures { λ r. ⌜ r ≡ fieldtype-error rule cause item ⌝ }
+{
+    Finding {
+        rule,
+        severity: 1,
+        cause,
+        place: 0,
+        tree: 0,
+        item,
+        part: 0,
+        other: 0,
+    }
 }
 
 // An error at a PGN of a tree.

@@ -3,12 +3,16 @@ ghost use Rattle.rules.specs.Proprietary.{is-manufacturer-pgn};
 
 pub mod bit_length_field;
 pub mod emit;
+pub mod field_count;
+pub mod fieldtypes;
 pub mod floats;
 pub mod frame_length;
 pub mod lookups;
 pub mod match_values;
 pub mod matches;
+pub mod pgn_range;
 pub mod searches;
+pub mod special_values;
 pub mod targets;
 pub mod trailing_zero;
 pub mod unique_ids;

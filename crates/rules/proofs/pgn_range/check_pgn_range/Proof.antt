@@ -1,0 +1,110 @@
+use mathlib.Core.Logic.{_⊎_, inl, inr}
+use Rattle.rules.proofs.Emits.{emitted-none}
+use Rattle.rules.specs.PgnRange.{ranges-of, find-range, quick-range, found-range, check-pgn-range}
+use Rattle.pack.specs.Value.{Pgn}
+use Rattle.pack.specs.Trees.{treeNumber, protocolOf}
+use Rattle.pack.specs.Ready.{PgnIs}
+use Rattle.pack.specs.declared.protocol.Protocol.the-variants.{Nmea2000, J1939, Quick}
+use Rattle.pack.specs.declared.protocol.Protocol.{Protocol}
+use Rattle.pack.specs.declared.records.PgnView.{PgnView}
+use Prim.Native.Nat.{ℕ, zero, suc, _+_, _-_, _*_, _/_, _%_, _^_, _≤_, _<_}
+use native.Mathlib.Omega.{arith}
+use native.Mathlib.Numerals.{add-one}
+use mathlib.Core.Path.{_≡_, refl, ap, _∙_, sym}
+use mathlib.Core.List.{List, [], _∷_, _++_}
+use mathlib.Core.Bool.{Bool, true, false}
+use borrow.Author.Needs.{needs}
+use borrow.Author.Tests.{lt-ltb, le-ltb, le-leb, lt-leb, eq-eqb, ne-eqb, leb-true, leb-false, ltb-true, ltb-false, eqb-true, eqb-false, not-true, not-false}
+use denote.Ref.{now}
+use lib.ListN.{length, getD, take, drop, set}
+use lib.Dec.{ltb, leb, eqb}
+use Rattle.rules.proofs.pgn_range.check_pgn_range.Statement.{statement}
+use Rattle.rules.proofs.pgn_range.check_pgn_range.Tie as tie
+use Rattle.rules.proofs.pgn_range.check_pgn_range.Reads as reads
+use Rattle.rules.proofs.pgn_range.check_pgn_range.Lts as lts
+use Rattle.pack.proofs.protocol.Protocol.of_tree.Reads as of-tree-reads
+use Rattle.rules.proofs.pgn_range.find_range.Reads as find-range-reads
+use Rattle.rules.proofs.pgn_range.found_range.Reads as found-range-reads
+use Rattle.rules.proofs.pgn_range.quick_range.Reads as quick-range-reads
+
+tree-of : (t : ℕ) → t < 3 → treeNumber (protocolOf t) ≡ t
+tree-of zero h = refl
+tree-of (suc zero) h = refl
+tree-of (suc (suc zero)) h = refl
+tree-of (suc (suc (suc t))) h = absurd (omega arith)
+
+-- the rule, said of the view: a pseudo-PGN, Quick, another tree
+module _ (s : List ℕ) (t i : ℕ) (G : Pgn) (g : PgnView) (is : PgnIs s G g) where
+  number : G .pgn ≡ g .pgn
+  number = sym (ap (λ (P : Pgn). P .pgn) (is .means))
+
+  pseudo : 262144 ≤ g .pgn → check-pgn-range t i G ≡ []
+  unfolding check-pgn-range
+  pseudo h = rw (number, le-leb _ _ h)
+
+  in-quick : g .pgn < 262144 → t ≡ 2 → check-pgn-range t i G ≡ quick-range t i G
+  unfolding check-pgn-range
+  in-quick h e = rw (number, lt-leb _ _ h, eq-eqb _ _ e)
+
+  in-range : g .pgn < 262144 → (t ≡ 2 → ⊥) → check-pgn-range t i G ≡ found-range t i G (find-range (ranges-of t) (g .pgn))
+  unfolding check-pgn-range
+  in-range h e = rw (number, lt-leb _ _ h, ne-eqb _ _ e)
+
+neither : (_≡_ {A = ℕ} 2 0) ⊎ (_≡_ {A = ℕ} 2 1) → ⊥
+neither (inl e) = omega arith
+neither (inr e) = omega arith
+
+-- src/pgn_range.rt:174:9
+returns : tie.Need-returns
+returns c = rw (pseudo (now (c .before .before .before .before .args .s)) (c .before .before .before .before .args .t) (c .before .before .before .before .args .i) _ (c .before .before .before .before .args .g) (c .before .before .before .before .pre .1) (c .if1 .taken)) (emitted-none (now (c .before .before .before .before .args .out)) (c .before .before .before .before .args .n))
+
+-- src/pgn_range.rt:176:9
+of-tree-requires : tie.Need-of-tree-requires
+of-tree-requires c κs = search needs
+
+-- src/pgn_range.rt:178:28
+enum-told : tie.Need-enum-told
+enum-told c = search needs
+
+-- src/pgn_range.rt:178:9
+quick-range-requires : tie.Need-quick-range-requires
+quick-range-requires c κs = (rw (in-quick (now (c .before .before .before .before .before .before .before .before .args .s)) (c .before .before .before .before .before .before .before .before .args .t) (c .before .before .before .before .before .before .before .before .args .i) _ (c .before .before .before .before .before .before .before .before .args .g) (c .before .before .before .before .before .before .before .before .pre .1) (c .before .before .before .before .if1 .left) (sym (tree-of (c .before .before .before .before .before .before .before .before .args .t) (c .before .before .before .before .before .before .before .before .pre .2)) ∙ ap treeNumber (sym (c .before .before .before .of-tree .ensures) ∙ c .before .enum-told .given .1))) at (c .before .before .before .before .before .before .before .before .pre .0), c .before .before .before .before .before .before .before .before .pre .1)
+
+-- src/pgn_range.rt:178:9
+same-length : tie.Need-same-length
+same-length c = search needs
+
+-- src/pgn_range.rt:178:9
+returns-2 : tie.Need-returns-2
+returns-2 c = rw (in-quick (now (c .before .before .before .before .before .before .before .before .before .before .before .args .s)) (c .before .before .before .before .before .before .before .before .before .before .before .args .t) (c .before .before .before .before .before .before .before .before .before .before .before .args .i) _ (c .before .before .before .before .before .before .before .before .before .before .before .args .g) (c .before .before .before .before .before .before .before .before .before .before .before .pre .1) (c .before .before .before .before .before .before .before .if1 .left) (sym (tree-of (c .before .before .before .before .before .before .before .before .before .before .before .args .t) (c .before .before .before .before .before .before .before .before .before .before .before .pre .2)) ∙ ap treeNumber (sym (c .before .before .before .before .before .before .of-tree .ensures) ∙ c .before .before .before .before .enum-told .given .1))) (c .before .before .quick-range .ensures)
+
+-- src/pgn_range.rt:180:9
+find-range-requires : tie.Need-find-range-requires
+find-range-requires c κs = search needs
+
+-- src/pgn_range.rt:181:5
+found-range-requires : tie.Need-found-range-requires
+found-range-requires c κs = (rw (in-range (now (c .before .before .before .before .before .before .before .before .args .s)) (c .before .before .before .before .before .before .before .before .args .t) (c .before .before .before .before .before .before .before .before .args .i) _ (c .before .before .before .before .before .before .before .before .args .g) (c .before .before .before .before .before .before .before .before .pre .1) (c .before .before .before .before .if1 .left) (λ e. neither (rw (c .before .before .before .of-tree .ensures, e) at (c .before .before .match .keys2)))) at (c .before .before .before .before .before .before .before .before .pre .0), c .before .before .before .before .before .before .before .before .pre .1, (rw (c .before .before .before .of-tree .ensures, tree-of (c .before .before .before .before .before .before .before .before .args .t) (c .before .before .before .before .before .before .before .before .pre .2)) at (c .before .find-range .ensures)))
+
+-- src/pgn_range.rt:169:1
+same-length-2 : tie.Need-same-length-2
+same-length-2 c = search needs
+
+-- src/pgn_range.rt:169:1
+returns-3 : tie.Need-returns-3
+returns-3 c = rw (in-range (now (c .before .before .before .before .before .before .before .before .before .before .before .args .s)) (c .before .before .before .before .before .before .before .before .before .before .before .args .t) (c .before .before .before .before .before .before .before .before .before .before .before .args .i) _ (c .before .before .before .before .before .before .before .before .before .before .before .args .g) (c .before .before .before .before .before .before .before .before .before .before .before .pre .1) (c .before .before .before .before .before .before .before .if1 .left) (λ e. neither (rw (c .before .before .before .before .before .before .of-tree .ensures, e) at (c .before .before .before .before .before .match .keys2)))) (c .before .before .found-range .ensures)
+
+pub check-pgn-range-spec : {M : Type 1} → statement M
+check-pgn-range-spec =
+    tie.close
+    (tie.spec
+    returns
+    of-tree-requires
+    enum-told
+    quick-range-requires
+    same-length
+    returns-2
+    find-range-requires
+    found-range-requires
+    same-length-2
+    returns-3)
