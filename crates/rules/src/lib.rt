@@ -7,6 +7,7 @@ pub mod fieldtypes;
 pub mod floats;
 pub mod frame_length;
 pub mod pgn_range;
+pub mod repeating;
 pub mod special_values;
 
 // A finding's eight numbers.
