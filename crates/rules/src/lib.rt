@@ -8,6 +8,7 @@ pub mod floats;
 pub mod frame_length;
 pub mod pgn_range;
 pub mod repeating;
+pub mod reserved_ids;
 pub mod special_values;
 
 // A finding's eight numbers.
