@@ -6,6 +6,7 @@ pub mod field_count;
 pub mod fieldtypes;
 pub mod floats;
 pub mod frame_length;
+pub mod min_length;
 pub mod pgn_range;
 pub mod repeating;
 pub mod reserved_ids;
