@@ -1,8 +1,10 @@
 ghost use mathlib.Core.Path.{_≡_};
 ghost use Rattle.rules.specs.Proprietary.{is-manufacturer-pgn};
 
+pub mod bools;
 pub mod emit;
 pub mod field_count;
+pub mod field_type_overrides;
 pub mod fieldtypes;
 pub mod floats;
 pub mod frame_length;
