@@ -2,6 +2,7 @@ ghost use mathlib.Core.Path.{_≡_};
 ghost use Rattle.rules.specs.Proprietary.{is-manufacturer-pgn};
 
 pub mod bools;
+pub mod dynamic_length;
 pub mod emit;
 pub mod field_count;
 pub mod field_type_overrides;
@@ -9,6 +10,7 @@ pub mod fieldtypes;
 pub mod floats;
 pub mod frame_length;
 pub mod min_length;
+pub mod model;
 pub mod pgn_range;
 pub mod repeating;
 pub mod reserved_ids;
