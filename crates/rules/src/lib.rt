@@ -12,6 +12,7 @@ pub mod frame_length;
 pub mod min_length;
 pub mod model;
 pub mod pgn_range;
+pub mod proprietary;
 pub mod repeating;
 pub mod reserved_ids;
 pub mod special_values;
