@@ -1,6 +1,5 @@
 // R23
 ghost use mathlib.Core.Path.{_≡_};
-ghost use mathlib.Core.Bool.{not, _&&_};
 ghost use Prim.Native.Nat.{_<_};
 ghost use lib.ListN.{length, getD};
 ghost use Rattle.pack.specs.Value.{noFieldType};
@@ -8,26 +7,17 @@ ghost use Rattle.pack.specs.Meaning.{packOf};
 ghost use Rattle.pack.specs.Ready.{Ready};
 ghost use Rattle.rules.specs.Emit.{Emitted, Fits};
 ghost use Rattle.rules.specs.Fieldtypes.{fieldtype-at, check-fieldtypes};
+use crate::bools::and_not;
 use crate::emit::fieldtype_error;
 use crate::emit::put_if;
 use pack::of::type_of;
-
-// A root field type without a print function.
-fn cannot_print(base: bool, print: bool) -> bool
-    ensures { λ r. ⌜ r ≡ (not base && not print) ⌝ }
-{
-    if base {
-        return false;
-    }
-    !print
-}
 
 fn fieldtype_at(out: &mut [u32], n: usize, s: &[u8], work: &[u32], i: u32) -> usize
     requires { ⌜ Fits n (fieldtype-at i (getD (packOf (now s) .fieldtypes) i noFieldType)) × Ready (now s) (now work) × (i < length (packOf (now s) .fieldtypes)) ⌝ }
     ensures { λ r. ⌜ Emitted (now (out .entry)) n (fieldtype-at i (getD (packOf (now (s .entry)) .fieldtypes) i noFieldType)) (now (out .exit)) r ⌝ }
 {
     let ft = type_of(s, work, i);
-    let report = cannot_print(ft.base, ft.print);
+    let report = and_not(!ft.base, ft.print);
     put_if(out, n, report, fieldtype_error(23, 1, i))
 }
 

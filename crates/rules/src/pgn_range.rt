@@ -38,8 +38,13 @@ pub struct OptRange {
     pub range: Range,
 }
 
+// How many ranges the tables have.
+const COUNT: usize = 8;
+
+const J1939_COUNT: usize = 10;
+
 // pgn.h pgnRange[]
-const PGN_RANGES: [Range; 8] = [
+const PGN_RANGES: [Range; COUNT] = [
     Range {
         start: 0xe800,
         end: 0xee00,
@@ -83,7 +88,7 @@ const PGN_RANGES: [Range; 8] = [
 ];
 
 // pgn-j1939.h pgnRange[]
-const J1939_PGN_RANGES: [Range; 10] = [
+const J1939_PGN_RANGES: [Range; J1939_COUNT] = [
     Range {
         start: 0x0000,
         end: 0xe700,
@@ -142,18 +147,18 @@ const ACTISENSE_BEM: u32 = 0x40000;
 // The largest of Quick's message types: 11 bits.
 const QUICK_MOST: u32 = 0x7ff;
 
-// How many ranges a tree's table has.
+// How many ranges a tree's table has. Quick goes by none.
 fn range_count(protocol: Protocol) -> usize
     ensures { λ r. ⌜ r ≡ length (ranges-of (treeNumber protocol)) ⌝ }
 {
     match protocol {
-        Protocol::J1939 => 10,
-        Protocol::Nmea2000 => 8,
-        Protocol::Quick => 8,
+        Protocol::J1939 => J1939_COUNT,
+        Protocol::Nmea2000 => COUNT,
+        Protocol::Quick => COUNT,
     }
 }
 
-// Range j of a tree's table. Quick has none.
+// Range j of a tree's table.
 fn range_at(protocol: Protocol, j: usize) -> Range
     requires { ⌜ j < length (ranges-of (treeNumber protocol)) ⌝ }
     ensures { λ r. ⌜ drop j (ranges-of (treeNumber protocol)) ≡ range (r .start) (r .end) (if pdu1 (r .start) then 256 else 1) (r .kind) ∷ drop (j + 1) (ranges-of (treeNumber protocol)) ⌝ }

@@ -21,9 +21,9 @@ use Rattle.rules.proofs.fieldtypes.fieldtype_at.Tie as tie
 use Rattle.rules.proofs.fieldtypes.fieldtype_at.Reads as reads
 use Rattle.rules.proofs.fieldtypes.fieldtype_at.Lts as lts
 use Rattle.pack.proofs.of.type_of.Reads as type-of-reads
+use Rattle.rules.proofs.bools.and_not.Reads as and-not-reads
 use Rattle.rules.proofs.emit.fieldtype_error.Reads as fieldtype-error-reads
 use Rattle.rules.proofs.emit.put_if.Reads as put-if-reads
-use Rattle.rules.proofs.fieldtypes.cannot_print.Reads as cannot-print-reads
 
 -- the rule, said of the view
 viewed : (s : List ℕ) (i : ℕ) (F : FieldType) (v : FieldTypeView) → typeMeaning s v ≡ F → (a : Bool) → a ≡ (not (v .base) && not (v .print)) → (f : Finding) → f ≡ fieldtype-error 23 1 i
@@ -31,36 +31,36 @@ viewed : (s : List ℕ) (i : ℕ) (F : FieldType) (v : FieldTypeView) → typeMe
 unfolding fieldtype-at
 viewed s i F v is a d f e = rw (← is, d, e)
 
--- src/fieldtypes.rt:29:9
+-- src/fieldtypes.rt:19:9
 type-of-requires : tie.Need-type-of-requires
 type-of-requires c κs = search needs
 
--- src/fieldtypes.rt:30:9
-cannot-print-requires : tie.Need-cannot-print-requires
-cannot-print-requires c κs = search needs
+-- src/fieldtypes.rt:20:9
+and-not-requires : tie.Need-and-not-requires
+and-not-requires c κs = search needs
 
--- src/fieldtypes.rt:31:28
+-- src/fieldtypes.rt:21:28
 fieldtype-error-requires : tie.Need-fieldtype-error-requires
 fieldtype-error-requires c κs = search needs
 
--- src/fieldtypes.rt:31:5
+-- src/fieldtypes.rt:21:5
 put-if-requires : tie.Need-put-if-requires
-put-if-requires c κs = rw (viewed (now (c .before .before .before .before .before .before .before .args .s)) (c .before .before .before .before .before .before .before .args .i) _ (c .before .before .before .type-of .result) (c .before .before .before .type-of .ensures) _ (c .before .before .cannot-print .ensures) _ (c .fieldtype-error .ensures)) at (c .before .before .before .before .before .before .before .pre .0)
+put-if-requires c κs = rw (viewed (now (c .before .before .before .before .before .before .before .before .args .s)) (c .before .before .before .before .before .before .before .before .args .i) _ (c .before .before .before .before .type-of .result) (c .before .before .before .before .type-of .ensures) _ (c .before .before .and-not .ensures) _ (c .fieldtype-error .ensures)) at (c .before .before .before .before .before .before .before .before .pre .0)
 
--- src/fieldtypes.rt:25:1
+-- src/fieldtypes.rt:15:1
 same-length : tie.Need-same-length
 same-length c = search needs
 
--- src/fieldtypes.rt:25:1
+-- src/fieldtypes.rt:15:1
 returns : tie.Need-returns
-returns c = rw (viewed (now (c .before .before .before .before .before .before .before .before .before .before .args .s)) (c .before .before .before .before .before .before .before .before .before .before .args .i) _ (c .before .before .before .before .before .before .type-of .result) (c .before .before .before .before .before .before .type-of .ensures) _ (c .before .before .before .before .before .cannot-print .ensures) _ (c .before .before .before .fieldtype-error .ensures)) (c .before .before .put-if .ensures)
+returns c = rw (viewed (now (c .before .before .before .before .before .before .before .before .before .before .before .args .s)) (c .before .before .before .before .before .before .before .before .before .before .before .args .i) _ (c .before .before .before .before .before .before .before .type-of .result) (c .before .before .before .before .before .before .before .type-of .ensures) _ (c .before .before .before .before .before .and-not .ensures) _ (c .before .before .before .fieldtype-error .ensures)) (c .before .before .put-if .ensures)
 
 pub fieldtype-at-spec : {M : Type 1} → statement M
 fieldtype-at-spec =
     tie.close
     (tie.spec
     type-of-requires
-    cannot-print-requires
+    and-not-requires
     fieldtype-error-requires
     put-if-requires
     same-length

@@ -1,0 +1,87 @@
+// R06
+ghost use mathlib.Core.Path.{_≡_};
+ghost use mathlib.Core.Bool.{_||_};
+ghost use Rattle.pack.specs.Notation.{_≐_};
+ghost use Rattle.pack.specs.Items.{bytesOf};
+ghost use Rattle.pack.specs.Meaning.{fieldMeaning, packOf};
+ghost use Rattle.pack.specs.Ready.{PgnAt, PgnIs, pgnIn, fieldIn};
+ghost use Rattle.rules.specs.DynamicLength.{have-length-source, dynamic-length-at, check-dynamic-length};
+ghost use Rattle.rules.specs.Emit.{Emitted, Fits};
+ghost use Rattle.rules.specs.Model.{root-of};
+ghost use Rattle.rules.specs.Texts.{DYNAMIC-FIELD-KEY};
+use crate::bools::and_not;
+use crate::emit::pgn_error;
+use crate::emit::put_if;
+use crate::model::root_of;
+use pack::of::field_of;
+use pack::records::FieldView;
+use pack::records::PgnView;
+use pack::text::Text;
+use pack::text::text_is;
+
+// Whether there was a length source, or a field is one: dynamicFieldLength or DYNAMIC_FIELD_KEY.
+fn have_length_source(s: &[u8], have: bool, dynamic: bool, root: Text) -> bool
+    ensures { λ r. ⌜ r ≡ (have || (dynamic || (bytesOf (now (s .entry)) root ≐ DYNAMIC-FIELD-KEY))) ⌝ }
+{
+    if have {
+        return true;
+    }
+    if dynamic {
+        return true;
+    }
+    text_is(s, root, b"DYNAMIC_FIELD_KEY")
+}
+
+// Field k with its root's name, and whether there is a length source by then.
+fn dynamic_length_at(
+    out: &mut [u32],
+    n: usize,
+    s: &[u8],
+    t: u32,
+    i: u32,
+    k: u32,
+    f: FieldView,
+    root: Text,
+    have: bool,
+) -> usize
+    requires { ⌜ Fits n (dynamic-length-at (packOf (now s) .fieldtypes) t i (pgnIn (packOf (now s)) t i) k (fieldIn (packOf (now s)) t i k)) × (fieldMeaning (now s) f ≡ fieldIn (packOf (now s)) t i k) × (bytesOf (now s) root ≡ root-of (packOf (now s) .fieldtypes) (fieldIn (packOf (now s)) t i k)) × (have ≡ have-length-source (packOf (now s) .fieldtypes) (pgnIn (packOf (now s)) t i) k) ⌝ }
+    ensures { λ r. ⌜ Emitted (now (out .entry)) n (dynamic-length-at (packOf (now (s .entry)) .fieldtypes) t i (pgnIn (packOf (now (s .entry))) t i) k (fieldIn (packOf (now (s .entry))) t i k)) (now (out .exit)) r ⌝ }
+{
+    let dynamic = f.flags.dynamic;
+    let is_length = text_is(s, root, b"DYNAMIC_FIELD_LENGTH");
+    let is_value = text_is(s, root, b"DYNAMIC_FIELD_VALUE");
+    let misplaced = and_not(dynamic, is_length);
+    let a = put_if(out, n, misplaced, pgn_error(6, 1, t, i, k, 0));
+    let overhead = and_not(f.flags.overhead, dynamic);
+    let b = put_if(out, a, overhead, pgn_error(6, 2, t, i, k, 0));
+    let sourceless = and_not(is_value, have);
+    put_if(out, b, sourceless, pgn_error(6, 3, t, i, k, 0))
+}
+
+// R06: DYNAMIC_FIELD_VALUE needs an earlier length source; overhead only on length fields; dynamicFieldLength only on
+// DYNAMIC_FIELD_LENGTH fields.
+pub fn check_dynamic_length(
+    out: &mut [u32],
+    n: usize,
+    s: &[u8],
+    work: &[u32],
+    t: u32,
+    i: u32,
+    p: usize,
+    g: PgnView,
+) -> usize
+    requires { ⌜ Fits n (check-dynamic-length (packOf (now s) .fieldtypes) t i (pgnIn (packOf (now s)) t i)) × PgnAt (now s) (now work) t i p × PgnIs (now s) (pgnIn (packOf (now s)) t i) g ⌝ }
+    ensures { λ r. ⌜ Emitted (now (out .entry)) n (check-dynamic-length (packOf (now (s .entry)) .fieldtypes) t i (pgnIn (packOf (now (s .entry))) t i)) (now (out .exit)) r ⌝ }
+{
+    let mut m = n;
+    let mut have = false;
+    let mut k = 0;
+    while k < g.fields {
+        let f = field_of(s, work, t, i, p, k);
+        let root = root_of(s, work, f.ft);
+        have = have_length_source(s, have, f.flags.dynamic, root);
+        m = dynamic_length_at(out, m, s, t, i, k, f, root, have);
+        k += 1;
+    }
+    m
+}

@@ -1,0 +1,65 @@
+// R14
+ghost use mathlib.Core.Path.{_≡_};
+ghost use Prim.Native.Nat.{_<_};
+ghost use lib.ListN.{length};
+ghost use Rattle.pack.specs.Meaning.{fieldMeaning, packOf};
+ghost use Rattle.pack.specs.Ready.{Ready, PgnAt, PgnIs, pgnIn, fieldIn};
+ghost use Rattle.rules.specs.Emit.{Emitted, Fits};
+ghost use Rattle.rules.specs.FieldTypeOverrides.{overrides-at, check-field-type-overrides};
+ghost use Rattle.rules.specs.Model.{fieldtype-of};
+use crate::bools::and_not;
+use crate::emit::pgn_error;
+use crate::emit::put_if;
+use crate::floats::float_eq;
+use pack::of::field_of;
+use pack::of::type_of;
+use pack::records::FieldView;
+use pack::records::PgnView;
+
+// The pattern of 0.0.
+const ZERO: u64 = 0;
+
+fn overrides_at(
+    out: &mut [u32],
+    n: usize,
+    s: &[u8],
+    work: &[u32],
+    t: u32,
+    i: u32,
+    k: u32,
+    f: FieldView,
+) -> usize
+    requires { ⌜ Fits n (overrides-at t i k (fieldIn (packOf (now s)) t i k) (fieldtype-of (packOf (now s) .fieldtypes) (fieldIn (packOf (now s)) t i k))) × (fieldMeaning (now s) f ≡ fieldIn (packOf (now s)) t i k) × Ready (now s) (now work) × (f .ft < length (packOf (now s) .fieldtypes)) ⌝ }
+    ensures { λ r. ⌜ Emitted (now (out .entry)) n (overrides-at t i k (fieldIn (packOf (now (s .entry))) t i k) (fieldtype-of (packOf (now (s .entry)) .fieldtypes) (fieldIn (packOf (now (s .entry))) t i k))) (now (out .exit)) r ⌝ }
+{
+    let ft = type_of(s, work, f.ft);
+    let width = and_not(f.flags.bits, ft.size == 0);
+    let m = put_if(out, n, width, pgn_error(14, 1, t, i, k, 0));
+    let unfixed = float_eq(ft.resolution, ZERO);
+    let resolution = and_not(f.authored.resolution.given, unfixed);
+    put_if(out, m, resolution, pgn_error(14, 2, t, i, k, 0))
+}
+
+// R14: a field does not author the width or the resolution that its field type fixes.
+pub fn check_field_type_overrides(
+    out: &mut [u32],
+    n: usize,
+    s: &[u8],
+    work: &[u32],
+    t: u32,
+    i: u32,
+    p: usize,
+    g: PgnView,
+) -> usize
+    requires { ⌜ Fits n (check-field-type-overrides (packOf (now s) .fieldtypes) t i (pgnIn (packOf (now s)) t i)) × PgnAt (now s) (now work) t i p × PgnIs (now s) (pgnIn (packOf (now s)) t i) g ⌝ }
+    ensures { λ r. ⌜ Emitted (now (out .entry)) n (check-field-type-overrides (packOf (now (s .entry)) .fieldtypes) t i (pgnIn (packOf (now (s .entry))) t i)) (now (out .exit)) r ⌝ }
+{
+    let mut m = n;
+    let mut k = 0;
+    while k < g.fields {
+        let f = field_of(s, work, t, i, p, k);
+        m = overrides_at(out, m, s, work, t, i, k, f);
+        k += 1;
+    }
+    m
+}

@@ -1,0 +1,104 @@
+// R07
+ghost use mathlib.Core.Path.{_≡_};
+ghost use mathlib.Core.Bool.{not, _&&_, _||_};
+ghost use Prim.Native.Nat.{_<_};
+ghost use lib.ListN.{length};
+ghost use Rattle.pack.specs.Notation.{_==_, _≐_};
+ghost use Rattle.pack.specs.Meaning.{optReference, fieldMeaning, packOf};
+ghost use Rattle.pack.specs.Ready.{Ready, PgnAt, PgnIs, pgnIn};
+ghost use Rattle.rules.specs.Emit.{Emitted, Fits};
+ghost use Rattle.rules.specs.Model.{root-of};
+ghost use Rattle.rules.specs.Proprietary.{is-manufacturer-pgn, pair-is, company-fields, check-proprietary};
+ghost use Rattle.rules.specs.Texts.{RESERVED};
+use crate::emit::pgn_error;
+use crate::emit::put_if;
+use crate::is_manufacturer_pgn;
+use crate::model::root_of;
+use pack::of::field_of;
+use pack::records::FieldView;
+use pack::records::PgnView;
+use pack::text::text_is;
+
+// A field of so many bits with a reference of kind pair to the lookup of that name.
+fn is_pair(s: &[u8], f: FieldView, name: &[u8], bits: u32) -> bool
+    ensures { λ r. ⌜ r ≡ (pair-is (optReference (now (s .entry)) (f .links .reference)) (now (name .entry)) && (f .scaling .bits == bits)) ⌝ }
+{
+    let reference = f.links.reference;
+    let lookup = reference.name;
+    if !reference.given {
+        return false;
+    }
+    if reference.kind != 0 {
+        return false;
+    }
+    if text_is(s, lookup, name) {
+        return f.scaling.bits == bits;
+    }
+    false
+}
+
+// A RESERVED field of so many bits.
+fn is_reserved(s: &[u8], work: &[u32], f: FieldView, bits: u32) -> bool
+    requires { ⌜ Ready (now s) (now work) × (f .ft < length (packOf (now s) .fieldtypes)) ⌝ }
+    ensures { λ r. ⌜ r ≡ ((root-of (packOf (now (s .entry)) .fieldtypes) (fieldMeaning (now (s .entry)) f) ≐ RESERVED) && (f .scaling .bits == bits)) ⌝ }
+{
+    let root = root_of(s, work, f.ft);
+    if text_is(s, root, b"RESERVED") {
+        return f.scaling.bits == bits;
+    }
+    false
+}
+
+// Whether a PGN of so many fields opens with Manufacturer Code, Reserved, Industry Code.
+fn company_fields(s: &[u8], work: &[u32], t: u32, i: u32, p: usize, fields: u32) -> bool
+    requires { ⌜ PgnAt (now s) (now work) t i p × (fields ≡ length (pgnIn (packOf (now s)) t i .fields)) ⌝ }
+    ensures { λ r. ⌜ r ≡ company-fields (packOf (now (s .entry)) .fieldtypes) (pgnIn (packOf (now (s .entry))) t i) ⌝ }
+{
+    if fields < 3 {
+        return false;
+    }
+    let code = field_of(s, work, t, i, p, 0);
+    if !is_pair(s, code, b"MANUFACTURER_CODE", 11) {
+        return false;
+    }
+    let reserved = field_of(s, work, t, i, p, 1);
+    if !is_reserved(s, work, reserved, 2) {
+        return false;
+    }
+    let industry = field_of(s, work, t, i, p, 2);
+    is_pair(s, industry, b"INDUSTRY_CODE", 3)
+}
+
+// Not manufacturer-proprietary, or a fallback.
+fn is_exempt(pgn: u32, fallback: bool) -> bool
+    ensures { λ r. ⌜ r ≡ (not (is-manufacturer-pgn pgn) || fallback) ⌝ }
+{
+    if is_manufacturer_pgn(pgn) {
+        return fallback;
+    }
+    true
+}
+
+// R07: manufacturer-proprietary PGNs open with Manufacturer Code / Reserved / Industry Code, or declare MissingCompanyFields.
+pub fn check_proprietary(
+    out: &mut [u32],
+    n: usize,
+    s: &[u8],
+    work: &[u32],
+    t: u32,
+    i: u32,
+    p: usize,
+    g: PgnView,
+) -> usize
+    requires { ⌜ Fits n (check-proprietary (packOf (now s) .fieldtypes) t i (pgnIn (packOf (now s)) t i)) × PgnAt (now s) (now work) t i p × PgnIs (now s) (pgnIn (packOf (now s)) t i) g ⌝ }
+    ensures { λ r. ⌜ Emitted (now (out .entry)) n (check-proprietary (packOf (now (s .entry)) .fieldtypes) t i (pgnIn (packOf (now (s .entry))) t i)) (now (out .exit)) r ⌝ }
+{
+    if is_exempt(g.pgn, g.flags.fallback) {
+        return n;
+    }
+    if g.flags.incomplete {
+        return n;
+    }
+    let opened = company_fields(s, work, t, i, p, g.fields);
+    put_if(out, n, !opened, pgn_error(7, 1, t, i, 0, 0))
+}

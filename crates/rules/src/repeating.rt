@@ -1,0 +1,177 @@
+// R05
+ghost use mathlib.Core.Path.{_≡_};
+ghost use mathlib.Core.Bool.{not, _&&_, _||_};
+ghost use Prim.Native.Nat.{_+_};
+ghost use Rattle.pack.specs.Notation.{_<ᵇ_, _≤ᵇ_, _==_};
+ghost use Rattle.pack.specs.Meaning.{optNumber, repeatingMeaning, optRepeating, packOf};
+ghost use Rattle.pack.specs.Ready.{PgnIs, pgnIn};
+ghost use Rattle.rules.specs.Emit.{Emitted, Fits};
+ghost use Rattle.rules.specs.Repeating.{none-or-below, set-bounds, set-count-field, set-nesting, check-set, check-repeating};
+use crate::emit::pgn_error;
+use crate::emit::put;
+use crate::emit::put_if;
+use pack::cursor::OptNumber;
+use pack::protocol::FieldOrder;
+use pack::records::OptRepeating;
+use pack::records::PgnView;
+use pack::records::RepeatingView;
+
+fn precedes(a: FieldOrder, b: FieldOrder) -> bool
+    ensures { λ r. ⌜ r ≡ (a .0 <ᵇ b .0) ⌝ }
+{
+    a.0 < b.0
+}
+
+// A countField that is none, or not before the set.
+fn misplaced(counter: FieldOrder, start: FieldOrder) -> bool
+    ensures { λ r. ⌜ r ≡ ((counter .0 == 0) || (start .0 ≤ᵇ counter .0)) ⌝ }
+{
+    if counter.0 == 0 {
+        return true;
+    }
+    start.0 <= counter.0
+}
+
+// No countField, or one before the order.
+fn none_or_below(counter: OptNumber, order: FieldOrder) -> bool
+    ensures { λ r. ⌜ r ≡ none-or-below (optNumber counter) (order .0) ⌝ }
+{
+    if counter.given {
+        return precedes(FieldOrder(counter.value), order);
+    }
+    true
+}
+
+// The number behind a set's last order.
+fn set_end(set: RepeatingView) -> u64
+    ensures { λ r. ⌜ r ≡ set .start + set .count ⌝ }
+{
+    set.start as u64 + set.count as u64
+}
+
+// A set that starts after the start of another and ends within it.
+fn lies_inside(set: RepeatingView, outer: OptRepeating) -> bool
+    ensures { λ r. ⌜ r ≡ (outer .given && ((outer .set .start <ᵇ set .start) && (set .start + set .count ≤ᵇ outer .set .start + outer .set .count))) ⌝ }
+{
+    if !outer.given {
+        return false;
+    }
+    let enclosing = outer.set;
+    if precedes(FieldOrder(enclosing.start), FieldOrder(set.start)) {
+        return set_end(set) <= set_end(enclosing);
+    }
+    false
+}
+
+// A set that is there and has fields.
+fn is_nonempty(set: OptRepeating) -> bool
+    ensures { λ r. ⌜ r ≡ (set .given && not (set .set .count == 0)) ⌝ }
+{
+    if set.given {
+        return set.set.count != 0;
+    }
+    false
+}
+
+fn set_bounds(
+    out: &mut [u32],
+    n: usize,
+    t: u32,
+    i: u32,
+    part: u32,
+    fields: u32,
+    set: RepeatingView,
+) -> usize
+    requires { ⌜ Fits n (set-bounds t i part fields (repeatingMeaning set)) ⌝ }
+    ensures { λ r. ⌜ Emitted (now (out .entry)) n (set-bounds t i part fields (repeatingMeaning set)) (now (out .exit)) r ⌝ }
+{
+    if set.start == 0 {
+        return put(out, n, pgn_error(5, 1, t, i, part, 0));
+    }
+    let last = (set.start - 1) as u64 + set.count as u64;
+    put_if(
+        out,
+        n,
+        (fields as u64) < last,
+        pgn_error(5, 2, t, i, part, 0),
+    )
+}
+
+fn set_count_field(
+    out: &mut [u32],
+    n: usize,
+    t: u32,
+    i: u32,
+    part: u32,
+    start: FieldOrder,
+    counter: OptNumber,
+) -> usize
+    requires { ⌜ Fits n (set-count-field t i part (start .0) (optNumber counter)) ⌝ }
+    ensures { λ r. ⌜ Emitted (now (out .entry)) n (set-count-field t i part (start .0) (optNumber counter)) (now (out .exit)) r ⌝ }
+{
+    if counter.given {
+        let report = misplaced(FieldOrder(counter.value), start);
+        return put_if(out, n, report, pgn_error(5, 3, t, i, part, 0));
+    }
+    n
+}
+
+fn set_nesting(
+    out: &mut [u32],
+    n: usize,
+    t: u32,
+    i: u32,
+    part: u32,
+    outer: OptRepeating,
+    set: RepeatingView,
+) -> usize
+    requires { ⌜ Fits n (set-nesting t i part (optRepeating outer) (repeatingMeaning set)) ⌝ }
+    ensures { λ r. ⌜ Emitted (now (out .entry)) n (set-nesting t i part (optRepeating outer) (repeatingMeaning set)) (now (out .exit)) r ⌝ }
+{
+    if lies_inside(set, outer) {
+        let counter = set.counter;
+        let report = none_or_below(counter, FieldOrder(outer.set.start));
+        return put_if(out, n, report, pgn_error(5, 4, t, i, part, 0));
+    }
+    put(out, n, pgn_error(5, 5, t, i, part, 0))
+}
+
+// A set of a PGN with so many fields, beside the set that may enclose it.
+fn check_set(
+    out: &mut [u32],
+    n: usize,
+    t: u32,
+    i: u32,
+    part: u32,
+    fields: u32,
+    outer: OptRepeating,
+    set: OptRepeating,
+) -> usize
+    requires { ⌜ Fits n (check-set t i part fields (optRepeating outer) (optRepeating set)) ⌝ }
+    ensures { λ r. ⌜ Emitted (now (out .entry)) n (check-set t i part fields (optRepeating outer) (optRepeating set)) (now (out .exit)) r ⌝ }
+{
+    if is_nonempty(set) {
+        let r = set.set;
+        let counter = r.counter;
+        let m = set_bounds(out, n, t, i, part, fields, r);
+        let k = set_count_field(out, m, t, i, part, FieldOrder(r.start), counter);
+        if r.nested {
+            return set_nesting(out, k, t, i, part, outer, r);
+        }
+        return k;
+    }
+    n
+}
+
+// R05: repeating sets are self-consistent, and a nested set lies wholly inside the one that encloses it. Nothing encloses set 1.
+pub fn check_repeating(out: &mut [u32], n: usize, s: &[u8], t: u32, i: u32, g: PgnView) -> usize
+    requires { ⌜ Fits n (check-repeating t i (pgnIn (packOf (now s)) t i)) × PgnIs (now s) (pgnIn (packOf (now s)) t i) g ⌝ }
+    ensures { λ r. ⌜ Emitted (now (out .entry)) n (check-repeating t i (pgnIn (packOf (now (s .entry))) t i)) (now (out .exit)) r ⌝ }
+{
+    let first = g.repeating1;
+    let second = g.repeating2;
+    let set = first.set;
+    let nothing = OptRepeating { given: false, set };
+    let m = check_set(out, n, t, i, 1, g.fields, nothing, first);
+    check_set(out, m, t, i, 2, g.fields, first, second)
+}

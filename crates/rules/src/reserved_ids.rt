@@ -1,0 +1,114 @@
+// R12
+ghost use mathlib.Core.Path.{_≡_};
+ghost use mathlib.Core.Bool.{false, not};
+ghost use lib.ListN.{drop};
+ghost use Rattle.pack.specs.Notation.{_≐_, if_then_else_};
+ghost use Rattle.pack.specs.Items.{bytesOf};
+ghost use Rattle.pack.specs.Meaning.{fieldMeaning, packOf};
+ghost use Rattle.pack.specs.Ready.{PgnAt, PgnIs, pgnIn, fieldIn};
+ghost use Rattle.rules.specs.Emit.{Emitted, Fits};
+ghost use Rattle.rules.specs.Model.{is-digit, all-digits};
+ghost use Rattle.rules.specs.ReservedIds.{numbered, reserved-id-at, check-reserved-ids};
+ghost use Rattle.rules.specs.Texts.{bytes};
+use crate::emit::pgn_error;
+use crate::emit::put_if;
+use pack::of::field_of;
+use pack::records::FieldView;
+use pack::records::PgnView;
+use pack::text::part;
+use pack::text::text_is;
+
+fn is_digit(b: u8) -> bool
+    ensures { λ r. ⌜ r ≡ is-digit b ⌝ }
+{
+    if b < 48 {
+        return false;
+    }
+    b <= 57
+}
+
+// Whether the bytes from k on are ASCII digits.
+fn digits_from(id: &[u8], k: usize) -> bool
+    ensures { λ r. ⌜ r ≡ all-digits (drop k (now (id .entry))) ⌝ }
+{
+    let mut j = k;
+    while j < id.len() {
+        if !is_digit(id[j]) {
+            return false;
+        }
+        j += 1;
+    }
+    true
+}
+
+// Whether the id is the wanted text, followed by ASCII digits or nothing.
+fn numbered(want: &[u8], id: &[u8]) -> bool
+    ensures { λ r. ⌜ r ≡ numbered (now (want .entry)) (now (id .entry)) ⌝ }
+{
+    let mut k = 0;
+    while k < want.len() {
+        if id.len() <= k {
+            return false;
+        }
+        if want[k] != id[k] {
+            return false;
+        }
+        k += 1;
+    }
+    digits_from(id, k)
+}
+
+// Whether a Reserved or Spare field has another id.
+fn misnamed(s: &[u8], f: FieldView) -> bool
+    ensures { λ r. ⌜ r ≡ (if bytesOf (now (s .entry)) (f .names .name) ≐ bytes "Reserved" then not (numbered (bytes "reserved") (bytesOf (now (s .entry)) (f .names .id))) else if bytesOf (now (s .entry)) (f .names .name) ≐ bytes "Spare" then not (numbered (bytes "spare") (bytesOf (now (s .entry)) (f .names .id))) else false) ⌝ }
+{
+    let name = f.names.name;
+    let id = f.names.id;
+    if text_is(s, name, b"Reserved") {
+        return !numbered(b"reserved", part(s, id));
+    }
+    if text_is(s, name, b"Spare") {
+        return !numbered(b"spare", part(s, id));
+    }
+    false
+}
+
+fn reserved_id_at(
+    out: &mut [u32],
+    n: usize,
+    s: &[u8],
+    t: u32,
+    i: u32,
+    k: u32,
+    f: FieldView,
+) -> usize
+    requires { ⌜ Fits n (reserved-id-at t i k (fieldIn (packOf (now s)) t i k)) × (fieldMeaning (now s) f ≡ fieldIn (packOf (now s)) t i k) ⌝ }
+    ensures { λ r. ⌜ Emitted (now (out .entry)) n (reserved-id-at t i k (fieldIn (packOf (now (s .entry))) t i k)) (now (out .exit)) r ⌝ }
+{
+    let report = misnamed(s, f);
+    put_if(out, n, report, pgn_error(12, 1, t, i, k, 0))
+}
+
+// R12: Reserved and Spare fields have the id `reserved` or `spare`, with a number or without.
+pub fn check_reserved_ids(
+    out: &mut [u32],
+    n: usize,
+    s: &[u8],
+    work: &[u32],
+    t: u32,
+    i: u32,
+    p: usize,
+    g: PgnView,
+) -> usize
+    requires { ⌜ Fits n (check-reserved-ids t i (pgnIn (packOf (now s)) t i)) × PgnAt (now s) (now work) t i p × PgnIs (now s) (pgnIn (packOf (now s)) t i) g ⌝ }
+    ensures { λ r. ⌜ Emitted (now (out .entry)) n (check-reserved-ids t i (pgnIn (packOf (now (s .entry))) t i)) (now (out .exit)) r ⌝ }
+{
+    let mut m = n;
+    let mut k = 0;
+    while k < g.fields {
+        let f = field_of(s, work, t, i, p, k);
+        m = reserved_id_at(out, m, s, t, i, k, f);
+        k += 1;
+    }
+    m
+}
