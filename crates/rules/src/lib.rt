@@ -5,6 +5,7 @@ pub mod bit_length_field;
 pub mod emit;
 pub mod floats;
 pub mod frame_length;
+pub mod lookup_names;
 pub mod lookups;
 pub mod match_values;
 pub mod matches;
