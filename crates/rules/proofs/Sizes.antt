@@ -41,3 +41,7 @@ lookups-few {s} {w} {l} a = omega (arith, entries-few a, a .place, lookups-grow 
 -- PGN i of a tree, at its place
 pub at-pgn : {s w : List ℕ} {t i p n : ℕ} → Ready s w → t < 3 → n ≤ length (pgns-of (packOf s) t) → i < n → p ≡ pgnPlace (packOf s) t i → PgnAt s w t i p
 at-pgn r h l k e = record { ready = r; tree = h; pgn = omega arith; place = e }
+
+-- lookup l, at its place
+pub at-lookup : {s w : List ℕ} {n l p : ℕ} → Ready s w → n ≡ length (packOf s .lookups) → p ≡ lookupPlace (packOf s) l → l < n → LookupAt s w l p
+at-lookup r e q h = record { ready = r; lookup = omega arith; place = q }

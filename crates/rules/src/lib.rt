@@ -10,6 +10,7 @@ pub mod field_type_overrides;
 pub mod fieldtypes;
 pub mod floats;
 pub mod frame_length;
+pub mod lookup_names;
 pub mod lookups;
 pub mod match_values;
 pub mod matches;

@@ -1,3 +1,4 @@
+use Rattle.rules.proofs.Sizes.{at-lookup}
 use Rattle.rules.specs.Model.{find-lookup}
 use Rattle.rules.specs.SearchLaws.{first-turn, first-hit}
 use Rattle.rules.specs.Search.{firstBelow}
@@ -30,9 +31,6 @@ use Rattle.pack.proofs.text.same_text.Reads as same-text-reads
 -- whether lookup l has the name
 abbrev named : List ℕ → List ℕ → ℕ → Bool
 named s name l = lookupIn (packOf s) l .name ≐ name
-
-at-lookup : {s w : List ℕ} {n l p : ℕ} → Ready s w → n ≡ length (packOf s .lookups) → p ≡ lookupPlace (packOf s) l → l < n → LookupAt s w l p
-at-lookup r e q h = record { ready = r; lookup = omega arith; place = q }
 
 abbrev Inv-loop : tie.InvT-loop
 Inv-loop s work name n place₀ index₀ place index = (index ≤ n) × (place ≡ lookupPlace (packOf s) index) × (firstBelow (named s (bytesOf s name)) index ≡ none)

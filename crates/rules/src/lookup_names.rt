@@ -1,0 +1,135 @@
+// R24
+ghost use mathlib.Core.Path.{_≡_};
+ghost use Prim.Native.Nat.{_≤_, _<_};
+ghost use lib.ListN.{length, getD};
+ghost use Rattle.pack.specs.Notation.{concatBelow};
+ghost use Rattle.pack.specs.Value.{noEntry};
+ghost use Rattle.pack.specs.Meaning.{optNumber, entryMeaning, packOf};
+ghost use Rattle.pack.specs.Ready.{Ready, LookupAt, LookupIs, lookupPlace, lookupIn};
+ghost use Rattle.rules.specs.Emit.{Emitted, Fits};
+ghost use Rattle.rules.specs.Search.{latestBelow};
+ghost use Rattle.rules.specs.LookupNames.{same-name, same-name-as, lookup-names-of};
+use crate::emit::put;
+use crate::lookups::lookup_error;
+use crate::searches::latest;
+use pack::cursor::OptNumber;
+use pack::load::Section;
+use pack::of::entry_of;
+use pack::of::lookup_of;
+use pack::records::EntryView;
+use pack::records::LookupView;
+use pack::text::same_text;
+use pack::text::text_is;
+
+// One name, of a triplet under one first value.
+fn same_name(s: &[u8], kind: u32, a: EntryView, b: EntryView) -> bool
+    ensures { λ r. ⌜ r ≡ same-name kind (entryMeaning (now (s .entry)) a) (entryMeaning (now (s .entry)) b) ⌝ }
+{
+    if !same_text(s, a.name, b.name) {
+        return false;
+    }
+    if kind == 1 {
+        return a.first == b.first;
+    }
+    true
+}
+
+// The latest entry before e, which is `entry`, of its name.
+fn latest_same_name(
+    s: &[u8],
+    work: &[u32],
+    l: u32,
+    p: usize,
+    kind: u32,
+    e: u32,
+    entry: EntryView,
+) -> OptNumber
+    requires { ⌜ LookupAt (now s) (now work) l p × (kind ≡ lookupIn (packOf (now s)) l .kind) × (e < length (lookupIn (packOf (now s)) l .entries)) × (entryMeaning (now s) entry ≡ getD (lookupIn (packOf (now s)) l .entries) e noEntry) ⌝ }
+    ensures { λ r. ⌜ optNumber r ≡ latestBelow (λ d. same-name (lookupIn (packOf (now (s .entry))) l .kind) (getD (lookupIn (packOf (now (s .entry))) l .entries) d noEntry) (getD (lookupIn (packOf (now (s .entry))) l .entries) e noEntry)) e ⌝ }
+{
+    let mut found = OptNumber {
+        given: false,
+        value: 0,
+    };
+    let mut d: u32 = 0;
+    while d < e {
+        let other = entry_of(s, work, l, p, kind, d);
+        let hit = same_name(s, kind, other, entry);
+        found = latest(hit, d, found);
+        d += 1;
+    }
+    found
+}
+
+// Entry e.
+fn same_name_at(
+    out: &mut [u32],
+    n: usize,
+    s: &[u8],
+    work: &[u32],
+    l: u32,
+    p: usize,
+    kind: u32,
+    e: u32,
+) -> usize
+    requires { ⌜ Fits n (same-name-as l e (latestBelow (λ d. same-name (lookupIn (packOf (now s)) l .kind) (getD (lookupIn (packOf (now s)) l .entries) d noEntry) (getD (lookupIn (packOf (now s)) l .entries) e noEntry)) e)) × LookupAt (now s) (now work) l p × (kind ≡ lookupIn (packOf (now s)) l .kind) × (e < length (lookupIn (packOf (now s)) l .entries)) ⌝ }
+    ensures { λ r. ⌜ Emitted (now (out .entry)) n (same-name-as l e (latestBelow (λ d. same-name (lookupIn (packOf (now (s .entry))) l .kind) (getD (lookupIn (packOf (now (s .entry))) l .entries) d noEntry) (getD (lookupIn (packOf (now (s .entry))) l .entries) e noEntry)) e)) (now (out .exit)) r ⌝ }
+{
+    let entry = entry_of(s, work, l, p, kind, e);
+    let found = latest_same_name(s, work, l, p, kind, e, entry);
+    if !found.given {
+        return n;
+    }
+    put(out, n, lookup_error(24, 1, l, e, found.value))
+}
+
+// Lookup l, which is v. J1939_SPN is generated from field names.
+fn lookup_names_of(
+    out: &mut [u32],
+    n: usize,
+    s: &[u8],
+    work: &[u32],
+    l: u32,
+    p: usize,
+    v: LookupView,
+) -> usize
+    requires { ⌜ Fits n (lookup-names-of l (lookupIn (packOf (now s)) l)) × LookupAt (now s) (now work) l p × LookupIs (now s) (lookupIn (packOf (now s)) l) v ⌝ }
+    ensures { λ r. ⌜ Emitted (now (out .entry)) n (lookup-names-of l (lookupIn (packOf (now (s .entry))) l)) (now (out .exit)) r ⌝ }
+{
+    if text_is(s, v.name, b"J1939_SPN") {
+        return n;
+    }
+    let entries = v.entries;
+    let kind = v.kind;
+    let mut m = n;
+    let mut e: u32 = 0;
+    while e < entries {
+        m = same_name_at(out, m, s, work, l, p, kind, e);
+        e += 1;
+    }
+    m
+}
+
+// R24, cause 1: a lookup gives each name to one code.
+pub fn check_lookup_names(
+    out: &mut [u32],
+    n: usize,
+    s: &[u8],
+    work: &[u32],
+    lookups: Section,
+) -> usize
+    requires { ⌜ Fits n (concatBelow (λ l. lookup-names-of l (lookupIn (packOf (now s)) l)) (length (packOf (now s) .lookups))) × Ready (now s) (now work) × (lookups .count ≡ length (packOf (now s) .lookups)) × (lookups .place ≡ lookupPlace (packOf (now s)) 0) ⌝ }
+    ensures { λ r. ⌜ Emitted (now (out .entry)) n (concatBelow (λ l. lookup-names-of l (lookupIn (packOf (now (s .entry))) l)) (length (packOf (now (s .entry)) .lookups))) (now (out .exit)) r ⌝ }
+{
+    let count = lookups.count;
+    let mut m = n;
+    let mut p = lookups.place;
+    let mut l: u32 = 0;
+    while l < count {
+        let v = lookup_of(s, work, l, p);
+        m = lookup_names_of(out, m, s, work, l, p, v);
+        p = p + 1 + v.entries as usize;
+        l += 1;
+    }
+    m
+}
