@@ -1,15 +1,13 @@
 -- Laws of findings put into a buffer: nothing, one, two lists, a turn of a loop; and what their number leaves room for.
-use Prim.Native.Nat.{ℕ, zero, suc, _+_, _*_, _≤_, _<_}
+use Prim.Native.Nat.{ℕ, suc, _+_, _<_}
 use native.Mathlib.Omega.{arith}
 use native.Mathlib.Numerals.{add-one}
-use mathlib.Core.Path.{_≡_, refl, ap, _∙_, sym}
+use mathlib.Core.Path.{_≡_, refl, _∙_}
 use mathlib.Core.List.{List, [], _∷_, _++_}
-use mathlib.Core.Bool.{Bool, true, false}
 use lib.ListN.{length, length-append}
-use Rattle.pack.specs.Notation.{if_then_else_, concatBelow}
+use Rattle.pack.specs.Notation.{concatBelow}
 use Rattle.pack.proofs.Tables.{length-concatBelow}
 use Rattle.rules.specs.declared.Finding.{Finding}
-use Rattle.rules.specs.Findings.{report-if}
 use Rattle.rules.specs.Emit.{stored, putAll, Emitted, Fits}
 
 pub putAll-append : (o : List ℕ) (n : ℕ) (xs ys : List Finding) → putAll o n (xs ++ ys) ≡ putAll (putAll o n xs) (n + length xs) ys

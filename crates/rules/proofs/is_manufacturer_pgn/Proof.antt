@@ -3,10 +3,7 @@ use borrow.Author.Tests.{le-leb, lt-leb, eq-eqb, ne-eqb}
 use Rattle.rules.specs.Proprietary.{is-manufacturer-pgn}
 use Rattle.rules.proofs.is_manufacturer_pgn.Statement.{statement}
 use Rattle.rules.proofs.is_manufacturer_pgn.Tie as tie
-use Rattle.rules.proofs.is_manufacturer_pgn.Reads as reads
-use Rattle.rules.proofs.is_manufacturer_pgn.Lts as lts
 
--- src/lib.rt:21:9
 returns : tie.Need-returns
 unfolding is-manufacturer-pgn
 returns c =
@@ -17,17 +14,14 @@ returns c =
       lt-leb 130816 pgn (omega (arith, c .if1 .taken)),
     )
 
--- src/lib.rt:24:9
 returns-2 : tie.Need-returns-2
 unfolding is-manufacturer-pgn
 returns-2 c = simp (le-leb 65280 _ (c .before .if1 .left), le-leb _ 65535 (c .if2 .taken))
 
--- src/lib.rt:27:9
 returns-3 : tie.Need-returns-3
 unfolding is-manufacturer-pgn
 returns-3 c = simp (lt-leb _ 65535 (c .before .if2 .left), le-leb 65280 _ (c .before .before .if1 .left), eq-eqb _ 126720 (c .if3 .taken))
 
--- src/lib.rt:30:9
 returns-4 : tie.Need-returns-4
 unfolding is-manufacturer-pgn
 returns-4 c =
@@ -38,7 +32,6 @@ returns-4 c =
       lt-leb 130816 _ (c .if4 .taken),
     )
 
--- src/lib.rt:17:1
 returns-5 : tie.Need-returns-5
 unfolding is-manufacturer-pgn
 returns-5 c =

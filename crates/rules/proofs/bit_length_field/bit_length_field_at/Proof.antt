@@ -1,40 +1,24 @@
 use Rattle.rules.specs.BitLengthField.{variable-binary, bit-length-target-at, bit-length-field-at}
-use Rattle.rules.specs.Model.{target}
-use Rattle.rules.proofs.Emits.{emitted-none, emitted-append, emitted-turn, fits-left, fits-right, fits-turn}
-use Rattle.rules.specs.Model.{given, field-at}
+use Rattle.rules.specs.Model.{target, given, field-at}
 use Rattle.rules.specs.Findings.{report-if, pgn-error}
-use Rattle.rules.specs.Emit.{Emitted, Fits}
 use Rattle.rules.specs.declared.Finding.{Finding}
-use Rattle.pack.specs.declared.records.PgnView.{PgnView}
 use Rattle.pack.specs.declared.records.FieldView.{FieldView}
-use Rattle.pack.specs.Ready.{Ready, PgnAt, PgnIs, LookupAt, LookupIs, pgnIn, fieldIn, lookupIn}
-use Rattle.pack.specs.Meaning.{optBytes, optNumber, optFloat, optReference, optRepeating, fieldMeaning, packOf}
+use Rattle.pack.specs.Ready.{pgnIn}
+use Rattle.pack.specs.Meaning.{optNumber, fieldMeaning, packOf}
 use Rattle.pack.specs.Items.{bytesOf}
-use Rattle.pack.specs.Value.{Bytes, FieldType, Entry, Lookup, Repeating, Reference, Field, Pgn, Pack}
-use Rattle.pack.specs.Notation.{_==_, _<ᵇ_, _≤ᵇ_, _≐_, if_then_else_, optional, concatBelow}
-use mathlib.Core.Option.{Option, none, some}
-use mathlib.Core.Bool.{not, _&&_, _||_}
-use Prim.Native.Nat.{ℕ, zero, suc, _+_, _-_, _*_, _/_, _%_, _^_, _≤_, _<_}
-use native.Mathlib.Omega.{arith}
-use native.Mathlib.Numerals.{add-one}
-use mathlib.Core.Path.{_≡_, refl, ap, _∙_, sym}
-use mathlib.Core.List.{List, [], _∷_, _++_}
+use Rattle.pack.specs.Value.{Pgn}
+use mathlib.Core.Option.{Option}
 use mathlib.Core.Bool.{Bool, true, false}
+use Prim.Native.Nat.{ℕ}
+use native.Mathlib.Omega.{arith}
+use mathlib.Core.Path.{_≡_}
+use mathlib.Core.List.{List, [], _∷_}
 use borrow.Author.Needs.{needs}
-use borrow.Author.Tests.{lt-ltb, le-ltb, le-leb, lt-leb, eq-eqb, ne-eqb, leb-true, leb-false, ltb-true, ltb-false, eqb-true, eqb-false, not-true, not-false}
+use borrow.Author.Tests.{not-true, not-false}
 use denote.Ref.{now}
-use lib.ListN.{length, getD, take, drop, set}
-use lib.Dec.{ltb, leb, eqb}
+use lib.ListN.{length}
 use Rattle.rules.proofs.bit_length_field.bit_length_field_at.Statement.{statement}
 use Rattle.rules.proofs.bit_length_field.bit_length_field_at.Tie as tie
-use Rattle.rules.proofs.bit_length_field.bit_length_field_at.Reads as reads
-use Rattle.rules.proofs.bit_length_field.bit_length_field_at.Lts as lts
-use Rattle.rules.proofs.bit_length_field.bit_length_target_at.Reads as bit-length-target-at-reads
-use Rattle.rules.proofs.bit_length_field.variable_binary.Reads as variable-binary-reads
-use Rattle.rules.proofs.emit.pgn_error.Reads as pgn-error-reads
-use Rattle.rules.proofs.emit.put.Reads as put-reads
-use Rattle.rules.proofs.emit.put_if.Reads as put-if-reads
-use Rattle.rules.proofs.targets.target.Reads as target-reads
 
 module _ (s : List ℕ) (t i k : ℕ) (p : Pgn) (f : FieldView) (is : fieldMeaning s f ≡ field-at p k) (b : Bool) (z : b ≡ variable-binary (fieldMeaning s f)) where
   without : f .links .length .given ≡ false → (F : Finding) → F ≡ pgn-error 15 1 t i k 0 → bit-length-field-at t i p k (field-at p k .bit-length-field) ≡ report-if b F
@@ -50,55 +34,42 @@ module _ (s : List ℕ) (t i k : ℕ) (p : Pgn) (f : FieldView) (is : fieldMeani
   unfolding bit-length-field-at
   with-target h x o y = rw (← is, h, ← is, ← z, x, y)
 
--- src/bit_length_field.rt:88:9
 variable-binary-requires : tie.Need-variable-binary-requires
 variable-binary-requires c κs = search needs
 
--- src/bit_length_field.rt:90:39
 pgn-error-requires : tie.Need-pgn-error-requires
 pgn-error-requires c κs = search needs
 
--- src/bit_length_field.rt:90:9
 put-if-requires : tie.Need-put-if-requires
 put-if-requires c κs = rw (without (now (c .before .before .before .before .before .before .before .before .args .s)) (c .before .before .before .before .before .before .before .before .args .t) (c .before .before .before .before .before .before .before .before .args .i) (c .before .before .before .before .before .before .before .before .args .k) (pgnIn (packOf (now (c .before .before .before .before .before .before .before .before .args .s))) (c .before .before .before .before .before .before .before .before .args .t) (c .before .before .before .before .before .before .before .before .args .i)) (c .before .before .before .before .before .before .before .before .args .f) (c .before .before .before .before .before .before .before .before .pre .4) (c .before .before .before .before .variable-binary .result) (c .before .before .before .before .variable-binary .ensures) (not-true (c .before .before .before .before .before .before .before .before .args .f .links .length .given) (c .before .before .if1 .taken)) (c .pgn-error .result) (c .pgn-error .ensures)) at (c .before .before .before .before .before .before .before .before .pre .0)
 
--- src/bit_length_field.rt:90:9
 same-length : tie.Need-same-length
 same-length c = search needs
 
--- src/bit_length_field.rt:90:9
 returns : tie.Need-returns
 returns c = rw (without (now (c .before .before .before .before .before .before .before .before .before .before .before .args .s)) (c .before .before .before .before .before .before .before .before .before .before .before .args .t) (c .before .before .before .before .before .before .before .before .before .before .before .args .i) (c .before .before .before .before .before .before .before .before .before .before .before .args .k) (pgnIn (packOf (now (c .before .before .before .before .before .before .before .before .before .before .before .args .s))) (c .before .before .before .before .before .before .before .before .before .before .before .args .t) (c .before .before .before .before .before .before .before .before .before .before .before .args .i)) (c .before .before .before .before .before .before .before .before .before .before .before .args .f) (c .before .before .before .before .before .before .before .before .before .before .before .pre .4) (c .before .before .before .before .before .before .before .variable-binary .result) (c .before .before .before .before .before .before .before .variable-binary .ensures) (not-true (c .before .before .before .before .before .before .before .before .before .before .before .args .f .links .length .given) (c .before .before .before .before .before .if1 .taken)) (c .before .before .before .pgn-error .result) (c .before .before .before .pgn-error .ensures)) (c .before .before .put-if .ensures)
 
--- src/bit_length_field.rt:93:28
 pgn-error-requires-2 : tie.Need-pgn-error-requires-2
 pgn-error-requires-2 c κs = search needs
 
--- src/bit_length_field.rt:93:9
 put-requires : tie.Need-put-requires
 put-requires c κs = rw (needless (now (c .before .before .before .before .before .before .before .before .before .args .s)) (c .before .before .before .before .before .before .before .before .before .args .t) (c .before .before .before .before .before .before .before .before .before .args .i) (c .before .before .before .before .before .before .before .before .before .args .k) (pgnIn (packOf (now (c .before .before .before .before .before .before .before .before .before .args .s))) (c .before .before .before .before .before .before .before .before .before .args .t) (c .before .before .before .before .before .before .before .before .before .args .i)) (c .before .before .before .before .before .before .before .before .before .args .f) (c .before .before .before .before .before .before .before .before .before .pre .4) (c .before .before .before .before .before .variable-binary .result) (c .before .before .before .before .before .variable-binary .ensures) (not-false (c .before .before .before .before .before .before .before .before .before .args .f .links .length .given) (c .before .before .before .if1 .left)) (not-true (c .before .before .before .before .before .variable-binary .result) (c .before .before .if2 .taken)) (c .pgn-error2 .result) (c .pgn-error2 .ensures)) at (c .before .before .before .before .before .before .before .before .before .pre .0)
 
--- src/bit_length_field.rt:93:9
 same-length-2 : tie.Need-same-length-2
 same-length-2 c = search needs
 
--- src/bit_length_field.rt:93:9
 returns-2 : tie.Need-returns-2
 returns-2 c = rw (needless (now (c .before .before .before .before .before .before .before .before .before .before .before .before .args .s)) (c .before .before .before .before .before .before .before .before .before .before .before .before .args .t) (c .before .before .before .before .before .before .before .before .before .before .before .before .args .i) (c .before .before .before .before .before .before .before .before .before .before .before .before .args .k) (pgnIn (packOf (now (c .before .before .before .before .before .before .before .before .before .before .before .before .args .s))) (c .before .before .before .before .before .before .before .before .before .before .before .before .args .t) (c .before .before .before .before .before .before .before .before .before .before .before .before .args .i)) (c .before .before .before .before .before .before .before .before .before .before .before .before .args .f) (c .before .before .before .before .before .before .before .before .before .before .before .before .pre .4) (c .before .before .before .before .before .before .before .before .variable-binary .result) (c .before .before .before .before .before .before .before .before .variable-binary .ensures) (not-false (c .before .before .before .before .before .before .before .before .before .before .before .before .args .f .links .length .given) (c .before .before .before .before .before .before .if1 .left)) (not-true (c .before .before .before .before .before .before .before .before .variable-binary .result) (c .before .before .before .before .before .if2 .taken)) (c .before .before .before .pgn-error2 .result) (c .before .before .before .pgn-error2 .ensures)) (c .before .before .put .ensures)
 
--- src/bit_length_field.rt:95:9
 target-requires : tie.Need-target-requires
 target-requires c κs = (c .before .before .before .before .before .before .before .pre .1, c .before .before .before .before .before .before .before .pre .2)
 
--- src/bit_length_field.rt:96:5
 bit-length-target-at-requires : tie.Need-bit-length-target-at-requires
 bit-length-target-at-requires c κs = ((rw (with-target (now (c .before .before .before .before .before .before .before .before .before .args .s)) (c .before .before .before .before .before .before .before .before .before .args .t) (c .before .before .before .before .before .before .before .before .before .args .i) (c .before .before .before .before .before .before .before .before .before .args .k) (pgnIn (packOf (now (c .before .before .before .before .before .before .before .before .before .args .s))) (c .before .before .before .before .before .before .before .before .before .args .t) (c .before .before .before .before .before .before .before .before .before .args .i)) (c .before .before .before .before .before .before .before .before .before .args .f) (c .before .before .before .before .before .before .before .before .before .pre .4) (c .before .before .before .before .before .variable-binary .result) (c .before .before .before .before .before .variable-binary .ensures) (not-false (c .before .before .before .before .before .before .before .before .before .args .f .links .length .given) (c .before .before .before .if1 .left)) (not-false (c .before .before .before .before .before .variable-binary .result) (c .before .before .if2 .left)) (optNumber (c .before .target .result)) (c .before .target .ensures)) at (c .before .before .before .before .before .before .before .before .before .pre .0)), c .before .before .before .before .before .before .before .before .before .pre .1, omega (arith, c .before .before .before .before .before .before .before .before .before .pre .2, c .before .before .before .before .before .before .before .before .before .pre .3))
 
--- src/bit_length_field.rt:73:1
 same-length-3 : tie.Need-same-length-3
 same-length-3 c = search needs
 
--- src/bit_length_field.rt:73:1
 returns-3 : tie.Need-returns-3
 returns-3 c = rw (with-target (now (c .before .before .before .before .before .before .before .before .before .before .before .before .args .s)) (c .before .before .before .before .before .before .before .before .before .before .before .before .args .t) (c .before .before .before .before .before .before .before .before .before .before .before .before .args .i) (c .before .before .before .before .before .before .before .before .before .before .before .before .args .k) (pgnIn (packOf (now (c .before .before .before .before .before .before .before .before .before .before .before .before .args .s))) (c .before .before .before .before .before .before .before .before .before .before .before .before .args .t) (c .before .before .before .before .before .before .before .before .before .before .before .before .args .i)) (c .before .before .before .before .before .before .before .before .before .before .before .before .args .f) (c .before .before .before .before .before .before .before .before .before .before .before .before .pre .4) (c .before .before .before .before .before .before .before .before .variable-binary .result) (c .before .before .before .before .before .before .before .before .variable-binary .ensures) (not-false (c .before .before .before .before .before .before .before .before .before .before .before .before .args .f .links .length .given) (c .before .before .before .before .before .before .if1 .left)) (not-false (c .before .before .before .before .before .before .before .before .variable-binary .result) (c .before .before .before .before .before .if2 .left)) (optNumber (c .before .before .before .before .target .result)) (c .before .before .before .before .target .ensures)) (c .before .before .bit-length-target-at .ensures)
 

@@ -1,40 +1,24 @@
 use Rattle.rules.specs.BitLengthField.{not-bit-count, bit-length-target-at}
 use Rattle.rules.specs.Floats.{float-eq, ONE}
 use Rattle.pack.specs.declared.cursor.OptNumber.{OptNumber}
-use Rattle.rules.proofs.Emits.{emitted-none, emitted-append, emitted-turn, fits-left, fits-right, fits-turn}
 use Rattle.rules.specs.Model.{given, field-at}
 use Rattle.rules.specs.Findings.{report-if, pgn-error}
-use Rattle.rules.specs.Emit.{Emitted, Fits}
 use Rattle.rules.specs.declared.Finding.{Finding}
-use Rattle.pack.specs.declared.records.PgnView.{PgnView}
 use Rattle.pack.specs.declared.records.FieldView.{FieldView}
-use Rattle.pack.specs.Ready.{Ready, PgnAt, PgnIs, LookupAt, LookupIs, pgnIn, fieldIn, lookupIn}
-use Rattle.pack.specs.Meaning.{optBytes, optNumber, optFloat, optReference, optRepeating, fieldMeaning, packOf}
-use Rattle.pack.specs.Items.{bytesOf}
-use Rattle.pack.specs.Value.{Bytes, FieldType, Entry, Lookup, Repeating, Reference, Field, Pgn, Pack}
-use Rattle.pack.specs.Notation.{_==_, _<ᵇ_, _≤ᵇ_, _≐_, if_then_else_, optional, concatBelow}
-use mathlib.Core.Option.{Option, none, some}
-use mathlib.Core.Bool.{not, _&&_, _||_}
-use Prim.Native.Nat.{ℕ, zero, suc, _+_, _-_, _*_, _/_, _%_, _^_, _≤_, _<_}
+use Rattle.pack.specs.Ready.{pgnIn}
+use Rattle.pack.specs.Meaning.{optNumber, fieldMeaning, packOf}
+use Rattle.pack.specs.Value.{Pgn}
+use Rattle.pack.specs.Notation.{_==_, optional}
+use mathlib.Core.Bool.{not, _||_, Bool, true, false}
+use Prim.Native.Nat.{ℕ, _≤_, _<_}
 use native.Mathlib.Omega.{arith}
-use native.Mathlib.Numerals.{add-one}
-use mathlib.Core.Path.{_≡_, refl, ap, _∙_, sym}
-use mathlib.Core.List.{List, [], _∷_, _++_}
-use mathlib.Core.Bool.{Bool, true, false}
+use mathlib.Core.Path.{_≡_, refl}
+use mathlib.Core.List.{List, [], _∷_}
 use borrow.Author.Needs.{needs}
-use borrow.Author.Tests.{lt-ltb, le-ltb, le-leb, lt-leb, eq-eqb, ne-eqb, leb-true, leb-false, ltb-true, ltb-false, eqb-true, eqb-false, not-true, not-false}
+use borrow.Author.Tests.{le-leb, lt-leb, not-true, not-false}
 use denote.Ref.{now}
-use lib.ListN.{length, getD, take, drop, set}
-use lib.Dec.{ltb, leb, eqb}
 use Rattle.rules.proofs.bit_length_field.bit_length_target_at.Statement.{statement}
 use Rattle.rules.proofs.bit_length_field.bit_length_target_at.Tie as tie
-use Rattle.rules.proofs.bit_length_field.bit_length_target_at.Reads as reads
-use Rattle.rules.proofs.bit_length_field.bit_length_target_at.Lts as lts
-use Rattle.pack.proofs.of.field_of.Reads as field-of-reads
-use Rattle.rules.proofs.bit_length_field.not_bit_count.Reads as not-bit-count-reads
-use Rattle.rules.proofs.emit.pgn_error.Reads as pgn-error-reads
-use Rattle.rules.proofs.emit.put.Reads as put-reads
-use Rattle.rules.proofs.emit.put_if.Reads as put-if-reads
 
 module _ (s : List ℕ) (t i k : ℕ) (p : Pgn) (j : OptNumber) where
   absent : j .given ≡ false → (F : Finding) → F ≡ pgn-error 15 3 t i k 0 → bit-length-target-at t i p k (optNumber j) ≡ F ∷ []
@@ -55,59 +39,45 @@ module _ (s : List ℕ) (t i k : ℕ) (p : Pgn) (j : OptNumber) where
   unfolding bit-length-target-at not-bit-count
   earlier h l f is b z F y = rw (h, lt-leb k (j .value) l, ← is, given-is (f .links .reference .given), z, y)
 
--- src/bit_length_field.rt:62:28
 pgn-error-requires : tie.Need-pgn-error-requires
 pgn-error-requires c κs = search needs
 
--- src/bit_length_field.rt:62:9
 put-requires : tie.Need-put-requires
 put-requires c κs = rw (absent (now (c .before .before .before .before .before .before .before .args .s)) (c .before .before .before .before .before .before .before .args .t) (c .before .before .before .before .before .before .before .args .i) (c .before .before .before .before .before .before .before .args .k) (pgnIn (packOf (now (c .before .before .before .before .before .before .before .args .s))) (c .before .before .before .before .before .before .before .args .t) (c .before .before .before .before .before .before .before .args .i)) (c .before .before .before .before .before .before .before .args .j) (not-true (c .before .before .before .before .before .before .before .args .j .given) (c .before .before .if1 .taken)) (c .pgn-error .result) (c .pgn-error .ensures)) at (c .before .before .before .before .before .before .before .pre .0)
 
--- src/bit_length_field.rt:62:9
 same-length : tie.Need-same-length
 same-length c = search needs
 
--- src/bit_length_field.rt:62:9
 returns : tie.Need-returns
 returns c = rw (absent (now (c .before .before .before .before .before .before .before .before .before .before .args .s)) (c .before .before .before .before .before .before .before .before .before .before .args .t) (c .before .before .before .before .before .before .before .before .before .before .args .i) (c .before .before .before .before .before .before .before .before .before .before .args .k) (pgnIn (packOf (now (c .before .before .before .before .before .before .before .before .before .before .args .s))) (c .before .before .before .before .before .before .before .before .before .before .args .t) (c .before .before .before .before .before .before .before .before .before .before .args .i)) (c .before .before .before .before .before .before .before .before .before .before .args .j) (not-true (c .before .before .before .before .before .before .before .before .before .before .args .j .given) (c .before .before .before .before .before .if1 .taken)) (c .before .before .before .pgn-error .result) (c .before .before .before .pgn-error .ensures)) (c .before .before .put .ensures)
 
--- src/bit_length_field.rt:65:28
 pgn-error-requires-2 : tie.Need-pgn-error-requires-2
 pgn-error-requires-2 c κs = search needs
 
--- src/bit_length_field.rt:65:9
 put-requires-2 : tie.Need-put-requires-2
 put-requires-2 c κs = rw (later (now (c .before .before .before .before .before .before .before .before .before .args .s)) (c .before .before .before .before .before .before .before .before .before .args .t) (c .before .before .before .before .before .before .before .before .before .args .i) (c .before .before .before .before .before .before .before .before .before .args .k) (pgnIn (packOf (now (c .before .before .before .before .before .before .before .before .before .args .s))) (c .before .before .before .before .before .before .before .before .before .args .t) (c .before .before .before .before .before .before .before .before .before .args .i)) (c .before .before .before .before .before .before .before .before .before .args .j) (not-false (c .before .before .before .before .before .before .before .before .before .args .j .given) (c .before .before .before .before .if1 .left)) (c .before .before .if2 .taken) (c .pgn-error2 .result) (c .pgn-error2 .ensures)) at (c .before .before .before .before .before .before .before .before .before .pre .0)
 
--- src/bit_length_field.rt:65:9
 same-length-2 : tie.Need-same-length-2
 same-length-2 c = search needs
 
--- src/bit_length_field.rt:65:9
 returns-2 : tie.Need-returns-2
 returns-2 c = rw (later (now (c .before .before .before .before .before .before .before .before .before .before .before .before .args .s)) (c .before .before .before .before .before .before .before .before .before .before .before .before .args .t) (c .before .before .before .before .before .before .before .before .before .before .before .before .args .i) (c .before .before .before .before .before .before .before .before .before .before .before .before .args .k) (pgnIn (packOf (now (c .before .before .before .before .before .before .before .before .before .before .before .before .args .s))) (c .before .before .before .before .before .before .before .before .before .before .before .before .args .t) (c .before .before .before .before .before .before .before .before .before .before .before .before .args .i)) (c .before .before .before .before .before .before .before .before .before .before .before .before .args .j) (not-false (c .before .before .before .before .before .before .before .before .before .before .before .before .args .j .given) (c .before .before .before .before .before .before .before .if1 .left)) (c .before .before .before .before .before .if2 .taken) (c .before .before .before .pgn-error2 .result) (c .before .before .before .pgn-error2 .ensures)) (c .before .before .put2 .ensures)
 
--- src/bit_length_field.rt:67:9
 field-of-requires : tie.Need-field-of-requires
 field-of-requires c κs = (c .before .before .before .before .before .before .before .pre .1, omega (arith, c .before .before .before .before .before .before .before .pre .2, c .if2 .left))
 
--- src/bit_length_field.rt:68:9
 not-bit-count-requires : tie.Need-not-bit-count-requires
 not-bit-count-requires c κs = search needs
 
--- src/bit_length_field.rt:69:27
 pgn-error-requires-3 : tie.Need-pgn-error-requires-3
 pgn-error-requires-3 c κs = search needs
 
--- src/bit_length_field.rt:69:5
 put-if-requires : tie.Need-put-if-requires
 put-if-requires c κs = rw (earlier (now (c .before .before .before .before .before .before .before .before .before .before .before .args .s)) (c .before .before .before .before .before .before .before .before .before .before .before .args .t) (c .before .before .before .before .before .before .before .before .before .before .before .args .i) (c .before .before .before .before .before .before .before .before .before .before .before .args .k) (pgnIn (packOf (now (c .before .before .before .before .before .before .before .before .before .before .before .args .s))) (c .before .before .before .before .before .before .before .before .before .before .before .args .t) (c .before .before .before .before .before .before .before .before .before .before .before .args .i)) (c .before .before .before .before .before .before .before .before .before .before .before .args .j) (not-false (c .before .before .before .before .before .before .before .before .before .before .before .args .j .given) (c .before .before .before .before .before .before .if1 .left)) (c .before .before .before .before .if2 .left) (c .before .before .before .field-of .result) (c .before .before .before .field-of .ensures) (c .before .before .not-bit-count .result) (c .before .before .not-bit-count .ensures) (c .pgn-error3 .result) (c .pgn-error3 .ensures)) at (c .before .before .before .before .before .before .before .before .before .before .before .pre .0)
 
--- src/bit_length_field.rt:47:1
 same-length-3 : tie.Need-same-length-3
 same-length-3 c = search needs
 
--- src/bit_length_field.rt:47:1
 returns-3 : tie.Need-returns-3
 returns-3 c = rw (earlier (now (c .before .before .before .before .before .before .before .before .before .before .before .before .before .before .args .s)) (c .before .before .before .before .before .before .before .before .before .before .before .before .before .before .args .t) (c .before .before .before .before .before .before .before .before .before .before .before .before .before .before .args .i) (c .before .before .before .before .before .before .before .before .before .before .before .before .before .before .args .k) (pgnIn (packOf (now (c .before .before .before .before .before .before .before .before .before .before .before .before .before .before .args .s))) (c .before .before .before .before .before .before .before .before .before .before .before .before .before .before .args .t) (c .before .before .before .before .before .before .before .before .before .before .before .before .before .before .args .i)) (c .before .before .before .before .before .before .before .before .before .before .before .before .before .before .args .j) (not-false (c .before .before .before .before .before .before .before .before .before .before .before .before .before .before .args .j .given) (c .before .before .before .before .before .before .before .before .before .if1 .left)) (c .before .before .before .before .before .before .before .if2 .left) (c .before .before .before .before .before .before .field-of .result) (c .before .before .before .before .before .before .field-of .ensures) (c .before .before .before .before .before .not-bit-count .result) (c .before .before .before .before .before .not-bit-count .ensures) (c .before .before .before .pgn-error3 .result) (c .before .before .before .pgn-error3 .ensures)) (c .before .before .put-if .ensures)
 

@@ -4,7 +4,7 @@ use Rattle.rules.specs.Texts.{DYNAMIC-FIELD-KEY}
 use Rattle.rules.specs.Search.{anyBelow}
 use Rattle.rules.specs.DynamicLength.{length-source, have-length-source, dynamic-length-at, check-dynamic-length}
 use Rattle.rules.specs.declared.Finding.{Finding}
-use mathlib.Core.Bool.{_||_}
+use mathlib.Core.Bool.{_||_, Bool}
 use Rattle.pack.proofs.Positions.{field-ft-law}
 use Rattle.pack.specs.Value.{Field, noFieldType}
 use Rattle.pack.specs.Notation.{_≐_, concatBelow}
@@ -12,25 +12,16 @@ use Rattle.pack.specs.Ready.{pgnIn, fieldIn}
 use Rattle.pack.specs.Meaning.{fieldMeaning, packOf}
 use Rattle.pack.specs.Items.{bytesOf}
 use Rattle.pack.specs.declared.records.FieldView.{FieldView}
-use Prim.Native.Nat.{ℕ, zero, suc, _+_, _-_, _*_, _/_, _%_, _^_, _≤_, _<_}
+use Prim.Native.Nat.{ℕ, suc, _-_, _≤_}
 use native.Mathlib.Omega.{arith}
 use native.Mathlib.Numerals.{add-one}
-use mathlib.Core.Path.{_≡_, refl, ap, _∙_, sym}
-use mathlib.Core.List.{List, [], _∷_, _++_}
-use mathlib.Core.Bool.{Bool, true, false}
+use mathlib.Core.Path.{_≡_, refl, ap, _∙_}
+use mathlib.Core.List.{List}
 use borrow.Author.Needs.{needs}
-use borrow.Author.Tests.{lt-ltb, le-ltb, le-leb, lt-leb, eq-eqb, ne-eqb, leb-true, leb-false, ltb-true, ltb-false, eqb-true, eqb-false, not-true, not-false}
 use denote.Ref.{now}
-use lib.ListN.{length, getD, take, drop, set}
-use lib.Dec.{ltb, leb, eqb}
+use lib.ListN.{length, getD}
 use Rattle.rules.proofs.dynamic_length.check_dynamic_length.Statement.{statement}
 use Rattle.rules.proofs.dynamic_length.check_dynamic_length.Tie as tie
-use Rattle.rules.proofs.dynamic_length.check_dynamic_length.Reads as reads
-use Rattle.rules.proofs.dynamic_length.check_dynamic_length.Lts as lts
-use Rattle.pack.proofs.of.field_of.Reads as field-of-reads
-use Rattle.rules.proofs.dynamic_length.dynamic_length_at.Reads as dynamic-length-at-reads
-use Rattle.rules.proofs.dynamic_length.have_length_source.Reads as have-length-source-reads
-use Rattle.rules.proofs.model.root_of.Reads as root-of-reads
 
 abbrev of-field : List ℕ → ℕ → ℕ → ℕ → List Finding
 of-field s t i k = dynamic-length-at (packOf s .fieldtypes) t i (pgnIn (packOf s) t i) k (fieldIn (packOf s) t i k)
@@ -50,44 +41,34 @@ Inv-loop out₀ n s work t i p g m₀ have₀ k₀ out m have k = (k ≤ g .fiel
 abbrev μ-loop : tie.MeasureT-loop
 μ-loop out₀ n s work t i p g m₀ have₀ k₀ out m have k = g .fields - k
 
--- src/dynamic_length.rt:60:5
 loop-holds : tie.Need-loop-holds Inv-loop μ-loop
 loop-holds c = (omega arith, refl, emitted-none _ _, refl)
 
--- src/dynamic_length.rt:61:13
 field-of-requires : tie.Need-field-of-requires Inv-loop μ-loop
 field-of-requires c κs = (c .before .before .before .before .before .before .pre .1, omega (arith, c .before .before .before .before .before .before .pre .2 .fields))
 
--- src/dynamic_length.rt:62:13
 root-of-requires : tie.Need-root-of-requires Inv-loop μ-loop
 root-of-requires c κs = (c .before .before .before .before .before .before .before .pre .1 .ready, (let e : c .field-of .result .ft ≡ fieldIn (packOf (now (c .before .before .before .before .before .before .before .args .s))) (c .before .before .before .before .before .before .before .args .t) (c .before .before .before .before .before .before .before .args .i) (c .before .before .before .loop .k) .ft = ap (λ (F : Field). F .ft) (c .field-of .ensures) in omega (arith, e, field-ft-law (c .before .before .before .before .before .before .before .pre .1) (c .before .before .before .loop .k) (omega (arith, c .before .if1 .taken, c .before .before .before .before .before .before .before .pre .2 .fields)))))
 
--- src/dynamic_length.rt:63:9
 have-length-source-requires : tie.Need-have-length-source-requires Inv-loop μ-loop
 have-length-source-requires c κs = search needs
 
--- src/dynamic_length.rt:64:9
 dynamic-length-at-requires : tie.Need-dynamic-length-at-requires Inv-loop μ-loop
 unfolding check-dynamic-length have-length-source
 dynamic-length-at-requires c κs = (fits-turn (of-field (now (c .before .before .before .before .before .before .before .before .before .before .args .s)) (c .before .before .before .before .before .before .before .before .before .before .args .t) (c .before .before .before .before .before .before .before .before .before .before .args .i)) (c .before .before .before .before .before .before .before .before .before .before .args .g .fields) (c .before .before .before .before .before .before .loop .k) (c .before .before .before .before .if1 .taken) (rw (← c .before .before .before .before .before .before .before .before .before .before .pre .2 .fields) at (c .before .before .before .before .before .before .before .before .before .before .pre .0)) (c .before .before .before .before .before .before .loop .inv .2), c .before .before .before .field-of .ensures, (rw (← c .before .before .before .field-of .ensures) (c .before .before .root-of .ensures)), found (now (c .before .before .before .before .before .before .before .before .before .before .args .s)) (c .before .before .before .before .before .before .before .before .before .before .args .t) (c .before .before .before .before .before .before .before .before .before .before .args .i) (c .before .before .before .before .before .before .loop .k) (c .before .before .before .field-of .result) (bytesOf (now (c .before .before .before .before .before .before .before .before .before .before .args .s)) (c .before .before .root-of .result)) (c .before .before .before .before .before .before .loop .have) _ (c .before .before .before .field-of .ensures) (c .before .before .root-of .ensures) (c .before .before .before .before .before .before .loop .inv .3) (c .before .have-length-source .ensures))
 
--- src/dynamic_length.rt:65:9
 add-k : tie.Need-add-k Inv-loop μ-loop
 add-k c = omega (arith, c .before .before .before .before .before .before .before .before .struct-known .given)
 
--- src/dynamic_length.rt:60:5
 loop-less : tie.Need-loop-less Inv-loop μ-loop
 loop-less c = search needs
 
--- src/dynamic_length.rt:60:5
 loop-again : tie.Need-loop-again Inv-loop μ-loop
 loop-again c = (omega arith, c .before .before .dynamic-length-at .kept .0 ∙ c .before .before .before .before .before .before .before .before .before .loop .inv .1, emitted-turn (of-field (now (c .before .before .before .before .before .before .before .before .before .before .before .before .before .args .s)) (c .before .before .before .before .before .before .before .before .before .before .before .before .before .args .t) (c .before .before .before .before .before .before .before .before .before .before .before .before .before .args .i)) (c .before .before .before .before .before .before .before .before .before .loop .k) (c .before .before .before .before .before .before .before .before .before .loop .inv .2) (c .before .before .dynamic-length-at .ensures), (rw (add-one (c .before .before .before .before .before .before .before .before .before .loop .k)) (found (now (c .before .before .before .before .before .before .before .before .before .before .before .before .before .args .s)) (c .before .before .before .before .before .before .before .before .before .before .before .before .before .args .t) (c .before .before .before .before .before .before .before .before .before .before .before .before .before .args .i) (c .before .before .before .before .before .before .before .before .before .loop .k) (c .before .before .before .before .before .before .field-of .result) (bytesOf (now (c .before .before .before .before .before .before .before .before .before .before .before .before .before .args .s)) (c .before .before .before .before .before .root-of .result)) (c .before .before .before .before .before .before .before .before .before .loop .have) _ (c .before .before .before .before .before .before .field-of .ensures) (c .before .before .before .before .before .root-of .ensures) (c .before .before .before .before .before .before .before .before .before .loop .inv .3) (c .before .before .before .before .have-length-source .ensures))))
 
--- src/dynamic_length.rt:53:1
 same-length : tie.Need-same-length Inv-loop μ-loop
 same-length c = search needs
 
--- src/dynamic_length.rt:53:1
 returns : tie.Need-returns Inv-loop μ-loop
 unfolding check-dynamic-length
 returns c = let e : c .before .before .loop .k ≡ length (pgnIn (packOf (now (c .before .before .before .before .before .before .args .s))) (c .before .before .before .before .before .before .args .t) (c .before .before .before .before .before .before .args .i) .fields) = omega (arith, c .before .before .before .before .before .before .pre .2 .fields) in rw (← e) (c .before .before .loop .inv .2)

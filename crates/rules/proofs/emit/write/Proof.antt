@@ -1,117 +1,83 @@
 use lib.ListN.{length-set}
-use Prim.Native.Nat.{ℕ, zero, suc, _+_, _-_, _*_, _/_, _%_, _^_, _≤_, _<_}
+use Prim.Native.Nat.{suc, _+_}
 use native.Mathlib.Omega.{arith}
-use native.Mathlib.Numerals.{add-one}
-use mathlib.Core.Path.{_≡_, refl, ap, _∙_, sym}
-use mathlib.Core.List.{List, [], _∷_, _++_}
-use mathlib.Core.Bool.{Bool, true, false}
+use mathlib.Core.Path.{_≡_}
 use borrow.Author.Needs.{needs}
-use borrow.Author.Tests.{lt-ltb, le-ltb, le-leb, lt-leb, eq-eqb, ne-eqb, leb-true, leb-false, ltb-true, ltb-false, eqb-true, eqb-false, not-true, not-false}
-use denote.Ref.{now}
-use lib.ListN.{length, getD, take, drop, set}
-use lib.Dec.{ltb, leb, eqb}
 use Rattle.rules.proofs.emit.write.Statement.{statement}
 use Rattle.rules.proofs.emit.write.Tie as tie
-use Rattle.rules.proofs.emit.write.Reads as reads
-use Rattle.rules.proofs.emit.write.Lts as lts
 
--- src/emit.rt:16:5
 mul-out : tie.Need-mul-out
 mul-out c = search needs
 
--- src/emit.rt:16:5
 slice-write-out : tie.Need-slice-write-out
 slice-write-out c = search needs
 
--- src/emit.rt:17:9
 add-out : tie.Need-add-out
 add-out c = search needs
 
--- src/emit.rt:17:5
 mul-out-2 : tie.Need-mul-out-2
 mul-out-2 c = search needs
 
--- src/emit.rt:17:5
 slice-write-out-2 : tie.Need-slice-write-out-2
 slice-write-out-2 c = simp length-set (omega arith)
 
--- src/emit.rt:18:9
 add-out-2 : tie.Need-add-out-2
 add-out-2 c = search needs
 
--- src/emit.rt:18:5
 mul-out-3 : tie.Need-mul-out-3
 mul-out-3 c = search needs
 
--- src/emit.rt:18:5
 slice-write-out-3 : tie.Need-slice-write-out-3
 slice-write-out-3 c = simp length-set (omega arith)
 
--- src/emit.rt:19:9
 add-out-3 : tie.Need-add-out-3
 add-out-3 c = search needs
 
--- src/emit.rt:19:5
 mul-out-4 : tie.Need-mul-out-4
 mul-out-4 c = search needs
 
--- src/emit.rt:19:5
 slice-write-out-4 : tie.Need-slice-write-out-4
 slice-write-out-4 c = simp length-set (omega arith)
 
--- src/emit.rt:20:9
 add-out-4 : tie.Need-add-out-4
 add-out-4 c = search needs
 
--- src/emit.rt:20:5
 mul-out-5 : tie.Need-mul-out-5
 mul-out-5 c = search needs
 
--- src/emit.rt:20:5
 slice-write-out-5 : tie.Need-slice-write-out-5
 slice-write-out-5 c = simp length-set (omega arith)
 
--- src/emit.rt:21:9
 add-out-5 : tie.Need-add-out-5
 add-out-5 c = search needs
 
--- src/emit.rt:21:5
 mul-out-6 : tie.Need-mul-out-6
 mul-out-6 c = search needs
 
--- src/emit.rt:21:5
 slice-write-out-6 : tie.Need-slice-write-out-6
 slice-write-out-6 c = simp length-set (omega arith)
 
--- src/emit.rt:22:9
 add-out-6 : tie.Need-add-out-6
 add-out-6 c = search needs
 
--- src/emit.rt:22:5
 mul-out-7 : tie.Need-mul-out-7
 mul-out-7 c = search needs
 
--- src/emit.rt:22:5
 slice-write-out-7 : tie.Need-slice-write-out-7
 slice-write-out-7 c = simp length-set (omega arith)
 
--- src/emit.rt:23:9
 add-out-7 : tie.Need-add-out-7
 add-out-7 c = search needs
 
--- src/emit.rt:23:5
 mul-out-8 : tie.Need-mul-out-8
 mul-out-8 c = search needs
 
--- src/emit.rt:23:5
 slice-write-out-8 : tie.Need-slice-write-out-8
 slice-write-out-8 c = simp length-set (omega arith)
 
--- src/emit.rt:12:1
 same-length : tie.Need-same-length
 same-length c = simp length-set
 
--- src/emit.rt:12:1
 returns : tie.Need-returns
 returns c =
     let at = c .args .at in

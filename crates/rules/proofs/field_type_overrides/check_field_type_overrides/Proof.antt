@@ -8,25 +8,17 @@ use Rattle.pack.specs.Value.{Field}
 use Rattle.pack.specs.Notation.{concatBelow}
 use Rattle.pack.specs.Ready.{pgnIn, fieldIn}
 use Rattle.pack.specs.Meaning.{packOf}
-use Prim.Native.Nat.{ℕ, zero, suc, _+_, _-_, _*_, _/_, _%_, _^_, _≤_, _<_}
+use Prim.Native.Nat.{ℕ, _-_, _≤_}
 use native.Mathlib.Omega.{arith}
-use native.Mathlib.Numerals.{add-one}
-use mathlib.Core.Path.{_≡_, refl, ap, _∙_, sym}
-use mathlib.Core.List.{List, [], _∷_, _++_}
-use mathlib.Core.Bool.{Bool, true, false}
+use mathlib.Core.Path.{_≡_, refl, ap, _∙_}
+use mathlib.Core.List.{List}
 use borrow.Author.Needs.{needs}
-use borrow.Author.Tests.{lt-ltb, le-ltb, le-leb, lt-leb, eq-eqb, ne-eqb, leb-true, leb-false, ltb-true, ltb-false, eqb-true, eqb-false, not-true, not-false}
 use denote.Ref.{now}
-use lib.ListN.{length, getD, take, drop, set}
-use lib.Dec.{ltb, leb, eqb}
+use lib.ListN.{length}
+use Rattle.rules.proofs.field_type_overrides.check_field_type_overrides.Tie as tie
 use Rattle.rules.proofs.field_type_overrides.check_field_type_overrides.Statement.{
   statement,
 }
-use Rattle.rules.proofs.field_type_overrides.check_field_type_overrides.Tie as tie
-use Rattle.rules.proofs.field_type_overrides.check_field_type_overrides.Reads as reads
-use Rattle.rules.proofs.field_type_overrides.check_field_type_overrides.Lts as lts
-use Rattle.pack.proofs.of.field_of.Reads as field-of-reads
-use Rattle.rules.proofs.field_type_overrides.overrides_at.Reads as overrides-at-reads
 
 abbrev of-field : List ℕ → ℕ → ℕ → ℕ → List Finding
 of-field s t i k = overrides-at t i k (fieldIn (packOf s) t i k) (fieldtype-of (packOf s .fieldtypes) (fieldIn (packOf s) t i k))
@@ -37,36 +29,28 @@ Inv-loop out₀ n s work t i p g m₀ k₀ out m k = (k ≤ g .fields) × (lengt
 abbrev μ-loop : tie.MeasureT-loop
 μ-loop out₀ n s work t i p g m₀ k₀ out m k = g .fields - k
 
--- src/field_type_overrides.rt:41:5
 loop-holds : tie.Need-loop-holds Inv-loop μ-loop
 loop-holds c = (omega arith, refl, emitted-none _ _)
 
--- src/field_type_overrides.rt:42:13
 field-of-requires : tie.Need-field-of-requires Inv-loop μ-loop
 field-of-requires c κs = (c .before .before .before .before .before .before .pre .1, omega (arith, c .before .before .before .before .before .before .pre .2 .fields))
 
--- src/field_type_overrides.rt:43:9
 overrides-at-requires : tie.Need-overrides-at-requires Inv-loop μ-loop
 unfolding check-field-type-overrides
 overrides-at-requires c κs = (fits-turn (of-field (now (c .before .before .before .before .before .before .before .before .args .s)) (c .before .before .before .before .before .before .before .before .args .t) (c .before .before .before .before .before .before .before .before .args .i)) (c .before .before .before .before .before .before .before .before .args .g .fields) (c .before .before .before .before .loop .k) (c .before .before .if1 .taken) (rw (← c .before .before .before .before .before .before .before .before .pre .2 .fields) at (c .before .before .before .before .before .before .before .before .pre .0)) (c .before .before .before .before .loop .inv .2), c .before .field-of .ensures, c .before .before .before .before .before .before .before .before .pre .1 .ready, (let e : c .before .field-of .result .ft ≡ fieldIn (packOf (now (c .before .before .before .before .before .before .before .before .args .s))) (c .before .before .before .before .before .before .before .before .args .t) (c .before .before .before .before .before .before .before .before .args .i) (c .before .before .before .before .loop .k) .ft = ap (λ (F : Field). F .ft) (c .before .field-of .ensures) in omega (arith, e, field-ft-law (c .before .before .before .before .before .before .before .before .pre .1) (c .before .before .before .before .loop .k) (omega (arith, c .before .before .if1 .taken, c .before .before .before .before .before .before .before .before .pre .2 .fields)))))
 
--- src/field_type_overrides.rt:44:9
 add-k : tie.Need-add-k Inv-loop μ-loop
 add-k c = omega (arith, c .before .before .before .before .before .before .struct-known .given)
 
--- src/field_type_overrides.rt:41:5
 loop-less : tie.Need-loop-less Inv-loop μ-loop
 loop-less c = search needs
 
--- src/field_type_overrides.rt:41:5
 loop-again : tie.Need-loop-again Inv-loop μ-loop
 loop-again c = (omega arith, c .before .before .overrides-at .kept .0 ∙ c .before .before .before .before .before .before .before .loop .inv .1, emitted-turn (of-field (now (c .before .before .before .before .before .before .before .before .before .before .before .args .s)) (c .before .before .before .before .before .before .before .before .before .before .before .args .t) (c .before .before .before .before .before .before .before .before .before .before .before .args .i)) (c .before .before .before .before .before .before .before .loop .k) (c .before .before .before .before .before .before .before .loop .inv .2) (c .before .before .overrides-at .ensures))
 
--- src/field_type_overrides.rt:35:1
 same-length : tie.Need-same-length Inv-loop μ-loop
 same-length c = search needs
 
--- src/field_type_overrides.rt:35:1
 returns : tie.Need-returns Inv-loop μ-loop
 unfolding check-field-type-overrides
 returns c = let e : c .before .before .loop .k ≡ length (pgnIn (packOf (now (c .before .before .before .before .before .before .args .s))) (c .before .before .before .before .before .before .args .t) (c .before .before .before .before .before .before .args .i) .fields) = omega (arith, c .before .before .before .before .before .before .pre .2 .fields) in rw (← e) (c .before .before .loop .inv .2)

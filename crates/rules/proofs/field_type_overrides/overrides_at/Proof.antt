@@ -4,32 +4,20 @@ use Rattle.rules.specs.Model.{given, fieldtype-of}
 use Rattle.rules.specs.Floats.{float-eq}
 use Rattle.rules.specs.Findings.{report-if, pgn-error}
 use Rattle.rules.specs.declared.Finding.{Finding}
-use mathlib.Core.Bool.{not, _&&_}
+use mathlib.Core.Bool.{not, _&&_, Bool, true, false}
 use Rattle.pack.specs.Value.{Field, FieldType, noFieldType}
 use Rattle.pack.specs.Notation.{_==_, optional}
 use Rattle.pack.specs.Meaning.{fieldMeaning, typeMeaning, packOf}
 use Rattle.pack.specs.declared.records.FieldTypeView.{FieldTypeView}
 use Rattle.pack.specs.declared.records.FieldView.{FieldView}
-use Prim.Native.Nat.{ℕ, zero, suc, _+_, _-_, _*_, _/_, _%_, _^_, _≤_, _<_}
-use native.Mathlib.Omega.{arith}
-use native.Mathlib.Numerals.{add-one}
-use mathlib.Core.Path.{_≡_, refl, ap, _∙_, sym}
-use mathlib.Core.List.{List, [], _∷_, _++_}
-use mathlib.Core.Bool.{Bool, true, false}
+use Prim.Native.Nat.{ℕ}
+use mathlib.Core.Path.{_≡_, refl}
+use mathlib.Core.List.{List, _++_}
 use borrow.Author.Needs.{needs}
-use borrow.Author.Tests.{lt-ltb, le-ltb, le-leb, lt-leb, eq-eqb, ne-eqb, leb-true, leb-false, ltb-true, ltb-false, eqb-true, eqb-false, not-true, not-false}
 use denote.Ref.{now}
-use lib.ListN.{length, getD, take, drop, set}
-use lib.Dec.{ltb, leb, eqb}
+use lib.ListN.{getD}
 use Rattle.rules.proofs.field_type_overrides.overrides_at.Statement.{statement}
 use Rattle.rules.proofs.field_type_overrides.overrides_at.Tie as tie
-use Rattle.rules.proofs.field_type_overrides.overrides_at.Reads as reads
-use Rattle.rules.proofs.field_type_overrides.overrides_at.Lts as lts
-use Rattle.pack.proofs.of.type_of.Reads as type-of-reads
-use Rattle.rules.proofs.bools.and_not.Reads as and-not-reads
-use Rattle.rules.proofs.emit.pgn_error.Reads as pgn-error-reads
-use Rattle.rules.proofs.emit.put_if.Reads as put-if-reads
-use Rattle.rules.proofs.floats.float_eq.Reads as float-eq-reads
 
 given-is : (b : Bool) (n : ℕ) → given (optional b n) ≡ b
 given-is true n = refl
@@ -43,43 +31,33 @@ unfolding overrides-at
 viewed s fts t i k F v u is tu a b z f h xa xf xz xb xh =
     rw (← is, ← tu, xa, xf, xb, xz, xh, given-is (v .authored .resolution .given) (v .authored .resolution .pattern))
 
--- src/field_type_overrides.rt:26:9
 type-of-requires : tie.Need-type-of-requires
 type-of-requires c κs = search needs
 
--- src/field_type_overrides.rt:27:9
 and-not-requires : tie.Need-and-not-requires
 and-not-requires c κs = search needs
 
--- src/field_type_overrides.rt:28:35
 pgn-error-requires : tie.Need-pgn-error-requires
 pgn-error-requires c κs = search needs
 
--- src/field_type_overrides.rt:28:9
 put-if-requires : tie.Need-put-if-requires
 put-if-requires c κs = fits-left _ _ (rw (viewed (now (c .before .before .before .before .before .before .before .before .args .s)) (packOf (now (c .before .before .before .before .before .before .before .before .args .s)) .fieldtypes) (c .before .before .before .before .before .before .before .before .args .t) (c .before .before .before .before .before .before .before .before .args .i) (c .before .before .before .before .before .before .before .before .args .k) _ (c .before .before .before .before .before .before .before .before .args .f) (c .before .before .before .before .type-of .result) (c .before .before .before .before .before .before .before .before .pre .1) (c .before .before .before .before .type-of .ensures) _ _ _ _ _ (c .before .before .and-not .ensures) (c .pgn-error .ensures) refl refl refl) at (c .before .before .before .before .before .before .before .before .pre .0))
 
--- src/field_type_overrides.rt:29:9
 float-eq-requires : tie.Need-float-eq-requires
 float-eq-requires c κs = search needs
 
--- src/field_type_overrides.rt:30:9
 and-not-requires-2 : tie.Need-and-not-requires-2
 and-not-requires-2 c κs = search needs
 
--- src/field_type_overrides.rt:31:32
 pgn-error-requires-2 : tie.Need-pgn-error-requires-2
 pgn-error-requires-2 c κs = search needs
 
--- src/field_type_overrides.rt:31:5
 put-if-requires-2 : tie.Need-put-if-requires-2
 put-if-requires-2 c κs = fits-right (report-if (c .before .before .before .before .before .before .before .before .before .and-not .result) (c .before .before .before .before .before .before .before .pgn-error .result)) _ (rw (viewed (now (c .before .before .before .before .before .before .before .before .before .before .before .before .before .before .before .args .s)) (packOf (now (c .before .before .before .before .before .before .before .before .before .before .before .before .before .before .before .args .s)) .fieldtypes) (c .before .before .before .before .before .before .before .before .before .before .before .before .before .before .before .args .t) (c .before .before .before .before .before .before .before .before .before .before .before .before .before .before .before .args .i) (c .before .before .before .before .before .before .before .before .before .before .before .before .before .before .before .args .k) _ (c .before .before .before .before .before .before .before .before .before .before .before .before .before .before .before .args .f) (c .before .before .before .before .before .before .before .before .before .before .before .type-of .result) (c .before .before .before .before .before .before .before .before .before .before .before .before .before .before .before .pre .1) (c .before .before .before .before .before .before .before .before .before .before .before .type-of .ensures) _ _ _ _ _ (c .before .before .before .before .before .before .before .before .before .and-not .ensures) (c .before .before .before .before .before .before .before .pgn-error .ensures) (c .before .before .before .float-eq .ensures) (c .before .before .and-not2 .ensures) (c .pgn-error2 .ensures)) at (c .before .before .before .before .before .before .before .before .before .before .before .before .before .before .before .pre .0)) (c .before .before .before .before .before .before .put-if .ensures)
 
--- src/field_type_overrides.rt:22:1
 same-length : tie.Need-same-length
 same-length c = search needs
 
--- src/field_type_overrides.rt:22:1
 returns : tie.Need-returns
 returns c = rw (viewed (now (c .before .before .before .before .before .before .before .before .before .before .before .before .before .before .before .before .before .before .args .s)) (packOf (now (c .before .before .before .before .before .before .before .before .before .before .before .before .before .before .before .before .before .before .args .s)) .fieldtypes) (c .before .before .before .before .before .before .before .before .before .before .before .before .before .before .before .before .before .before .args .t) (c .before .before .before .before .before .before .before .before .before .before .before .before .before .before .before .before .before .before .args .i) (c .before .before .before .before .before .before .before .before .before .before .before .before .before .before .before .before .before .before .args .k) _ (c .before .before .before .before .before .before .before .before .before .before .before .before .before .before .before .before .before .before .args .f) (c .before .before .before .before .before .before .before .before .before .before .before .before .before .before .type-of .result) (c .before .before .before .before .before .before .before .before .before .before .before .before .before .before .before .before .before .before .pre .1) (c .before .before .before .before .before .before .before .before .before .before .before .before .before .before .type-of .ensures) _ _ _ _ _ (c .before .before .before .before .before .before .before .before .before .before .before .before .and-not .ensures) (c .before .before .before .before .before .before .before .before .before .before .pgn-error .ensures) (c .before .before .before .before .before .before .float-eq .ensures) (c .before .before .before .before .before .and-not2 .ensures) (c .before .before .before .pgn-error2 .ensures)) (emitted-append (c .before .before .before .before .before .before .before .before .before .put-if .ensures) (c .before .before .put-if2 .ensures))
 

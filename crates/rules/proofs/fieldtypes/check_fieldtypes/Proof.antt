@@ -5,22 +5,15 @@ use Rattle.rules.specs.declared.Finding.{Finding}
 use Rattle.pack.specs.Notation.{concatBelow}
 use Rattle.pack.specs.Value.{noFieldType}
 use Rattle.pack.specs.Meaning.{packOf}
-use Prim.Native.Nat.{ℕ, zero, suc, _+_, _-_, _*_, _/_, _%_, _^_, _≤_, _<_}
+use Prim.Native.Nat.{ℕ, _-_, _≤_}
 use native.Mathlib.Omega.{arith}
-use native.Mathlib.Numerals.{add-one}
-use mathlib.Core.Path.{_≡_, refl, ap, _∙_, sym}
-use mathlib.Core.List.{List, [], _∷_, _++_}
-use mathlib.Core.Bool.{Bool, true, false}
+use mathlib.Core.Path.{_≡_, refl, _∙_}
+use mathlib.Core.List.{List}
 use borrow.Author.Needs.{needs}
-use borrow.Author.Tests.{lt-ltb, le-ltb, le-leb, lt-leb, eq-eqb, ne-eqb, leb-true, leb-false, ltb-true, ltb-false, eqb-true, eqb-false, not-true, not-false}
 use denote.Ref.{now}
-use lib.ListN.{length, getD, take, drop, set}
-use lib.Dec.{ltb, leb, eqb}
+use lib.ListN.{length, getD}
 use Rattle.rules.proofs.fieldtypes.check_fieldtypes.Statement.{statement}
 use Rattle.rules.proofs.fieldtypes.check_fieldtypes.Tie as tie
-use Rattle.rules.proofs.fieldtypes.check_fieldtypes.Reads as reads
-use Rattle.rules.proofs.fieldtypes.check_fieldtypes.Lts as lts
-use Rattle.rules.proofs.fieldtypes.fieldtype_at.Reads as fieldtype-at-reads
 
 abbrev of-type : List ℕ → ℕ → List Finding
 of-type s i = fieldtype-at i (getD (packOf s .fieldtypes) i noFieldType)
@@ -31,32 +24,25 @@ Inv-loop out₀ n s work types m₀ i₀ out m i = (i ≤ types) × (length out 
 abbrev μ-loop : tie.MeasureT-loop
 μ-loop out₀ n s work types m₀ i₀ out m i = types - i
 
--- src/fieldtypes.rt:41:5
 loop-holds : tie.Need-loop-holds Inv-loop μ-loop
 loop-holds c = (omega arith, refl, emitted-none _ _)
 
--- src/fieldtypes.rt:42:9
 fieldtype-at-requires : tie.Need-fieldtype-at-requires Inv-loop μ-loop
 unfolding check-fieldtypes
 fieldtype-at-requires c κs = (fits-turn (of-type (now (c .before .before .before .before .before .before .args .s))) (c .before .before .before .before .before .before .args .types) (c .before .before .loop .i) (c .before .loop-test .taken) (rw (← c .before .before .before .before .before .before .pre .2) at (c .before .before .before .before .before .before .pre .0)) (c .before .before .loop .inv .2), c .before .before .before .before .before .before .pre .1, omega arith)
 
--- src/fieldtypes.rt:43:9
 add-i : tie.Need-add-i Inv-loop μ-loop
 add-i c = search needs
 
--- src/fieldtypes.rt:41:5
 loop-less : tie.Need-loop-less Inv-loop μ-loop
 loop-less c = search needs
 
--- src/fieldtypes.rt:41:5
 loop-again : tie.Need-loop-again Inv-loop μ-loop
 loop-again c = (omega arith, c .before .before .fieldtype-at .kept .0 ∙ c .before .before .before .before .before .loop .inv .1, emitted-turn (of-type (now (c .before .before .before .before .before .before .before .before .before .args .s))) (c .before .before .before .before .before .loop .i) (c .before .before .before .before .before .loop .inv .2) (c .before .before .fieldtype-at .ensures))
 
--- src/fieldtypes.rt:35:1
 same-length : tie.Need-same-length Inv-loop μ-loop
 same-length c = search needs
 
--- src/fieldtypes.rt:35:1
 returns : tie.Need-returns Inv-loop μ-loop
 unfolding check-fieldtypes
 returns c = let e : c .before .loop .i ≡ length (packOf (now (c .before .before .before .before .before .args .s)) .fieldtypes) = omega arith in rw (← e) (c .before .loop .inv .2)

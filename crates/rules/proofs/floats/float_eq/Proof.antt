@@ -2,8 +2,6 @@ use borrow.Author.Needs.{needs}
 use Rattle.rules.specs.Floats.{float-eq}
 use Rattle.rules.proofs.floats.float_eq.Statement.{statement}
 use Rattle.rules.proofs.floats.float_eq.Tie as tie
-use Rattle.rules.proofs.floats.float_eq.Reads as reads
-use Rattle.rules.proofs.floats.float_eq.Lts as lts
 
 float-requires : tie.Need-float-requires
 float-requires c κs = search needs

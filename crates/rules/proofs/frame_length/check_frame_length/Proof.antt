@@ -1,33 +1,21 @@
-use Rattle.rules.specs.Emit.{Fits}
 use Rattle.rules.specs.declared.Finding.{Finding}
 use Rattle.pack.specs.declared.records.PgnView.{PgnView}
-use Rattle.pack.specs.Ready.{PgnIs, pgnIn}
-use Rattle.pack.specs.Meaning.{packOf}
+use Rattle.pack.specs.Ready.{PgnIs}
 use Rattle.pack.specs.Notation.{_==_, _<ᵇ_}
-use mathlib.Core.Bool.{not, _&&_}
+use mathlib.Core.Bool.{not, _&&_, Bool}
 use Rattle.rules.proofs.Emits.{emitted-none, emitted-append, fits-left, fits-right}
 use Rattle.rules.specs.FrameLength.{check-frame-length}
 use Rattle.rules.specs.Findings.{report-if, pgn-error}
 use Rattle.pack.specs.Value.{Pgn}
-use Prim.Native.Nat.{ℕ, zero, suc, _+_, _-_, _*_, _/_, _%_, _^_, _≤_, _<_}
-use native.Mathlib.Omega.{arith}
-use native.Mathlib.Numerals.{add-one}
-use mathlib.Core.Path.{_≡_, refl, ap, _∙_, sym}
-use mathlib.Core.List.{List, [], _∷_, _++_}
-use mathlib.Core.Bool.{Bool, true, false}
+use Prim.Native.Nat.{ℕ}
+use mathlib.Core.Path.{_≡_, refl}
+use mathlib.Core.List.{List, [], _++_}
 use borrow.Author.Needs.{needs}
-use borrow.Author.Tests.{lt-ltb, le-ltb, le-leb, lt-leb, eq-eqb, ne-eqb, leb-true, leb-false, ltb-true, ltb-false, eqb-true, eqb-false, not-true, not-false}
+use borrow.Author.Tests.{eq-eqb, ne-eqb}
 use denote.Ref.{now}
-use lib.ListN.{length, getD, take, drop, set}
-use lib.Dec.{ltb, leb, eqb}
+use lib.ListN.{length}
 use Rattle.rules.proofs.frame_length.check_frame_length.Statement.{statement}
 use Rattle.rules.proofs.frame_length.check_frame_length.Tie as tie
-use Rattle.rules.proofs.frame_length.check_frame_length.Reads as reads
-use Rattle.rules.proofs.frame_length.check_frame_length.Lts as lts
-use Rattle.rules.proofs.emit.pgn_error.Reads as pgn-error-reads
-use Rattle.rules.proofs.emit.put_if.Reads as put-if-reads
-use Rattle.rules.proofs.frame_length.not_eight.Reads as not-eight-reads
-use Rattle.rules.proofs.frame_length.too_long.Reads as too-long-reads
 
 -- the rule, said of the view: another frame, and a single one
 module _ (s : List ℕ) (t i : ℕ) (G : Pgn) (g : PgnView) (is : PgnIs s G g) where
@@ -40,39 +28,30 @@ module _ (s : List ℕ) (t i : ℕ) (G : Pgn) (g : PgnView) (is : PgnIs s G g) w
   unfolding check-frame-length
   single e a b f h x y z w = rw (← is .means, eq-eqb _ _ e, x, y, z, w)
 
--- src/frame_length.rt:41:9
 returns : tie.Need-returns
 returns c = rw (other (now (c .before .before .before .before .args .s)) (c .before .before .before .before .args .t) (c .before .before .before .before .args .i) _ (c .before .before .before .before .args .g) (c .before .before .before .before .pre .1) (c .if1 .taken)) (emitted-none (now (c .before .before .before .before .args .out)) (c .before .before .before .before .args .n))
 
--- src/frame_length.rt:43:9
 not-eight-requires : tie.Need-not-eight-requires
 not-eight-requires c κs = search needs
 
--- src/frame_length.rt:44:35
 pgn-error-requires : tie.Need-pgn-error-requires
 pgn-error-requires c κs = search needs
 
--- src/frame_length.rt:44:9
 put-if-requires : tie.Need-put-if-requires
 put-if-requires c κs = fits-left _ _ (rw (single (now (c .before .before .before .before .before .before .before .args .s)) (c .before .before .before .before .before .before .before .args .t) (c .before .before .before .before .before .before .before .args .i) _ (c .before .before .before .before .before .before .before .args .g) (c .before .before .before .before .before .before .before .pre .1) (c .before .before .before .if1 .left) _ _ _ _ (c .before .before .not-eight .ensures) (c .pgn-error .ensures) refl refl) at (c .before .before .before .before .before .before .before .pre .0))
 
--- src/frame_length.rt:45:9
 too-long-requires : tie.Need-too-long-requires
 too-long-requires c κs = search needs
 
--- src/frame_length.rt:46:26
 pgn-error-requires-2 : tie.Need-pgn-error-requires-2
 pgn-error-requires-2 c κs = search needs
 
--- src/frame_length.rt:46:5
 put-if-requires-2 : tie.Need-put-if-requires-2
 put-if-requires-2 c κs = fits-right (report-if (c .before .before .before .before .before .before .before .before .not-eight .result) (c .before .before .before .before .before .before .pgn-error .result)) _ (rw (single (now (c .before .before .before .before .before .before .before .before .before .before .before .before .before .args .s)) (c .before .before .before .before .before .before .before .before .before .before .before .before .before .args .t) (c .before .before .before .before .before .before .before .before .before .before .before .before .before .args .i) _ (c .before .before .before .before .before .before .before .before .before .before .before .before .before .args .g) (c .before .before .before .before .before .before .before .before .before .before .before .before .before .pre .1) (c .before .before .before .before .before .before .before .before .before .if1 .left) _ _ _ _ (c .before .before .before .before .before .before .before .before .not-eight .ensures) (c .before .before .before .before .before .before .pgn-error .ensures) (c .before .before .too-long .ensures) (c .pgn-error2 .ensures)) at (c .before .before .before .before .before .before .before .before .before .before .before .before .before .pre .0)) (c .before .before .before .before .before .put-if .ensures)
 
--- src/frame_length.rt:36:1
 same-length : tie.Need-same-length
 same-length c = search needs
 
--- src/frame_length.rt:36:1
 returns-2 : tie.Need-returns-2
 returns-2 c = rw (single (now (c .before .before .before .before .before .before .before .before .before .before .before .before .before .before .before .before .args .s)) (c .before .before .before .before .before .before .before .before .before .before .before .before .before .before .before .before .args .t) (c .before .before .before .before .before .before .before .before .before .before .before .before .before .before .before .before .args .i) _ (c .before .before .before .before .before .before .before .before .before .before .before .before .before .before .before .before .args .g) (c .before .before .before .before .before .before .before .before .before .before .before .before .before .before .before .before .pre .1) (c .before .before .before .before .before .before .before .before .before .before .before .before .if1 .left) _ _ _ _ (c .before .before .before .before .before .before .before .before .before .before .before .not-eight .ensures) (c .before .before .before .before .before .before .before .before .before .pgn-error .ensures) (c .before .before .before .before .before .too-long .ensures) (c .before .before .before .pgn-error2 .ensures)) (emitted-append (c .before .before .before .before .before .before .before .before .put-if .ensures) (c .before .before .put-if2 .ensures))
 

@@ -1,38 +1,21 @@
 use Rattle.rules.proofs.Sizes.{at-lookup, entries-few, lookups-few}
 use Rattle.rules.specs.LookupNames.{lookup-names-of}
 use Rattle.pack.proofs.Positions.{lookup-place-next}
-use Rattle.pack.specs.Ready.{lookupPlace}
-use Rattle.rules.proofs.Emits.{emitted-none, emitted-append, emitted-turn, fits-left, fits-right, fits-turn}
-use Rattle.rules.specs.Model.{given, field-at}
-use Rattle.rules.specs.Findings.{report-if, pgn-error}
-use Rattle.rules.specs.Emit.{Emitted, Fits}
+use Rattle.pack.specs.Ready.{lookupPlace, lookupIn}
+use Rattle.rules.proofs.Emits.{emitted-none, emitted-turn, fits-turn}
+use Rattle.rules.specs.Emit.{Emitted}
 use Rattle.rules.specs.declared.Finding.{Finding}
-use Rattle.pack.specs.declared.records.PgnView.{PgnView}
-use Rattle.pack.specs.declared.records.FieldView.{FieldView}
-use Rattle.pack.specs.Ready.{Ready, PgnAt, PgnIs, LookupAt, LookupIs, pgnIn, fieldIn, lookupIn}
-use Rattle.pack.specs.Meaning.{optBytes, optNumber, optFloat, optReference, optRepeating, fieldMeaning, packOf}
-use Rattle.pack.specs.Items.{bytesOf}
-use Rattle.pack.specs.Value.{Bytes, FieldType, Entry, Lookup, Repeating, Reference, Field, Pgn, Pack}
-use Rattle.pack.specs.Notation.{_==_, _<ᵇ_, _≤ᵇ_, _≐_, if_then_else_, optional, concatBelow}
-use mathlib.Core.Option.{Option, none, some}
-use mathlib.Core.Bool.{not, _&&_, _||_}
-use Prim.Native.Nat.{ℕ, zero, suc, _+_, _-_, _*_, _/_, _%_, _^_, _≤_, _<_}
+use Rattle.pack.specs.Meaning.{packOf}
+use Rattle.pack.specs.Notation.{concatBelow}
+use Prim.Native.Nat.{ℕ, _-_, _≤_}
 use native.Mathlib.Omega.{arith}
-use native.Mathlib.Numerals.{add-one}
-use mathlib.Core.Path.{_≡_, refl, ap, _∙_, sym}
-use mathlib.Core.List.{List, [], _∷_, _++_}
-use mathlib.Core.Bool.{Bool, true, false}
+use mathlib.Core.Path.{_≡_, refl, _∙_}
+use mathlib.Core.List.{List}
 use borrow.Author.Needs.{needs}
-use borrow.Author.Tests.{lt-ltb, le-ltb, le-leb, lt-leb, eq-eqb, ne-eqb, leb-true, leb-false, ltb-true, ltb-false, eqb-true, eqb-false, not-true, not-false}
 use denote.Ref.{now}
-use lib.ListN.{length, getD, take, drop, set}
-use lib.Dec.{ltb, leb, eqb}
+use lib.ListN.{length}
 use Rattle.rules.proofs.lookup_names.check_lookup_names.Statement.{statement}
 use Rattle.rules.proofs.lookup_names.check_lookup_names.Tie as tie
-use Rattle.rules.proofs.lookup_names.check_lookup_names.Reads as reads
-use Rattle.rules.proofs.lookup_names.check_lookup_names.Lts as lts
-use Rattle.pack.proofs.of.lookup_of.Reads as lookup-of-reads
-use Rattle.rules.proofs.lookup_names.lookup_names_of.Reads as lookup-names-of-reads
 
 -- the findings of lookup l
 abbrev of-lookup : List ℕ → ℕ → List Finding
@@ -44,47 +27,36 @@ Inv-loop out₀ n s work count m₀ p₀ l₀ out m p l = (l ≤ count) × (p �
 abbrev μ-loop : tie.MeasureT-loop
 μ-loop out₀ n s work count m₀ p₀ l₀ out m p l = count - l
 
--- src/lookup_names.rt:128:5
 loop-holds : tie.Need-loop-holds Inv-loop μ-loop
 loop-holds c = (search needs, c .before .before .before .pre .3, refl, emitted-none (now (c .before .before .before .args .out)) (c .before .before .before .args .n))
 
--- src/lookup_names.rt:129:13
 lookup-of-requires : tie.Need-lookup-of-requires Inv-loop μ-loop
 lookup-of-requires c κs = (at-lookup (c .before .before .before .before .before .pre .1) (c .before .before .before .before .before .pre .2) (c .before .loop .inv .1) (c .loop-test .taken))
 
--- src/lookup_names.rt:130:9
 lookup-names-of-requires : tie.Need-lookup-names-of-requires Inv-loop μ-loop
 lookup-names-of-requires c κs = (fits-turn (of-lookup (now (c .before .before .before .before .before .before .before .args .s))) (c .before .before .before .before .before .before .before .args .lookups .count) (c .before .before .before .loop .l) (c .before .before .loop-test .taken) (rw (← c .before .before .before .before .before .before .before .pre .2) at (c .before .before .before .before .before .before .before .pre .0)) (c .before .before .before .loop .inv .3), (at-lookup (c .before .before .before .before .before .before .before .pre .1) (c .before .before .before .before .before .before .before .pre .2) (c .before .before .before .loop .inv .1) (c .before .before .loop-test .taken)), c .before .lookup-of .ensures)
 
--- src/lookup_names.rt:131:13
 add-p : tie.Need-add-p Inv-loop μ-loop
 add-p c = omega (arith, entries-few (at-lookup (c .before .before .before .before .before .before .before .before .before .before .pre .1) (c .before .before .before .before .before .before .before .before .before .before .pre .2) (c .before .before .before .before .before .before .loop .inv .1) (c .before .before .before .before .before .loop-test .taken)))
 
--- src/lookup_names.rt:131:21
 cast-p : tie.Need-cast-p Inv-loop μ-loop
 cast-p c = omega (arith, entries-few (at-lookup (c .before .before .before .before .before .before .before .before .before .before .before .pre .1) (c .before .before .before .before .before .before .before .before .before .before .before .pre .2) (c .before .before .before .before .before .before .before .loop .inv .1) (c .before .before .before .before .before .before .loop-test .taken)), c .before .before .before .before .before .lookup-of .ensures .entries)
 
--- src/lookup_names.rt:131:13
 add-p-2 : tie.Need-add-p-2 Inv-loop μ-loop
 add-p-2 c = omega (arith, entries-few (at-lookup (c .before .before .before .before .before .before .before .before .before .before .before .pre .1) (c .before .before .before .before .before .before .before .before .before .before .before .pre .2) (c .before .before .before .before .before .before .before .loop .inv .1) (c .before .before .before .before .before .before .loop-test .taken)), c .before .before .before .before .before .lookup-of .ensures .entries)
 
--- src/lookup_names.rt:132:9
 add-l : tie.Need-add-l Inv-loop μ-loop
 add-l c = omega (arith, lookups-few (at-lookup (c .before .before .before .before .before .before .before .before .before .before .before .pre .1) (c .before .before .before .before .before .before .before .before .before .before .before .pre .2) (c .before .before .before .before .before .before .before .loop .inv .1) (c .before .before .before .before .before .before .loop-test .taken)))
 
--- src/lookup_names.rt:128:5
 loop-less : tie.Need-loop-less Inv-loop μ-loop
 loop-less c = search needs
 
--- src/lookup_names.rt:128:5
 loop-again : tie.Need-loop-again Inv-loop μ-loop
 loop-again c = (search needs, omega (arith, lookup-place-next (packOf (now (c .before .before .before .before .before .before .before .before .before .before .before .args .s))) (c .before .before .before .before .before .before .before .loop .l), c .before .before .before .before .before .lookup-of .ensures .entries, c .before .before .before .before .before .before .before .loop .inv .1), c .before .before .before .lookup-names-of .kept .0 ∙ c .before .before .before .before .before .before .before .loop .inv .2, emitted-turn (of-lookup (now (c .before .before .before .before .before .before .before .before .before .before .before .args .s))) (c .before .before .before .before .before .before .before .loop .l) (c .before .before .before .before .before .before .before .loop .inv .3) (c .before .before .before .lookup-names-of .ensures))
 
--- src/lookup_names.rt:114:1
 same-length : tie.Need-same-length Inv-loop μ-loop
 same-length c = c .before .loop .inv .2
 
--- src/lookup_names.rt:114:1
 returns : tie.Need-returns Inv-loop μ-loop
 returns c = let e : c .before .before .before .before .before .args .lookups .count ≡ c .before .loop .l = omega (arith, c .before .loop .inv .0, c .loop-test .left) in rw (← c .before .before .before .before .before .pre .2, e) (c .before .loop .inv .3)
 

@@ -1,41 +1,20 @@
 use Rattle.rules.specs.LookupNames.{same-name}
 use Rattle.rules.specs.SearchLaws.{latest-turn}
-use Rattle.rules.specs.Search.{or-else, latestBelow}
+use Rattle.rules.specs.Search.{latestBelow}
 use Rattle.pack.specs.declared.records.EntryView.{EntryView}
-use Rattle.pack.specs.Meaning.{entryMeaning}
+use Rattle.pack.specs.Meaning.{entryMeaning, optNumber, packOf}
 use Rattle.pack.specs.Value.{noEntry}
-use Rattle.rules.proofs.Emits.{emitted-none, emitted-append, emitted-turn, fits-left, fits-right, fits-turn}
-use Rattle.rules.specs.Model.{given, field-at}
-use Rattle.rules.specs.Findings.{report-if, pgn-error}
-use Rattle.rules.specs.Emit.{Emitted, Fits}
-use Rattle.rules.specs.declared.Finding.{Finding}
-use Rattle.pack.specs.declared.records.PgnView.{PgnView}
-use Rattle.pack.specs.declared.records.FieldView.{FieldView}
-use Rattle.pack.specs.Ready.{Ready, PgnAt, PgnIs, LookupAt, LookupIs, pgnIn, fieldIn, lookupIn}
-use Rattle.pack.specs.Meaning.{optBytes, optNumber, optFloat, optReference, optRepeating, fieldMeaning, packOf}
-use Rattle.pack.specs.Items.{bytesOf}
-use Rattle.pack.specs.Value.{Bytes, FieldType, Entry, Lookup, Repeating, Reference, Field, Pgn, Pack}
-use Rattle.pack.specs.Notation.{_==_, _<ᵇ_, _≤ᵇ_, _≐_, if_then_else_, optional, concatBelow}
-use mathlib.Core.Option.{Option, none, some}
-use mathlib.Core.Bool.{not, _&&_, _||_}
-use Prim.Native.Nat.{ℕ, zero, suc, _+_, _-_, _*_, _/_, _%_, _^_, _≤_, _<_}
+use Rattle.pack.specs.Ready.{lookupIn}
+use mathlib.Core.Bool.{Bool}
+use Prim.Native.Nat.{ℕ, _-_, _≤_}
 use native.Mathlib.Omega.{arith}
-use native.Mathlib.Numerals.{add-one}
-use mathlib.Core.Path.{_≡_, refl, ap, _∙_, sym}
-use mathlib.Core.List.{List, [], _∷_, _++_}
-use mathlib.Core.Bool.{Bool, true, false}
+use mathlib.Core.Path.{_≡_, refl, ap, _∙_}
+use mathlib.Core.List.{List}
 use borrow.Author.Needs.{needs}
-use borrow.Author.Tests.{lt-ltb, le-ltb, le-leb, lt-leb, eq-eqb, ne-eqb, leb-true, leb-false, ltb-true, ltb-false, eqb-true, eqb-false, not-true, not-false}
 use denote.Ref.{now}
-use lib.ListN.{length, getD, take, drop, set}
-use lib.Dec.{ltb, leb, eqb}
+use lib.ListN.{getD}
 use Rattle.rules.proofs.lookup_names.latest_same_name.Statement.{statement}
 use Rattle.rules.proofs.lookup_names.latest_same_name.Tie as tie
-use Rattle.rules.proofs.lookup_names.latest_same_name.Reads as reads
-use Rattle.rules.proofs.lookup_names.latest_same_name.Lts as lts
-use Rattle.pack.proofs.of.entry_of.Reads as entry-of-reads
-use Rattle.rules.proofs.lookup_names.same_name.Reads as same-name-reads
-use Rattle.rules.proofs.searches.latest.Reads as latest-reads
 
 -- whether entry d has the name of entry e
 abbrev named : List ℕ → ℕ → ℕ → ℕ → Bool
@@ -51,37 +30,29 @@ Inv-loop s work l p kind e entry found₀ d₀ found d = (d ≤ e) × (optNumber
 abbrev μ-loop : tie.MeasureT-loop
 μ-loop s work l p kind e entry found₀ d₀ found d = e - d
 
--- src/lookup_names.rt:55:5
 loop-holds : tie.Need-loop-holds Inv-loop μ-loop
 loop-holds c = (search needs, refl)
 
--- src/lookup_names.rt:56:13
 entry-of-requires : tie.Need-entry-of-requires Inv-loop μ-loop
 entry-of-requires c κs = (c .before .before .before .before .pre .0, c .before .before .before .before .pre .1, omega (arith, c .before .before .before .before .pre .2, c .loop-test .taken))
 
--- src/lookup_names.rt:57:13
 same-name-requires : tie.Need-same-name-requires Inv-loop μ-loop
 same-name-requires c κs = search needs
 
--- src/lookup_names.rt:58:9
 latest-requires : tie.Need-latest-requires Inv-loop μ-loop
 latest-requires c κs = search needs
 
--- src/lookup_names.rt:59:9
 add-d : tie.Need-add-d Inv-loop μ-loop
 add-d c = search needs
 
--- src/lookup_names.rt:55:5
 loop-less : tie.Need-loop-less Inv-loop μ-loop
 loop-less c = search needs
 
--- src/lookup_names.rt:55:5
 loop-again : tie.Need-loop-again Inv-loop μ-loop
 loop-again c =
     let h = said (now (c .before .before .before .before .before .before .before .args .s)) (c .before .before .before .before .before .before .before .args .l) (c .before .before .before .before .before .before .before .args .e) (c .before .before .before .before .loop .d) (c .before .before .before .before .before .before .before .args .kind) (c .before .before .entry-of .result) (c .before .before .before .before .before .before .before .args .entry) (c .before .same-name .result) (c .before .before .before .before .before .before .before .pre .1) (c .before .before .entry-of .ensures) (c .before .before .before .before .before .before .before .pre .3) (c .before .same-name .ensures) in
     (search needs, c .latest .ensures ∙ (rw (latest-turn (named (now (c .before .before .before .before .before .before .before .args .s)) (c .before .before .before .before .before .before .before .args .l) (c .before .before .before .before .before .before .before .args .e)) (c .before .before .before .before .loop .d), ← h, c .before .before .before .before .loop .inv .1)))
 
--- src/lookup_names.rt:38:1
 returns : tie.Need-returns Inv-loop μ-loop
 returns c = let q : c .before .loop .d ≡ c .before .before .before .before .args .e = omega (arith, c .before .loop .inv .0, c .loop-test .left) in c .before .loop .inv .1 ∙ ap (latestBelow (named (now (c .before .before .before .before .args .s)) (c .before .before .before .before .args .l) (c .before .before .before .before .args .e))) q
 

@@ -3,38 +3,24 @@ use Rattle.rules.specs.LookupNames.{same-name, same-name-as, lookup-name
 use Rattle.rules.specs.Texts.{SPN-LOOKUP}
 use Rattle.rules.specs.Search.{latestBelow}
 use Rattle.pack.specs.declared.records.LookupView.{LookupView}
-use Rattle.pack.specs.Value.{noEntry}
-use Rattle.rules.proofs.Emits.{emitted-none, emitted-append, emitted-turn, fits-left, fits-right, fits-turn}
-use Rattle.rules.specs.Model.{given, field-at}
-use Rattle.rules.specs.Findings.{report-if, pgn-error}
-use Rattle.rules.specs.Emit.{Emitted, Fits}
+use Rattle.pack.specs.Value.{noEntry, Lookup}
+use Rattle.rules.proofs.Emits.{emitted-none, emitted-turn, fits-turn}
+use Rattle.rules.specs.Emit.{Emitted}
 use Rattle.rules.specs.declared.Finding.{Finding}
-use Rattle.pack.specs.declared.records.PgnView.{PgnView}
-use Rattle.pack.specs.declared.records.FieldView.{FieldView}
-use Rattle.pack.specs.Ready.{Ready, PgnAt, PgnIs, LookupAt, LookupIs, pgnIn, fieldIn, lookupIn}
-use Rattle.pack.specs.Meaning.{optBytes, optNumber, optFloat, optReference, optRepeating, fieldMeaning, packOf}
+use Rattle.pack.specs.Ready.{LookupIs, lookupIn}
+use Rattle.pack.specs.Meaning.{packOf}
 use Rattle.pack.specs.Items.{bytesOf}
-use Rattle.pack.specs.Value.{Bytes, FieldType, Entry, Lookup, Repeating, Reference, Field, Pgn, Pack}
-use Rattle.pack.specs.Notation.{_==_, _<ᵇ_, _≤ᵇ_, _≐_, if_then_else_, optional, concatBelow}
-use mathlib.Core.Option.{Option, none, some}
-use mathlib.Core.Bool.{not, _&&_, _||_}
-use Prim.Native.Nat.{ℕ, zero, suc, _+_, _-_, _*_, _/_, _%_, _^_, _≤_, _<_}
-use native.Mathlib.Omega.{arith}
-use native.Mathlib.Numerals.{add-one}
-use mathlib.Core.Path.{_≡_, refl, ap, _∙_, sym}
-use mathlib.Core.List.{List, [], _∷_, _++_}
+use Rattle.pack.specs.Notation.{_≐_, concatBelow}
 use mathlib.Core.Bool.{Bool, true, false}
+use Prim.Native.Nat.{ℕ, _-_, _≤_}
+use native.Mathlib.Omega.{arith}
+use mathlib.Core.Path.{_≡_, refl, ap, _∙_, sym}
+use mathlib.Core.List.{List, []}
 use borrow.Author.Needs.{needs}
-use borrow.Author.Tests.{lt-ltb, le-ltb, le-leb, lt-leb, eq-eqb, ne-eqb, leb-true, leb-false, ltb-true, ltb-false, eqb-true, eqb-false, not-true, not-false}
 use denote.Ref.{now}
-use lib.ListN.{length, getD, take, drop, set}
-use lib.Dec.{ltb, leb, eqb}
+use lib.ListN.{length, getD}
 use Rattle.rules.proofs.lookup_names.lookup_names_of.Statement.{statement}
 use Rattle.rules.proofs.lookup_names.lookup_names_of.Tie as tie
-use Rattle.rules.proofs.lookup_names.lookup_names_of.Reads as reads
-use Rattle.rules.proofs.lookup_names.lookup_names_of.Lts as lts
-use Rattle.pack.proofs.text.text_is.Reads as text-is-reads
-use Rattle.rules.proofs.lookup_names.same_name_at.Reads as same-name-at-reads
 
 -- the findings of entry e
 abbrev of-entry : Lookup → ℕ → ℕ → List Finding
@@ -55,43 +41,33 @@ Inv-loop out₀ n s work l p entries kind m₀ e₀ out m e = (e ≤ entries) ×
 abbrev μ-loop : tie.MeasureT-loop
 μ-loop out₀ n s work l p entries kind m₀ e₀ out m e = entries - e
 
--- src/lookup_names.rt:99:27
 slice-aggregate-text-is : tie.Need-slice-aggregate-text-is Inv-loop μ-loop
 slice-aggregate-text-is c = search needs
 
--- src/lookup_names.rt:99:8
 text-is-requires : tie.Need-text-is-requires Inv-loop μ-loop
 text-is-requires c κs = search needs
 
--- src/lookup_names.rt:100:9
 returns : tie.Need-returns Inv-loop μ-loop
 returns c = rw (spns (now (c .before .before .before .before .before .before .args .s)) (lookupIn (packOf (now (c .before .before .before .before .before .before .args .s))) (c .before .before .before .before .before .before .args .l)) (c .before .before .before .before .before .before .args .v) (c .before .before .before .before .before .before .pre .2) (c .before .before .before .before .before .before .args .l) (c .before .text-is .result) (c .before .text-is .ensures) (c .if1 .taken)) (emitted-none (now (c .before .before .before .before .before .before .args .out)) (c .before .before .before .before .before .before .args .n))
 
--- src/lookup_names.rt:106:5
 loop-holds : tie.Need-loop-holds Inv-loop μ-loop
 loop-holds c = (search needs, refl, emitted-none (now (c .before .before .before .before .before .before .args .out)) (c .before .before .before .before .before .before .args .n))
 
--- src/lookup_names.rt:107:9
 same-name-at-requires : tie.Need-same-name-at-requires Inv-loop μ-loop
 same-name-at-requires c κs = (fits-turn (of-entry (lookupIn (packOf (now (c .before .before .before .before .before .before .before .before .before .args .s))) (c .before .before .before .before .before .before .before .before .before .args .l)) (c .before .before .before .before .before .before .before .before .before .args .l)) (c .before .before .before .before .before .before .before .before .before .args .v .entries) (c .before .before .loop .e) (c .before .loop-test .taken) (rw (others (now (c .before .before .before .before .before .before .before .before .before .args .s)) (lookupIn (packOf (now (c .before .before .before .before .before .before .before .before .before .args .s))) (c .before .before .before .before .before .before .before .before .before .args .l)) (c .before .before .before .before .before .before .before .before .before .args .v) (c .before .before .before .before .before .before .before .before .before .pre .2) (c .before .before .before .before .before .before .before .before .before .args .l) (c .before .before .before .before .text-is .result) (c .before .before .before .before .text-is .ensures) (c .before .before .before .if1 .left)) at (c .before .before .before .before .before .before .before .before .before .pre .0)) (c .before .before .loop .inv .2), c .before .before .before .before .before .before .before .before .before .pre .1, ap (λ (M : Lookup). M .kind) (c .before .before .before .before .before .before .before .before .before .pre .2 .means), omega (arith, c .before .before .before .before .before .before .before .before .before .pre .2 .entries, c .before .loop-test .taken))
 
--- src/lookup_names.rt:108:9
 add-e : tie.Need-add-e Inv-loop μ-loop
 add-e c = omega (arith, c .before .before .before .before .loop-test .taken, c .before .before .before .before .before .before .before .before .before .before .before .before .pre .2 .entries, entries-few (c .before .before .before .before .before .before .before .before .before .before .before .before .pre .1))
 
--- src/lookup_names.rt:106:5
 loop-less : tie.Need-loop-less Inv-loop μ-loop
 loop-less c = search needs
 
--- src/lookup_names.rt:106:5
 loop-again : tie.Need-loop-again Inv-loop μ-loop
 loop-again c = (search needs, c .before .before .same-name-at .kept .0 ∙ c .before .before .before .before .before .loop .inv .1, emitted-turn (of-entry (lookupIn (packOf (now (c .before .before .before .before .before .before .before .before .before .before .before .before .args .s))) (c .before .before .before .before .before .before .before .before .before .before .before .before .args .l)) (c .before .before .before .before .before .before .before .before .before .before .before .before .args .l)) (c .before .before .before .before .before .loop .e) (c .before .before .before .before .before .loop .inv .2) (c .before .before .same-name-at .ensures))
 
--- src/lookup_names.rt:87:1
 same-length : tie.Need-same-length Inv-loop μ-loop
 same-length c = c .before .loop .inv .1
 
--- src/lookup_names.rt:87:1
 returns-2 : tie.Need-returns-2 Inv-loop μ-loop
 returns-2 c = let q : c .before .before .before .before .before .before .before .before .args .v .entries ≡ c .before .loop .e = omega (arith, c .before .loop .inv .0, c .loop-test .left) in rw (others (now (c .before .before .before .before .before .before .before .before .args .s)) (lookupIn (packOf (now (c .before .before .before .before .before .before .before .before .args .s))) (c .before .before .before .before .before .before .before .before .args .l)) (c .before .before .before .before .before .before .before .before .args .v) (c .before .before .before .before .before .before .before .before .pre .2) (c .before .before .before .before .before .before .before .before .args .l) (c .before .before .before .text-is .result) (c .before .before .before .text-is .ensures) (c .before .before .if1 .left), q) (c .before .loop .inv .2)
 

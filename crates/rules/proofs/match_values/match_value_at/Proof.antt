@@ -1,41 +1,25 @@
 use Rattle.rules.specs.MatchValues.{resolved-at, match-value-at}
-use Rattle.rules.specs.Model.{resolve-match}
+use Rattle.rules.specs.Model.{resolve-match, given, field-at}
 use lib.Pow.{pow-pos}
 use native.Mathlib.Decide.{decLt}
-use Rattle.rules.proofs.Emits.{emitted-none, emitted-append, emitted-turn, fits-left, fits-right, fits-turn}
-use Rattle.rules.specs.Model.{given, field-at}
+use Rattle.rules.proofs.Emits.{emitted-none}
 use Rattle.rules.specs.Findings.{report-if, pgn-error}
-use Rattle.rules.specs.Emit.{Emitted, Fits}
 use Rattle.rules.specs.declared.Finding.{Finding}
-use Rattle.pack.specs.declared.records.PgnView.{PgnView}
 use Rattle.pack.specs.declared.records.FieldView.{FieldView}
-use Rattle.pack.specs.Ready.{Ready, PgnAt, PgnIs, LookupAt, LookupIs, pgnIn, fieldIn, lookupIn}
-use Rattle.pack.specs.Meaning.{optBytes, optNumber, optFloat, optReference, optRepeating, fieldMeaning, packOf}
-use Rattle.pack.specs.Items.{bytesOf}
-use Rattle.pack.specs.Value.{Bytes, FieldType, Entry, Lookup, Repeating, Reference, Field, Pgn, Pack}
-use Rattle.pack.specs.Notation.{_==_, _<ᵇ_, _≤ᵇ_, _≐_, if_then_else_, optional, concatBelow}
-use mathlib.Core.Option.{Option, none, some}
-use mathlib.Core.Bool.{not, _&&_, _||_}
-use Prim.Native.Nat.{ℕ, zero, suc, _+_, _-_, _*_, _/_, _%_, _^_, _≤_, _<_}
+use Rattle.pack.specs.Ready.{pgnIn}
+use Rattle.pack.specs.Meaning.{fieldMeaning, packOf}
+use Rattle.pack.specs.Value.{Lookup, Pgn}
+use Rattle.pack.specs.Notation.{_<ᵇ_, _≤ᵇ_, optional}
+use mathlib.Core.Bool.{_&&_, Bool, true, false}
+use Prim.Native.Nat.{ℕ, _-_, _^_, _<_}
 use native.Mathlib.Omega.{arith}
-use native.Mathlib.Numerals.{add-one}
-use mathlib.Core.Path.{_≡_, refl, ap, _∙_, sym}
-use mathlib.Core.List.{List, [], _∷_, _++_}
-use mathlib.Core.Bool.{Bool, true, false}
+use mathlib.Core.Path.{_≡_}
+use mathlib.Core.List.{List, [], _∷_}
 use borrow.Author.Needs.{needs}
-use borrow.Author.Tests.{lt-ltb, le-ltb, le-leb, lt-leb, eq-eqb, ne-eqb, leb-true, leb-false, ltb-true, ltb-false, eqb-true, eqb-false, not-true, not-false}
+use borrow.Author.Tests.{lt-ltb, le-ltb, le-leb, lt-leb, not-true, not-false}
 use denote.Ref.{now}
-use lib.ListN.{length, getD, take, drop, set}
-use lib.Dec.{ltb, leb, eqb}
 use Rattle.rules.proofs.match_values.match_value_at.Statement.{statement}
 use Rattle.rules.proofs.match_values.match_value_at.Tie as tie
-use Rattle.rules.proofs.match_values.match_value_at.Reads as reads
-use Rattle.rules.proofs.match_values.match_value_at.Lts as lts
-use Rattle.rules.proofs.emit.pgn_error.Reads as pgn-error-reads
-use Rattle.rules.proofs.emit.put.Reads as put-reads
-use Rattle.rules.proofs.emit.put_if.Reads as put-if-reads
-use Rattle.rules.proofs.matches.resolve_match.Reads as resolve-match-reads
-use Rattle.rules.proofs.widths.exceeds.Reads as exceeds-reads
 
 less-one : (a b : ℕ) → 0 < a → (a - 1 <ᵇ b) ≡ (a ≤ᵇ b)
 less-one a b h = go (decLt b a)
@@ -58,47 +42,36 @@ module _ (s : List ℕ) (ls : List Lookup) (t i k : ℕ) (p : Pgn) (f : FieldVie
     unfolding match-value-at resolved-at
     resolved x b z F y = rw (← is, ← e, h, x, y, z, less-one (2 ^ f .scaling .bits) v (pow-pos (f .scaling .bits)))
 
--- src/match_values.rt:34:9
 returns : tie.Need-returns
 returns c = rw (unmatched (now (c .before .before .before .before .before .args .s)) (packOf (now (c .before .before .before .before .before .args .s)) .lookups) (c .before .before .before .before .before .args .t) (c .before .before .before .before .before .args .i) (c .before .before .before .before .before .args .k) (pgnIn (packOf (now (c .before .before .before .before .before .args .s))) (c .before .before .before .before .before .args .t) (c .before .before .before .before .before .args .i)) (c .before .before .before .before .before .args .f) (c .before .before .before .before .before .pre .4) (not-true (c .before .before .before .before .before .args .f .authored .matched .given) (c .if1 .taken))) (emitted-none (now (c .before .before .before .before .before .args .out)) (c .before .before .before .before .before .args .n))
 
--- src/match_values.rt:36:9
 resolve-match-requires : tie.Need-resolve-match-requires
 resolve-match-requires c κs = (c .before .before .before .before .before .pre .1, c .before .before .before .before .before .pre .2, c .before .before .before .before .before .pre .3)
 
--- src/match_values.rt:38:28
 pgn-error-requires : tie.Need-pgn-error-requires
 pgn-error-requires c κs = search needs
 
--- src/match_values.rt:38:9
 put-requires : tie.Need-put-requires
 put-requires c κs = rw (unresolved (now (c .before .before .before .before .before .before .before .before .before .before .args .s)) (packOf (now (c .before .before .before .before .before .before .before .before .before .before .args .s)) .lookups) (c .before .before .before .before .before .before .before .before .before .before .args .t) (c .before .before .before .before .before .before .before .before .before .before .args .i) (c .before .before .before .before .before .before .before .before .before .before .args .k) (pgnIn (packOf (now (c .before .before .before .before .before .before .before .before .before .before .args .s))) (c .before .before .before .before .before .before .before .before .before .before .args .t) (c .before .before .before .before .before .before .before .before .before .before .args .i)) (c .before .before .before .before .before .before .before .before .before .before .args .f) (c .before .before .before .before .before .before .before .before .before .before .pre .4) (not-false (c .before .before .before .before .before .before .before .before .before .before .args .f .authored .matched .given) (c .before .before .before .before .before .if1 .left)) (c .before .before .before .before .resolve-match .result .given) (c .before .before .before .before .resolve-match .result .value) (c .before .before .before .before .resolve-match .ensures) (not-true (c .before .before .before .before .resolve-match .result .given) (c .before .before .if2 .taken)) (c .pgn-error .result) (c .pgn-error .ensures)) at (c .before .before .before .before .before .before .before .before .before .before .pre .0)
 
--- src/match_values.rt:38:9
 same-length : tie.Need-same-length
 same-length c = search needs
 
--- src/match_values.rt:38:9
 returns-2 : tie.Need-returns-2
 returns-2 c = rw (unresolved (now (c .before .before .before .before .before .before .before .before .before .before .before .before .before .args .s)) (packOf (now (c .before .before .before .before .before .before .before .before .before .before .before .before .before .args .s)) .lookups) (c .before .before .before .before .before .before .before .before .before .before .before .before .before .args .t) (c .before .before .before .before .before .before .before .before .before .before .before .before .before .args .i) (c .before .before .before .before .before .before .before .before .before .before .before .before .before .args .k) (pgnIn (packOf (now (c .before .before .before .before .before .before .before .before .before .before .before .before .before .args .s))) (c .before .before .before .before .before .before .before .before .before .before .before .before .before .args .t) (c .before .before .before .before .before .before .before .before .before .before .before .before .before .args .i)) (c .before .before .before .before .before .before .before .before .before .before .before .before .before .args .f) (c .before .before .before .before .before .before .before .before .before .before .before .before .before .pre .4) (not-false (c .before .before .before .before .before .before .before .before .before .before .before .before .before .args .f .authored .matched .given) (c .before .before .before .before .before .before .before .before .if1 .left)) (c .before .before .before .before .before .before .before .resolve-match .result .given) (c .before .before .before .before .before .before .before .resolve-match .result .value) (c .before .before .before .before .before .before .before .resolve-match .ensures) (not-true (c .before .before .before .before .before .before .before .resolve-match .result .given) (c .before .before .before .before .before .if2 .taken)) (c .before .before .before .pgn-error .result) (c .before .before .before .pgn-error .ensures)) (c .before .before .put .ensures)
 
--- src/match_values.rt:40:9
 exceeds-requires : tie.Need-exceeds-requires
 exceeds-requires c κs = search needs
 
--- src/match_values.rt:41:26
 pgn-error-requires-2 : tie.Need-pgn-error-requires-2
 pgn-error-requires-2 c κs = search needs
 
--- src/match_values.rt:41:5
 put-if-requires : tie.Need-put-if-requires
 put-if-requires c κs = rw (resolved (now (c .before .before .before .before .before .before .before .before .before .before .before .args .s)) (packOf (now (c .before .before .before .before .before .before .before .before .before .before .before .args .s)) .lookups) (c .before .before .before .before .before .before .before .before .before .before .before .args .t) (c .before .before .before .before .before .before .before .before .before .before .before .args .i) (c .before .before .before .before .before .before .before .before .before .before .before .args .k) (pgnIn (packOf (now (c .before .before .before .before .before .before .before .before .before .before .before .args .s))) (c .before .before .before .before .before .before .before .before .before .before .before .args .t) (c .before .before .before .before .before .before .before .before .before .before .before .args .i)) (c .before .before .before .before .before .before .before .before .before .before .before .args .f) (c .before .before .before .before .before .before .before .before .before .before .before .pre .4) (not-false (c .before .before .before .before .before .before .before .before .before .before .before .args .f .authored .matched .given) (c .before .before .before .before .before .before .if1 .left)) (c .before .before .before .before .before .resolve-match .result .given) (c .before .before .before .before .before .resolve-match .result .value) (c .before .before .before .before .before .resolve-match .ensures) (not-false (c .before .before .before .before .before .resolve-match .result .given) (c .before .before .before .if2 .left)) (c .before .before .exceeds .result) (c .before .before .exceeds .ensures) (c .pgn-error2 .result) (c .pgn-error2 .ensures)) at (c .before .before .before .before .before .before .before .before .before .before .before .pre .0)
 
--- src/match_values.rt:19:1
 same-length-2 : tie.Need-same-length-2
 same-length-2 c = search needs
 
--- src/match_values.rt:19:1
 returns-3 : tie.Need-returns-3
 returns-3 c = rw (resolved (now (c .before .before .before .before .before .before .before .before .before .before .before .before .before .before .args .s)) (packOf (now (c .before .before .before .before .before .before .before .before .before .before .before .before .before .before .args .s)) .lookups) (c .before .before .before .before .before .before .before .before .before .before .before .before .before .before .args .t) (c .before .before .before .before .before .before .before .before .before .before .before .before .before .before .args .i) (c .before .before .before .before .before .before .before .before .before .before .before .before .before .before .args .k) (pgnIn (packOf (now (c .before .before .before .before .before .before .before .before .before .before .before .before .before .before .args .s))) (c .before .before .before .before .before .before .before .before .before .before .before .before .before .before .args .t) (c .before .before .before .before .before .before .before .before .before .before .before .before .before .before .args .i)) (c .before .before .before .before .before .before .before .before .before .before .before .before .before .before .args .f) (c .before .before .before .before .before .before .before .before .before .before .before .before .before .before .pre .4) (not-false (c .before .before .before .before .before .before .before .before .before .before .before .before .before .before .args .f .authored .matched .given) (c .before .before .before .before .before .before .before .before .before .if1 .left)) (c .before .before .before .before .before .before .before .before .resolve-match .result .given) (c .before .before .before .before .before .before .before .before .resolve-match .result .value) (c .before .before .before .before .before .before .before .before .resolve-match .ensures) (not-false (c .before .before .before .before .before .before .before .before .resolve-match .result .given) (c .before .before .before .before .before .before .if2 .left)) (c .before .before .before .before .before .exceeds .result) (c .before .before .before .before .before .exceeds .ensures) (c .before .before .before .pgn-error2 .result) (c .before .before .before .pgn-error2 .ensures)) (c .before .before .put-if .ensures)
 

@@ -1,24 +1,19 @@
 use Rattle.rules.specs.Model.{all-digits, decimal, parse-digits}
 use Rattle.pack.specs.Notation.{_<ᵇ_, _≤ᵇ_, optional}
 use lib.Seq.{drop-cons}
-use lib.ListN.{drop-of-length-le}
-use mathlib.Core.Option.{Option, none, some}
-use mathlib.Core.Bool.{_&&_}
-use Prim.Native.Nat.{ℕ, zero, suc, _+_, _-_, _*_, _/_, _%_, _^_, _≤_, _<_}
+use lib.ListN.{drop-of-length-le, length, getD, drop}
+use mathlib.Core.Option.{Option, none}
+use mathlib.Core.Bool.{_&&_, Bool, true, false}
+use Prim.Native.Nat.{ℕ, suc, _+_, _-_, _*_, _^_, _≤_, _<_}
 use native.Mathlib.Omega.{arith}
 use native.Mathlib.Numerals.{add-one}
-use mathlib.Core.Path.{_≡_, refl, ap, _∙_, sym}
-use mathlib.Core.List.{List, [], _∷_, _++_}
-use mathlib.Core.Bool.{Bool, true, false}
+use mathlib.Core.Path.{_≡_, refl, _∙_, sym}
+use mathlib.Core.List.{List, [], _∷_}
 use borrow.Author.Needs.{needs}
-use borrow.Author.Tests.{lt-ltb, le-ltb, le-leb, lt-leb, eq-eqb, ne-eqb, leb-true, leb-false, ltb-true, ltb-false, eqb-true, eqb-false, not-true, not-false}
+use borrow.Author.Tests.{lt-ltb, le-ltb, le-leb, lt-leb}
 use denote.Ref.{now}
-use lib.ListN.{length, getD, take, drop, set}
-use lib.Dec.{ltb, leb, eqb}
 use Rattle.rules.proofs.matches.parse_digits.Statement.{statement}
 use Rattle.rules.proofs.matches.parse_digits.Tie as tie
-use Rattle.rules.proofs.matches.parse_digits.Reads as reads
-use Rattle.rules.proofs.matches.parse_digits.Lts as lts
 
 -- what is parsed when digits that write v have been read, if any were, and these are left
 abbrev left : Bool → ℕ → List ℕ → Option ℕ
@@ -59,55 +54,42 @@ Inv-loop b from given₀ value₀ i₀ given value i = (i ≤ length b) × (pars
 abbrev μ-loop : tie.MeasureT-loop
 μ-loop b from given₀ value₀ i₀ given value i = length b - i
 
--- src/matches.rt:35:5
 loop-holds : tie.Need-loop-holds Inv-loop μ-loop
 loop-holds c = (c .pre, begin (drop (c .args .from) (now (c .args .b))))
 
--- src/matches.rt:36:17
 shared-slice-read-c : tie.Need-shared-slice-read-c Inv-loop μ-loop
 shared-slice-read-c c = search needs
 
--- src/matches.rt:38:13
 returns : tie.Need-returns Inv-loop μ-loop
 returns c = sym (c .before .before .before .loop .inv .1 ∙ (rw (drop-cons (now (c .before .before .before .before .args .b)) (c .before .before .before .loop .i) 0 (c .before .before .loop-test .taken)) (low (c .before .before .before .loop .given) (c .before .before .before .loop .value) (getD (now (c .before .before .before .before .args .b)) (c .before .before .before .loop .i) 0) (drop (suc (c .before .before .before .loop .i)) (now (c .before .before .before .before .args .b))) (c .if1 .taken))))
 
--- src/matches.rt:44:13
 returns-2 : tie.Need-returns-2 Inv-loop μ-loop
 returns-2 c = sym (c .before .before .before .before .loop .inv .1 ∙ (rw (drop-cons (now (c .before .before .before .before .before .args .b)) (c .before .before .before .before .loop .i) 0 (c .before .before .before .loop-test .taken)) (high (c .before .before .before .before .loop .given) (c .before .before .before .before .loop .value) (getD (now (c .before .before .before .before .before .args .b)) (c .before .before .before .before .loop .i) 0) (drop (suc (c .before .before .before .before .loop .i)) (now (c .before .before .before .before .before .args .b))) (c .if2 .taken))))
 
--- src/matches.rt:49:21
 cast-digit : tie.Need-cast-digit Inv-loop μ-loop
 cast-digit c = search needs
 
--- src/matches.rt:50:13
 sub-if3 : tie.Need-sub-if3 Inv-loop μ-loop
 sub-if3 c = search needs
 
--- src/matches.rt:51:13
 returns-3 : tie.Need-returns-3 Inv-loop μ-loop
 returns-3 c = sym (c .before .before .before .before .before .loop .inv .1 ∙ (rw (drop-cons (now (c .before .before .before .before .before .before .args .b)) (c .before .before .before .before .before .loop .i) 0 (c .before .before .before .before .loop-test .taken)) (big (c .before .before .before .before .before .loop .given) (c .before .before .before .before .before .loop .value) (getD (now (c .before .before .before .before .before .before .args .b)) (c .before .before .before .before .before .loop .i) 0) (drop (suc (c .before .before .before .before .before .loop .i)) (now (c .before .before .before .before .before .before .args .b))) (omega (arith, c .before .before .if1 .left, c .before .if2 .left, c .if3 .taken)))))
 
--- src/matches.rt:56:17
 mul-value : tie.Need-mul-value Inv-loop μ-loop
 mul-value c = search needs
 
--- src/matches.rt:56:17
 add-value : tie.Need-add-value Inv-loop μ-loop
 add-value c = search needs
 
--- src/matches.rt:58:9
 add-i : tie.Need-add-i Inv-loop μ-loop
 add-i c = search needs
 
--- src/matches.rt:35:5
 loop-less : tie.Need-loop-less Inv-loop μ-loop
 loop-less c = search needs
 
--- src/matches.rt:35:5
 loop-again : tie.Need-loop-again Inv-loop μ-loop
 loop-again c = (search needs, c .before .before .before .before .before .loop .inv .1 ∙ (rw (add-one (c .before .before .before .before .before .loop .i), drop-cons (now (c .before .before .before .before .before .before .args .b)) (c .before .before .before .before .before .loop .i) 0 (c .before .before .before .before .loop-test .taken)) (turn (c .before .before .before .before .before .loop .given) (c .before .before .before .before .before .loop .value) (getD (now (c .before .before .before .before .before .before .args .b)) (c .before .before .before .before .before .loop .i) 0) (drop (suc (c .before .before .before .before .before .loop .i)) (now (c .before .before .before .before .before .before .args .b))) (omega (arith, c .before .before .if1 .left)) (omega (arith, c .before .if2 .left)) (omega (arith, c .before .before .if1 .left, c .before .if2 .left, c .if3 .left)))))
 
--- src/matches.rt:28:1
 returns-4 : tie.Need-returns-4 Inv-loop μ-loop
 returns-4 c = sym (c .before .loop .inv .1 ∙ (rw (drop-of-length-le (now (c .before .before .args .b)) {i = c .before .loop .i} (omega (arith, c .loop-test .left)))))
 

@@ -1,21 +1,15 @@
 use Rattle.rules.specs.Model.{parse-u64, parse-digits}
 use mathlib.Core.Option.{none}
-use Prim.Native.Nat.{ℕ, zero, suc, _+_, _-_, _*_, _/_, _%_, _^_, _≤_, _<_}
+use Prim.Native.Nat.{ℕ}
 use native.Mathlib.Omega.{arith}
-use native.Mathlib.Numerals.{add-one}
-use mathlib.Core.Path.{_≡_, refl, ap, _∙_, sym}
-use mathlib.Core.List.{List, [], _∷_, _++_}
-use mathlib.Core.Bool.{Bool, true, false}
+use mathlib.Core.Path.{_≡_, refl, _∙_, sym}
+use mathlib.Core.List.{List, [], _∷_}
 use borrow.Author.Needs.{needs}
-use borrow.Author.Tests.{lt-ltb, le-ltb, le-leb, lt-leb, eq-eqb, ne-eqb, leb-true, leb-false, ltb-true, ltb-false, eqb-true, eqb-false, not-true, not-false}
+use borrow.Author.Tests.{eq-eqb, ne-eqb}
 use denote.Ref.{now}
-use lib.ListN.{length, getD, take, drop, set}
-use lib.Dec.{ltb, leb, eqb}
+use lib.ListN.{length, getD, drop}
 use Rattle.rules.proofs.matches.parse_u64.Statement.{statement}
 use Rattle.rules.proofs.matches.parse_u64.Tie as tie
-use Rattle.rules.proofs.matches.parse_u64.Reads as reads
-use Rattle.rules.proofs.matches.parse_u64.Lts as lts
-use Rattle.rules.proofs.matches.parse_digits.Reads as parse-digits-reads
 
 empty : (xs : List ℕ) → length xs ≡ 0 → parse-u64 xs ≡ none
 unfolding parse-u64
@@ -32,27 +26,21 @@ unfolding parse-u64
 plain [] n e = absurd (n refl)
 plain (x ∷ xs) n e = rw (ne-eqb x 43 e)
 
--- src/matches.rt:68:9
 returns : tie.Need-returns
 returns c = sym (empty (now (c .before .before .args .b)) (c .if1 .taken))
 
--- src/matches.rt:73:8
 shared-slice-read-if2 : tie.Need-shared-slice-read-if2
 shared-slice-read-if2 c = search needs
 
--- src/matches.rt:74:9
 parse-digits-requires : tie.Need-parse-digits-requires
 parse-digits-requires c κs = search needs
 
--- src/matches.rt:74:9
 returns-2 : tie.Need-returns-2
 returns-2 c = c .parse-digits .ensures ∙ sym (plus (now (c .before .before .before .before .before .args .b)) (c .before .before .before .if1 .left) (c .before .if2 .taken))
 
--- src/matches.rt:76:5
 parse-digits-requires-2 : tie.Need-parse-digits-requires-2
 parse-digits-requires-2 c κs = search needs
 
--- src/matches.rt:64:1
 returns-3 : tie.Need-returns-3
 returns-3 c = c .parse-digits2 .ensures ∙ sym (plain (now (c .before .before .before .before .before .args .b)) (c .before .before .before .if1 .left) (c .before .if2 .left))
 

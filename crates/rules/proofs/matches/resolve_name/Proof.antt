@@ -3,27 +3,16 @@ use Rattle.pack.specs.Meaning.{packOf}
 use Rattle.pack.specs.Items.{bytesOf}
 use Rattle.pack.specs.Value.{Bytes, Entry, Lookup, Reference}
 use Rattle.pack.specs.Notation.{_==_, if_then_else_, optional}
-use mathlib.Core.Option.{Option, none, some}
-use mathlib.Core.Bool.{_||_}
-use Prim.Native.Nat.{ℕ, zero, suc, _+_, _-_, _*_, _/_, _%_, _^_, _≤_, _<_}
-use native.Mathlib.Omega.{arith}
-use native.Mathlib.Numerals.{add-one}
-use mathlib.Core.Path.{_≡_, refl, ap, _∙_, sym}
-use mathlib.Core.List.{List, [], _∷_, _++_}
-use mathlib.Core.Bool.{Bool, true, false}
+use mathlib.Core.Option.{none, some}
+use mathlib.Core.Bool.{_||_, Bool, true, false}
+use Prim.Native.Nat.{ℕ}
+use mathlib.Core.Path.{_≡_, refl, ap, sym}
+use mathlib.Core.List.{List, []}
 use borrow.Author.Needs.{needs}
-use borrow.Author.Tests.{lt-ltb, le-ltb, le-leb, lt-leb, eq-eqb, ne-eqb, leb-true, leb-false, ltb-true, ltb-false, eqb-true, eqb-false, not-true, not-false}
+use borrow.Author.Tests.{not-true, not-false}
 use denote.Ref.{now}
-use lib.ListN.{length, getD, take, drop, set}
-use lib.Dec.{ltb, leb, eqb}
 use Rattle.rules.proofs.matches.resolve_name.Statement.{statement}
 use Rattle.rules.proofs.matches.resolve_name.Tie as tie
-use Rattle.rules.proofs.matches.resolve_name.Reads as reads
-use Rattle.rules.proofs.matches.resolve_name.Lts as lts
-use Rattle.pack.proofs.of.lookup_of.Reads as lookup-of-reads
-use Rattle.rules.proofs.lookups.find_lookup.Reads as find-lookup-reads
-use Rattle.rules.proofs.matches.has_entries.Reads as has-entries-reads
-use Rattle.rules.proofs.matches.value_named.Reads as value-named-reads
 
 module _ (ls : List Lookup) (m : Bytes) (r : Reference) where
   unknown : (i : ℕ) (g : Bool) → optional g i ≡ find-lookup ls (r .name) → g ≡ false → resolve-name ls m (some r) ≡ none
@@ -45,38 +34,30 @@ module _ (ls : List Lookup) (m : Bytes) (r : Reference) where
       go true = cut (lookup-at ls l .kind == 3) (lookup-at ls l .entries)
       go false = cut ((lookup-at ls l .kind == 0) || (lookup-at ls l .kind == 2)) (lookup-at ls l .entries)
 
--- src/matches.rt:119:9
 returns : tie.Need-returns
 unfolding resolve-name
 returns c = rw (not-true (c .before .before .before .before .args .r .given) (c .if1 .taken))
 
--- src/matches.rt:124:9
 find-lookup-requires : tie.Need-find-lookup-requires
 find-lookup-requires c κs = search needs
 
--- src/matches.rt:126:9
 returns-2 : tie.Need-returns-2
 returns-2 c = rw (not-false (c .before .before .before .before .before .before .before .args .r .given) (c .before .before .before .if1 .left)) (sym (unknown (packOf (now (c .before .before .before .before .before .before .before .args .s)) .lookups) (bytesOf (now (c .before .before .before .before .before .before .before .args .s)) (c .before .before .before .before .before .before .before .args .m)) (record { kind = c .before .before .before .before .before .before .before .args .r .kind; name = bytesOf (now (c .before .before .before .before .before .before .before .args .s)) (c .before .before .before .before .before .before .before .args .r .name) }) (c .before .before .find-lookup .result .index) (c .before .before .find-lookup .result .given) (c .before .before .find-lookup .ensures .0) (not-true (c .before .before .find-lookup .result .given) (c .if2 .taken))))
 
--- src/matches.rt:131:9
 lookup-of-requires : tie.Need-lookup-of-requires
 lookup-of-requires c κs = c .before .before .find-lookup .ensures .1 (not-false (c .before .before .find-lookup .result .given) (c .if2 .left))
 
--- src/matches.rt:132:9
 has-entries-requires : tie.Need-has-entries-requires
 has-entries-requires c κs = search needs
 
--- src/matches.rt:133:9
 returns-3 : tie.Need-returns-3
 returns-3 c =
     let e = known (packOf (now (c .before .before .before .before .before .before .before .before .before .before .args .s)) .lookups) (bytesOf (now (c .before .before .before .before .before .before .before .before .before .before .args .s)) (c .before .before .before .before .before .before .before .before .before .before .args .m)) (record { kind = c .before .before .before .before .before .before .before .before .before .before .args .r .kind; name = bytesOf (now (c .before .before .before .before .before .before .before .before .before .before .args .s)) (c .before .before .before .before .before .before .before .before .before .before .args .r .name) }) (c .before .before .before .before .before .find-lookup .result .index) (c .before .before .lookup-of .result .kind) (c .before .before .before .before .before .find-lookup .result .given) (c .before .has-entries .result) (c .before .before .before .before .before .find-lookup .ensures .0) (not-false (c .before .before .before .before .before .find-lookup .result .given) (c .before .before .before .if2 .left)) (ap (λ (L : Lookup). L .kind) (c .before .before .lookup-of .ensures .means)) (c .before .has-entries .ensures) in
     rw (not-false (c .before .before .before .before .before .before .before .before .before .before .args .r .given) (c .before .before .before .before .before .before .if1 .left), e, not-true (c .before .has-entries .result) (c .if3 .taken))
 
--- src/matches.rt:138:5
 value-named-requires : tie.Need-value-named-requires
 value-named-requires c κs = (c .before .before .before .before .before .find-lookup .ensures .1 (not-false (c .before .before .before .before .before .find-lookup .result .given) (c .before .before .before .if2 .left)), ap (λ (L : Lookup). L .kind) (c .before .before .lookup-of .ensures .means), c .before .before .lookup-of .ensures .entries)
 
--- src/matches.rt:114:1
 returns-4 : tie.Need-returns-4
 returns-4 c =
     let e = known (packOf (now (c .before .before .before .before .before .before .before .before .before .before .before .args .s)) .lookups) (bytesOf (now (c .before .before .before .before .before .before .before .before .before .before .before .args .s)) (c .before .before .before .before .before .before .before .before .before .before .before .args .m)) (record { kind = c .before .before .before .before .before .before .before .before .before .before .before .args .r .kind; name = bytesOf (now (c .before .before .before .before .before .before .before .before .before .before .before .args .s)) (c .before .before .before .before .before .before .before .before .before .before .before .args .r .name) }) (c .before .before .before .before .before .before .find-lookup .result .index) (c .before .before .before .lookup-of .result .kind) (c .before .before .before .before .before .before .find-lookup .result .given) (c .before .before .has-entries .result) (c .before .before .before .before .before .before .find-lookup .ensures .0) (not-false (c .before .before .before .before .before .before .find-lookup .result .given) (c .before .before .before .before .if2 .left)) (ap (λ (L : Lookup). L .kind) (c .before .before .before .lookup-of .ensures .means)) (c .before .before .has-entries .ensures) in

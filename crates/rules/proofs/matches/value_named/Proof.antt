@@ -6,24 +6,17 @@ use Rattle.pack.specs.Meaning.{packOf}
 use Rattle.pack.specs.Items.{bytesOf}
 use Rattle.pack.specs.Value.{Entry, noEntry}
 use Rattle.pack.specs.Notation.{_≐_}
-use mathlib.Core.Option.{none, some}
-use Prim.Native.Nat.{ℕ, zero, suc, _+_, _-_, _*_, _/_, _%_, _^_, _≤_, _<_}
+use mathlib.Core.Option.{none}
+use Prim.Native.Nat.{ℕ, _-_, _≤_}
 use native.Mathlib.Omega.{arith}
-use native.Mathlib.Numerals.{add-one}
-use mathlib.Core.Path.{_≡_, refl, ap, _∙_, sym}
-use mathlib.Core.List.{List, [], _∷_, _++_}
+use mathlib.Core.Path.{_≡_, refl, ap, _∙_}
+use mathlib.Core.List.{List}
 use mathlib.Core.Bool.{Bool, true, false}
 use borrow.Author.Needs.{needs}
-use borrow.Author.Tests.{lt-ltb, le-ltb, le-leb, lt-leb, eq-eqb, ne-eqb, leb-true, leb-false, ltb-true, ltb-false, eqb-true, eqb-false, not-true, not-false}
 use denote.Ref.{now}
-use lib.ListN.{length, getD, take, drop, set}
-use lib.Dec.{ltb, leb, eqb}
+use lib.ListN.{length, getD}
 use Rattle.rules.proofs.matches.value_named.Statement.{statement}
 use Rattle.rules.proofs.matches.value_named.Tie as tie
-use Rattle.rules.proofs.matches.value_named.Reads as reads
-use Rattle.rules.proofs.matches.value_named.Lts as lts
-use Rattle.pack.proofs.of.entry_of.Reads as entry-of-reads
-use Rattle.pack.proofs.text.same_text.Reads as same-text-reads
 
 -- whether entry e has the name
 abbrev named : List ℕ → ℕ → List ℕ → ℕ → Bool
@@ -35,19 +28,15 @@ Inv-loop s work l p kind n name e₀ e = (e ≤ n) × (firstBelow (named s l (by
 abbrev μ-loop : tie.MeasureT-loop
 μ-loop s work l p kind n name e₀ e = n - e
 
--- src/matches.rt:85:5
 loop-holds : tie.Need-loop-holds Inv-loop μ-loop
 loop-holds c = (search needs, refl)
 
--- src/matches.rt:86:13
 entry-of-requires : tie.Need-entry-of-requires Inv-loop μ-loop
 entry-of-requires c κs = (c .before .before .before .before .pre .0, c .before .before .before .before .pre .1, omega (arith, c .before .before .before .before .pre .2, c .loop-test .taken))
 
--- src/matches.rt:87:12
 same-text-requires : tie.Need-same-text-requires Inv-loop μ-loop
 same-text-requires c κs = search needs
 
--- src/matches.rt:88:13
 returns : tie.Need-returns Inv-loop μ-loop
 unfolding value-named
 returns c =
@@ -56,15 +45,12 @@ returns c =
     let h : named s (c .before .before .before .before .before .before .before .args .l) b (c .before .before .before .before .loop .e) ≡ true = rw (← ap (λ (x : Entry). x .name) (c .before .before .entry-of .ensures), ← c .before .same-text .ensures) (c .if1 .taken) in
     rw (← c .before .before .before .before .before .before .before .pre .2, first-hit (named s (c .before .before .before .before .before .before .before .args .l) b) (c .before .before .before .before .before .before .before .args .n) (c .before .before .before .before .loop .e) (c .before .before .before .loop-test .taken) (c .before .before .before .before .loop .inv .1) h, ← c .before .before .entry-of .ensures)
 
--- src/matches.rt:93:9
 add-e : tie.Need-add-e Inv-loop μ-loop
 add-e c = search needs
 
--- src/matches.rt:85:5
 loop-less : tie.Need-loop-less Inv-loop μ-loop
 loop-less c = search needs
 
--- src/matches.rt:85:5
 loop-again : tie.Need-loop-again Inv-loop μ-loop
 loop-again c =
     let s = now (c .before .before .before .before .before .before .before .args .s) in
@@ -72,7 +58,6 @@ loop-again c =
     let h : named s (c .before .before .before .before .before .before .before .args .l) b (c .before .before .before .before .loop .e) ≡ false = rw (← ap (λ (x : Entry). x .name) (c .before .before .entry-of .ensures), ← c .before .same-text .ensures) (c .if1 .left) in
     (search needs, first-turn (named s (c .before .before .before .before .before .before .before .args .l) b) (c .before .before .before .before .loop .e) ∙ (rw (c .before .before .before .before .loop .inv .1, h)))
 
--- src/matches.rt:80:1
 returns-2 : tie.Need-returns-2 Inv-loop μ-loop
 unfolding value-named
 returns-2 c =

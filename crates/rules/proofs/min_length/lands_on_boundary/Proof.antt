@@ -6,22 +6,17 @@ use Rattle.pack.specs.Value.{Field}
 use Rattle.pack.specs.Ready.{pgnIn, fieldIn}
 use Rattle.pack.specs.Notation.{_==_}
 use Rattle.pack.specs.Meaning.{fieldMeaning, packOf}
-use Prim.Native.Nat.{ℕ, zero, suc, _+_, _-_, _*_, _/_, _%_, _^_, _≤_, _<_}
+use Prim.Native.Nat.{ℕ, suc, _+_, _-_, _*_, _≤_, _<_}
 use native.Mathlib.Omega.{arith}
-use native.Mathlib.Numerals.{add-one}
 use mathlib.Core.Path.{_≡_, refl, ap, _∙_, sym}
-use mathlib.Core.List.{List, [], _∷_, _++_}
+use mathlib.Core.List.{List}
 use mathlib.Core.Bool.{Bool, true, false}
 use borrow.Author.Needs.{needs}
-use borrow.Author.Tests.{lt-ltb, le-ltb, le-leb, lt-leb, eq-eqb, ne-eqb, leb-true, leb-false, ltb-true, ltb-false, eqb-true, eqb-false, not-true, not-false}
+use borrow.Author.Tests.{eq-eqb, ne-eqb}
 use denote.Ref.{now}
-use lib.ListN.{length, getD, take, drop, set}
-use lib.Dec.{ltb, leb, eqb}
+use lib.ListN.{length}
 use Rattle.rules.proofs.min_length.lands_on_boundary.Statement.{statement}
 use Rattle.rules.proofs.min_length.lands_on_boundary.Tie as tie
-use Rattle.rules.proofs.min_length.lands_on_boundary.Reads as reads
-use Rattle.rules.proofs.min_length.lands_on_boundary.Lts as lts
-use Rattle.pack.proofs.of.field_of.Reads as field-of-reads
 
 -- the width of a field, and whether the fields up to it end at the boundary
 abbrev width : List ℕ → ℕ → ℕ → ℕ → ℕ
@@ -46,44 +41,34 @@ Inv-loop s work t i p fields least boundary bits₀ k₀ bits k = (k ≤ fields)
 abbrev μ-loop : tie.MeasureT-loop
 μ-loop s work t i p fields least boundary bits₀ k₀ bits k = fields - k
 
--- src/min_length.rt:32:20
 mul-boundary : tie.Need-mul-boundary Inv-loop μ-loop
 mul-boundary c = search needs
 
--- src/min_length.rt:35:5
 loop-holds : tie.Need-loop-holds Inv-loop μ-loop
 loop-holds c = (omega arith, refl, omega arith, refl)
 
--- src/min_length.rt:36:13
 field-of-requires : tie.Need-field-of-requires Inv-loop μ-loop
 field-of-requires c κs = (c .before .before .before .before .pre .0, omega (arith, c .before .before .before .before .pre .1))
 
--- src/min_length.rt:37:17
 cast-bits : tie.Need-cast-bits Inv-loop μ-loop
 cast-bits c = search needs
 
--- src/min_length.rt:37:9
 add-bits : tie.Need-add-bits Inv-loop μ-loop
 add-bits c = search needs
 
--- src/min_length.rt:39:13
 returns : tie.Need-returns Inv-loop μ-loop
 unfolding lands-on-boundary
 returns c = sym (hit (now (c .before .before .before .before .before .before .before .args .s)) (c .before .before .before .before .before .before .before .args .t) (c .before .before .before .before .before .before .before .args .i) (c .before .before .before .before .before .before .before .args .least) (c .before .before .before .before .loop .bits) (c .before .before .before .before .loop .k) (c .before .before .field-of .result) (c .before .before .field-of .ensures) (c .before .before .before .before .loop .inv .1) (length (pgnIn (packOf (now (c .before .before .before .before .before .before .before .args .s))) (c .before .before .before .before .before .before .before .args .t) (c .before .before .before .before .before .before .before .args .i) .fields)) (omega (arith, c .before .before .before .before .before .before .before .pre .1)) (c .if1 .taken))
 
--- src/min_length.rt:41:9
 add-k : tie.Need-add-k Inv-loop μ-loop
 add-k c = search needs
 
--- src/min_length.rt:35:5
 loop-less : tie.Need-loop-less Inv-loop μ-loop
 loop-less c = search needs
 
--- src/min_length.rt:35:5
 loop-again : tie.Need-loop-again Inv-loop μ-loop
 loop-again c = (omega arith, grown (now (c .before .before .before .before .before .before .before .args .s)) (c .before .before .before .before .before .before .before .args .t) (c .before .before .before .before .before .before .before .args .i) (c .before .before .before .before .before .before .before .args .least) (c .before .before .before .before .loop .bits) (c .before .before .before .before .loop .k) (c .before .before .field-of .result) (c .before .before .field-of .ensures) (c .before .before .before .before .loop .inv .1) ∙ sym (sum-turn (width (now (c .before .before .before .before .before .before .before .args .s)) (c .before .before .before .before .before .before .before .args .t) (c .before .before .before .before .before .before .before .args .i)) (c .before .before .before .before .loop .k)), omega (arith, c .before .struct-known .given), missed (now (c .before .before .before .before .before .before .before .args .s)) (c .before .before .before .before .before .before .before .args .t) (c .before .before .before .before .before .before .before .args .i) (c .before .before .before .before .before .before .before .args .least) (c .before .before .before .before .loop .bits) (c .before .before .before .before .loop .k) (c .before .before .field-of .result) (c .before .before .field-of .ensures) (c .before .before .before .before .loop .inv .1) (c .before .before .before .before .loop .inv .3) (c .if1 .left))
 
--- src/min_length.rt:28:1
 returns-2 : tie.Need-returns-2 Inv-loop μ-loop
 unfolding lands-on-boundary
 returns-2 c = let e : c .before .loop .k ≡ length (pgnIn (packOf (now (c .before .before .before .before .args .s))) (c .before .before .before .before .args .t) (c .before .before .before .before .args .i) .fields) = omega (arith, c .before .before .before .before .pre .1) in rw (← e) (sym (c .before .loop .inv .3))

@@ -2,31 +2,19 @@ use Rattle.rules.specs.MinLength.{lands-on-boundary, min-length-at}
 use Rattle.rules.specs.Findings.{report-if, pgn-error}
 use Rattle.rules.specs.declared.Finding.{Finding}
 use mathlib.Core.Option.{some}
-use mathlib.Core.Bool.{not, _||_}
+use mathlib.Core.Bool.{not, _||_, Bool, true, false}
 use Rattle.pack.specs.Value.{Pgn}
 use Rattle.pack.specs.Ready.{PgnIs}
 use Rattle.pack.specs.Notation.{_==_, _≤ᵇ_, if_then_else_}
 use Rattle.pack.specs.declared.records.PgnView.{PgnView}
-use Prim.Native.Nat.{ℕ, zero, suc, _+_, _-_, _*_, _/_, _%_, _^_, _≤_, _<_}
-use native.Mathlib.Omega.{arith}
-use native.Mathlib.Numerals.{add-one}
-use mathlib.Core.Path.{_≡_, refl, ap, _∙_, sym}
-use mathlib.Core.List.{List, [], _∷_, _++_}
-use mathlib.Core.Bool.{Bool, true, false}
+use Prim.Native.Nat.{ℕ}
+use mathlib.Core.Path.{_≡_, ap, _∙_, sym}
+use mathlib.Core.List.{List, [], _∷_}
 use borrow.Author.Needs.{needs}
-use borrow.Author.Tests.{lt-ltb, le-ltb, le-leb, lt-leb, eq-eqb, ne-eqb, leb-true, leb-false, ltb-true, ltb-false, eqb-true, eqb-false, not-true, not-false}
 use denote.Ref.{now}
-use lib.ListN.{length, getD, take, drop, set}
-use lib.Dec.{ltb, leb, eqb}
+use lib.ListN.{length}
 use Rattle.rules.proofs.min_length.min_length_at.Statement.{statement}
 use Rattle.rules.proofs.min_length.min_length_at.Tie as tie
-use Rattle.rules.proofs.min_length.min_length_at.Reads as reads
-use Rattle.rules.proofs.min_length.min_length_at.Lts as lts
-use Rattle.rules.proofs.emit.pgn_error.Reads as pgn-error-reads
-use Rattle.rules.proofs.emit.put.Reads as put-reads
-use Rattle.rules.proofs.emit.put_if.Reads as put-if-reads
-use Rattle.rules.proofs.min_length.lands_on_boundary.Reads as lands-on-boundary-reads
-use Rattle.rules.proofs.min_length.not_shorter.Reads as not-shorter-reads
 
 chosen : (a b z y : Bool) (p q f h : Finding) → a ≡ false → b ≡ false → z ≡ y → f ≡ h → (if a then p ∷ [] else if b then q ∷ [] else report-if (not y) h) ≡ report-if (not z) f
 chosen a b z y p q f h e d w x = rw (e, d, w, x)
@@ -54,59 +42,45 @@ module _ (s : List ℕ) (t i least : ℕ) (G : Pgn) (g : PgnView) (is : PgnIs s 
       let l : ((least == 0) || (G .length ≤ᵇ least)) ≡ false = rw full d in
       chosen (G .variable) ((least == 0) || (G .length ≤ᵇ least)) z (lands-on-boundary G least) _ _ f _ (is-variable ∙ e) l q x
 
--- src/min_length.rt:51:28
 pgn-error-requires : tie.Need-pgn-error-requires
 pgn-error-requires c κs = search needs
 
--- src/min_length.rt:51:9
 put-requires : tie.Need-put-requires
 put-requires c κs = rw (variable (now (c .before .before .before .before .before .before .args .s)) (c .before .before .before .before .before .before .args .t) (c .before .before .before .before .before .before .args .i) (c .before .before .before .before .before .before .args .least) _ (c .before .before .before .before .before .before .args .g) (c .before .before .before .before .before .before .pre .2) _ (c .before .before .if1 .taken) (c .pgn-error .ensures)) at (c .before .before .before .before .before .before .pre .0)
 
--- src/min_length.rt:51:9
 same-length : tie.Need-same-length
 same-length c = search needs
 
--- src/min_length.rt:51:9
 returns : tie.Need-returns
 returns c = rw (variable (now (c .before .before .before .before .before .before .before .before .before .args .s)) (c .before .before .before .before .before .before .before .before .before .args .t) (c .before .before .before .before .before .before .before .before .before .args .i) (c .before .before .before .before .before .before .before .before .before .args .least) _ (c .before .before .before .before .before .before .before .before .before .args .g) (c .before .before .before .before .before .before .before .before .before .pre .2) _ (c .before .before .before .before .before .if1 .taken) (c .before .before .before .pgn-error .ensures)) (c .before .before .put .ensures)
 
--- src/min_length.rt:53:8
 not-shorter-requires : tie.Need-not-shorter-requires
 not-shorter-requires c κs = search needs
 
--- src/min_length.rt:54:28
 pgn-error-requires-2 : tie.Need-pgn-error-requires-2
 pgn-error-requires-2 c κs = search needs
 
--- src/min_length.rt:54:9
 put-requires-2 : tie.Need-put-requires-2
 put-requires-2 c κs = rw (unfit (now (c .before .before .before .before .before .before .before .before .args .s)) (c .before .before .before .before .before .before .before .before .args .t) (c .before .before .before .before .before .before .before .before .args .i) (c .before .before .before .before .before .before .before .before .args .least) _ (c .before .before .before .before .before .before .before .before .args .g) (c .before .before .before .before .before .before .before .before .pre .2) _ (c .before .before .before .before .if1 .left) (sym (c .before .before .before .not-shorter .ensures) ∙ c .before .before .if2 .taken) (c .pgn-error2 .ensures)) at (c .before .before .before .before .before .before .before .before .pre .0)
 
--- src/min_length.rt:54:9
 same-length-2 : tie.Need-same-length-2
 same-length-2 c = search needs
 
--- src/min_length.rt:54:9
 returns-2 : tie.Need-returns-2
 returns-2 c = rw (unfit (now (c .before .before .before .before .before .before .before .before .before .before .before .args .s)) (c .before .before .before .before .before .before .before .before .before .before .before .args .t) (c .before .before .before .before .before .before .before .before .before .before .before .args .i) (c .before .before .before .before .before .before .before .before .before .before .before .args .least) _ (c .before .before .before .before .before .before .before .before .before .before .before .args .g) (c .before .before .before .before .before .before .before .before .before .before .before .pre .2) _ (c .before .before .before .before .before .before .before .if1 .left) (sym (c .before .before .before .before .before .before .not-shorter .ensures) ∙ c .before .before .before .before .before .if2 .taken) (c .before .before .before .pgn-error2 .ensures)) (c .before .before .put2 .ensures)
 
--- src/min_length.rt:56:9
 lands-on-boundary-requires : tie.Need-lands-on-boundary-requires
 lands-on-boundary-requires c κs = (c .before .before .before .before .before .before .pre .1, c .before .before .before .before .before .before .pre .2 .fields)
 
--- src/min_length.rt:57:28
 pgn-error-requires-3 : tie.Need-pgn-error-requires-3
 pgn-error-requires-3 c κs = search needs
 
--- src/min_length.rt:57:5
 put-if-requires : tie.Need-put-if-requires
 put-if-requires c κs = rw (fit (now (c .before .before .before .before .before .before .before .before .before .args .s)) (c .before .before .before .before .before .before .before .before .before .args .t) (c .before .before .before .before .before .before .before .before .before .args .i) (c .before .before .before .before .before .before .before .before .before .args .least) _ (c .before .before .before .before .before .before .before .before .before .args .g) (c .before .before .before .before .before .before .before .before .before .pre .2) _ (c .before .before .before .before .before .if1 .left) (sym (c .before .before .before .before .not-shorter .ensures) ∙ c .before .before .before .if2 .left) _ (c .before .before .lands-on-boundary .ensures) (c .pgn-error3 .ensures)) at (c .before .before .before .before .before .before .before .before .before .pre .0)
 
--- src/min_length.rt:46:1
 same-length-3 : tie.Need-same-length-3
 same-length-3 c = search needs
 
--- src/min_length.rt:46:1
 returns-3 : tie.Need-returns-3
 returns-3 c = rw (fit (now (c .before .before .before .before .before .before .before .before .before .before .before .before .args .s)) (c .before .before .before .before .before .before .before .before .before .before .before .before .args .t) (c .before .before .before .before .before .before .before .before .before .before .before .before .args .i) (c .before .before .before .before .before .before .before .before .before .before .before .before .args .least) _ (c .before .before .before .before .before .before .before .before .before .before .before .before .args .g) (c .before .before .before .before .before .before .before .before .before .before .before .before .pre .2) _ (c .before .before .before .before .before .before .before .before .if1 .left) (sym (c .before .before .before .before .before .before .before .not-shorter .ensures) ∙ c .before .before .before .before .before .before .if2 .left) _ (c .before .before .before .before .before .lands-on-boundary .ensures) (c .before .before .before .pgn-error3 .ensures)) (c .before .before .put-if .ensures)
 

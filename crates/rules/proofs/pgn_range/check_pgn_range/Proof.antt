@@ -4,28 +4,16 @@ use Rattle.rules.specs.PgnRange.{ranges-of, find-range, quick-range, fou
 use Rattle.pack.specs.Value.{Pgn}
 use Rattle.pack.specs.Trees.{treeNumber, protocolOf}
 use Rattle.pack.specs.Ready.{PgnIs}
-use Rattle.pack.specs.declared.protocol.Protocol.the-variants.{Nmea2000, J1939, Quick}
-use Rattle.pack.specs.declared.protocol.Protocol.{Protocol}
 use Rattle.pack.specs.declared.records.PgnView.{PgnView}
-use Prim.Native.Nat.{ℕ, zero, suc, _+_, _-_, _*_, _/_, _%_, _^_, _≤_, _<_}
+use Prim.Native.Nat.{ℕ, zero, suc, _≤_, _<_}
 use native.Mathlib.Omega.{arith}
-use native.Mathlib.Numerals.{add-one}
 use mathlib.Core.Path.{_≡_, refl, ap, _∙_, sym}
-use mathlib.Core.List.{List, [], _∷_, _++_}
-use mathlib.Core.Bool.{Bool, true, false}
+use mathlib.Core.List.{List, []}
 use borrow.Author.Needs.{needs}
-use borrow.Author.Tests.{lt-ltb, le-ltb, le-leb, lt-leb, eq-eqb, ne-eqb, leb-true, leb-false, ltb-true, ltb-false, eqb-true, eqb-false, not-true, not-false}
+use borrow.Author.Tests.{le-leb, lt-leb, eq-eqb, ne-eqb}
 use denote.Ref.{now}
-use lib.ListN.{length, getD, take, drop, set}
-use lib.Dec.{ltb, leb, eqb}
 use Rattle.rules.proofs.pgn_range.check_pgn_range.Statement.{statement}
 use Rattle.rules.proofs.pgn_range.check_pgn_range.Tie as tie
-use Rattle.rules.proofs.pgn_range.check_pgn_range.Reads as reads
-use Rattle.rules.proofs.pgn_range.check_pgn_range.Lts as lts
-use Rattle.pack.proofs.protocol.Protocol.of_tree.Reads as of-tree-reads
-use Rattle.rules.proofs.pgn_range.find_range.Reads as find-range-reads
-use Rattle.rules.proofs.pgn_range.found_range.Reads as found-range-reads
-use Rattle.rules.proofs.pgn_range.quick_range.Reads as quick-range-reads
 
 tree-of : (t : ℕ) → t < 3 → treeNumber (protocolOf t) ≡ t
 tree-of zero h = refl
@@ -54,43 +42,33 @@ neither : (_≡_ {A = ℕ} 2 0) ⊎ (_≡_ {A = ℕ} 2 1) → ⊥
 neither (inl e) = omega arith
 neither (inr e) = omega arith
 
--- src/pgn_range.rt:174:9
 returns : tie.Need-returns
 returns c = rw (pseudo (now (c .before .before .before .before .args .s)) (c .before .before .before .before .args .t) (c .before .before .before .before .args .i) _ (c .before .before .before .before .args .g) (c .before .before .before .before .pre .1) (c .if1 .taken)) (emitted-none (now (c .before .before .before .before .args .out)) (c .before .before .before .before .args .n))
 
--- src/pgn_range.rt:176:9
 of-tree-requires : tie.Need-of-tree-requires
 of-tree-requires c κs = search needs
 
--- src/pgn_range.rt:178:28
 enum-told : tie.Need-enum-told
 enum-told c = search needs
 
--- src/pgn_range.rt:178:9
 quick-range-requires : tie.Need-quick-range-requires
 quick-range-requires c κs = (rw (in-quick (now (c .before .before .before .before .before .before .before .before .args .s)) (c .before .before .before .before .before .before .before .before .args .t) (c .before .before .before .before .before .before .before .before .args .i) _ (c .before .before .before .before .before .before .before .before .args .g) (c .before .before .before .before .before .before .before .before .pre .1) (c .before .before .before .before .if1 .left) (sym (tree-of (c .before .before .before .before .before .before .before .before .args .t) (c .before .before .before .before .before .before .before .before .pre .2)) ∙ ap treeNumber (sym (c .before .before .before .of-tree .ensures) ∙ c .before .enum-told .given .1))) at (c .before .before .before .before .before .before .before .before .pre .0), c .before .before .before .before .before .before .before .before .pre .1)
 
--- src/pgn_range.rt:178:9
 same-length : tie.Need-same-length
 same-length c = search needs
 
--- src/pgn_range.rt:178:9
 returns-2 : tie.Need-returns-2
 returns-2 c = rw (in-quick (now (c .before .before .before .before .before .before .before .before .before .before .before .args .s)) (c .before .before .before .before .before .before .before .before .before .before .before .args .t) (c .before .before .before .before .before .before .before .before .before .before .before .args .i) _ (c .before .before .before .before .before .before .before .before .before .before .before .args .g) (c .before .before .before .before .before .before .before .before .before .before .before .pre .1) (c .before .before .before .before .before .before .before .if1 .left) (sym (tree-of (c .before .before .before .before .before .before .before .before .before .before .before .args .t) (c .before .before .before .before .before .before .before .before .before .before .before .pre .2)) ∙ ap treeNumber (sym (c .before .before .before .before .before .before .of-tree .ensures) ∙ c .before .before .before .before .enum-told .given .1))) (c .before .before .quick-range .ensures)
 
--- src/pgn_range.rt:180:9
 find-range-requires : tie.Need-find-range-requires
 find-range-requires c κs = search needs
 
--- src/pgn_range.rt:181:5
 found-range-requires : tie.Need-found-range-requires
 found-range-requires c κs = (rw (in-range (now (c .before .before .before .before .before .before .before .before .args .s)) (c .before .before .before .before .before .before .before .before .args .t) (c .before .before .before .before .before .before .before .before .args .i) _ (c .before .before .before .before .before .before .before .before .args .g) (c .before .before .before .before .before .before .before .before .pre .1) (c .before .before .before .before .if1 .left) (λ e. neither (rw (c .before .before .before .of-tree .ensures, e) at (c .before .before .match .keys2)))) at (c .before .before .before .before .before .before .before .before .pre .0), c .before .before .before .before .before .before .before .before .pre .1, (rw (c .before .before .before .of-tree .ensures, tree-of (c .before .before .before .before .before .before .before .before .args .t) (c .before .before .before .before .before .before .before .before .pre .2)) at (c .before .find-range .ensures)))
 
--- src/pgn_range.rt:169:1
 same-length-2 : tie.Need-same-length-2
 same-length-2 c = search needs
 
--- src/pgn_range.rt:169:1
 returns-3 : tie.Need-returns-3
 returns-3 c = rw (in-range (now (c .before .before .before .before .before .before .before .before .before .before .before .args .s)) (c .before .before .before .before .before .before .before .before .before .before .before .args .t) (c .before .before .before .before .before .before .before .before .before .before .before .args .i) _ (c .before .before .before .before .before .before .before .before .before .before .before .args .g) (c .before .before .before .before .before .before .before .before .before .before .before .pre .1) (c .before .before .before .before .before .before .before .if1 .left) (λ e. neither (rw (c .before .before .before .before .before .before .of-tree .ensures, e) at (c .before .before .before .before .before .match .keys2)))) (c .before .before .found-range .ensures)
 

@@ -1,25 +1,15 @@
-use Rattle.rules.specs.PgnRange.{Range, range, ranges-of, find-range}
+use Rattle.rules.specs.PgnRange.{Range, ranges-of, find-range}
 use Rattle.pack.specs.Trees.{treeNumber}
-use lib.ListN.{drop-of-length-le}
+use lib.ListN.{drop-of-length-le, length, drop}
 use mathlib.Core.Option.{none, some}
-use mathlib.Core.List.{map}
-use Prim.Native.Nat.{ℕ, zero, suc, _+_, _-_, _*_, _/_, _%_, _^_, _≤_, _<_}
+use mathlib.Core.List.{List, _∷_}
+use Prim.Native.Nat.{ℕ, _+_, _-_, _≤_, _<_}
 use native.Mathlib.Omega.{arith}
-use native.Mathlib.Numerals.{add-one}
-use mathlib.Core.Path.{_≡_, refl, ap, _∙_, sym}
-use mathlib.Core.List.{List, [], _∷_, _++_}
-use mathlib.Core.Bool.{Bool, true, false}
+use mathlib.Core.Path.{_≡_, refl, _∙_}
 use borrow.Author.Needs.{needs}
-use borrow.Author.Tests.{lt-ltb, le-ltb, le-leb, lt-leb, eq-eqb, ne-eqb, leb-true, leb-false, ltb-true, ltb-false, eqb-true, eqb-false, not-true, not-false}
-use denote.Ref.{now}
-use lib.ListN.{length, getD, take, drop, set}
-use lib.Dec.{ltb, leb, eqb}
+use borrow.Author.Tests.{le-leb, lt-leb}
 use Rattle.rules.proofs.pgn_range.find_range.Statement.{statement}
 use Rattle.rules.proofs.pgn_range.find_range.Tie as tie
-use Rattle.rules.proofs.pgn_range.find_range.Reads as reads
-use Rattle.rules.proofs.pgn_range.find_range.Lts as lts
-use Rattle.rules.proofs.pgn_range.range_at.Reads as range-at-reads
-use Rattle.rules.proofs.pgn_range.range_count.Reads as range-count-reads
 
 -- a table from range j on
 module _ (rs : List Range) (n j : ℕ) (r : Range) (e : drop j rs ≡ r ∷ drop (j + 1) rs) where
@@ -41,35 +31,27 @@ Inv-loop protocol pgn count j₀ j = (count ≡ length (ranges-of (treeNumber pr
 abbrev μ-loop : tie.MeasureT-loop
 μ-loop protocol pgn count j₀ j = count - j
 
--- src/pgn_range.rt:100:9
 range-count-requires : tie.Need-range-count-requires Inv-loop μ-loop
 range-count-requires c κs = search needs
 
--- src/pgn_range.rt:102:5
 loop-holds : tie.Need-loop-holds Inv-loop μ-loop
 loop-holds c = (c .range-count .ensures, omega arith, refl)
 
--- src/pgn_range.rt:103:13
 range-at-requires : tie.Need-range-at-requires Inv-loop μ-loop
 range-at-requires c κs = omega arith
 
--- src/pgn_range.rt:105:13
 returns : tie.Need-returns Inv-loop μ-loop
 returns c = c .before .before .before .before .loop .inv .2 ∙ hit (ranges-of (treeNumber (c .before .before .before .before .before .before .args .protocol))) (c .before .before .before .before .before .before .args .pgn) (c .before .before .before .before .loop .j) _ (c .before .before .range-at .ensures) (c .if1 .taken)
 
--- src/pgn_range.rt:107:9
 add-j : tie.Need-add-j Inv-loop μ-loop
 add-j c = search needs
 
--- src/pgn_range.rt:102:5
 loop-less : tie.Need-loop-less Inv-loop μ-loop
 loop-less c = search needs
 
--- src/pgn_range.rt:102:5
 loop-again : tie.Need-loop-again Inv-loop μ-loop
 loop-again c = (c .before .before .before .before .loop .inv .0, omega arith, c .before .before .before .before .loop .inv .2 ∙ missed (ranges-of (treeNumber (c .before .before .before .before .before .before .args .protocol))) (c .before .before .before .before .before .before .args .pgn) (c .before .before .before .before .loop .j) _ (c .before .before .range-at .ensures) (c .if1 .left))
 
--- src/pgn_range.rt:97:1
 returns-2 : tie.Need-returns-2 Inv-loop μ-loop
 returns-2 c = c .before .loop .inv .2 ∙ ended (ranges-of (treeNumber (c .before .before .before .args .protocol))) (c .before .before .before .args .pgn) (c .before .loop .j) (omega arith)
 

@@ -4,31 +4,19 @@ use Rattle.rules.specs.Pdu1.{pdu1, pdu1-step}
 use Rattle.rules.specs.Findings.{report-if, pgn-error}
 use Rattle.rules.specs.declared.pgn_range.OptRange.{OptRange}
 use Rattle.rules.specs.declared.Finding.{Finding}
-use mathlib.Core.Bool.{not, _&&_, _||_}
-use Rattle.pack.specs.Notation.{_<ᵇ_, _==_, if_then_else_, optional}
+use mathlib.Core.Bool.{not, _&&_, _||_, Bool, true, false}
+use Rattle.pack.specs.Notation.{_==_, if_then_else_, optional}
 use Rattle.pack.specs.Value.{Pgn}
 use Rattle.pack.specs.Ready.{PgnIs}
 use Rattle.pack.specs.declared.records.PgnView.{PgnView}
-use Prim.Native.Nat.{ℕ, zero, suc, _+_, _-_, _*_, _/_, _%_, _^_, _≤_, _<_}
-use native.Mathlib.Omega.{arith}
-use native.Mathlib.Numerals.{add-one}
-use mathlib.Core.Path.{_≡_, refl, ap, _∙_, sym}
+use Prim.Native.Nat.{ℕ, _%_, _≤_, _<_}
+use mathlib.Core.Path.{_≡_, refl, _∙_}
 use mathlib.Core.List.{List, [], _∷_, _++_}
-use mathlib.Core.Bool.{Bool, true, false}
 use borrow.Author.Needs.{needs}
-use borrow.Author.Tests.{lt-ltb, le-ltb, le-leb, lt-leb, eq-eqb, ne-eqb, leb-true, leb-false, ltb-true, ltb-false, eqb-true, eqb-false, not-true, not-false}
+use borrow.Author.Tests.{lt-ltb, le-ltb}
 use denote.Ref.{now}
-use lib.ListN.{length, getD, take, drop, set}
-use lib.Dec.{ltb, leb, eqb}
 use Rattle.rules.proofs.pgn_range.found_range.Statement.{statement}
 use Rattle.rules.proofs.pgn_range.found_range.Tie as tie
-use Rattle.rules.proofs.pgn_range.found_range.Reads as reads
-use Rattle.rules.proofs.pgn_range.found_range.Lts as lts
-use Rattle.rules.proofs.emit.pgn_error.Reads as pgn-error-reads
-use Rattle.rules.proofs.emit.put.Reads as put-reads
-use Rattle.rules.proofs.emit.put_if.Reads as put-if-reads
-use Rattle.rules.proofs.pgn_range.disagrees.Reads as disagrees-reads
-use Rattle.rules.proofs.pgn_range.pdu1_unended.Reads as pdu1-unended-reads
 
 abbrev ranged : OptRange → Range
 ranged v = range (v .range .start) (v .range .end) (if pdu1 (v .range .start) then 256 else 1) (v .range .kind)
@@ -51,67 +39,51 @@ module _ (s : List ℕ) (t i : ℕ) (G : Pgn) (g : PgnView) (is : PgnIs s G g) (
       let q : find-range (ranges-of t) (g .pgn) ≡ optional true (ranged v) = found ∙ (rw e) in
       rw (found, e, ← is .means, le-ltb _ _ l, pdu1-step t (g .pgn) (ranged v) q l, x, y, z, w)
 
--- src/pgn_range.rt:158:32
 pgn-error-requires : tie.Need-pgn-error-requires
 pgn-error-requires c κs = search needs
 
--- src/pgn_range.rt:158:13
 put-requires : tie.Need-put-requires
 put-requires c κs = rw (outside (now (c .before .before .before .before .before .before .before .before .args .s)) (c .before .before .before .before .before .before .before .before .args .t) (c .before .before .before .before .before .before .before .before .args .i) _ (c .before .before .before .before .before .before .before .before .args .g) (c .before .before .before .before .before .before .before .before .pre .1) (c .before .before .before .before .before .before .before .before .args .found) (c .before .before .before .before .before .before .before .before .pre .2) (c .before .before .before .before .before .if1 .taken) (c .before .before .if2 .taken) _ (c .pgn-error .ensures)) at (c .before .before .before .before .before .before .before .before .pre .0)
 
--- src/pgn_range.rt:158:13
 same-length : tie.Need-same-length
 same-length c = search needs
 
--- src/pgn_range.rt:158:13
 returns : tie.Need-returns
 returns c = rw (outside (now (c .before .before .before .before .before .before .before .before .before .before .before .args .s)) (c .before .before .before .before .before .before .before .before .before .before .before .args .t) (c .before .before .before .before .before .before .before .before .before .before .before .args .i) _ (c .before .before .before .before .before .before .before .before .before .before .before .args .g) (c .before .before .before .before .before .before .before .before .before .before .before .pre .1) (c .before .before .before .before .before .before .before .before .before .before .before .args .found) (c .before .before .before .before .before .before .before .before .before .before .before .pre .2) (c .before .before .before .before .before .before .before .before .if1 .taken) (c .before .before .before .before .before .if2 .taken) _ (c .before .before .before .pgn-error .ensures)) (c .before .before .put .ensures)
 
--- src/pgn_range.rt:160:13
 pdu1-unended-requires : tie.Need-pdu1-unended-requires
 pdu1-unended-requires c κs = search needs
 
--- src/pgn_range.rt:161:41
 pgn-error-requires-2 : tie.Need-pgn-error-requires-2
 pgn-error-requires-2 c κs = search needs
 
--- src/pgn_range.rt:161:13
 put-if-requires : tie.Need-put-if-requires
 put-if-requires c κs = fits-left _ _ (rw (inside (now (c .before .before .before .before .before .before .before .before .before .args .s)) (c .before .before .before .before .before .before .before .before .before .args .t) (c .before .before .before .before .before .before .before .before .before .args .i) _ (c .before .before .before .before .before .before .before .before .before .args .g) (c .before .before .before .before .before .before .before .before .before .pre .1) (c .before .before .before .before .before .before .before .before .before .args .found) (c .before .before .before .before .before .before .before .before .before .pre .2) (c .before .before .before .before .before .before .if1 .taken) (c .before .before .before .if2 .left) _ _ _ _ (c .before .before .pdu1-unended .ensures) (c .pgn-error2 .ensures) refl refl) at (c .before .before .before .before .before .before .before .before .before .pre .0))
 
--- src/pgn_range.rt:162:13
 disagrees-requires : tie.Need-disagrees-requires
 disagrees-requires c κs = search needs
 
--- src/pgn_range.rt:163:38
 pgn-error-requires-3 : tie.Need-pgn-error-requires-3
 pgn-error-requires-3 c κs = search needs
 
--- src/pgn_range.rt:163:9
 put-if-requires-2 : tie.Need-put-if-requires-2
 put-if-requires-2 c κs = fits-right (report-if (c .before .before .before .before .before .before .before .before .pdu1-unended .result) (c .before .before .before .before .before .before .pgn-error2 .result)) _ (rw (inside (now (c .before .before .before .before .before .before .before .before .before .before .before .before .before .before .before .args .s)) (c .before .before .before .before .before .before .before .before .before .before .before .before .before .before .before .args .t) (c .before .before .before .before .before .before .before .before .before .before .before .before .before .before .before .args .i) _ (c .before .before .before .before .before .before .before .before .before .before .before .before .before .before .before .args .g) (c .before .before .before .before .before .before .before .before .before .before .before .before .before .before .before .pre .1) (c .before .before .before .before .before .before .before .before .before .before .before .before .before .before .before .args .found) (c .before .before .before .before .before .before .before .before .before .before .before .before .before .before .before .pre .2) (c .before .before .before .before .before .before .before .before .before .before .before .before .if1 .taken) (c .before .before .before .before .before .before .before .before .before .if2 .left) _ _ _ _ (c .before .before .before .before .before .before .before .before .pdu1-unended .ensures) (c .before .before .before .before .before .before .pgn-error2 .ensures) (c .before .before .disagrees .ensures) (c .pgn-error3 .ensures)) at (c .before .before .before .before .before .before .before .before .before .before .before .before .before .before .before .pre .0)) (c .before .before .before .before .before .put-if .ensures)
 
--- src/pgn_range.rt:163:9
 same-length-2 : tie.Need-same-length-2
 same-length-2 c = search needs
 
--- src/pgn_range.rt:163:9
 returns-2 : tie.Need-returns-2
 returns-2 c = rw (inside (now (c .before .before .before .before .before .before .before .before .before .before .before .before .before .before .before .before .before .before .args .s)) (c .before .before .before .before .before .before .before .before .before .before .before .before .before .before .before .before .before .before .args .t) (c .before .before .before .before .before .before .before .before .before .before .before .before .before .before .before .before .before .before .args .i) _ (c .before .before .before .before .before .before .before .before .before .before .before .before .before .before .before .before .before .before .args .g) (c .before .before .before .before .before .before .before .before .before .before .before .before .before .before .before .before .before .before .pre .1) (c .before .before .before .before .before .before .before .before .before .before .before .before .before .before .before .before .before .before .args .found) (c .before .before .before .before .before .before .before .before .before .before .before .before .before .before .before .before .before .before .pre .2) (c .before .before .before .before .before .before .before .before .before .before .before .before .before .before .before .if1 .taken) (c .before .before .before .before .before .before .before .before .before .before .before .before .if2 .left) _ _ _ _ (c .before .before .before .before .before .before .before .before .before .before .before .pdu1-unended .ensures) (c .before .before .before .before .before .before .before .before .before .pgn-error2 .ensures) (c .before .before .before .before .before .disagrees .ensures) (c .before .before .before .pgn-error3 .ensures)) (emitted-append (c .before .before .before .before .before .before .before .before .put-if .ensures) (c .before .before .put-if2 .ensures))
 
--- src/pgn_range.rt:165:17
 pgn-error-requires-4 : tie.Need-pgn-error-requires-4
 pgn-error-requires-4 c κs = search needs
 
--- src/pgn_range.rt:165:5
 put-requires-2 : tie.Need-put-requires-2
 put-requires-2 c κs = rw (beyond (now (c .before .before .before .before .before .args .s)) (c .before .before .before .before .before .args .t) (c .before .before .before .before .before .args .i) _ (c .before .before .before .before .before .args .g) (c .before .before .before .before .before .pre .1) (c .before .before .before .before .before .args .found) (c .before .before .before .before .before .pre .2) (c .before .before .if1 .left) _ (c .pgn-error4 .ensures)) at (c .before .before .before .before .before .pre .0)
 
--- src/pgn_range.rt:152:1
 same-length-3 : tie.Need-same-length-3
 same-length-3 c = search needs
 
--- src/pgn_range.rt:152:1
 returns-3 : tie.Need-returns-3
 returns-3 c = rw (beyond (now (c .before .before .before .before .before .before .before .before .args .s)) (c .before .before .before .before .before .before .before .before .args .t) (c .before .before .before .before .before .before .before .before .args .i) _ (c .before .before .before .before .before .before .before .before .args .g) (c .before .before .before .before .before .before .before .before .pre .1) (c .before .before .before .before .before .before .before .before .args .found) (c .before .before .before .before .before .before .before .before .pre .2) (c .before .before .before .before .before .if1 .left) _ (c .before .before .before .pgn-error4 .ensures)) (c .before .before .put2 .ensures)
 

@@ -7,23 +7,13 @@ use Rattle.pack.specs.Notation.{_<ᵇ_, _==_}
 use Rattle.pack.specs.Value.{Pgn}
 use Rattle.pack.specs.Ready.{PgnIs}
 use Rattle.pack.specs.declared.records.PgnView.{PgnView}
-use Prim.Native.Nat.{ℕ, zero, suc, _+_, _-_, _*_, _/_, _%_, _^_, _≤_, _<_}
-use native.Mathlib.Omega.{arith}
-use native.Mathlib.Numerals.{add-one}
-use mathlib.Core.Path.{_≡_, refl, ap, _∙_, sym}
-use mathlib.Core.List.{List, [], _∷_, _++_}
-use mathlib.Core.Bool.{Bool, true, false}
+use Prim.Native.Nat.{ℕ}
+use mathlib.Core.Path.{_≡_, refl}
+use mathlib.Core.List.{List, _++_}
 use borrow.Author.Needs.{needs}
-use borrow.Author.Tests.{lt-ltb, le-ltb, le-leb, lt-leb, eq-eqb, ne-eqb, leb-true, leb-false, ltb-true, ltb-false, eqb-true, eqb-false, not-true, not-false}
 use denote.Ref.{now}
-use lib.ListN.{length, getD, take, drop, set}
-use lib.Dec.{ltb, leb, eqb}
 use Rattle.rules.proofs.pgn_range.quick_range.Statement.{statement}
 use Rattle.rules.proofs.pgn_range.quick_range.Tie as tie
-use Rattle.rules.proofs.pgn_range.quick_range.Reads as reads
-use Rattle.rules.proofs.pgn_range.quick_range.Lts as lts
-use Rattle.rules.proofs.emit.pgn_error.Reads as pgn-error-reads
-use Rattle.rules.proofs.emit.put_if.Reads as put-if-reads
 
 -- the rule's part, said of the view
 viewed : (s : List ℕ) (t i : ℕ) (G : Pgn) (g : PgnView) → PgnIs s G g → (f h : Finding) → f ≡ pgn-error 2 1 t i 0 0 → h ≡ pgn-error 2 2 t i 0 0
@@ -31,27 +21,21 @@ viewed : (s : List ℕ) (t i : ℕ) (G : Pgn) (g : PgnView) → PgnIs s G g → 
 unfolding quick-range
 viewed s t i G g is f h x y = rw (← is .means, x, y)
 
--- src/pgn_range.rt:147:48
 pgn-error-requires : tie.Need-pgn-error-requires
 pgn-error-requires c κs = search needs
 
--- src/pgn_range.rt:147:9
 put-if-requires : tie.Need-put-if-requires
 put-if-requires c κs = fits-left _ _ (rw (viewed (now (c .before .before .before .before .before .args .s)) (c .before .before .before .before .before .args .t) (c .before .before .before .before .before .args .i) _ (c .before .before .before .before .before .args .g) (c .before .before .before .before .before .pre .1) _ _ (c .pgn-error .ensures) refl) at (c .before .before .before .before .before .pre .0))
 
--- src/pgn_range.rt:148:38
 pgn-error-requires-2 : tie.Need-pgn-error-requires-2
 pgn-error-requires-2 c κs = search needs
 
--- src/pgn_range.rt:148:5
 put-if-requires-2 : tie.Need-put-if-requires-2
 put-if-requires-2 c κs = fits-right (report-if (2047 <ᵇ c .before .before .before .before .before .before .before .before .before .before .before .args .g .pgn) (c .before .before .before .before .before .before .pgn-error .result)) _ (rw (viewed (now (c .before .before .before .before .before .before .before .before .before .before .before .args .s)) (c .before .before .before .before .before .before .before .before .before .before .before .args .t) (c .before .before .before .before .before .before .before .before .before .before .before .args .i) _ (c .before .before .before .before .before .before .before .before .before .before .before .args .g) (c .before .before .before .before .before .before .before .before .before .before .before .pre .1) _ _ (c .before .before .before .before .before .before .pgn-error .ensures) (c .pgn-error2 .ensures)) at (c .before .before .before .before .before .before .before .before .before .before .before .pre .0)) (c .before .before .before .before .before .put-if .ensures)
 
--- src/pgn_range.rt:143:1
 same-length : tie.Need-same-length
 same-length c = search needs
 
--- src/pgn_range.rt:143:1
 returns : tie.Need-returns
 returns c = rw (viewed (now (c .before .before .before .before .before .before .before .before .before .before .before .before .before .before .args .s)) (c .before .before .before .before .before .before .before .before .before .before .before .before .before .before .args .t) (c .before .before .before .before .before .before .before .before .before .before .before .before .before .before .args .i) _ (c .before .before .before .before .before .before .before .before .before .before .before .before .before .before .args .g) (c .before .before .before .before .before .before .before .before .before .before .before .before .before .before .pre .1) _ _ (c .before .before .before .before .before .before .before .before .before .pgn-error .ensures) (c .before .before .before .pgn-error2 .ensures)) (emitted-append (c .before .before .before .before .before .before .before .before .put-if .ensures) (c .before .before .put-if2 .ensures))
 

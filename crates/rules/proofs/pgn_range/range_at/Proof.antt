@@ -1,24 +1,15 @@
 use Rattle.rules.specs.declared.pgn_range.Range.{Range as Row}
-use Rattle.rules.specs.PgnRange.{Range, range, ranges-of}
+use Rattle.rules.specs.PgnRange.{Range, range}
 use Rattle.rules.specs.Pdu1.{pdu1}
-use Rattle.pack.specs.Trees.{treeNumber}
 use Rattle.pack.specs.Notation.{if_then_else_}
-use mathlib.Core.List.{map}
-use Prim.Native.Nat.{ℕ, zero, suc, _+_, _-_, _*_, _/_, _%_, _^_, _≤_, _<_}
+use mathlib.Core.List.{map, List, [], _∷_}
+use Prim.Native.Nat.{ℕ, zero, suc, _+_, _<_}
 use native.Mathlib.Omega.{arith}
-use native.Mathlib.Numerals.{add-one}
-use mathlib.Core.Path.{_≡_, refl, ap, _∙_, sym}
-use mathlib.Core.List.{List, [], _∷_, _++_}
-use mathlib.Core.Bool.{Bool, true, false}
+use mathlib.Core.Path.{_≡_, refl}
 use borrow.Author.Needs.{needs}
-use borrow.Author.Tests.{lt-ltb, le-ltb, le-leb, lt-leb, eq-eqb, ne-eqb, leb-true, leb-false, ltb-true, ltb-false, eqb-true, eqb-false, not-true, not-false}
-use denote.Ref.{now}
-use lib.ListN.{length, getD, take, drop, set}
-use lib.Dec.{ltb, leb, eqb}
+use lib.ListN.{length, getD, drop}
 use Rattle.rules.proofs.pgn_range.range_at.Statement.{statement}
 use Rattle.rules.proofs.pgn_range.range_at.Tie as tie
-use Rattle.rules.proofs.pgn_range.range_at.Reads as reads
-use Rattle.rules.proofs.pgn_range.range_at.Lts as lts
 
 abbrev ranged : Row → Range
 ranged r = range (r .start) (r .end) (if pdu1 (r .start) then 256 else 1) (r .kind)
@@ -58,53 +49,41 @@ row [] d j h = absurd (omega arith)
 row (r ∷ rs) d zero h = refl
 row (r ∷ rs) d (suc j) h = let e : suc j + 1 ≡ suc (j + 1) = omega arith in rw e (row rs d j (omega arith))
 
--- src/pgn_range.rt:55:5
 enum-told : tie.Need-enum-told
 enum-told c = search needs
 
--- src/pgn_range.rt:90:28
 mul-result : tie.Need-mul-result
 mul-result c = let h : c .before .before .args .j < 10 = rw (c .enum-told .given .1) at (c .before .before .pre) in omega arith
 
--- src/pgn_range.rt:90:28
 array-copy-out-result : tie.Need-array-copy-out-result
 array-copy-out-result c = rw (c .enum-told .given .1) at (c .before .before .pre)
 
--- src/pgn_range.rt:43:5
 enum-told-2 : tie.Need-enum-told-2
 enum-told-2 c = search needs
 
--- src/pgn_range.rt:91:31
 mul-result-2 : tie.Need-mul-result-2
 mul-result-2 c = let h : c .before .before .args .j < 8 = rw (c .enum-told2 .given .1) at (c .before .before .pre) in omega arith
 
--- src/pgn_range.rt:91:31
 array-copy-out-result-2 : tie.Need-array-copy-out-result-2
 array-copy-out-result-2 c = rw (c .enum-told2 .given .1) at (c .before .before .pre)
 
--- src/pgn_range.rt:43:5
 enum-told-3 : tie.Need-enum-told-3
 enum-told-3 c = search needs
 
--- src/pgn_range.rt:92:28
 mul-result-3 : tie.Need-mul-result-3
 mul-result-3 c = let h : c .before .before .args .j < 8 = rw (c .enum-told3 .given .1) at (c .before .before .pre) in omega arith
 
--- src/pgn_range.rt:92:28
 array-copy-out-result-3 : tie.Need-array-copy-out-result-3
 array-copy-out-result-3 c = rw (c .enum-told3 .given .1) at (c .before .before .pre)
 
--- src/pgn_range.rt:85:1
 returns : tie.Need-returns
 unfolding pdu1
 returns c = rw (c .before .enum-told .given .1) (row j1939 (entry 0 0 0) (c .before .before .before .args .j) (rw (c .before .enum-told .given .1) at (c .before .before .before .pre)))
 
--- src/pgn_range.rt:85:1
 returns-2 : tie.Need-returns-2
 unfolding pdu1
 returns-2 c = rw (c .before .enum-told2 .given .1) (row nmea2000 (entry 0 0 0) (c .before .before .before .args .j) (rw (c .before .enum-told2 .given .1) at (c .before .before .before .pre)))
 
--- src/pgn_range.rt:85:1
 returns-3 : tie.Need-returns-3
 unfolding pdu1
 returns-3 c = rw (c .before .enum-told3 .given .1) (row nmea2000 (entry 0 0 0) (c .before .before .before .args .j) (rw (c .before .enum-told3 .given .1) at (c .before .before .before .pre)))

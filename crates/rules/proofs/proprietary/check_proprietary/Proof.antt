@@ -2,31 +2,19 @@ use Rattle.rules.proofs.Emits.{emitted-none}
 use Rattle.rules.specs.Proprietary.{is-manufacturer-pgn, company-fields, check-proprietary}
 use Rattle.rules.specs.Findings.{report-if, pgn-error}
 use Rattle.rules.specs.declared.Finding.{Finding}
-use mathlib.Core.Bool.{not, _||_}
+use mathlib.Core.Bool.{not, _||_, Bool, true, false}
 use Rattle.pack.specs.Value.{FieldType, Pgn}
 use Rattle.pack.specs.Ready.{PgnIs}
 use Rattle.pack.specs.Notation.{if_then_else_}
 use Rattle.pack.specs.Meaning.{packOf}
 use Rattle.pack.specs.declared.records.PgnView.{PgnView}
-use Prim.Native.Nat.{ℕ, zero, suc, _+_, _-_, _*_, _/_, _%_, _^_, _≤_, _<_}
-use native.Mathlib.Omega.{arith}
-use native.Mathlib.Numerals.{add-one}
-use mathlib.Core.Path.{_≡_, refl, ap, _∙_, sym}
-use mathlib.Core.List.{List, [], _∷_, _++_}
-use mathlib.Core.Bool.{Bool, true, false}
+use Prim.Native.Nat.{ℕ}
+use mathlib.Core.Path.{_≡_, ap, _∙_, sym}
+use mathlib.Core.List.{List, []}
 use borrow.Author.Needs.{needs}
-use borrow.Author.Tests.{lt-ltb, le-ltb, le-leb, lt-leb, eq-eqb, ne-eqb, leb-true, leb-false, ltb-true, ltb-false, eqb-true, eqb-false, not-true, not-false}
 use denote.Ref.{now}
-use lib.ListN.{length, getD, take, drop, set}
-use lib.Dec.{ltb, leb, eqb}
 use Rattle.rules.proofs.proprietary.check_proprietary.Statement.{statement}
 use Rattle.rules.proofs.proprietary.check_proprietary.Tie as tie
-use Rattle.rules.proofs.proprietary.check_proprietary.Reads as reads
-use Rattle.rules.proofs.proprietary.check_proprietary.Lts as lts
-use Rattle.rules.proofs.emit.pgn_error.Reads as pgn-error-reads
-use Rattle.rules.proofs.emit.put_if.Reads as put-if-reads
-use Rattle.rules.proofs.proprietary.company_fields.Reads as company-fields-reads
-use Rattle.rules.proofs.proprietary.is_exempt.Reads as is-exempt-reads
 
 chosen : (a b z y : Bool) (f h : Finding) → a ≡ false → b ≡ false → z ≡ y → f ≡ h → (if a then [] else if b then [] else report-if (not y) h) ≡ report-if (not z) f
 chosen a b z y f h e d w x = rw (e, d, w, x)
@@ -52,35 +40,27 @@ module _ (s : List ℕ) (fts : List FieldType) (t i : ℕ) (G : Pgn) (g : PgnVie
   unfolding check-proprietary
   judged e d z q f x = chosen _ _ z (company-fields fts G) f _ (exempt false e) (missing false d) q x
 
--- src/proprietary.rt:87:8
 is-exempt-requires : tie.Need-is-exempt-requires
 is-exempt-requires c κs = search needs
 
--- src/proprietary.rt:88:9
 returns : tie.Need-returns
 returns c = rw (free (now (c .before .before .before .before .before .args .s)) (packOf (now (c .before .before .before .before .before .args .s)) .fieldtypes) (c .before .before .before .before .before .args .t) (c .before .before .before .before .before .args .i) _ (c .before .before .before .before .before .args .g) (c .before .before .before .before .before .pre .2) (sym (c .before .is-exempt .ensures) ∙ c .if1 .taken)) (emitted-none (now (c .before .before .before .before .before .args .out)) (c .before .before .before .before .before .args .n))
 
--- src/proprietary.rt:91:9
 returns-2 : tie.Need-returns-2
 returns-2 c = rw (declared (now (c .before .before .before .before .before .before .args .s)) (packOf (now (c .before .before .before .before .before .before .args .s)) .fieldtypes) (c .before .before .before .before .before .before .args .t) (c .before .before .before .before .before .before .args .i) _ (c .before .before .before .before .before .before .args .g) (c .before .before .before .before .before .before .pre .2) (sym (c .before .before .is-exempt .ensures) ∙ c .before .if1 .left) (c .if2 .taken)) (emitted-none (now (c .before .before .before .before .before .before .args .out)) (c .before .before .before .before .before .before .args .n))
 
--- src/proprietary.rt:93:9
 company-fields-requires : tie.Need-company-fields-requires
 company-fields-requires c κs = (c .before .before .before .before .before .before .pre .1, c .before .before .before .before .before .before .pre .2 .fields)
 
--- src/proprietary.rt:94:29
 pgn-error-requires : tie.Need-pgn-error-requires
 pgn-error-requires c κs = search needs
 
--- src/proprietary.rt:94:5
 put-if-requires : tie.Need-put-if-requires
 put-if-requires c κs = rw (judged (now (c .before .before .before .before .before .before .before .before .before .args .s)) (packOf (now (c .before .before .before .before .before .before .before .before .before .args .s)) .fieldtypes) (c .before .before .before .before .before .before .before .before .before .args .t) (c .before .before .before .before .before .before .before .before .before .args .i) _ (c .before .before .before .before .before .before .before .before .before .args .g) (c .before .before .before .before .before .before .before .before .before .pre .2) (sym (c .before .before .before .before .before .is-exempt .ensures) ∙ c .before .before .before .before .if1 .left) (c .before .before .before .if2 .left) _ (c .before .before .company-fields .ensures) _ (c .pgn-error .ensures)) at (c .before .before .before .before .before .before .before .before .before .pre .0)
 
--- src/proprietary.rt:83:1
 same-length : tie.Need-same-length
 same-length c = search needs
 
--- src/proprietary.rt:83:1
 returns-3 : tie.Need-returns-3
 returns-3 c = rw (judged (now (c .before .before .before .before .before .before .before .before .before .before .before .before .args .s)) (packOf (now (c .before .before .before .before .before .before .before .before .before .before .before .before .args .s)) .fieldtypes) (c .before .before .before .before .before .before .before .before .before .before .before .before .args .t) (c .before .before .before .before .before .before .before .before .before .before .before .before .args .i) _ (c .before .before .before .before .before .before .before .before .before .before .before .before .args .g) (c .before .before .before .before .before .before .before .before .before .before .before .before .pre .2) (sym (c .before .before .before .before .before .before .before .before .is-exempt .ensures) ∙ c .before .before .before .before .before .before .before .if1 .left) (c .before .before .before .before .before .before .if2 .left) _ (c .before .before .before .before .before .company-fields .ensures) _ (c .before .before .before .pgn-error .ensures)) (c .before .before .put-if .ensures)
 

@@ -1,31 +1,23 @@
 use Rattle.rules.specs.Texts.{MANUFACTURER-CODE, RESERVED, INDUSTRY-CODE}
 use Rattle.rules.specs.Proprietary.{pair-is, company-fields}
 use Rattle.rules.specs.Model.{field-at, root-of}
-use mathlib.Core.Bool.{_&&_}
+use mathlib.Core.Bool.{_&&_, Bool, true, false}
 use Rattle.pack.proofs.Positions.{field-ft-law}
 use Rattle.pack.specs.Value.{FieldType, Field, Pgn}
 use Rattle.pack.specs.Ready.{pgnIn, fieldIn}
 use Rattle.pack.specs.Notation.{_==_, _≐_, _≤ᵇ_}
 use Rattle.pack.specs.Meaning.{fieldMeaning, optReference, packOf}
 use Rattle.pack.specs.declared.records.FieldView.{FieldView}
-use Prim.Native.Nat.{ℕ, zero, suc, _+_, _-_, _*_, _/_, _%_, _^_, _≤_, _<_}
+use Prim.Native.Nat.{ℕ, _≤_, _<_}
 use native.Mathlib.Omega.{arith}
-use native.Mathlib.Numerals.{add-one}
 use mathlib.Core.Path.{_≡_, refl, ap, _∙_, sym}
-use mathlib.Core.List.{List, [], _∷_, _++_}
-use mathlib.Core.Bool.{Bool, true, false}
+use mathlib.Core.List.{List}
 use borrow.Author.Needs.{needs}
-use borrow.Author.Tests.{lt-ltb, le-ltb, le-leb, lt-leb, eq-eqb, ne-eqb, leb-true, leb-false, ltb-true, ltb-false, eqb-true, eqb-false, not-true, not-false}
+use borrow.Author.Tests.{le-leb, lt-leb, not-true, not-false}
 use denote.Ref.{now}
-use lib.ListN.{length, getD, take, drop, set}
-use lib.Dec.{ltb, leb, eqb}
+use lib.ListN.{length}
 use Rattle.rules.proofs.proprietary.company_fields.Statement.{statement}
 use Rattle.rules.proofs.proprietary.company_fields.Tie as tie
-use Rattle.rules.proofs.proprietary.company_fields.Reads as reads
-use Rattle.rules.proofs.proprietary.company_fields.Lts as lts
-use Rattle.pack.proofs.of.field_of.Reads as field-of-reads
-use Rattle.rules.proofs.proprietary.is_pair.Reads as is-pair-reads
-use Rattle.rules.proofs.proprietary.is_reserved.Reads as is-reserved-reads
 
 -- the seven tests, one for each field after the first
 regroup : (a b c d e f g : Bool) → (a && b && c && d && e && f && g) ≡ (a && ((b && c) && ((d && e) && (f && g))))
@@ -88,51 +80,39 @@ module _ (s : List ℕ) (fts : List FieldType) (P : Pgn) where
   third u v w h a b c x y =
       parted ∙ at-third (3 ≤ᵇ length (P .fields)) (coded P) (spared fts P) (grouped P) (le-leb 3 (length (P .fields)) h) (rw (← a) x) (rw (← b) y) ∙ (rw (← c))
 
--- src/proprietary.rt:58:9
 returns : tie.Need-returns
 returns c = sym (few (now (c .before .before .before .args .s)) (packOf (now (c .before .before .before .args .s)) .fieldtypes) (pgnIn (packOf (now (c .before .before .before .args .s))) (c .before .before .before .args .t) (c .before .before .before .args .i)) (omega (arith, c .before .before .before .pre .1, c .if1 .taken)))
 
--- src/proprietary.rt:60:9
 field-of-requires : tie.Need-field-of-requires
 field-of-requires c κs = (c .before .before .before .pre .0, omega (arith, c .before .before .before .pre .1, c .if1 .left))
 
--- src/proprietary.rt:61:26
 slice-aggregate-is-pair : tie.Need-slice-aggregate-is-pair
 slice-aggregate-is-pair c = search needs
 
--- src/proprietary.rt:61:9
 is-pair-requires : tie.Need-is-pair-requires
 is-pair-requires c κs = search needs
 
--- src/proprietary.rt:62:9
 returns-2 : tie.Need-returns-2
 returns-2 c = sym (first (now (c .before .before .before .before .before .before .before .args .s)) (packOf (now (c .before .before .before .before .before .before .before .args .s)) .fieldtypes) (pgnIn (packOf (now (c .before .before .before .before .before .before .before .args .s))) (c .before .before .before .before .before .before .before .args .t) (c .before .before .before .before .before .before .before .args .i)) (c .before .before .before .field-of .result) (c .before .before .before .field-of .ensures) (sym (c .before .is-pair .ensures) ∙ not-true (c .before .is-pair .result) (c .if2 .taken)))
 
--- src/proprietary.rt:64:9
 field-of-requires-2 : tie.Need-field-of-requires-2
 field-of-requires-2 c κs = (c .before .before .before .before .before .before .before .pre .0, omega (arith, c .before .before .before .before .before .before .before .pre .1, c .before .before .before .before .if1 .left))
 
--- src/proprietary.rt:65:9
 is-reserved-requires : tie.Need-is-reserved-requires
 is-reserved-requires c κs = (c .before .before .before .before .before .before .before .before .pre .0 .ready, (let e : c .field-of2 .result .ft ≡ fieldIn (packOf (now (c .before .before .before .before .before .before .before .before .args .s))) (c .before .before .before .before .before .before .before .before .args .t) (c .before .before .before .before .before .before .before .before .args .i) 1 .ft = ap (λ (F : Field). F .ft) (c .field-of2 .ensures) in omega (arith, e, field-ft-law (c .before .before .before .before .before .before .before .before .pre .0) 1 (omega (arith, c .before .before .before .before .before .before .before .before .pre .1, c .before .before .before .before .before .if1 .left)))))
 
--- src/proprietary.rt:66:9
 returns-3 : tie.Need-returns-3
 returns-3 c = sym (second (now (c .before .before .before .before .before .before .before .before .before .before .args .s)) (packOf (now (c .before .before .before .before .before .before .before .before .before .before .args .s)) .fieldtypes) (pgnIn (packOf (now (c .before .before .before .before .before .before .before .before .before .before .args .s))) (c .before .before .before .before .before .before .before .before .before .before .args .t) (c .before .before .before .before .before .before .before .before .before .before .args .i)) (c .before .before .field-of2 .result) (c .before .before .field-of2 .ensures) (sym (c .before .is-reserved .ensures) ∙ not-true (c .before .is-reserved .result) (c .if3 .taken)))
 
--- src/proprietary.rt:68:9
 field-of-requires-3 : tie.Need-field-of-requires-3
 field-of-requires-3 c κs = (c .before .before .before .before .before .before .before .before .before .before .pre .0, omega (arith, c .before .before .before .before .before .before .before .before .before .before .pre .1, c .before .before .before .before .before .before .before .if1 .left))
 
--- src/proprietary.rt:69:26
 slice-aggregate-is-pair-2 : tie.Need-slice-aggregate-is-pair-2
 slice-aggregate-is-pair-2 c = search needs
 
--- src/proprietary.rt:69:5
 is-pair-requires-2 : tie.Need-is-pair-requires-2
 is-pair-requires-2 c κs = search needs
 
--- src/proprietary.rt:53:1
 returns-4 : tie.Need-returns-4
 returns-4 c = c .is-pair2 .ensures ∙ sym (third (now (c .before .before .before .before .before .before .before .before .before .before .before .before .before .args .s)) (packOf (now (c .before .before .before .before .before .before .before .before .before .before .before .before .before .args .s)) .fieldtypes) (pgnIn (packOf (now (c .before .before .before .before .before .before .before .before .before .before .before .before .before .args .s))) (c .before .before .before .before .before .before .before .before .before .before .before .before .before .args .t) (c .before .before .before .before .before .before .before .before .before .before .before .before .before .args .i)) (c .before .before .before .before .before .before .before .before .before .field-of .result) (c .before .before .before .before .before .field-of2 .result) (c .before .before .field-of3 .result) (omega (arith, c .before .before .before .before .before .before .before .before .before .before .before .before .before .pre .1, c .before .before .before .before .before .before .before .before .before .before .if1 .left)) (c .before .before .before .before .before .before .before .before .before .field-of .ensures) (c .before .before .before .before .before .field-of2 .ensures) (c .before .before .field-of3 .ensures) (sym (c .before .before .before .before .before .before .before .is-pair .ensures) ∙ not-false (c .before .before .before .before .before .before .before .is-pair .result) (c .before .before .before .before .before .before .if2 .left)) (sym (c .before .before .before .before .is-reserved .ensures) ∙ not-false (c .before .before .before .before .is-reserved .result) (c .before .before .before .if3 .left)))
 

@@ -2,30 +2,20 @@ use Rattle.rules.specs.declared.Finding.{Finding}
 use Rattle.rules.proofs.Emits.{emitted-none, emitted-append, fits-left, fits-right}
 use Rattle.rules.specs.Repeating.{set-bounds, set-count-field, set-nesting, check-set}
 use mathlib.Core.Option.{Option}
-use mathlib.Core.Bool.{not, _&&_, false≢true}
+use mathlib.Core.Bool.{not, _&&_, false≢true, Bool, true, false}
 use Rattle.pack.specs.Value.{Repeating}
 use Rattle.pack.specs.Notation.{_==_, if_then_else_, optional}
 use Rattle.pack.specs.Meaning.{optNumber, repeatingMeaning, optRepeating}
 use Rattle.pack.specs.declared.records.RepeatingView.{RepeatingView}
-use Prim.Native.Nat.{ℕ, zero, suc, _+_, _-_, _*_, _/_, _%_, _^_, _≤_, _<_}
-use native.Mathlib.Omega.{arith}
-use native.Mathlib.Numerals.{add-one}
-use mathlib.Core.Path.{_≡_, refl, ap, _∙_, sym}
-use mathlib.Core.List.{List, [], _∷_, _++_}
-use mathlib.Core.Bool.{Bool, true, false}
+use Prim.Native.Nat.{ℕ}
+use mathlib.Core.Path.{_≡_, refl, _∙_, sym}
+use mathlib.Core.List.{List, [], _++_}
 use borrow.Author.Needs.{needs}
-use borrow.Author.Tests.{lt-ltb, le-ltb, le-leb, lt-leb, eq-eqb, ne-eqb, leb-true, leb-false, ltb-true, ltb-false, eqb-true, eqb-false, not-true, not-false}
+use borrow.Author.Tests.{not-true, not-false}
 use denote.Ref.{now}
-use lib.ListN.{length, getD, take, drop, set}
-use lib.Dec.{ltb, leb, eqb}
+use lib.ListN.{set}
 use Rattle.rules.proofs.repeating.check_set.Statement.{statement}
 use Rattle.rules.proofs.repeating.check_set.Tie as tie
-use Rattle.rules.proofs.repeating.check_set.Reads as reads
-use Rattle.rules.proofs.repeating.check_set.Lts as lts
-use Rattle.rules.proofs.repeating.is_nonempty.Reads as is-nonempty-reads
-use Rattle.rules.proofs.repeating.set_bounds.Reads as set-bounds-reads
-use Rattle.rules.proofs.repeating.set_count_field.Reads as set-count-field-reads
-use Rattle.rules.proofs.repeating.set_nesting.Reads as set-nesting-reads
 
 module _ (t i part fields : ℕ) (outer : Option Repeating) where
   empty : (given : Bool) (v : RepeatingView) → (given && not (v .count == 0)) ≡ false → check-set t i part fields outer (optional given (repeatingMeaning v)) ≡ []
@@ -45,39 +35,30 @@ chosen b fs e = rw e
 left-out : (b : Bool) (fs : List Finding) → b ≡ false → (if b then fs else []) ≡ []
 left-out b fs e = rw e
 
--- src/repeating.rt:115:8
 is-nonempty-requires : tie.Need-is-nonempty-requires
 is-nonempty-requires c κs = search needs
 
--- src/repeating.rt:118:13
 set-bounds-requires : tie.Need-set-bounds-requires
 set-bounds-requires c κs = fits-left _ _ (fits-left _ _ (rw (filled (c .before .before .before .before .before .before .args .t) (c .before .before .before .before .before .before .args .i) (c .before .before .before .before .before .before .args .part) (c .before .before .before .before .before .before .args .fields) (optRepeating (c .before .before .before .before .before .before .args .outer)) (c .before .before .before .before .before .before .args .set .given) (c .before .before .before .before .before .before .args .set .set) (sym (c .before .before .before .before .is-nonempty .ensures) ∙ c .before .before .before .if1 .taken) _ refl) at (c .before .before .before .before .before .before .pre)))
 
--- src/repeating.rt:119:13
 set-count-field-requires : tie.Need-set-count-field-requires
 set-count-field-requires c κs = fits-right (set-bounds (c .before .before .before .before .before .before .before .before .before .before .args .t) (c .before .before .before .before .before .before .before .before .before .before .args .i) (c .before .before .before .before .before .before .before .before .before .before .args .part) (c .before .before .before .before .before .before .before .before .before .before .args .fields) (repeatingMeaning (c .before .before .before .before .before .before .before .before .before .before .args .set .set))) _ (fits-left _ _ (rw (filled (c .before .before .before .before .before .before .before .before .before .before .args .t) (c .before .before .before .before .before .before .before .before .before .before .args .i) (c .before .before .before .before .before .before .before .before .before .before .args .part) (c .before .before .before .before .before .before .before .before .before .before .args .fields) (optRepeating (c .before .before .before .before .before .before .before .before .before .before .args .outer)) (c .before .before .before .before .before .before .before .before .before .before .args .set .given) (c .before .before .before .before .before .before .before .before .before .before .args .set .set) (sym (c .before .before .before .before .before .before .before .before .is-nonempty .ensures) ∙ c .before .before .before .before .before .before .before .if1 .taken) _ refl) at (c .before .before .before .before .before .before .before .before .before .before .pre))) (c .before .before .before .set-bounds .ensures)
 
--- src/repeating.rt:121:13
 set-nesting-requires : tie.Need-set-nesting-requires
 set-nesting-requires c κs = fits-right _ _ (rw (filled (c .before .before .before .before .before .before .before .before .before .before .before .before .before .before .before .args .t) (c .before .before .before .before .before .before .before .before .before .before .before .before .before .before .before .args .i) (c .before .before .before .before .before .before .before .before .before .before .before .before .before .before .before .args .part) (c .before .before .before .before .before .before .before .before .before .before .before .before .before .before .before .args .fields) (optRepeating (c .before .before .before .before .before .before .before .before .before .before .before .before .before .before .before .args .outer)) (c .before .before .before .before .before .before .before .before .before .before .before .before .before .before .before .args .set .given) (c .before .before .before .before .before .before .before .before .before .before .before .before .before .before .before .args .set .set) (sym (c .before .before .before .before .before .before .before .before .before .before .before .before .before .is-nonempty .ensures) ∙ c .before .before .before .before .before .before .before .before .before .before .before .before .if1 .taken) _ (chosen (c .before .before .before .before .before .before .before .before .before .before .before .before .before .before .before .args .set .set .nested) _ (c .before .if2 .taken))) at (c .before .before .before .before .before .before .before .before .before .before .before .before .before .before .before .pre)) (emitted-append (c .before .before .before .before .before .before .before .before .set-bounds .ensures) (c .before .before .before .before .set-count-field .ensures))
 
--- src/repeating.rt:121:13
 same-length : tie.Need-same-length
 same-length c = search needs
 
--- src/repeating.rt:121:13
 returns : tie.Need-returns
 returns c = rw (filled (c .before .before .before .before .before .before .before .before .before .before .before .before .before .before .before .before .before .before .args .t) (c .before .before .before .before .before .before .before .before .before .before .before .before .before .before .before .before .before .before .args .i) (c .before .before .before .before .before .before .before .before .before .before .before .before .before .before .before .before .before .before .args .part) (c .before .before .before .before .before .before .before .before .before .before .before .before .before .before .before .before .before .before .args .fields) (optRepeating (c .before .before .before .before .before .before .before .before .before .before .before .before .before .before .before .before .before .before .args .outer)) (c .before .before .before .before .before .before .before .before .before .before .before .before .before .before .before .before .before .before .args .set .given) (c .before .before .before .before .before .before .before .before .before .before .before .before .before .before .before .before .before .before .args .set .set) (sym (c .before .before .before .before .before .before .before .before .before .before .before .before .before .before .before .before .is-nonempty .ensures) ∙ c .before .before .before .before .before .before .before .before .before .before .before .before .before .before .before .if1 .taken) _ (chosen (c .before .before .before .before .before .before .before .before .before .before .before .before .before .before .before .before .before .before .args .set .set .nested) _ (c .before .before .before .before .if2 .taken))) (emitted-append (emitted-append (c .before .before .before .before .before .before .before .before .before .before .before .set-bounds .ensures) (c .before .before .before .before .before .before .before .set-count-field .ensures)) (c .before .before .set-nesting .ensures))
 
--- src/repeating.rt:123:9
 same-length-2 : tie.Need-same-length-2
 same-length-2 c = search needs
 
--- src/repeating.rt:123:9
 returns-2 : tie.Need-returns-2
 returns-2 c = rw (filled (c .before .before .before .before .before .before .before .before .before .before .before .before .before .before .args .t) (c .before .before .before .before .before .before .before .before .before .before .before .before .before .before .args .i) (c .before .before .before .before .before .before .before .before .before .before .before .before .before .before .args .part) (c .before .before .before .before .before .before .before .before .before .before .before .before .before .before .args .fields) (optRepeating (c .before .before .before .before .before .before .before .before .before .before .before .before .before .before .args .outer)) (c .before .before .before .before .before .before .before .before .before .before .before .before .before .before .args .set .given) (c .before .before .before .before .before .before .before .before .before .before .before .before .before .before .args .set .set) (sym (c .before .before .before .before .before .before .before .before .before .before .before .before .is-nonempty .ensures) ∙ c .before .before .before .before .before .before .before .before .before .before .before .if1 .taken) _ (left-out (c .before .before .before .before .before .before .before .before .before .before .before .before .before .before .args .set .set .nested) _ (c .if2 .left))) (emitted-append (emitted-append (c .before .before .before .before .before .before .before .set-bounds .ensures) (c .before .before .before .set-count-field .ensures)) (emitted-none _ _))
 
--- src/repeating.rt:111:1
 returns-3 : tie.Need-returns-3
 returns-3 c = rw (empty (c .before .before .before .args .t) (c .before .before .before .args .i) (c .before .before .before .args .part) (c .before .before .before .args .fields) (optRepeating (c .before .before .before .args .outer)) (c .before .before .before .args .set .given) (c .before .before .before .args .set .set) (sym (c .before .is-nonempty .ensures) ∙ c .if1 .left)) (emitted-none (now (c .before .before .before .args .out)) (c .before .before .before .args .n))
 

@@ -1,24 +1,10 @@
-use Prim.Native.Nat.{ℕ, zero, suc, _+_, _-_, _*_, _/_, _%_, _^_, _≤_, _<_}
-use native.Mathlib.Omega.{arith}
-use native.Mathlib.Numerals.{add-one}
-use mathlib.Core.Path.{_≡_, refl, ap, _∙_, sym}
-use mathlib.Core.List.{List, [], _∷_, _++_}
-use mathlib.Core.Bool.{Bool, true, false}
 use borrow.Author.Needs.{needs}
-use borrow.Author.Tests.{lt-ltb, le-ltb, le-leb, lt-leb, eq-eqb, ne-eqb, leb-true, leb-false, ltb-true, ltb-false, eqb-true, eqb-false, not-true, not-false}
-use denote.Ref.{now}
-use lib.ListN.{length, getD, take, drop, set}
-use lib.Dec.{ltb, leb, eqb}
 use Rattle.rules.proofs.repeating.is_nonempty.Statement.{statement}
 use Rattle.rules.proofs.repeating.is_nonempty.Tie as tie
-use Rattle.rules.proofs.repeating.is_nonempty.Reads as reads
-use Rattle.rules.proofs.repeating.is_nonempty.Lts as lts
 
--- src/repeating.rt:71:9
 returns : tie.Need-returns
 returns c = rw (c .before .if1 .taken)
 
--- src/repeating.rt:67:1
 returns-2 : tie.Need-returns-2
 returns-2 c = search needs
 

@@ -4,24 +4,14 @@ use Rattle.rules.specs.declared.Finding.{Finding}
 use Rattle.pack.specs.Notation.{_<ᵇ_}
 use Rattle.pack.specs.Meaning.{repeatingMeaning}
 use Rattle.pack.specs.declared.records.RepeatingView.{RepeatingView}
-use Prim.Native.Nat.{ℕ, zero, suc, _+_, _-_, _*_, _/_, _%_, _^_, _≤_, _<_}
-use native.Mathlib.Omega.{arith}
-use native.Mathlib.Numerals.{add-one}
-use mathlib.Core.Path.{_≡_, refl, ap, _∙_, sym}
-use mathlib.Core.List.{List, [], _∷_, _++_}
-use mathlib.Core.Bool.{Bool, true, false}
+use Prim.Native.Nat.{ℕ, _+_, _-_}
+use mathlib.Core.Path.{_≡_}
+use mathlib.Core.List.{[], _∷_}
 use borrow.Author.Needs.{needs}
-use borrow.Author.Tests.{lt-ltb, le-ltb, le-leb, lt-leb, eq-eqb, ne-eqb, leb-true, leb-false, ltb-true, ltb-false, eqb-true, eqb-false, not-true, not-false}
-use denote.Ref.{now}
-use lib.ListN.{length, getD, take, drop, set}
-use lib.Dec.{ltb, leb, eqb}
+use borrow.Author.Tests.{eq-eqb, ne-eqb}
+use lib.ListN.{set}
 use Rattle.rules.proofs.repeating.set_bounds.Statement.{statement}
 use Rattle.rules.proofs.repeating.set_bounds.Tie as tie
-use Rattle.rules.proofs.repeating.set_bounds.Reads as reads
-use Rattle.rules.proofs.repeating.set_bounds.Lts as lts
-use Rattle.rules.proofs.emit.pgn_error.Reads as pgn-error-reads
-use Rattle.rules.proofs.emit.put.Reads as put-reads
-use Rattle.rules.proofs.emit.put_if.Reads as put-if-reads
 
 module _ (t i part fields : ℕ) (v : RepeatingView) (f : Finding) where
   missing : v .start ≡ 0 → f ≡ pgn-error 5 1 t i part 0 → set-bounds t i part fields (repeatingMeaning v) ≡ f ∷ []
@@ -32,51 +22,39 @@ module _ (t i part fields : ℕ) (v : RepeatingView) (f : Finding) where
   unfolding set-bounds
   there e x = rw (ne-eqb _ _ e, x)
 
--- src/repeating.rt:81:28
 pgn-error-requires : tie.Need-pgn-error-requires
 pgn-error-requires c κs = search needs
 
--- src/repeating.rt:81:9
 put-requires : tie.Need-put-requires
 put-requires c κs = rw (missing (c .before .before .before .before .before .args .t) (c .before .before .before .before .before .args .i) (c .before .before .before .before .before .args .part) (c .before .before .before .before .before .args .fields) (c .before .before .before .before .before .args .set) _ (c .before .before .if1 .taken) (c .pgn-error .ensures)) at (c .before .before .before .before .before .pre)
 
--- src/repeating.rt:81:9
 same-length : tie.Need-same-length
 same-length c = search needs
 
--- src/repeating.rt:81:9
 returns : tie.Need-returns
 returns c = rw (missing (c .before .before .before .before .before .before .before .before .args .t) (c .before .before .before .before .before .before .before .before .args .i) (c .before .before .before .before .before .before .before .before .args .part) (c .before .before .before .before .before .before .before .before .args .fields) (c .before .before .before .before .before .before .before .before .args .set) _ (c .before .before .before .before .before .if1 .taken) (c .before .before .before .pgn-error .ensures)) (c .before .before .put .ensures)
 
--- src/repeating.rt:83:17
 sub-last : tie.Need-sub-last
 sub-last c = search needs
 
--- src/repeating.rt:83:16
 cast-last : tie.Need-cast-last
 cast-last c = search needs
 
--- src/repeating.rt:83:41
 cast-last-2 : tie.Need-cast-last-2
 cast-last-2 c = search needs
 
--- src/repeating.rt:83:16
 add-last : tie.Need-add-last
 add-last c = search needs
 
--- src/repeating.rt:84:44
 pgn-error-requires-2 : tie.Need-pgn-error-requires-2
 pgn-error-requires-2 c κs = search needs
 
--- src/repeating.rt:84:5
 put-if-requires : tie.Need-put-if-requires
 put-if-requires c κs = rw (there (c .before .before .before .before .before .before .before .args .t) (c .before .before .before .before .before .before .before .args .i) (c .before .before .before .before .before .before .before .args .part) (c .before .before .before .before .before .before .before .args .fields) (c .before .before .before .before .before .before .before .args .set) _ (c .before .before .before .before .if1 .left) (c .pgn-error2 .ensures)) at (c .before .before .before .before .before .before .before .pre)
 
--- src/repeating.rt:76:1
 same-length-2 : tie.Need-same-length-2
 same-length-2 c = search needs
 
--- src/repeating.rt:76:1
 returns-2 : tie.Need-returns-2
 returns-2 c = rw (there (c .before .before .before .before .before .before .before .before .before .before .args .t) (c .before .before .before .before .before .before .before .before .before .before .args .i) (c .before .before .before .before .before .before .before .before .before .before .args .part) (c .before .before .before .before .before .before .before .before .before .before .args .fields) (c .before .before .before .before .before .before .before .before .before .before .args .set) _ (c .before .before .before .before .before .before .before .if1 .left) (c .before .before .before .pgn-error2 .ensures)) (c .before .before .put-if .ensures)
 

@@ -1,30 +1,17 @@
 use Rattle.rules.specs.Repeating.{none-or-below, set-nesting}
 use Rattle.rules.specs.Findings.{report-if, pgn-error}
 use Rattle.rules.specs.declared.Finding.{Finding}
-use mathlib.Core.Bool.{_&&_, false≢true}
+use mathlib.Core.Bool.{_&&_, false≢true, Bool, true, false}
 use Rattle.pack.specs.Notation.{_<ᵇ_, _≤ᵇ_, optional}
 use Rattle.pack.specs.Meaning.{optNumber, repeatingMeaning}
 use Rattle.pack.specs.declared.records.RepeatingView.{RepeatingView}
-use Prim.Native.Nat.{ℕ, zero, suc, _+_, _-_, _*_, _/_, _%_, _^_, _≤_, _<_}
-use native.Mathlib.Omega.{arith}
-use native.Mathlib.Numerals.{add-one}
-use mathlib.Core.Path.{_≡_, refl, ap, _∙_, sym}
-use mathlib.Core.List.{List, [], _∷_, _++_}
-use mathlib.Core.Bool.{Bool, true, false}
+use Prim.Native.Nat.{ℕ, _+_}
+use mathlib.Core.Path.{_≡_, _∙_, sym}
+use mathlib.Core.List.{[], _∷_}
 use borrow.Author.Needs.{needs}
-use borrow.Author.Tests.{lt-ltb, le-ltb, le-leb, lt-leb, eq-eqb, ne-eqb, leb-true, leb-false, ltb-true, ltb-false, eqb-true, eqb-false, not-true, not-false}
-use denote.Ref.{now}
-use lib.ListN.{length, getD, take, drop, set}
-use lib.Dec.{ltb, leb, eqb}
+use lib.ListN.{set}
 use Rattle.rules.proofs.repeating.set_nesting.Statement.{statement}
 use Rattle.rules.proofs.repeating.set_nesting.Tie as tie
-use Rattle.rules.proofs.repeating.set_nesting.Reads as reads
-use Rattle.rules.proofs.repeating.set_nesting.Lts as lts
-use Rattle.rules.proofs.emit.pgn_error.Reads as pgn-error-reads
-use Rattle.rules.proofs.emit.put.Reads as put-reads
-use Rattle.rules.proofs.emit.put_if.Reads as put-if-reads
-use Rattle.rules.proofs.repeating.lies_inside.Reads as lies-inside-reads
-use Rattle.rules.proofs.repeating.none_or_below.Reads as none-or-below-reads
 
 abbrev inside : Bool → RepeatingView → RepeatingView → Bool
 inside given o v = given && ((o .start <ᵇ v .start) && (v .start + v .count ≤ᵇ o .start + o .count))
@@ -42,43 +29,33 @@ module _ (t i part : ℕ) where
   apart true o v e f x = rw (e, x)
   apart false o v e f x = rw x
 
--- src/repeating.rt:102:8
 lies-inside-requires : tie.Need-lies-inside-requires
 lies-inside-requires c κs = search needs
 
--- src/repeating.rt:104:13
 none-or-below-requires : tie.Need-none-or-below-requires
 none-or-below-requires c κs = search needs
 
--- src/repeating.rt:105:39
 pgn-error-requires : tie.Need-pgn-error-requires
 pgn-error-requires c κs = search needs
 
--- src/repeating.rt:105:9
 put-if-requires : tie.Need-put-if-requires
 put-if-requires c κs = rw (nested (c .before .before .before .before .before .before .before .args .t) (c .before .before .before .before .before .before .before .args .i) (c .before .before .before .before .before .before .before .args .part) (c .before .before .before .before .before .before .before .args .outer .given) (c .before .before .before .before .before .before .before .args .outer .set) (c .before .before .before .before .before .before .before .args .set) (sym (c .before .before .before .before .before .lies-inside .ensures) ∙ c .before .before .before .before .if1 .taken) _ (c .before .before .none-or-below .ensures) _ (c .pgn-error .ensures)) at (c .before .before .before .before .before .before .before .pre)
 
--- src/repeating.rt:105:9
 same-length : tie.Need-same-length
 same-length c = search needs
 
--- src/repeating.rt:105:9
 returns : tie.Need-returns
 returns c = rw (nested (c .before .before .before .before .before .before .before .before .before .before .args .t) (c .before .before .before .before .before .before .before .before .before .before .args .i) (c .before .before .before .before .before .before .before .before .before .before .args .part) (c .before .before .before .before .before .before .before .before .before .before .args .outer .given) (c .before .before .before .before .before .before .before .before .before .before .args .outer .set) (c .before .before .before .before .before .before .before .before .before .before .args .set) (sym (c .before .before .before .before .before .before .before .before .lies-inside .ensures) ∙ c .before .before .before .before .before .before .before .if1 .taken) _ (c .before .before .before .before .before .none-or-below .ensures) _ (c .before .before .before .pgn-error .ensures)) (c .before .before .put-if .ensures)
 
--- src/repeating.rt:107:17
 pgn-error-requires-2 : tie.Need-pgn-error-requires-2
 pgn-error-requires-2 c κs = search needs
 
--- src/repeating.rt:107:5
 put-requires : tie.Need-put-requires
 put-requires c κs = rw (apart (c .before .before .before .before .before .args .t) (c .before .before .before .before .before .args .i) (c .before .before .before .before .before .args .part) (c .before .before .before .before .before .args .outer .given) (c .before .before .before .before .before .args .outer .set) (c .before .before .before .before .before .args .set) (sym (c .before .before .before .lies-inside .ensures) ∙ c .before .before .if1 .left) _ (c .pgn-error2 .ensures)) at (c .before .before .before .before .before .pre)
 
--- src/repeating.rt:98:1
 same-length-2 : tie.Need-same-length-2
 same-length-2 c = search needs
 
--- src/repeating.rt:98:1
 returns-2 : tie.Need-returns-2
 returns-2 c = rw (apart (c .before .before .before .before .before .before .before .before .args .t) (c .before .before .before .before .before .before .before .before .args .i) (c .before .before .before .before .before .before .before .before .args .part) (c .before .before .before .before .before .before .before .before .args .outer .given) (c .before .before .before .before .before .before .before .before .args .outer .set) (c .before .before .before .before .before .before .before .before .args .set) (sym (c .before .before .before .before .before .before .lies-inside .ensures) ∙ c .before .before .before .before .before .if1 .left) _ (c .before .before .before .pgn-error2 .ensures)) (c .before .before .put .ensures)
 

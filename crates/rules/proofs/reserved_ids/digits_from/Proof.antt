@@ -1,22 +1,16 @@
 use lib.Seq.{drop-cons}
-use lib.ListN.{drop-of-length-le}
+use lib.ListN.{drop-of-length-le, length, getD, drop}
 use Rattle.rules.specs.Model.{is-digit, all-digits}
-use Prim.Native.Nat.{ℕ, zero, suc, _+_, _-_, _*_, _/_, _%_, _^_, _≤_, _<_}
-use native.Mathlib.Omega.{arith}
+use Prim.Native.Nat.{ℕ, _+_, _-_, _<_}
 use native.Mathlib.Numerals.{add-one}
-use mathlib.Core.Path.{_≡_, refl, ap, _∙_, sym}
-use mathlib.Core.List.{List, [], _∷_, _++_}
-use mathlib.Core.Bool.{Bool, true, false}
+use mathlib.Core.Path.{_≡_, refl, _∙_, sym}
+use mathlib.Core.List.{List}
+use mathlib.Core.Bool.{true, false}
 use borrow.Author.Needs.{needs}
-use borrow.Author.Tests.{lt-ltb, le-ltb, le-leb, lt-leb, eq-eqb, ne-eqb, leb-true, leb-false, ltb-true, ltb-false, eqb-true, eqb-false, not-true, not-false}
+use borrow.Author.Tests.{not-true, not-false}
 use denote.Ref.{now}
-use lib.ListN.{length, getD, take, drop, set}
-use lib.Dec.{ltb, leb, eqb}
 use Rattle.rules.proofs.reserved_ids.digits_from.Statement.{statement}
 use Rattle.rules.proofs.reserved_ids.digits_from.Tie as tie
-use Rattle.rules.proofs.reserved_ids.digits_from.Reads as reads
-use Rattle.rules.proofs.reserved_ids.digits_from.Lts as lts
-use Rattle.rules.proofs.reserved_ids.is_digit.Reads as is-digit-reads
 
 module _ (id : List ℕ) (j : ℕ) (h : j < length id) where
   other : is-digit (getD id j 0) ≡ false → all-digits (drop j id) ≡ false
@@ -31,35 +25,27 @@ Inv-loop id k j₀ j = all-digits (drop k id) ≡ all-digits (drop j id)
 abbrev μ-loop : tie.MeasureT-loop
 μ-loop id k j₀ j = length id - j
 
--- src/reserved_ids.rt:35:5
 loop-holds : tie.Need-loop-holds Inv-loop μ-loop
 loop-holds c = refl
 
--- src/reserved_ids.rt:36:22
 shared-slice-read-is-digit : tie.Need-shared-slice-read-is-digit Inv-loop μ-loop
 shared-slice-read-is-digit c = search needs
 
--- src/reserved_ids.rt:36:13
 is-digit-requires : tie.Need-is-digit-requires Inv-loop μ-loop
 is-digit-requires c κs = search needs
 
--- src/reserved_ids.rt:37:13
 returns : tie.Need-returns Inv-loop μ-loop
 returns c = sym (c .before .before .before .before .loop .inv ∙ other (now (c .before .before .before .before .before .before .args .id)) (c .before .before .before .before .loop .j) (search needs) (sym (c .before .is-digit .ensures) ∙ not-true (c .before .is-digit .result) (c .if1 .taken)))
 
--- src/reserved_ids.rt:39:9
 add-j : tie.Need-add-j Inv-loop μ-loop
 add-j c = search needs
 
--- src/reserved_ids.rt:35:5
 loop-less : tie.Need-loop-less Inv-loop μ-loop
 loop-less c = search needs
 
--- src/reserved_ids.rt:35:5
 loop-again : tie.Need-loop-again Inv-loop μ-loop
 loop-again c = c .before .before .before .before .loop .inv ∙ digit (now (c .before .before .before .before .before .before .args .id)) (c .before .before .before .before .loop .j) (search needs) (sym (c .before .is-digit .ensures) ∙ not-false (c .before .is-digit .result) (c .if1 .left))
 
--- src/reserved_ids.rt:31:1
 returns-2 : tie.Need-returns-2 Inv-loop μ-loop
 returns-2 c = let x = drop-of-length-le (now (c .before .before .before .args .id)) {i = c .before .loop .j} (search needs) in rw (c .before .loop .inv, x)
 

@@ -1,22 +1,17 @@
 use lib.Seq.{drop-cons}
-use lib.ListN.{drop-of-length-le}
+use lib.ListN.{drop-of-length-le, length, getD, drop}
 use Rattle.rules.specs.ReservedIds.{numbered}
-use Prim.Native.Nat.{ℕ, zero, suc, _+_, _-_, _*_, _/_, _%_, _^_, _≤_, _<_}
+use Prim.Native.Nat.{ℕ, _+_, _-_, _≤_, _<_}
 use native.Mathlib.Omega.{arith}
 use native.Mathlib.Numerals.{add-one}
-use mathlib.Core.Path.{_≡_, refl, ap, _∙_, sym}
-use mathlib.Core.List.{List, [], _∷_, _++_}
-use mathlib.Core.Bool.{Bool, true, false}
+use mathlib.Core.Path.{_≡_, refl, _∙_, sym}
+use mathlib.Core.List.{List}
+use mathlib.Core.Bool.{false}
 use borrow.Author.Needs.{needs}
-use borrow.Author.Tests.{lt-ltb, le-ltb, le-leb, lt-leb, eq-eqb, ne-eqb, leb-true, leb-false, ltb-true, ltb-false, eqb-true, eqb-false, not-true, not-false}
+use borrow.Author.Tests.{eq-eqb, ne-eqb}
 use denote.Ref.{now}
-use lib.ListN.{length, getD, take, drop, set}
-use lib.Dec.{ltb, leb, eqb}
 use Rattle.rules.proofs.reserved_ids.numbered.Statement.{statement}
 use Rattle.rules.proofs.reserved_ids.numbered.Tie as tie
-use Rattle.rules.proofs.reserved_ids.numbered.Reads as reads
-use Rattle.rules.proofs.reserved_ids.numbered.Lts as lts
-use Rattle.rules.proofs.reserved_ids.digits_from.Reads as digits-from-reads
 
 module _ (want id : List ℕ) (k : ℕ) (h : k < length want) where
   short : length id ≤ k → numbered (drop k want) (drop k id) ≡ false
@@ -37,43 +32,33 @@ Inv-loop want id k₀ k = (k ≤ length want) × (numbered want id ≡ numbered 
 abbrev μ-loop : tie.MeasureT-loop
 μ-loop want id k₀ k = length want - k
 
--- src/reserved_ids.rt:49:5
 loop-holds : tie.Need-loop-holds Inv-loop μ-loop
 loop-holds c = (omega arith, refl)
 
--- src/reserved_ids.rt:51:13
 returns : tie.Need-returns Inv-loop μ-loop
 returns c = sym (c .before .before .loop .inv .1 ∙ short (now (c .before .before .before .before .before .args .want)) (now (c .before .before .before .before .before .args .id)) (c .before .before .loop .k) (search needs) (search needs))
 
--- src/reserved_ids.rt:53:12
 shared-slice-read-if2 : tie.Need-shared-slice-read-if2 Inv-loop μ-loop
 shared-slice-read-if2 c = search needs
 
--- src/reserved_ids.rt:53:23
 shared-slice-read-if2-2 : tie.Need-shared-slice-read-if2-2 Inv-loop μ-loop
 shared-slice-read-if2-2 c = search needs
 
--- src/reserved_ids.rt:54:13
 returns-2 : tie.Need-returns-2 Inv-loop μ-loop
 returns-2 c = sym (c .before .before .before .before .before .loop .inv .1 ∙ differ (now (c .before .before .before .before .before .before .before .before .args .want)) (now (c .before .before .before .before .before .before .before .before .args .id)) (c .before .before .before .before .before .loop .k) (search needs) (search needs) (c .if2 .taken))
 
--- src/reserved_ids.rt:56:9
 add-k : tie.Need-add-k Inv-loop μ-loop
 add-k c = search needs
 
--- src/reserved_ids.rt:49:5
 loop-less : tie.Need-loop-less Inv-loop μ-loop
 loop-less c = search needs
 
--- src/reserved_ids.rt:49:5
 loop-again : tie.Need-loop-again Inv-loop μ-loop
 loop-again c = (search needs, c .before .before .before .before .before .loop .inv .1 ∙ agree (now (c .before .before .before .before .before .before .before .before .args .want)) (now (c .before .before .before .before .before .before .before .before .args .id)) (c .before .before .before .before .before .loop .k) (search needs) (search needs) (c .if2 .left))
 
--- src/reserved_ids.rt:58:5
 digits-from-requires : tie.Need-digits-from-requires Inv-loop μ-loop
 digits-from-requires c κs = search needs
 
--- src/reserved_ids.rt:45:1
 returns-3 : tie.Need-returns-3 Inv-loop μ-loop
 unfolding numbered
 returns-3 c = let x = drop-of-length-le (now (c .before .before .before .before .before .args .want)) {i = c .before .before .loop .k} (search needs) in rw (c .before .before .loop .inv .1, x) (c .digits-from .ensures)

@@ -5,23 +5,15 @@ use Rattle.rules.specs.declared.Finding.{Finding}
 use Rattle.pack.specs.Notation.{concatBelow}
 use Rattle.pack.specs.Ready.{pgnIn, fieldIn}
 use Rattle.pack.specs.Meaning.{packOf}
-use Prim.Native.Nat.{ℕ, zero, suc, _+_, _-_, _*_, _/_, _%_, _^_, _≤_, _<_}
+use Prim.Native.Nat.{ℕ, _-_, _≤_}
 use native.Mathlib.Omega.{arith}
-use native.Mathlib.Numerals.{add-one}
-use mathlib.Core.Path.{_≡_, refl, ap, _∙_, sym}
-use mathlib.Core.List.{List, [], _∷_, _++_}
-use mathlib.Core.Bool.{Bool, true, false}
+use mathlib.Core.Path.{_≡_, refl, _∙_}
+use mathlib.Core.List.{List}
 use borrow.Author.Needs.{needs}
-use borrow.Author.Tests.{lt-ltb, le-ltb, le-leb, lt-leb, eq-eqb, ne-eqb, leb-true, leb-false, ltb-true, ltb-false, eqb-true, eqb-false, not-true, not-false}
 use denote.Ref.{now}
-use lib.ListN.{length, getD, take, drop, set}
-use lib.Dec.{ltb, leb, eqb}
+use lib.ListN.{length}
 use Rattle.rules.proofs.special_values.check_special_values.Statement.{statement}
 use Rattle.rules.proofs.special_values.check_special_values.Tie as tie
-use Rattle.rules.proofs.special_values.check_special_values.Reads as reads
-use Rattle.rules.proofs.special_values.check_special_values.Lts as lts
-use Rattle.pack.proofs.of.field_of.Reads as field-of-reads
-use Rattle.rules.proofs.special_values.special_values_at.Reads as special-values-at-reads
 
 abbrev of-field : List ℕ → ℕ → ℕ → ℕ → List Finding
 of-field s t i k = special-values-at t i k (fieldIn (packOf s) t i k .res-bits) (fieldIn (packOf s) t i k .special-values)
@@ -32,36 +24,28 @@ Inv-loop out₀ n s work t i p g m₀ k₀ out m k = (k ≤ g .fields) × (lengt
 abbrev μ-loop : tie.MeasureT-loop
 μ-loop out₀ n s work t i p g m₀ k₀ out m k = g .fields - k
 
--- src/special_values.rt:59:5
 loop-holds : tie.Need-loop-holds Inv-loop μ-loop
 loop-holds c = (omega arith, refl, emitted-none _ _)
 
--- src/special_values.rt:60:13
 field-of-requires : tie.Need-field-of-requires Inv-loop μ-loop
 field-of-requires c κs = (c .before .before .before .before .before .before .pre .1, omega (arith, c .before .before .before .before .before .before .pre .2 .fields))
 
--- src/special_values.rt:61:9
 special-values-at-requires : tie.Need-special-values-at-requires Inv-loop μ-loop
 unfolding check-special-values
 special-values-at-requires c κs = (fits-turn (of-field (now (c .before .before .before .before .before .before .before .before .args .s)) (c .before .before .before .before .before .before .before .before .args .t) (c .before .before .before .before .before .before .before .before .args .i)) (c .before .before .before .before .before .before .before .before .args .g .fields) (c .before .before .before .before .loop .k) (c .before .before .if1 .taken) (rw (← c .before .before .before .before .before .before .before .before .pre .2 .fields) at (c .before .before .before .before .before .before .before .before .pre .0)) (c .before .before .before .before .loop .inv .2), c .before .field-of .ensures)
 
--- src/special_values.rt:62:9
 add-k : tie.Need-add-k Inv-loop μ-loop
 add-k c = omega (arith, c .before .before .before .before .before .before .struct-known .given)
 
--- src/special_values.rt:59:5
 loop-less : tie.Need-loop-less Inv-loop μ-loop
 loop-less c = search needs
 
--- src/special_values.rt:59:5
 loop-again : tie.Need-loop-again Inv-loop μ-loop
 loop-again c = (omega arith, c .before .before .special-values-at .kept .0 ∙ c .before .before .before .before .before .before .before .loop .inv .1, emitted-turn (of-field (now (c .before .before .before .before .before .before .before .before .before .before .before .args .s)) (c .before .before .before .before .before .before .before .before .before .before .before .args .t) (c .before .before .before .before .before .before .before .before .before .before .before .args .i)) (c .before .before .before .before .before .before .before .loop .k) (c .before .before .before .before .before .before .before .loop .inv .2) (c .before .before .special-values-at .ensures))
 
--- src/special_values.rt:53:1
 same-length : tie.Need-same-length Inv-loop μ-loop
 same-length c = search needs
 
--- src/special_values.rt:53:1
 returns : tie.Need-returns Inv-loop μ-loop
 unfolding check-special-values
 returns c = let e : c .before .before .loop .k ≡ length (pgnIn (packOf (now (c .before .before .before .before .before .before .args .s))) (c .before .before .before .before .before .before .args .t) (c .before .before .before .before .before .before .args .i) .fields) = omega (arith, c .before .before .before .before .before .before .pre .2 .fields) in rw (← e) (c .before .before .loop .inv .2)

@@ -1,20 +1,12 @@
 use Rattle.rules.specs.SpecialValues.{special-max}
 use native.Mathlib.Nat.{pow-le-pow-right, mod-eq-of-lt, one-le-pow, min-eq-left, min-eq-right}
-use Prim.Native.Nat.{ℕ, zero, suc, _+_, _-_, _*_, _/_, _%_, _^_, _≤_, _<_}
+use Prim.Native.Nat.{ℕ, _*_, _%_, _^_, _≤_}
 use native.Mathlib.Omega.{arith}
-use native.Mathlib.Numerals.{add-one}
-use mathlib.Core.Path.{_≡_, refl, ap, _∙_, sym}
-use mathlib.Core.List.{List, [], _∷_, _++_}
-use mathlib.Core.Bool.{Bool, true, false}
+use mathlib.Core.Path.{_≡_}
 use borrow.Author.Needs.{needs}
-use borrow.Author.Tests.{lt-ltb, le-ltb, le-leb, lt-leb, eq-eqb, ne-eqb, leb-true, leb-false, ltb-true, ltb-false, eqb-true, eqb-false, not-true, not-false}
-use denote.Ref.{now}
-use lib.ListN.{length, getD, take, drop, set}
-use lib.Dec.{ltb, leb, eqb}
+use borrow.Author.Tests.{eq-eqb, ne-eqb}
 use Rattle.rules.proofs.special_values.special_max.Statement.{statement}
 use Rattle.rules.proofs.special_values.special_max.Tie as tie
-use Rattle.rules.proofs.special_values.special_max.Reads as reads
-use Rattle.rules.proofs.special_values.special_max.Lts as lts
 
 shifted : (b : ℕ) → b ≤ 63 → 1 * 2 ^ b % 18446744073709551616 ≡ 2 ^ b
 shifted b h =
@@ -22,25 +14,20 @@ shifted b h =
     let e : 1 * 2 ^ b ≡ 2 ^ b = omega arith in
     rw e (mod-eq-of-lt (omega arith))
 
--- src/special_values.rt:21:9
 returns : tie.Need-returns
 unfolding special-max
 returns c = rw (eq-eqb _ _ (c .if1 .taken))
 
--- src/special_values.rt:24:17
 shl-result : tie.Need-shl-result
 shl-result c = search needs
 
--- src/special_values.rt:24:16
 sub-result : tie.Need-sub-result
 sub-result c = rw (shifted (c .before .before .args .bits) (c .if2 .taken)) (one-le-pow (c .before .before .args .bits) 2 (omega arith))
 
--- src/special_values.rt:24:9
 returns-2 : tie.Need-returns-2
 unfolding special-max
 returns-2 c = rw (shifted (c .before .before .args .bits) (c .if2 .taken), ne-eqb _ _ (c .before .if1 .left), min-eq-left (c .if2 .taken))
 
--- src/special_values.rt:17:1
 returns-3 : tie.Need-returns-3
 unfolding special-max
 returns-3 c = rw (ne-eqb _ _ (c .before .if1 .left), min-eq-right {n = 63} {m = c .before .before .args .bits} (omega arith))

@@ -3,28 +3,17 @@ use Rattle.rules.specs.SpecialValues.{special-max, special-values-at}
 use Rattle.rules.specs.Findings.{report-if, pgn-error}
 use Rattle.rules.specs.declared.Finding.{Finding}
 use Rattle.pack.specs.Notation.{_<ᵇ_}
-use mathlib.Core.Bool.{_||_}
+use mathlib.Core.Bool.{_||_, Bool, true, false}
 use Rattle.pack.specs.Value.{Field}
 use Rattle.pack.specs.Meaning.{fieldMeaning}
 use Rattle.pack.specs.declared.records.FieldView.{FieldView}
-use Prim.Native.Nat.{ℕ, zero, suc, _+_, _-_, _*_, _/_, _%_, _^_, _≤_, _<_}
-use native.Mathlib.Omega.{arith}
-use native.Mathlib.Numerals.{add-one}
-use mathlib.Core.Path.{_≡_, refl, ap, _∙_, sym}
-use mathlib.Core.List.{List, [], _∷_, _++_}
-use mathlib.Core.Bool.{Bool, true, false}
+use Prim.Native.Nat.{ℕ}
+use mathlib.Core.Path.{_≡_}
+use mathlib.Core.List.{List, []}
 use borrow.Author.Needs.{needs}
-use borrow.Author.Tests.{lt-ltb, le-ltb, le-leb, lt-leb, eq-eqb, ne-eqb, leb-true, leb-false, ltb-true, ltb-false, eqb-true, eqb-false, not-true, not-false}
 use denote.Ref.{now}
-use lib.ListN.{length, getD, take, drop, set}
-use lib.Dec.{ltb, leb, eqb}
 use Rattle.rules.proofs.special_values.special_values_at.Statement.{statement}
 use Rattle.rules.proofs.special_values.special_values_at.Tie as tie
-use Rattle.rules.proofs.special_values.special_values_at.Reads as reads
-use Rattle.rules.proofs.special_values.special_values_at.Lts as lts
-use Rattle.rules.proofs.emit.pgn_error.Reads as pgn-error-reads
-use Rattle.rules.proofs.emit.put_if.Reads as put-if-reads
-use Rattle.rules.proofs.special_values.out_of_range.Reads as out-of-range-reads
 
 -- the rule at a field, said of the view: none given, and one given
 module _ (s : List ℕ) (t i k : ℕ) (F : Field) (v : FieldView) (is : fieldMeaning s v ≡ F) where
@@ -37,27 +26,21 @@ module _ (s : List ℕ) (t i k : ℕ) (F : Field) (v : FieldView) (is : fieldMea
   unfolding special-values-at
   given e a d f h = rw (← is, e, d, h)
 
--- src/special_values.rt:45:13
 out-of-range-requires : tie.Need-out-of-range-requires
 out-of-range-requires c κs = search needs
 
--- src/special_values.rt:46:39
 pgn-error-requires : tie.Need-pgn-error-requires
 pgn-error-requires c κs = search needs
 
--- src/special_values.rt:46:9
 put-if-requires : tie.Need-put-if-requires
 put-if-requires c κs = rw (given (now (c .before .before .before .before .before .before .before .args .s)) (c .before .before .before .before .before .before .before .args .t) (c .before .before .before .before .before .before .before .args .i) (c .before .before .before .before .before .before .before .args .k) _ (c .before .before .before .before .before .before .before .args .f) (c .before .before .before .before .before .before .before .pre .1) (c .before .before .before .if1 .taken) _ (c .before .before .out-of-range .ensures) _ (c .pgn-error .ensures)) at (c .before .before .before .before .before .before .before .pre .0)
 
--- src/special_values.rt:46:9
 same-length : tie.Need-same-length
 same-length c = search needs
 
--- src/special_values.rt:46:9
 returns : tie.Need-returns
 returns c = rw (given (now (c .before .before .before .before .before .before .before .before .before .before .args .s)) (c .before .before .before .before .before .before .before .before .before .before .args .t) (c .before .before .before .before .before .before .before .before .before .before .args .i) (c .before .before .before .before .before .before .before .before .before .before .args .k) _ (c .before .before .before .before .before .before .before .before .before .before .args .f) (c .before .before .before .before .before .before .before .before .before .before .pre .1) (c .before .before .before .before .before .before .if1 .taken) _ (c .before .before .before .before .before .out-of-range .ensures) _ (c .before .before .before .pgn-error .ensures)) (c .before .before .put-if .ensures)
 
--- src/special_values.rt:39:1
 returns-2 : tie.Need-returns-2
 returns-2 c = rw (absent (now (c .before .before .before .before .args .s)) (c .before .before .before .before .args .t) (c .before .before .before .before .args .i) (c .before .before .before .before .args .k) _ (c .before .before .before .before .args .f) (c .before .before .before .before .pre .1) (c .if1 .left)) (emitted-none (now (c .before .before .before .before .args .out)) (c .before .before .before .before .args .n))
 

@@ -3,25 +3,17 @@ use Rattle.rules.specs.Search.{firstBelow}
 use Rattle.pack.specs.Ready.{fieldIn}
 use Rattle.pack.specs.Meaning.{packOf}
 use Rattle.pack.specs.Items.{bytesOf}
-use Rattle.pack.specs.Notation.{_≐_, optional}
-use mathlib.Core.Option.{none, some}
-use Prim.Native.Nat.{ℕ, zero, suc, _+_, _-_, _*_, _/_, _%_, _^_, _≤_, _<_}
+use Rattle.pack.specs.Notation.{_≐_}
+use mathlib.Core.Option.{none}
+use Prim.Native.Nat.{ℕ, _-_, _≤_}
 use native.Mathlib.Omega.{arith}
-use native.Mathlib.Numerals.{add-one}
-use mathlib.Core.Path.{_≡_, refl, ap, _∙_, sym}
-use mathlib.Core.List.{List, [], _∷_, _++_}
-use mathlib.Core.Bool.{Bool, true, false}
+use mathlib.Core.Path.{_≡_, refl, _∙_, sym}
+use mathlib.Core.List.{List}
+use mathlib.Core.Bool.{Bool, false}
 use borrow.Author.Needs.{needs}
-use borrow.Author.Tests.{lt-ltb, le-ltb, le-leb, lt-leb, eq-eqb, ne-eqb, leb-true, leb-false, ltb-true, ltb-false, eqb-true, eqb-false, not-true, not-false}
 use denote.Ref.{now}
-use lib.ListN.{length, getD, take, drop, set}
-use lib.Dec.{ltb, leb, eqb}
 use Rattle.rules.proofs.targets.first_with_id.Statement.{statement}
 use Rattle.rules.proofs.targets.first_with_id.Tie as tie
-use Rattle.rules.proofs.targets.first_with_id.Reads as reads
-use Rattle.rules.proofs.targets.first_with_id.Lts as lts
-use Rattle.pack.proofs.of.field_id_of.Reads as field-id-of-reads
-use Rattle.pack.proofs.text.same_text.Reads as same-text-reads
 
 -- whether field j has the id
 abbrev has : List ℕ → ℕ → ℕ → List ℕ → ℕ → Bool
@@ -33,37 +25,29 @@ Inv-loop s work t i p n id j₀ j = (j ≤ n) × (firstBelow (has s t i (bytesOf
 abbrev μ-loop : tie.MeasureT-loop
 μ-loop s work t i p n id j₀ j = n - j
 
--- src/targets.rt:22:5
 loop-holds : tie.Need-loop-holds Inv-loop μ-loop
 loop-holds c = (search needs, refl)
 
--- src/targets.rt:23:13
 field-id-of-requires : tie.Need-field-id-of-requires Inv-loop μ-loop
 field-id-of-requires c κs = (c .before .before .before .before .pre .0, omega (arith, c .before .before .before .before .pre .1, c .loop-test .taken))
 
--- src/targets.rt:24:12
 same-text-requires : tie.Need-same-text-requires Inv-loop μ-loop
 same-text-requires c κs = search needs
 
--- src/targets.rt:25:13
 returns : tie.Need-returns Inv-loop μ-loop
 returns c = sym (first-hit (has (now (c .before .before .before .before .before .before .before .args .s)) (c .before .before .before .before .before .before .before .args .t) (c .before .before .before .before .before .before .before .args .i) (bytesOf (now (c .before .before .before .before .before .before .before .args .s)) (c .before .before .before .before .before .before .before .args .id))) (c .before .before .before .before .before .before .before .args .n) (c .before .before .before .before .loop .j) (c .before .before .before .loop-test .taken) (c .before .before .before .before .loop .inv .1) (rw (← c .before .before .field-id-of .ensures, ← c .before .same-text .ensures) (c .if1 .taken)))
 
--- src/targets.rt:30:9
 add-j : tie.Need-add-j Inv-loop μ-loop
 add-j c = search needs
 
--- src/targets.rt:22:5
 loop-less : tie.Need-loop-less Inv-loop μ-loop
 loop-less c = search needs
 
--- src/targets.rt:22:5
 loop-again : tie.Need-loop-again Inv-loop μ-loop
 loop-again c =
     let e : has (now (c .before .before .before .before .before .before .before .args .s)) (c .before .before .before .before .before .before .before .args .t) (c .before .before .before .before .before .before .before .args .i) (bytesOf (now (c .before .before .before .before .before .before .before .args .s)) (c .before .before .before .before .before .before .before .args .id)) (c .before .before .before .before .loop .j) ≡ false = rw (← c .before .before .field-id-of .ensures, ← c .before .same-text .ensures) (c .if1 .left) in
     (search needs, first-turn (has (now (c .before .before .before .before .before .before .before .args .s)) (c .before .before .before .before .before .before .before .args .t) (c .before .before .before .before .before .before .before .args .i) (bytesOf (now (c .before .before .before .before .before .before .before .args .s)) (c .before .before .before .before .before .before .before .args .id))) (c .before .before .before .before .loop .j) ∙ (rw (c .before .before .before .before .loop .inv .1, e)))
 
--- src/targets.rt:17:1
 returns-2 : tie.Need-returns-2 Inv-loop μ-loop
 returns-2 c = let e : c .before .before .before .before .args .n ≡ c .before .loop .j = omega arith in rw (e, c .before .loop .inv .1)
 

@@ -2,26 +2,16 @@ use Rattle.rules.specs.SearchLaws.{any-turn, any-hit}
 use Rattle.rules.specs.Search.{anyBelow}
 use Rattle.pack.specs.Ready.{fieldIn}
 use Rattle.pack.specs.Meaning.{packOf}
-use Rattle.pack.specs.Value.{Field}
 use Rattle.pack.specs.Notation.{_==_}
-use mathlib.Core.Bool.{_||_}
-use Prim.Native.Nat.{ℕ, zero, suc, _+_, _-_, _*_, _/_, _%_, _^_, _≤_, _<_}
+use mathlib.Core.Bool.{_||_, Bool, false}
+use Prim.Native.Nat.{ℕ, _-_, _≤_}
 use native.Mathlib.Omega.{arith}
-use native.Mathlib.Numerals.{add-one}
-use mathlib.Core.Path.{_≡_, refl, ap, _∙_, sym}
-use mathlib.Core.List.{List, [], _∷_, _++_}
-use mathlib.Core.Bool.{Bool, true, false}
+use mathlib.Core.Path.{_≡_, refl, _∙_, sym}
+use mathlib.Core.List.{List}
 use borrow.Author.Needs.{needs}
-use borrow.Author.Tests.{lt-ltb, le-ltb, le-leb, lt-leb, eq-eqb, ne-eqb, leb-true, leb-false, ltb-true, ltb-false, eqb-true, eqb-false, not-true, not-false}
 use denote.Ref.{now}
-use lib.ListN.{length, getD, take, drop, set}
-use lib.Dec.{ltb, leb, eqb}
 use Rattle.rules.proofs.trailing_zero.any_moves.Statement.{statement}
 use Rattle.rules.proofs.trailing_zero.any_moves.Tie as tie
-use Rattle.rules.proofs.trailing_zero.any_moves.Reads as reads
-use Rattle.rules.proofs.trailing_zero.any_moves.Lts as lts
-use Rattle.pack.proofs.of.field_of.Reads as field-of-reads
-use Rattle.rules.proofs.trailing_zero.moves.Reads as moves-reads
 
 -- whether field k moves what follows it
 abbrev moving : List ℕ → ℕ → ℕ → ℕ → Bool
@@ -33,37 +23,29 @@ Inv-loop s work t i p n k₀ k = (k ≤ n) × (anyBelow (moving s t i) k ≡ fal
 abbrev μ-loop : tie.MeasureT-loop
 μ-loop s work t i p n k₀ k = n - k
 
--- src/trailing_zero.rt:54:5
 loop-holds : tie.Need-loop-holds Inv-loop μ-loop
 loop-holds c = (search needs, refl)
 
--- src/trailing_zero.rt:55:13
 field-of-requires : tie.Need-field-of-requires Inv-loop μ-loop
 field-of-requires c κs = (c .before .before .before .before .pre .0, omega (arith, c .before .before .before .before .pre .1, c .loop-test .taken))
 
--- src/trailing_zero.rt:56:12
 moves-requires : tie.Need-moves-requires Inv-loop μ-loop
 moves-requires c κs = search needs
 
--- src/trailing_zero.rt:57:13
 returns : tie.Need-returns Inv-loop μ-loop
 returns c = sym (any-hit (moving (now (c .before .before .before .before .before .before .before .args .s)) (c .before .before .before .before .before .before .before .args .t) (c .before .before .before .before .before .before .before .args .i)) (c .before .before .before .before .before .before .before .args .n) (c .before .before .before .before .loop .k) (c .before .before .before .loop-test .taken) (rw (← c .before .before .field-of .ensures) (sym (c .before .moves .ensures) ∙ c .if1 .taken)))
 
--- src/trailing_zero.rt:59:9
 add-k : tie.Need-add-k Inv-loop μ-loop
 add-k c = search needs
 
--- src/trailing_zero.rt:54:5
 loop-less : tie.Need-loop-less Inv-loop μ-loop
 loop-less c = search needs
 
--- src/trailing_zero.rt:54:5
 loop-again : tie.Need-loop-again Inv-loop μ-loop
 loop-again c =
     let e : moving (now (c .before .before .before .before .before .before .before .args .s)) (c .before .before .before .before .before .before .before .args .t) (c .before .before .before .before .before .before .before .args .i) (c .before .before .before .before .loop .k) ≡ false = rw (← c .before .before .field-of .ensures) (sym (c .before .moves .ensures) ∙ c .if1 .left) in
     (search needs, any-turn (moving (now (c .before .before .before .before .before .before .before .args .s)) (c .before .before .before .before .before .before .before .args .t) (c .before .before .before .before .before .before .before .args .i)) (c .before .before .before .before .loop .k) ∙ (rw (c .before .before .before .before .loop .inv .1, e)))
 
--- src/trailing_zero.rt:49:1
 returns-2 : tie.Need-returns-2 Inv-loop μ-loop
 returns-2 c = let e : c .before .before .before .before .args .n ≡ c .before .loop .k = omega arith in rw (e, c .before .loop .inv .1)
 

@@ -1,41 +1,23 @@
 use Rattle.rules.specs.TrailingZero.{fixed, unsigned-integer, trailing-zero-target-at}
 use Rattle.pack.proofs.Positions.{field-ft-law}
 use Rattle.pack.specs.declared.cursor.OptNumber.{OptNumber}
-use Rattle.rules.proofs.Emits.{emitted-none, emitted-append, emitted-turn, fits-left, fits-right, fits-turn}
 use Rattle.rules.specs.Model.{given, field-at}
 use Rattle.rules.specs.Findings.{report-if, pgn-error}
-use Rattle.rules.specs.Emit.{Emitted, Fits}
 use Rattle.rules.specs.declared.Finding.{Finding}
-use Rattle.pack.specs.declared.records.PgnView.{PgnView}
 use Rattle.pack.specs.declared.records.FieldView.{FieldView}
-use Rattle.pack.specs.Ready.{Ready, PgnAt, PgnIs, LookupAt, LookupIs, pgnIn, fieldIn, lookupIn}
-use Rattle.pack.specs.Meaning.{optBytes, optNumber, optFloat, optReference, optRepeating, fieldMeaning, packOf}
-use Rattle.pack.specs.Items.{bytesOf}
-use Rattle.pack.specs.Value.{Bytes, FieldType, Entry, Lookup, Repeating, Reference, Field, Pgn, Pack}
-use Rattle.pack.specs.Notation.{_==_, _<ᵇ_, _≤ᵇ_, _≐_, if_then_else_, optional, concatBelow}
-use mathlib.Core.Option.{Option, none, some}
-use mathlib.Core.Bool.{not, _&&_, _||_}
-use Prim.Native.Nat.{ℕ, zero, suc, _+_, _-_, _*_, _/_, _%_, _^_, _≤_, _<_}
+use Rattle.pack.specs.Ready.{pgnIn}
+use Rattle.pack.specs.Meaning.{optNumber, fieldMeaning, packOf}
+use Rattle.pack.specs.Value.{FieldType, Field, Pgn}
+use mathlib.Core.Bool.{not, Bool, true, false}
+use Prim.Native.Nat.{ℕ, _≤_, _<_}
 use native.Mathlib.Omega.{arith}
-use native.Mathlib.Numerals.{add-one}
-use mathlib.Core.Path.{_≡_, refl, ap, _∙_, sym}
-use mathlib.Core.List.{List, [], _∷_, _++_}
-use mathlib.Core.Bool.{Bool, true, false}
+use mathlib.Core.Path.{_≡_, ap}
+use mathlib.Core.List.{List, [], _∷_}
 use borrow.Author.Needs.{needs}
-use borrow.Author.Tests.{lt-ltb, le-ltb, le-leb, lt-leb, eq-eqb, ne-eqb, leb-true, leb-false, ltb-true, ltb-false, eqb-true, eqb-false, not-true, not-false}
+use borrow.Author.Tests.{le-leb, lt-leb, not-true, not-false}
 use denote.Ref.{now}
-use lib.ListN.{length, getD, take, drop, set}
-use lib.Dec.{ltb, leb, eqb}
 use Rattle.rules.proofs.trailing_zero.trailing_zero_target_at.Statement.{statement}
 use Rattle.rules.proofs.trailing_zero.trailing_zero_target_at.Tie as tie
-use Rattle.rules.proofs.trailing_zero.trailing_zero_target_at.Reads as reads
-use Rattle.rules.proofs.trailing_zero.trailing_zero_target_at.Lts as lts
-use Rattle.pack.proofs.of.field_of.Reads as field-of-reads
-use Rattle.rules.proofs.emit.pgn_error.Reads as pgn-error-reads
-use Rattle.rules.proofs.emit.put.Reads as put-reads
-use Rattle.rules.proofs.emit.put_if.Reads as put-if-reads
-use Rattle.rules.proofs.trailing_zero.fixed.Reads as fixed-reads
-use Rattle.rules.proofs.trailing_zero.unsigned_integer.Reads as unsigned-integer-reads
 
 module _ (s : List ℕ) (fts : List FieldType) (t i k : ℕ) (p : Pgn) (j : OptNumber) where
   absent : j .given ≡ false → (F : Finding) → F ≡ pgn-error 44 2 t i k 0 → trailing-zero-target-at fts t i p k (optNumber j) ≡ F ∷ []
@@ -56,79 +38,60 @@ module _ (s : List ℕ) (fts : List FieldType) (t i k : ℕ) (p : Pgn) (j : OptN
     unfolding trailing-zero-target-at
     earlier x f is r w F y = rw (h, lt-leb k (j .value) l, ← z, x, ← is, ← w, y)
 
--- src/trailing_zero.rt:120:28
 pgn-error-requires : tie.Need-pgn-error-requires
 pgn-error-requires c κs = search needs
 
--- src/trailing_zero.rt:120:9
 put-requires : tie.Need-put-requires
 put-requires c κs = rw (absent (now (c .before .before .before .before .before .before .before .args .s)) (packOf (now (c .before .before .before .before .before .before .before .args .s)) .fieldtypes) (c .before .before .before .before .before .before .before .args .t) (c .before .before .before .before .before .before .before .args .i) (c .before .before .before .before .before .before .before .args .k) (pgnIn (packOf (now (c .before .before .before .before .before .before .before .args .s))) (c .before .before .before .before .before .before .before .args .t) (c .before .before .before .before .before .before .before .args .i)) (c .before .before .before .before .before .before .before .args .j) (not-true (c .before .before .before .before .before .before .before .args .j .given) (c .before .before .if1 .taken)) (c .pgn-error .result) (c .pgn-error .ensures)) at (c .before .before .before .before .before .before .before .pre .0)
 
--- src/trailing_zero.rt:120:9
 same-length : tie.Need-same-length
 same-length c = search needs
 
--- src/trailing_zero.rt:120:9
 returns : tie.Need-returns
 returns c = rw (absent (now (c .before .before .before .before .before .before .before .before .before .before .args .s)) (packOf (now (c .before .before .before .before .before .before .before .before .before .before .args .s)) .fieldtypes) (c .before .before .before .before .before .before .before .before .before .before .args .t) (c .before .before .before .before .before .before .before .before .before .before .args .i) (c .before .before .before .before .before .before .before .before .before .before .args .k) (pgnIn (packOf (now (c .before .before .before .before .before .before .before .before .before .before .args .s))) (c .before .before .before .before .before .before .before .before .before .before .args .t) (c .before .before .before .before .before .before .before .before .before .before .args .i)) (c .before .before .before .before .before .before .before .before .before .before .args .j) (not-true (c .before .before .before .before .before .before .before .before .before .before .args .j .given) (c .before .before .before .before .before .if1 .taken)) (c .before .before .before .pgn-error .result) (c .before .before .before .pgn-error .ensures)) (c .before .before .put .ensures)
 
--- src/trailing_zero.rt:123:28
 pgn-error-requires-2 : tie.Need-pgn-error-requires-2
 pgn-error-requires-2 c κs = search needs
 
--- src/trailing_zero.rt:123:9
 put-requires-2 : tie.Need-put-requires-2
 put-requires-2 c κs = rw (later (now (c .before .before .before .before .before .before .before .before .before .args .s)) (packOf (now (c .before .before .before .before .before .before .before .before .before .args .s)) .fieldtypes) (c .before .before .before .before .before .before .before .before .before .args .t) (c .before .before .before .before .before .before .before .before .before .args .i) (c .before .before .before .before .before .before .before .before .before .args .k) (pgnIn (packOf (now (c .before .before .before .before .before .before .before .before .before .args .s))) (c .before .before .before .before .before .before .before .before .before .args .t) (c .before .before .before .before .before .before .before .before .before .args .i)) (c .before .before .before .before .before .before .before .before .before .args .j) (not-false (c .before .before .before .before .before .before .before .before .before .args .j .given) (c .before .before .before .before .if1 .left)) (c .before .before .if2 .taken) (c .pgn-error2 .result) (c .pgn-error2 .ensures)) at (c .before .before .before .before .before .before .before .before .before .pre .0)
 
--- src/trailing_zero.rt:123:9
 same-length-2 : tie.Need-same-length-2
 same-length-2 c = search needs
 
--- src/trailing_zero.rt:123:9
 returns-2 : tie.Need-returns-2
 returns-2 c = rw (later (now (c .before .before .before .before .before .before .before .before .before .before .before .before .args .s)) (packOf (now (c .before .before .before .before .before .before .before .before .before .before .before .before .args .s)) .fieldtypes) (c .before .before .before .before .before .before .before .before .before .before .before .before .args .t) (c .before .before .before .before .before .before .before .before .before .before .before .before .args .i) (c .before .before .before .before .before .before .before .before .before .before .before .before .args .k) (pgnIn (packOf (now (c .before .before .before .before .before .before .before .before .before .before .before .before .args .s))) (c .before .before .before .before .before .before .before .before .before .before .before .before .args .t) (c .before .before .before .before .before .before .before .before .before .before .before .before .args .i)) (c .before .before .before .before .before .before .before .before .before .before .before .before .args .j) (not-false (c .before .before .before .before .before .before .before .before .before .before .before .before .args .j .given) (c .before .before .before .before .before .before .before .if1 .left)) (c .before .before .before .before .before .if2 .taken) (c .before .before .before .pgn-error2 .result) (c .before .before .before .pgn-error2 .ensures)) (c .before .before .put2 .ensures)
 
--- src/trailing_zero.rt:125:9
 fixed-requires : tie.Need-fixed-requires
 fixed-requires c κs = (c .before .before .before .before .before .before .before .pre .1, c .before .before .before .before .before .before .before .pre .2, omega (arith, c .before .before .before .before .before .before .before .pre .2 .fields, c .before .before .before .before .before .before .before .pre .3, c .if2 .left))
 
--- src/trailing_zero.rt:126:28
 pgn-error-requires-3 : tie.Need-pgn-error-requires-3
 pgn-error-requires-3 c κs = search needs
 
--- src/trailing_zero.rt:126:9
 put-requires-3 : tie.Need-put-requires-3
 put-requires-3 c κs = rw (loose (now (c .before .before .before .before .before .before .before .before .before .before .before .args .s)) (packOf (now (c .before .before .before .before .before .before .before .before .before .before .before .args .s)) .fieldtypes) (c .before .before .before .before .before .before .before .before .before .before .before .args .t) (c .before .before .before .before .before .before .before .before .before .before .before .args .i) (c .before .before .before .before .before .before .before .before .before .before .before .args .k) (pgnIn (packOf (now (c .before .before .before .before .before .before .before .before .before .before .before .args .s))) (c .before .before .before .before .before .before .before .before .before .before .before .args .t) (c .before .before .before .before .before .before .before .before .before .before .before .args .i)) (c .before .before .before .before .before .before .before .before .before .before .before .args .j) (not-false (c .before .before .before .before .before .before .before .before .before .before .before .args .j .given) (c .before .before .before .before .before .before .if1 .left)) (c .before .before .before .before .if2 .left) (c .before .before .before .fixed .result) (c .before .before .before .fixed .ensures) (not-true (c .before .before .before .fixed .result) (c .before .before .if3 .taken)) (c .pgn-error3 .result) (c .pgn-error3 .ensures)) at (c .before .before .before .before .before .before .before .before .before .before .before .pre .0)
 
--- src/trailing_zero.rt:126:9
 same-length-3 : tie.Need-same-length-3
 same-length-3 c = search needs
 
--- src/trailing_zero.rt:126:9
 returns-3 : tie.Need-returns-3
 returns-3 c = rw (loose (now (c .before .before .before .before .before .before .before .before .before .before .before .before .before .before .args .s)) (packOf (now (c .before .before .before .before .before .before .before .before .before .before .before .before .before .before .args .s)) .fieldtypes) (c .before .before .before .before .before .before .before .before .before .before .before .before .before .before .args .t) (c .before .before .before .before .before .before .before .before .before .before .before .before .before .before .args .i) (c .before .before .before .before .before .before .before .before .before .before .before .before .before .before .args .k) (pgnIn (packOf (now (c .before .before .before .before .before .before .before .before .before .before .before .before .before .before .args .s))) (c .before .before .before .before .before .before .before .before .before .before .before .before .before .before .args .t) (c .before .before .before .before .before .before .before .before .before .before .before .before .before .before .args .i)) (c .before .before .before .before .before .before .before .before .before .before .before .before .before .before .args .j) (not-false (c .before .before .before .before .before .before .before .before .before .before .before .before .before .before .args .j .given) (c .before .before .before .before .before .before .before .before .before .if1 .left)) (c .before .before .before .before .before .before .before .if2 .left) (c .before .before .before .before .before .before .fixed .result) (c .before .before .before .before .before .before .fixed .ensures) (not-true (c .before .before .before .before .before .before .fixed .result) (c .before .before .before .before .before .if3 .taken)) (c .before .before .before .pgn-error3 .result) (c .before .before .before .pgn-error3 .ensures)) (c .before .before .put3 .ensures)
 
--- src/trailing_zero.rt:128:9
 field-of-requires : tie.Need-field-of-requires
 field-of-requires c κs = (c .before .before .before .before .before .before .before .before .before .pre .1, omega (arith, c .before .before .before .before .before .before .before .before .before .pre .2 .fields, c .before .before .before .before .before .before .before .before .before .pre .3, c .before .before .if2 .left))
 
--- src/trailing_zero.rt:129:9
 unsigned-integer-requires : tie.Need-unsigned-integer-requires
 unsigned-integer-requires c κs = (c .before .before .before .before .before .before .before .before .before .before .pre .1 .ready, omega (arith, ap (λ (F : Field). F .ft) (c .field-of .ensures), field-ft-law (c .before .before .before .before .before .before .before .before .before .before .pre .1) (c .before .before .before .before .before .before .before .before .before .before .args .j .value) (omega (arith, c .before .before .before .before .before .before .before .before .before .before .pre .2 .fields, c .before .before .before .before .before .before .before .before .before .before .pre .3, c .before .before .before .if2 .left))))
 
--- src/trailing_zero.rt:130:28
 pgn-error-requires-4 : tie.Need-pgn-error-requires-4
 pgn-error-requires-4 c κs = search needs
 
--- src/trailing_zero.rt:130:5
 put-if-requires : tie.Need-put-if-requires
 put-if-requires c κs = rw (earlier (now (c .before .before .before .before .before .before .before .before .before .before .before .before .before .args .s)) (packOf (now (c .before .before .before .before .before .before .before .before .before .before .before .before .before .args .s)) .fieldtypes) (c .before .before .before .before .before .before .before .before .before .before .before .before .before .args .t) (c .before .before .before .before .before .before .before .before .before .before .before .before .before .args .i) (c .before .before .before .before .before .before .before .before .before .before .before .before .before .args .k) (pgnIn (packOf (now (c .before .before .before .before .before .before .before .before .before .before .before .before .before .args .s))) (c .before .before .before .before .before .before .before .before .before .before .before .before .before .args .t) (c .before .before .before .before .before .before .before .before .before .before .before .before .before .args .i)) (c .before .before .before .before .before .before .before .before .before .before .before .before .before .args .j) (not-false (c .before .before .before .before .before .before .before .before .before .before .before .before .before .args .j .given) (c .before .before .before .before .before .before .before .before .if1 .left)) (c .before .before .before .before .before .before .if2 .left) (c .before .before .before .before .before .fixed .result) (c .before .before .before .before .before .fixed .ensures) (not-false (c .before .before .before .before .before .fixed .result) (c .before .before .before .before .if3 .left)) (c .before .before .before .field-of .result) (c .before .before .before .field-of .ensures) (c .before .before .unsigned-integer .result) (c .before .before .unsigned-integer .ensures) (c .pgn-error4 .result) (c .pgn-error4 .ensures)) at (c .before .before .before .before .before .before .before .before .before .before .before .before .before .pre .0)
 
--- src/trailing_zero.rt:104:1
 same-length-4 : tie.Need-same-length-4
 same-length-4 c = search needs
 
--- src/trailing_zero.rt:104:1
 returns-4 : tie.Need-returns-4
 returns-4 c = rw (earlier (now (c .before .before .before .before .before .before .before .before .before .before .before .before .before .before .before .before .args .s)) (packOf (now (c .before .before .before .before .before .before .before .before .before .before .before .before .before .before .before .before .args .s)) .fieldtypes) (c .before .before .before .before .before .before .before .before .before .before .before .before .before .before .before .before .args .t) (c .before .before .before .before .before .before .before .before .before .before .before .before .before .before .before .before .args .i) (c .before .before .before .before .before .before .before .before .before .before .before .before .before .before .before .before .args .k) (pgnIn (packOf (now (c .before .before .before .before .before .before .before .before .before .before .before .before .before .before .before .before .args .s))) (c .before .before .before .before .before .before .before .before .before .before .before .before .before .before .before .before .args .t) (c .before .before .before .before .before .before .before .before .before .before .before .before .before .before .before .before .args .i)) (c .before .before .before .before .before .before .before .before .before .before .before .before .before .before .before .before .args .j) (not-false (c .before .before .before .before .before .before .before .before .before .before .before .before .before .before .before .before .args .j .given) (c .before .before .before .before .before .before .before .before .before .before .before .if1 .left)) (c .before .before .before .before .before .before .before .before .before .if2 .left) (c .before .before .before .before .before .before .before .before .fixed .result) (c .before .before .before .before .before .before .before .before .fixed .ensures) (not-false (c .before .before .before .before .before .before .before .before .fixed .result) (c .before .before .before .before .before .before .before .if3 .left)) (c .before .before .before .before .before .before .field-of .result) (c .before .before .before .before .before .before .field-of .ensures) (c .before .before .before .before .before .unsigned-integer .result) (c .before .before .before .before .before .unsigned-integer .ensures) (c .before .before .before .pgn-error4 .result) (c .before .before .before .pgn-error4 .ensures)) (c .before .before .put-if .ensures)
 

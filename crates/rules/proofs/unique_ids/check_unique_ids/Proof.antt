@@ -2,38 +2,21 @@ use Rattle.rules.proofs.Sizes.{at-pgn, fields-few, pgns-few}
 use Rattle.rules.specs.UniqueIds.{same-id-as, unique-field-ids, check-unique-ids}
 use Rattle.rules.specs.Search.{latestBelow}
 use Rattle.pack.proofs.Positions.{pgn-place-next}
-use Rattle.pack.specs.Ready.{pgnPlace}
-use Rattle.rules.proofs.Emits.{emitted-none, emitted-append, emitted-turn, fits-left, fits-right, fits-turn}
-use Rattle.rules.specs.Model.{given, field-at}
-use Rattle.rules.specs.Findings.{report-if, pgn-error}
-use Rattle.rules.specs.Emit.{Emitted, Fits}
+use Rattle.pack.specs.Ready.{pgnPlace, pgnIn}
+use Rattle.rules.proofs.Emits.{emitted-none, emitted-turn, fits-turn}
+use Rattle.rules.specs.Emit.{Emitted}
 use Rattle.rules.specs.declared.Finding.{Finding}
-use Rattle.pack.specs.declared.records.PgnView.{PgnView}
-use Rattle.pack.specs.declared.records.FieldView.{FieldView}
-use Rattle.pack.specs.Ready.{Ready, PgnAt, PgnIs, LookupAt, LookupIs, pgnIn, fieldIn, lookupIn}
-use Rattle.pack.specs.Meaning.{optBytes, optNumber, optFloat, optReference, optRepeating, fieldMeaning, packOf}
-use Rattle.pack.specs.Items.{bytesOf}
-use Rattle.pack.specs.Value.{Bytes, FieldType, Entry, Lookup, Repeating, Reference, Field, Pgn, Pack}
-use Rattle.pack.specs.Notation.{_==_, _<ᵇ_, _≤ᵇ_, _≐_, if_then_else_, optional, concatBelow}
-use mathlib.Core.Option.{Option, none, some}
-use mathlib.Core.Bool.{not, _&&_, _||_}
-use Prim.Native.Nat.{ℕ, zero, suc, _+_, _-_, _*_, _/_, _%_, _^_, _≤_, _<_}
+use Rattle.pack.specs.Meaning.{packOf}
+use Rattle.pack.specs.Notation.{_≐_, concatBelow}
+use Prim.Native.Nat.{ℕ, _-_, _≤_}
 use native.Mathlib.Omega.{arith}
-use native.Mathlib.Numerals.{add-one}
-use mathlib.Core.Path.{_≡_, refl, ap, _∙_, sym}
-use mathlib.Core.List.{List, [], _∷_, _++_}
-use mathlib.Core.Bool.{Bool, true, false}
+use mathlib.Core.Path.{_≡_, refl, _∙_}
+use mathlib.Core.List.{List, _++_}
 use borrow.Author.Needs.{needs}
-use borrow.Author.Tests.{lt-ltb, le-ltb, le-leb, lt-leb, eq-eqb, ne-eqb, leb-true, leb-false, ltb-true, ltb-false, eqb-true, eqb-false, not-true, not-false}
 use denote.Ref.{now}
-use lib.ListN.{length, getD, take, drop, set}
-use lib.Dec.{ltb, leb, eqb}
+use lib.ListN.{length}
 use Rattle.rules.proofs.unique_ids.check_unique_ids.Statement.{statement}
 use Rattle.rules.proofs.unique_ids.check_unique_ids.Tie as tie
-use Rattle.rules.proofs.unique_ids.check_unique_ids.Reads as reads
-use Rattle.rules.proofs.unique_ids.check_unique_ids.Lts as lts
-use Rattle.pack.proofs.of.pgn_of.Reads as pgn-of-reads
-use Rattle.rules.proofs.unique_ids.unique_ids_at.Reads as unique-ids-at-reads
 
 -- the findings of PGN i
 abbrev of-pgn : List ℕ → ℕ → ℕ → List Finding
@@ -45,48 +28,37 @@ Inv-loop out₀ n s work t count first m₀ p₀ i₀ out m p i = (i ≤ count) 
 abbrev μ-loop : tie.MeasureT-loop
 μ-loop out₀ n s work t count first m₀ p₀ i₀ out m p i = count - i
 
--- src/unique_ids.rt:129:5
 loop-holds : tie.Need-loop-holds Inv-loop μ-loop
 loop-holds c = (search needs, omega (arith, c .before .before .before .pre .4), refl, emitted-none (now (c .before .before .before .args .out)) (c .before .before .before .args .n))
 
--- src/unique_ids.rt:130:13
 pgn-of-requires : tie.Need-pgn-of-requires Inv-loop μ-loop
 pgn-of-requires c κs = (at-pgn (c .before .before .before .before .before .pre .1) (c .before .before .before .before .before .pre .2) (omega (arith, c .before .before .before .before .before .pre .3)) (c .loop-test .taken) (c .before .loop .inv .1))
 
--- src/unique_ids.rt:131:9
 unique-ids-at-requires : tie.Need-unique-ids-at-requires Inv-loop μ-loop
 unfolding check-unique-ids
 unique-ids-at-requires c κs = (fits-turn (of-pgn (now (c .before .before .before .before .before .before .before .args .s)) (c .before .before .before .before .before .before .before .args .t)) (c .before .before .before .before .before .before .before .args .tree .count) (c .before .before .before .loop .i) (c .before .before .loop-test .taken) (rw (← c .before .before .before .before .before .before .before .pre .3) at (c .before .before .before .before .before .before .before .pre .0)) (c .before .before .before .loop .inv .3), (at-pgn (c .before .before .before .before .before .before .before .pre .1) (c .before .before .before .before .before .before .before .pre .2) (omega (arith, c .before .before .before .before .before .before .before .pre .3)) (c .before .before .loop-test .taken) (c .before .before .before .loop .inv .1)), c .before .before .before .before .before .before .before .pre .4, c .before .pgn-of .ensures)
 
--- src/unique_ids.rt:132:13
 add-p : tie.Need-add-p Inv-loop μ-loop
 add-p c = omega (arith, fields-few (at-pgn (c .before .before .before .before .before .before .before .before .before .before .pre .1) (c .before .before .before .before .before .before .before .before .before .before .pre .2) (omega (arith, c .before .before .before .before .before .before .before .before .before .before .pre .3)) (c .before .before .before .before .before .loop-test .taken) (c .before .before .before .before .before .before .loop .inv .1)))
 
--- src/unique_ids.rt:132:21
 cast-p : tie.Need-cast-p Inv-loop μ-loop
 cast-p c = omega (arith, fields-few (at-pgn (c .before .before .before .before .before .before .before .before .before .before .before .pre .1) (c .before .before .before .before .before .before .before .before .before .before .before .pre .2) (omega (arith, c .before .before .before .before .before .before .before .before .before .before .before .pre .3)) (c .before .before .before .before .before .before .loop-test .taken) (c .before .before .before .before .before .before .before .loop .inv .1)), c .before .before .before .before .before .pgn-of .ensures .fields)
 
--- src/unique_ids.rt:132:13
 add-p-2 : tie.Need-add-p-2 Inv-loop μ-loop
 add-p-2 c = omega (arith, fields-few (at-pgn (c .before .before .before .before .before .before .before .before .before .before .before .pre .1) (c .before .before .before .before .before .before .before .before .before .before .before .pre .2) (omega (arith, c .before .before .before .before .before .before .before .before .before .before .before .pre .3)) (c .before .before .before .before .before .before .loop-test .taken) (c .before .before .before .before .before .before .before .loop .inv .1)), c .before .before .before .before .before .pgn-of .ensures .fields)
 
--- src/unique_ids.rt:133:9
 add-i : tie.Need-add-i Inv-loop μ-loop
 add-i c = omega (arith, pgns-few (at-pgn (c .before .before .before .before .before .before .before .before .before .before .before .pre .1) (c .before .before .before .before .before .before .before .before .before .before .before .pre .2) (omega (arith, c .before .before .before .before .before .before .before .before .before .before .before .pre .3)) (c .before .before .before .before .before .before .loop-test .taken) (c .before .before .before .before .before .before .before .loop .inv .1)))
 
--- src/unique_ids.rt:129:5
 loop-less : tie.Need-loop-less Inv-loop μ-loop
 loop-less c = search needs
 
--- src/unique_ids.rt:129:5
 loop-again : tie.Need-loop-again Inv-loop μ-loop
 loop-again c = (search needs, omega (arith, pgn-place-next (packOf (now (c .before .before .before .before .before .before .before .before .before .before .before .args .s))) (c .before .before .before .before .before .before .before .before .before .before .before .args .t) (c .before .before .before .before .before .before .before .loop .i), c .before .before .before .before .before .pgn-of .ensures .fields, c .before .before .before .before .before .before .before .loop .inv .1), c .before .before .before .unique-ids-at .kept .0 ∙ c .before .before .before .before .before .before .before .loop .inv .2, emitted-turn (of-pgn (now (c .before .before .before .before .before .before .before .before .before .before .before .args .s)) (c .before .before .before .before .before .before .before .before .before .before .before .args .t)) (c .before .before .before .before .before .before .before .loop .i) (c .before .before .before .before .before .before .before .loop .inv .3) (c .before .before .before .unique-ids-at .ensures))
 
--- src/unique_ids.rt:113:1
 same-length : tie.Need-same-length Inv-loop μ-loop
 same-length c = c .before .loop .inv .2
 
--- src/unique_ids.rt:113:1
 returns : tie.Need-returns Inv-loop μ-loop
 unfolding check-unique-ids
 returns c = let e : c .before .before .before .before .before .args .tree .count ≡ c .before .loop .i = omega (arith, c .before .loop .inv .0, c .loop-test .left) in rw (← c .before .before .before .before .before .pre .3, e) (c .before .loop .inv .3)

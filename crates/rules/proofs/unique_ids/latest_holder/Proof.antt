@@ -1,40 +1,21 @@
 use Rattle.rules.proofs.Sizes.{at-pgn, fields-few}
 use Rattle.rules.specs.SearchLaws.{latest-turn}
-use Rattle.rules.specs.Search.{or-else, latestBelow}
+use Rattle.rules.specs.Search.{latestBelow}
 use Rattle.pack.proofs.Positions.{pgn-room, pgn-place-next}
-use Rattle.pack.specs.Ready.{pgnPlace}
-use Rattle.rules.proofs.Emits.{emitted-none, emitted-append, emitted-turn, fits-left, fits-right, fits-turn}
-use Rattle.rules.specs.Model.{given, field-at}
-use Rattle.rules.specs.Findings.{report-if, pgn-error}
-use Rattle.rules.specs.Emit.{Emitted, Fits}
-use Rattle.rules.specs.declared.Finding.{Finding}
-use Rattle.pack.specs.declared.records.PgnView.{PgnView}
-use Rattle.pack.specs.declared.records.FieldView.{FieldView}
-use Rattle.pack.specs.Ready.{Ready, PgnAt, PgnIs, LookupAt, LookupIs, pgnIn, fieldIn, lookupIn}
-use Rattle.pack.specs.Meaning.{optBytes, optNumber, optFloat, optReference, optRepeating, fieldMeaning, packOf}
+use Rattle.pack.specs.Ready.{pgnPlace, pgnIn}
+use Rattle.pack.specs.Meaning.{optNumber, packOf}
 use Rattle.pack.specs.Items.{bytesOf}
-use Rattle.pack.specs.Value.{Bytes, FieldType, Entry, Lookup, Repeating, Reference, Field, Pgn, Pack}
-use Rattle.pack.specs.Notation.{_==_, _<ᵇ_, _≤ᵇ_, _≐_, if_then_else_, optional, concatBelow}
-use mathlib.Core.Option.{Option, none, some}
-use mathlib.Core.Bool.{not, _&&_, _||_}
-use Prim.Native.Nat.{ℕ, zero, suc, _+_, _-_, _*_, _/_, _%_, _^_, _≤_, _<_}
+use Rattle.pack.specs.Value.{Pgn}
+use Rattle.pack.specs.Notation.{_≐_}
+use mathlib.Core.Bool.{Bool}
+use Prim.Native.Nat.{ℕ, _-_, _≤_}
 use native.Mathlib.Omega.{arith}
-use native.Mathlib.Numerals.{add-one}
 use mathlib.Core.Path.{_≡_, refl, ap, _∙_, sym}
-use mathlib.Core.List.{List, [], _∷_, _++_}
-use mathlib.Core.Bool.{Bool, true, false}
+use mathlib.Core.List.{List}
 use borrow.Author.Needs.{needs}
-use borrow.Author.Tests.{lt-ltb, le-ltb, le-leb, lt-leb, eq-eqb, ne-eqb, leb-true, leb-false, ltb-true, ltb-false, eqb-true, eqb-false, not-true, not-false}
 use denote.Ref.{now}
-use lib.ListN.{length, getD, take, drop, set}
-use lib.Dec.{ltb, leb, eqb}
 use Rattle.rules.proofs.unique_ids.latest_holder.Statement.{statement}
 use Rattle.rules.proofs.unique_ids.latest_holder.Tie as tie
-use Rattle.rules.proofs.unique_ids.latest_holder.Reads as reads
-use Rattle.rules.proofs.unique_ids.latest_holder.Lts as lts
-use Rattle.pack.proofs.of.pgn_of.Reads as pgn-of-reads
-use Rattle.pack.proofs.text.same_text.Reads as same-text-reads
-use Rattle.rules.proofs.searches.latest.Reads as latest-reads
 
 -- whether PGN j has the id
 abbrev has : List ℕ → ℕ → List ℕ → ℕ → Bool
@@ -46,49 +27,38 @@ Inv-loop s work t first n id found₀ p₀ j₀ found p j = (j ≤ n) × (p ≡ 
 abbrev μ-loop : tie.MeasureT-loop
 μ-loop s work t first n id found₀ p₀ j₀ found p j = n - j
 
--- src/unique_ids.rt:38:5
 loop-holds : tie.Need-loop-holds Inv-loop μ-loop
 loop-holds c = (search needs, omega (arith, c .before .before .pre .2), refl)
 
--- src/unique_ids.rt:39:13
 pgn-of-requires : tie.Need-pgn-of-requires Inv-loop μ-loop
 pgn-of-requires c κs = (at-pgn (c .before .before .before .before .pre .0) (c .before .before .before .before .pre .1) (c .before .before .before .before .pre .3) (c .loop-test .taken) (c .before .loop .inv .1))
 
--- src/unique_ids.rt:40:13
 same-text-requires : tie.Need-same-text-requires Inv-loop μ-loop
 same-text-requires c κs = search needs
 
--- src/unique_ids.rt:41:9
 latest-requires : tie.Need-latest-requires Inv-loop μ-loop
 latest-requires c κs = search needs
 
--- src/unique_ids.rt:42:13
 add-p : tie.Need-add-p Inv-loop μ-loop
 add-p c = omega (arith, pgn-room (at-pgn (c .before .before .before .before .before .before .before .pre .0) (c .before .before .before .before .before .before .before .pre .1) (c .before .before .before .before .before .before .before .pre .3) (c .before .before .before .loop-test .taken) (c .before .before .before .before .loop .inv .1)))
 
--- src/unique_ids.rt:42:21
 cast-p : tie.Need-cast-p Inv-loop μ-loop
 cast-p c = omega (arith, fields-few (at-pgn (c .before .before .before .before .before .before .before .before .pre .0) (c .before .before .before .before .before .before .before .before .pre .1) (c .before .before .before .before .before .before .before .before .pre .3) (c .before .before .before .before .loop-test .taken) (c .before .before .before .before .before .loop .inv .1)), c .before .before .before .pgn-of .ensures .fields)
 
--- src/unique_ids.rt:42:13
 add-p-2 : tie.Need-add-p-2 Inv-loop μ-loop
 add-p-2 c = omega (arith, pgn-room (at-pgn (c .before .before .before .before .before .before .before .before .pre .0) (c .before .before .before .before .before .before .before .before .pre .1) (c .before .before .before .before .before .before .before .before .pre .3) (c .before .before .before .before .loop-test .taken) (c .before .before .before .before .before .loop .inv .1)), c .before .before .before .pgn-of .ensures .fields)
 
--- src/unique_ids.rt:43:9
 add-j : tie.Need-add-j Inv-loop μ-loop
 add-j c = search needs
 
--- src/unique_ids.rt:38:5
 loop-less : tie.Need-loop-less Inv-loop μ-loop
 loop-less c = search needs
 
--- src/unique_ids.rt:38:5
 loop-again : tie.Need-loop-again Inv-loop μ-loop
 loop-again c =
     let e : has (now (c .before .before .before .before .before .before .before .before .args .s)) (c .before .before .before .before .before .before .before .before .args .t) (bytesOf (now (c .before .before .before .before .before .before .before .before .args .s)) (c .before .before .before .before .before .before .before .before .args .id)) (c .before .before .before .before .before .loop .j) ≡ c .before .before .same-text .result = rw (← ap (λ (x : Pgn). x .id) (c .before .before .before .pgn-of .ensures .means)) (sym (c .before .before .same-text .ensures)) in
     (search needs, omega (arith, pgn-place-next (packOf (now (c .before .before .before .before .before .before .before .before .args .s))) (c .before .before .before .before .before .before .before .before .args .t) (c .before .before .before .before .before .loop .j), c .before .before .before .pgn-of .ensures .fields, c .before .before .before .before .before .loop .inv .1), c .before .latest .ensures ∙ (rw (latest-turn (has (now (c .before .before .before .before .before .before .before .before .args .s)) (c .before .before .before .before .before .before .before .before .args .t) (bytesOf (now (c .before .before .before .before .before .before .before .before .args .s)) (c .before .before .before .before .before .before .before .before .args .id))) (c .before .before .before .before .before .loop .j), e, c .before .before .before .before .before .loop .inv .2)))
 
--- src/unique_ids.rt:28:1
 returns : tie.Need-returns Inv-loop μ-loop
 returns c = let e : c .before .before .before .before .args .n ≡ c .before .loop .j = omega (arith, c .before .loop .inv .0, c .loop-test .left) in rw e (c .before .loop .inv .2)
 

@@ -1,39 +1,26 @@
 use Rattle.rules.proofs.Sizes.{fields-few}
 use Rattle.rules.specs.UniqueIds.{unique-field-ids}
 use Rattle.rules.specs.Search.{or-else, anyBelow, firstBelow}
-use Rattle.rules.proofs.Emits.{emitted-none, emitted-append, emitted-turn, fits-left, fits-right, fits-turn}
-use Rattle.rules.specs.Model.{given, field-at}
+use Rattle.rules.proofs.Emits.{emitted-none, emitted-turn, fits-turn}
+use Rattle.rules.specs.Model.{given}
 use Rattle.rules.specs.Findings.{report-if, pgn-error}
-use Rattle.rules.specs.Emit.{Emitted, Fits}
+use Rattle.rules.specs.Emit.{Emitted}
 use Rattle.rules.specs.declared.Finding.{Finding}
-use Rattle.pack.specs.declared.records.PgnView.{PgnView}
-use Rattle.pack.specs.declared.records.FieldView.{FieldView}
-use Rattle.pack.specs.Ready.{Ready, PgnAt, PgnIs, LookupAt, LookupIs, pgnIn, fieldIn, lookupIn}
-use Rattle.pack.specs.Meaning.{optBytes, optNumber, optFloat, optReference, optRepeating, fieldMeaning, packOf}
+use Rattle.pack.specs.Ready.{pgnIn, fieldIn}
+use Rattle.pack.specs.Meaning.{packOf}
 use Rattle.pack.specs.Items.{bytesOf}
-use Rattle.pack.specs.Value.{Bytes, FieldType, Entry, Lookup, Repeating, Reference, Field, Pgn, Pack}
-use Rattle.pack.specs.Notation.{_==_, _<ᵇ_, _≤ᵇ_, _≐_, if_then_else_, optional, concatBelow}
+use Rattle.pack.specs.Notation.{_≐_, optional, concatBelow}
 use mathlib.Core.Option.{Option, none, some}
-use mathlib.Core.Bool.{not, _&&_, _||_}
-use Prim.Native.Nat.{ℕ, zero, suc, _+_, _-_, _*_, _/_, _%_, _^_, _≤_, _<_}
+use mathlib.Core.Bool.{_||_, Bool, true, false}
+use Prim.Native.Nat.{ℕ, zero, suc, _-_, _≤_}
 use native.Mathlib.Omega.{arith}
-use native.Mathlib.Numerals.{add-one}
-use mathlib.Core.Path.{_≡_, refl, ap, _∙_, sym}
-use mathlib.Core.List.{List, [], _∷_, _++_}
-use mathlib.Core.Bool.{Bool, true, false}
+use mathlib.Core.Path.{_≡_, refl, _∙_}
+use mathlib.Core.List.{List}
 use borrow.Author.Needs.{needs}
-use borrow.Author.Tests.{lt-ltb, le-ltb, le-leb, lt-leb, eq-eqb, ne-eqb, leb-true, leb-false, ltb-true, ltb-false, eqb-true, eqb-false, not-true, not-false}
 use denote.Ref.{now}
-use lib.ListN.{length, getD, take, drop, set}
-use lib.Dec.{ltb, leb, eqb}
+use lib.ListN.{length}
 use Rattle.rules.proofs.unique_ids.unique_field_ids.Statement.{statement}
 use Rattle.rules.proofs.unique_ids.unique_field_ids.Tie as tie
-use Rattle.rules.proofs.unique_ids.unique_field_ids.Reads as reads
-use Rattle.rules.proofs.unique_ids.unique_field_ids.Lts as lts
-use Rattle.pack.proofs.of.field_id_of.Reads as field-id-of-reads
-use Rattle.rules.proofs.emit.pgn_error.Reads as pgn-error-reads
-use Rattle.rules.proofs.emit.put_if.Reads as put-if-reads
-use Rattle.rules.proofs.targets.first_with_id.Reads as first-with-id-reads
 
 any-first : (q : ℕ → Bool) (n : ℕ) → anyBelow q n ≡ given (firstBelow q n)
 any-first q zero = refl
@@ -62,44 +49,34 @@ Inv-loop out₀ n s work t i p fields m₀ k₀ out m k = (k ≤ fields) × (len
 abbrev μ-loop : tie.MeasureT-loop
 μ-loop out₀ n s work t i p fields m₀ k₀ out m k = fields - k
 
--- src/unique_ids.rt:84:5
 loop-holds : tie.Need-loop-holds Inv-loop μ-loop
 loop-holds c = (search needs, refl, emitted-none (now (c .before .before .before .args .out)) (c .before .before .before .args .n))
 
--- src/unique_ids.rt:85:13
 field-id-of-requires : tie.Need-field-id-of-requires Inv-loop μ-loop
 field-id-of-requires c κs = (c .before .before .before .before .before .pre .1, omega (arith, c .before .before .before .before .before .pre .2, c .loop-test .taken))
 
--- src/unique_ids.rt:86:13
 first-with-id-requires : tie.Need-first-with-id-requires Inv-loop μ-loop
 first-with-id-requires c κs = (c .before .before .before .before .before .before .pre .1, omega (arith, c .before .before .before .before .before .before .pre .2, c .before .loop-test .taken))
 
--- src/unique_ids.rt:87:37
 pgn-error-requires : tie.Need-pgn-error-requires Inv-loop μ-loop
 pgn-error-requires c κs = search needs
 
--- src/unique_ids.rt:87:9
 put-if-requires : tie.Need-put-if-requires Inv-loop μ-loop
 unfolding unique-field-ids
 put-if-requires c κs = rw (said (now (c .before .before .before .before .before .before .before .before .before .args .s)) (c .before .before .before .before .before .before .before .before .before .args .t) (c .before .before .before .before .before .before .before .before .before .args .i) (c .before .before .before .before .before .loop .k) (bytesOf (now (c .before .before .before .before .before .before .before .before .before .args .s)) (c .before .before .before .field-id-of .result)) (c .before .before .first-with-id .result .given) (c .before .before .first-with-id .result .value) (c .pgn-error .result) (c .before .before .before .field-id-of .ensures) (c .before .before .first-with-id .ensures) (c .pgn-error .ensures)) at (fits-turn (of-field (now (c .before .before .before .before .before .before .before .before .before .args .s)) (c .before .before .before .before .before .before .before .before .before .args .t) (c .before .before .before .before .before .before .before .before .before .args .i)) (c .before .before .before .before .before .before .before .before .before .args .fields) (c .before .before .before .before .before .loop .k) (c .before .before .before .before .loop-test .taken) (rw (← c .before .before .before .before .before .before .before .before .before .pre .2) at (c .before .before .before .before .before .before .before .before .before .pre .0)) (c .before .before .before .before .before .loop .inv .2))
 
--- src/unique_ids.rt:88:9
 add-k : tie.Need-add-k Inv-loop μ-loop
 add-k c = omega (arith, c .before .before .before .before .before .before .before .loop-test .taken, c .before .before .before .before .before .before .before .before .before .before .before .before .pre .2, fields-few (c .before .before .before .before .before .before .before .before .before .before .before .before .pre .1))
 
--- src/unique_ids.rt:84:5
 loop-less : tie.Need-loop-less Inv-loop μ-loop
 loop-less c = search needs
 
--- src/unique_ids.rt:84:5
 loop-again : tie.Need-loop-again Inv-loop μ-loop
 loop-again c = (search needs, c .before .before .put-if .kept .0 ∙ c .before .before .before .before .before .before .before .before .loop .inv .1, emitted-turn (of-field (now (c .before .before .before .before .before .before .before .before .before .before .before .before .args .s)) (c .before .before .before .before .before .before .before .before .before .before .before .before .args .t) (c .before .before .before .before .before .before .before .before .before .before .before .before .args .i)) (c .before .before .before .before .before .before .before .before .loop .k) (c .before .before .before .before .before .before .before .before .loop .inv .2) (rw (said (now (c .before .before .before .before .before .before .before .before .before .before .before .before .args .s)) (c .before .before .before .before .before .before .before .before .before .before .before .before .args .t) (c .before .before .before .before .before .before .before .before .before .before .before .before .args .i) (c .before .before .before .before .before .before .before .before .loop .k) (bytesOf (now (c .before .before .before .before .before .before .before .before .before .before .before .before .args .s)) (c .before .before .before .before .before .before .field-id-of .result)) (c .before .before .before .before .before .first-with-id .result .given) (c .before .before .before .before .before .first-with-id .result .value) (c .before .before .before .pgn-error .result) (c .before .before .before .before .before .before .field-id-of .ensures) (c .before .before .before .before .before .first-with-id .ensures) (c .before .before .before .pgn-error .ensures)) (c .before .before .put-if .ensures)))
 
--- src/unique_ids.rt:69:1
 same-length : tie.Need-same-length Inv-loop μ-loop
 same-length c = c .before .loop .inv .1
 
--- src/unique_ids.rt:69:1
 returns : tie.Need-returns Inv-loop μ-loop
 unfolding unique-field-ids
 returns c = let e : length (pgnIn (packOf (now (c .before .before .before .before .before .args .s))) (c .before .before .before .before .before .args .t) (c .before .before .before .before .before .args .i) .fields) ≡ c .before .loop .k = omega (arith, c .before .before .before .before .before .pre .2, c .before .loop .inv .0, c .loop-test .left) in rw e (c .before .loop .inv .2)

@@ -1,23 +1,15 @@
 use Rattle.pack.specs.Notation.{_==_, _≤ᵇ_}
-use mathlib.Core.Bool.{not, _&&_}
+use mathlib.Core.Bool.{not}
 use lib.Pow.{pow-pos}
 use native.Mathlib.Nat.{le-div-iff-mul-le, div-lt-iff-lt-mul}
 use native.Mathlib.Decide.{decLt}
-use Prim.Native.Nat.{ℕ, zero, suc, _+_, _-_, _*_, _/_, _%_, _^_, _≤_, _<_}
+use Prim.Native.Nat.{ℕ, _/_, _^_, _≤_, _<_}
 use native.Mathlib.Omega.{arith}
-use native.Mathlib.Numerals.{add-one}
-use mathlib.Core.Path.{_≡_, refl, ap, _∙_, sym}
-use mathlib.Core.List.{List, [], _∷_, _++_}
-use mathlib.Core.Bool.{Bool, true, false}
+use mathlib.Core.Path.{_≡_}
 use borrow.Author.Needs.{needs}
-use borrow.Author.Tests.{lt-ltb, le-ltb, le-leb, lt-leb, eq-eqb, ne-eqb, leb-true, leb-false, ltb-true, ltb-false, eqb-true, eqb-false, not-true, not-false}
-use denote.Ref.{now}
-use lib.ListN.{length, getD, take, drop, set}
-use lib.Dec.{ltb, leb, eqb}
+use borrow.Author.Tests.{lt-ltb, le-ltb, le-leb, lt-leb, eq-eqb, ne-eqb}
 use Rattle.rules.proofs.widths.exceeds.Statement.{statement}
 use Rattle.rules.proofs.widths.exceeds.Tie as tie
-use Rattle.rules.proofs.widths.exceeds.Reads as reads
-use Rattle.rules.proofs.widths.exceeds.Lts as lts
 
 shifted : (v p : ℕ) → 0 < p → not (v / p == 0) ≡ (p ≤ᵇ v)
 shifted v p h = go (decLt v p)
@@ -26,15 +18,12 @@ shifted v p h = go (decLt v p)
     go (yes l) = let d : v / p < 1 = div-lt-iff-lt-mul h .1 (omega arith) in let z : v / p ≡ 0 = omega (arith, d) in rw (eq-eqb (v / p) 0 z, lt-leb p v l)
     go (no l) = let d : 1 ≤ v / p = le-div-iff-mul-le h .1 (omega arith) in rw (ne-eqb (v / p) 0 (λ e. omega (arith, d)), le-leb p v (omega arith))
 
--- src/widths.rt:12:16
 shr-result : tie.Need-shr-result
 shr-result c = search needs
 
--- src/widths.rt:12:9
 returns : tie.Need-returns
 returns c = rw (lt-ltb _ _ (c .if1 .taken)) (shifted (c .before .args .value) (2 ^ c .before .args .width) (pow-pos (c .before .args .width)))
 
--- src/widths.rt:8:1
 returns-2 : tie.Need-returns-2
 returns-2 c = rw (le-ltb (c .before .args .width) 64 (c .if1 .left))
 
