@@ -2,6 +2,7 @@ ghost use mathlib.Core.Path.{_≡_};
 ghost use Rattle.rules.specs.Proprietary.{is-manufacturer-pgn};
 
 pub mod bit_length_field;
+pub mod continues;
 pub mod emit;
 pub mod floats;
 pub mod frame_length;

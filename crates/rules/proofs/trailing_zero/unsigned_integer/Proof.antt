@@ -1,3 +1,4 @@
+use Rattle.rules.proofs.Types.{integer-is}
 use Rattle.pack.specs.declared.records.FieldTypeView.{FieldTypeView}
 use Rattle.pack.specs.declared.records.FieldView.{FieldView}
 use Rattle.pack.specs.Meaning.{packOf, fieldMeaning, typeMeaning}
@@ -28,11 +29,6 @@ use Rattle.rules.proofs.trailing_zero.unsigned_integer.Lts as lts
 use Rattle.pack.proofs.of.type_of.Reads as type-of-reads
 use Rattle.rules.proofs.floats.float_eq.Reads as float-eq-reads
 use Rattle.rules.proofs.targets.integer.Reads as integer-reads
-
-integer-is : (s : List ℕ) (fts : List FieldType) (f : FieldView) (v : FieldTypeView) → typeMeaning s v ≡ fieldtype-of fts (fieldMeaning s f)
-    → integer fts (fieldMeaning s f) ≡ ((bytesOf s (v .root) ≐ NUMBER) || (bytesOf s (v .root) ≐ LOOKUP))
-unfolding integer
-integer-is s fts f v is = ap (λ (T : FieldType). (T .root-name ≐ NUMBER) || (T .root-name ≐ LOOKUP)) (sym is)
 
 -- said of the views
 said : (s : List ℕ) (fts : List FieldType) (f : FieldView) (v : FieldTypeView) → typeMeaning s v ≡ fieldtype-of fts (fieldMeaning s f)
