@@ -3,6 +3,7 @@ ghost use Rattle.rules.specs.Proprietary.{is-manufacturer-pgn};
 
 pub mod bit_length_field;
 pub mod bools;
+pub mod continues;
 pub mod dynamic_length;
 pub mod emit;
 pub mod field_count;

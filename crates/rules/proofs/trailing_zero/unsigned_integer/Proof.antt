@@ -1,3 +1,4 @@
+use Rattle.rules.proofs.Types.{integer-is}
 use Rattle.pack.specs.declared.records.FieldTypeView.{FieldTypeView}
 use Rattle.pack.specs.declared.records.FieldView.{FieldView}
 use Rattle.pack.specs.Meaning.{packOf, fieldMeaning, typeMeaning}
@@ -11,18 +12,13 @@ use mathlib.Core.Bool.{not, _&&_, _||_, Bool}
 use Rattle.pack.specs.Notation.{_==_, _≤ᵇ_, _≐_}
 use Rattle.pack.specs.Value.{FieldType}
 use Prim.Native.Nat.{ℕ}
-use mathlib.Core.Path.{_≡_, refl, ap, sym}
+use mathlib.Core.Path.{_≡_, refl}
 use mathlib.Core.List.{List}
 use borrow.Author.Needs.{needs}
 use borrow.Author.Tests.{eq-eqb, ne-eqb, not-true, not-false}
 use denote.Ref.{now}
 use Rattle.rules.proofs.trailing_zero.unsigned_integer.Statement.{statement}
 use Rattle.rules.proofs.trailing_zero.unsigned_integer.Tie as tie
-
-integer-is : (s : List ℕ) (fts : List FieldType) (f : FieldView) (v : FieldTypeView) → typeMeaning s v ≡ fieldtype-of fts (fieldMeaning s f)
-    → integer fts (fieldMeaning s f) ≡ ((bytesOf s (v .root) ≐ NUMBER) || (bytesOf s (v .root) ≐ LOOKUP))
-unfolding integer
-integer-is s fts f v is = ap (λ (T : FieldType). (T .root-name ≐ NUMBER) || (T .root-name ≐ LOOKUP)) (sym is)
 
 -- said of the views
 said : (s : List ℕ) (fts : List FieldType) (f : FieldView) (v : FieldTypeView) → typeMeaning s v ≡ fieldtype-of fts (fieldMeaning s f)

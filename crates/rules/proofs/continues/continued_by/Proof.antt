@@ -1,0 +1,76 @@
+use Rattle.rules.proofs.Sizes.{fields-few}
+use Rattle.rules.specs.Continues.{continued-by}
+use Rattle.rules.specs.SearchLaws.{count-turn}
+use Rattle.rules.specs.Search.{countBelow}
+use Rattle.rules.specs.Model.{is-text}
+use Rattle.pack.specs.Ready.{pgnIn, fieldIn}
+use Rattle.pack.specs.Meaning.{packOf}
+use Rattle.pack.specs.Items.{bytesOf}
+use Rattle.pack.specs.Value.{Field}
+use Rattle.pack.specs.Notation.{if_then_else_}
+use mathlib.Core.Bool.{Bool, true, false}
+use Prim.Native.Nat.{ℕ, _+_, _-_, _≤_}
+use native.Mathlib.Omega.{arith}
+use mathlib.Core.Path.{_≡_, refl, ap, _∙_, sym}
+use mathlib.Core.List.{List}
+use borrow.Author.Needs.{needs}
+use denote.Ref.{now}
+use lib.ListN.{length}
+use Rattle.rules.proofs.continues.continued_by.Statement.{statement}
+use Rattle.rules.proofs.continues.continued_by.Tie as tie
+
+-- whether field k continues the one with the id
+abbrev continuing : List ℕ → ℕ → ℕ → List ℕ → ℕ → Bool
+continuing s t i id k = is-text (fieldIn (packOf s) t i k .continues) id
+
+more : (b : Bool) (c k : ℕ) → c ≤ k → (if b then c + 1 else c) ≤ k + 1
+more true c k h = omega arith
+more false c k h = omega arith
+
+abbrev Inv-loop : tie.InvT-loop
+Inv-loop s work t i p n id count₀ k₀ count k = (k ≤ n) × (count ≤ k) × (count ≡ countBelow (continuing s t i (bytesOf s id)) k)
+
+abbrev μ-loop : tie.MeasureT-loop
+μ-loop s work t i p n id count₀ k₀ count k = n - k
+
+loop-holds : tie.Need-loop-holds Inv-loop μ-loop
+loop-holds c = (search needs, search needs, refl)
+
+field-of-requires : tie.Need-field-of-requires Inv-loop μ-loop
+field-of-requires c κs = (c .before .before .before .before .pre .0, omega (arith, c .before .before .before .before .pre .1, c .loop-test .taken))
+
+continues-id-requires : tie.Need-continues-id-requires Inv-loop μ-loop
+continues-id-requires c κs = search needs
+
+counted-requires : tie.Need-counted-requires Inv-loop μ-loop
+counted-requires c κs = omega (arith, c .before .before .before .loop .inv .1, c .before .before .loop-test .taken, c .before .before .before .before .before .before .pre .1, fields-few (c .before .before .before .before .before .before .pre .0))
+
+add-k : tie.Need-add-k Inv-loop μ-loop
+add-k c = omega (arith, c .before .before .before .loop-test .taken, c .before .before .before .before .before .before .before .pre .1, fields-few (c .before .before .before .before .before .before .before .pre .0))
+
+loop-less : tie.Need-loop-less Inv-loop μ-loop
+loop-less c = search needs
+
+loop-again : tie.Need-loop-again Inv-loop μ-loop
+loop-again c =
+    let e : continuing (now (c .before .before .before .before .before .before .before .args .s)) (c .before .before .before .before .before .before .before .args .t) (c .before .before .before .before .before .before .before .args .i) (bytesOf (now (c .before .before .before .before .before .before .before .args .s)) (c .before .before .before .before .before .before .before .args .id)) (c .before .before .before .before .loop .k) ≡ c .before .continues-id .result = ap (λ (F : Field). is-text (F .continues) (bytesOf (now (c .before .before .before .before .before .before .before .args .s)) (c .before .before .before .before .before .before .before .args .id))) (sym (c .before .before .field-of .ensures)) ∙ sym (c .before .continues-id .ensures) in
+    (search needs, (rw (c .counted .ensures) (more (c .before .continues-id .result) (c .before .before .before .before .loop .count) (c .before .before .before .before .loop .k) (c .before .before .before .before .loop .inv .1))), c .counted .ensures ∙ (rw (count-turn (continuing (now (c .before .before .before .before .before .before .before .args .s)) (c .before .before .before .before .before .before .before .args .t) (c .before .before .before .before .before .before .before .args .i) (bytesOf (now (c .before .before .before .before .before .before .before .args .s)) (c .before .before .before .before .before .before .before .args .id))) (c .before .before .before .before .loop .k), e, ← c .before .before .before .before .loop .inv .2)))
+
+returns : tie.Need-returns Inv-loop μ-loop
+unfolding continued-by
+returns c = let e : length (pgnIn (packOf (now (c .before .before .before .before .args .s))) (c .before .before .before .before .args .t) (c .before .before .before .before .args .i) .fields) ≡ c .before .loop .k = omega (arith, c .before .before .before .before .pre .1, c .before .loop .inv .0, c .loop-test .left) in rw e (c .before .loop .inv .2)
+
+pub continued-by-spec : {M : Type 1} → statement M
+continued-by-spec =
+    tie.close
+    (tie.spec
+    Inv-loop
+    μ-loop
+    loop-holds
+    field-of-requires
+    continues-id-requires
+    counted-requires
+    add-k
+    loop-less
+    loop-again
+    returns)

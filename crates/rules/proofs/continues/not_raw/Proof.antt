@@ -1,0 +1,56 @@
+use Rattle.rules.proofs.Types.{given-is}
+use Rattle.rules.specs.Continues.{differs-from, not-raw}
+use Rattle.rules.specs.Floats.{ZERO, ONE}
+use Rattle.rules.specs.Model.{given}
+use Rattle.pack.specs.declared.records.FieldView.{FieldView}
+use Rattle.pack.specs.Meaning.{optFloat, fieldMeaning}
+use mathlib.Core.Bool.{_||_, Bool}
+use Prim.Native.Nat.{ℕ}
+use mathlib.Core.Path.{_≡_, refl}
+use mathlib.Core.List.{List}
+use borrow.Author.Needs.{needs}
+use denote.Ref.{now}
+use Rattle.rules.proofs.continues.not_raw.Statement.{statement}
+use Rattle.rules.proofs.continues.not_raw.Tie as tie
+
+said : (s : List ℕ) (f : FieldView) (a b : Bool) → a ≡ differs-from (optFloat (f .authored .resolution)) ONE → b ≡ differs-from (optFloat (f .authored .offset)) ZERO
+    → not-raw (fieldMeaning s f) ≡ (a || b || f .flags .unit || f .links .reference .given || f .authored .matched .given || f .authored .spn .given)
+unfolding not-raw
+said s f a b x y = rw (x, y, given-is (f .links .reference .given), given-is (f .authored .matched .given), given-is (f .authored .spn .given))
+
+differs-from-requires : tie.Need-differs-from-requires
+differs-from-requires c κs = search needs
+
+returns : tie.Need-returns
+returns c = rw (said (now (c .before .before .before .args .s)) (c .before .before .before .args .f) (c .before .differs-from .result) _ (c .before .differs-from .ensures) refl, c .if1 .taken)
+
+differs-from-requires-2 : tie.Need-differs-from-requires-2
+differs-from-requires-2 c κs = search needs
+
+returns-2 : tie.Need-returns-2
+returns-2 c = rw (said (now (c .before .before .before .before .before .args .s)) (c .before .before .before .before .before .args .f) (c .before .before .before .differs-from .result) (c .before .differs-from2 .result) (c .before .before .before .differs-from .ensures) (c .before .differs-from2 .ensures), c .before .before .if1 .left, c .if2 .taken)
+
+returns-3 : tie.Need-returns-3
+returns-3 c = rw (said (now (c .before .before .before .before .before .before .args .s)) (c .before .before .before .before .before .before .args .f) (c .before .before .before .before .differs-from .result) (c .before .before .differs-from2 .result) (c .before .before .before .before .differs-from .ensures) (c .before .before .differs-from2 .ensures), c .before .before .before .if1 .left, c .before .if2 .left, c .if3 .taken)
+
+returns-4 : tie.Need-returns-4
+returns-4 c = rw (said (now (c .before .before .before .before .before .before .before .args .s)) (c .before .before .before .before .before .before .before .args .f) (c .before .before .before .before .before .differs-from .result) (c .before .before .before .differs-from2 .result) (c .before .before .before .before .before .differs-from .ensures) (c .before .before .before .differs-from2 .ensures), c .before .before .before .before .if1 .left, c .before .before .if2 .left, c .before .if3 .left, c .if4 .taken)
+
+returns-5 : tie.Need-returns-5
+returns-5 c = rw (said (now (c .before .before .before .before .before .before .before .before .args .s)) (c .before .before .before .before .before .before .before .before .args .f) (c .before .before .before .before .before .before .differs-from .result) (c .before .before .before .before .differs-from2 .result) (c .before .before .before .before .before .before .differs-from .ensures) (c .before .before .before .before .differs-from2 .ensures), c .before .before .before .before .before .if1 .left, c .before .before .before .if2 .left, c .before .before .if3 .left, c .before .if4 .left, c .if5 .taken)
+
+returns-6 : tie.Need-returns-6
+returns-6 c = rw (said (now (c .before .before .before .before .before .before .before .before .args .s)) (c .before .before .before .before .before .before .before .before .args .f) (c .before .before .before .before .before .before .differs-from .result) (c .before .before .before .before .differs-from2 .result) (c .before .before .before .before .before .before .differs-from .ensures) (c .before .before .before .before .differs-from2 .ensures), c .before .before .before .before .before .if1 .left, c .before .before .before .if2 .left, c .before .before .if3 .left, c .before .if4 .left, c .if5 .left)
+
+pub not-raw-spec : {M : Type 1} → statement M
+not-raw-spec =
+    tie.close
+    (tie.spec
+    differs-from-requires
+    returns
+    differs-from-requires-2
+    returns-2
+    returns-3
+    returns-4
+    returns-5
+    returns-6)

@@ -1,0 +1,297 @@
+// R43
+ghost use mathlib.Core.Path.{_≡_};
+ghost use mathlib.Core.Bool.{not, _||_};
+ghost use mathlib.Core.List.{[], _∷_};
+ghost use Prim.Native.Nat.{_+_, _<_};
+ghost use lib.ListN.{length};
+ghost use Rattle.pack.specs.Notation.{_==_, _<ᵇ_, _≐_, if_then_else_};
+ghost use Rattle.pack.specs.Items.{bytesOf};
+ghost use Rattle.pack.specs.Meaning.{optFloat, optRepeating, fieldMeaning, packOf};
+ghost use Rattle.pack.specs.Ready.{Ready, PgnAt, PgnIs, pgnIn, fieldIn};
+ghost use Rattle.rules.specs.Emit.{Emitted, Fits};
+ghost use Rattle.rules.specs.Findings.{report-if, pgn-error};
+ghost use Rattle.rules.specs.Floats.{float-eq, ZERO};
+ghost use Rattle.rules.specs.Texts.{NUMBER};
+ghost use Rattle.rules.specs.Model.{is-text, fieldtype-of, root-of, value-bits};
+ghost use Rattle.rules.specs.Continues.{holds-order, set-of, integer, differs-from, not-raw, continued-by, continued-at, continues-at, check-continues};
+use crate::emit::pgn_error;
+use crate::emit::put;
+use crate::emit::put_if;
+use crate::floats::ONE;
+use crate::floats::ZERO;
+use crate::floats::float_eq;
+use crate::targets::first_with_id;
+use crate::targets::integer;
+use pack::cursor::OptFloat;
+use pack::of::field_of;
+use pack::of::type_of;
+use pack::records::FieldView;
+use pack::records::OptRepeating;
+use pack::records::PgnView;
+use pack::text::Text;
+use pack::text::same_text;
+use pack::text::text_is;
+
+// The set holds the order.
+fn holds_order(set: OptRepeating, order: u32) -> bool
+    ensures { λ r. ⌜ r ≡ holds-order (optRepeating set) order ⌝ }
+{
+    if !set.given {
+        return false;
+    }
+    if order < set.set.start {
+        return false;
+    }
+    order - set.set.start < set.set.count
+}
+
+// The set of field k: 2, 1, or 0 for none.
+fn set_of(g: PgnView, k: u32) -> u32
+    requires { ⌜ k < 4294967295 ⌝ }
+    ensures { λ r. ⌜ r ≡ (if holds-order (optRepeating (g .repeating2)) (k + 1) then 2 else if holds-order (optRepeating (g .repeating1)) (k + 1) then 1 else 0) ⌝ }
+{
+    let order = k + 1;
+    if holds_order(g.repeating2, order) {
+        return 2;
+    }
+    if holds_order(g.repeating1, order) {
+        return 1;
+    }
+    0
+}
+
+// Given, and not the float.
+fn differs_from(o: OptFloat, c: u64) -> bool
+    ensures { λ r. ⌜ r ≡ differs-from (optFloat o) c ⌝ }
+{
+    if o.given {
+        return !float_eq(o.pattern, c);
+    }
+    false
+}
+
+// What a continuing field has of its own beside its bits.
+fn not_raw(s: &[u8], f: FieldView) -> bool
+    ensures { λ r. ⌜ r ≡ not-raw (fieldMeaning (now (s .entry)) f) ⌝ }
+{
+    if differs_from(f.authored.resolution, ONE) {
+        return true;
+    }
+    if differs_from(f.authored.offset, ZERO) {
+        return true;
+    }
+    if f.flags.unit {
+        return true;
+    }
+    if f.links.reference.given {
+        return true;
+    }
+    if f.authored.matched.given {
+        return true;
+    }
+    f.authored.spn.given
+}
+
+// Whether field f continues the field with that id.
+fn continues_id(s: &[u8], f: FieldView, id: Text) -> bool
+    ensures { λ r. ⌜ r ≡ is-text (fieldMeaning (now (s .entry)) f .continues) (bytesOf (now (s .entry)) id) ⌝ }
+{
+    if f.authored.continues.given {
+        return same_text(s, f.authored.continues.text, id);
+    }
+    false
+}
+
+// One more, at a hit.
+fn counted(count: u32, hit: bool) -> u32
+    requires { ⌜ count < 4294967295 ⌝ }
+    ensures { λ r. ⌜ r ≡ (if hit then count + 1 else count) ⌝ }
+{
+    if hit {
+        return count + 1;
+    }
+    count
+}
+
+// How many of n fields do.
+fn continued_by(s: &[u8], work: &[u32], t: u32, i: u32, p: usize, n: u32, id: Text) -> u32
+    requires { ⌜ PgnAt (now s) (now work) t i p × (n ≡ length (pgnIn (packOf (now s)) t i .fields)) ⌝ }
+    ensures { λ r. ⌜ r ≡ continued-by (pgnIn (packOf (now (s .entry))) t i) (bytesOf (now (s .entry)) id) ⌝ }
+{
+    let mut count: u32 = 0;
+    let mut k: u32 = 0;
+    while k < n {
+        let f = field_of(s, work, t, i, p, k);
+        let hit = continues_id(s, f, id);
+        count = counted(count, hit);
+        k += 1;
+    }
+    count
+}
+
+// Not integers: the field low and the field f that continues it.
+fn not_integers(s: &[u8], work: &[u32], low: FieldView, f: FieldView) -> bool
+    requires { ⌜ Ready (now s) (now work) × (low .ft < length (packOf (now s) .fieldtypes)) × (f .ft < length (packOf (now s) .fieldtypes)) ⌝ }
+    ensures { λ r. ⌜ r ≡ (not (integer (packOf (now (s .entry)) .fieldtypes) (fieldMeaning (now (s .entry)) low)) || not (root-of (packOf (now (s .entry)) .fieldtypes) (fieldMeaning (now (s .entry)) f) ≐ NUMBER)) ⌝ }
+{
+    let v = type_of(s, work, low.ft);
+    if !integer(s, v) {
+        return true;
+    }
+    let u = type_of(s, work, f.ft);
+    !text_is(s, u.root, b"NUMBER")
+}
+
+// A sign or an offset.
+fn not_plain(s: &[u8], work: &[u32], low: FieldView) -> bool
+    requires { ⌜ Ready (now s) (now work) × (low .ft < length (packOf (now s) .fieldtypes)) ⌝ }
+    ensures { λ r. ⌜ r ≡ (fieldtype-of (packOf (now (s .entry)) .fieldtypes) (fieldMeaning (now (s .entry)) low) .signed || not (float-eq (low .scaling .offset) ZERO)) ⌝ }
+{
+    let v = type_of(s, work, low.ft);
+    if v.signed {
+        return true;
+    }
+    !float_eq(low.scaling.offset, ZERO)
+}
+
+// Wider than 64 bits with its continuation.
+fn too_wide(s: &[u8], low: FieldView) -> bool
+    ensures { λ r. ⌜ r ≡ (64 <ᵇ value-bits (fieldMeaning (now (s .entry)) low)) ⌝ }
+{
+    if 64 < low.scaling.bits {
+        return true;
+    }
+    if low.links.continuation.given {
+        return 64 - low.scaling.bits < low.links.continuation.value;
+    }
+    false
+}
+
+// Where field k lies that continues field j: another set, no fixed distance, or not the only one.
+fn placed_at(
+    out: &mut [u32],
+    n: usize,
+    s: &[u8],
+    work: &[u32],
+    t: u32,
+    i: u32,
+    p: usize,
+    g: PgnView,
+    k: u32,
+    id: Text,
+    j: u32,
+    continued: bool,
+) -> usize
+    requires { ⌜ Fits n (if not (set-of (pgnIn (packOf (now s)) t i) j == set-of (pgnIn (packOf (now s)) t i) k) then pgn-error 43 2 t i k j ∷ [] else if not continued then pgn-error 43 3 t i k j ∷ [] else report-if (1 <ᵇ continued-by (pgnIn (packOf (now s)) t i) (bytesOf (now s) id)) (pgn-error 43 4 t i k j)) × PgnAt (now s) (now work) t i p × PgnIs (now s) (pgnIn (packOf (now s)) t i) g × (k < g .fields) × (j < k) ⌝ }
+    ensures { λ r. ⌜ Emitted (now (out .entry)) n (if not (set-of (pgnIn (packOf (now (s .entry))) t i) j == set-of (pgnIn (packOf (now (s .entry))) t i) k) then pgn-error 43 2 t i k j ∷ [] else if not continued then pgn-error 43 3 t i k j ∷ [] else report-if (1 <ᵇ continued-by (pgnIn (packOf (now (s .entry))) t i) (bytesOf (now (s .entry)) id)) (pgn-error 43 4 t i k j)) (now (out .exit)) r ⌝ }
+{
+    if set_of(g, j) != set_of(g, k) {
+        return put(out, n, pgn_error(43, 2, t, i, k, j));
+    }
+    if !continued {
+        return put(out, n, pgn_error(43, 3, t, i, k, j));
+    }
+    let count = continued_by(s, work, t, i, p, g.fields, id);
+    put_if(out, n, 1 < count, pgn_error(43, 4, t, i, k, j))
+}
+
+// Field k, which is f, continues field j, which is low.
+fn continued_at(
+    out: &mut [u32],
+    n: usize,
+    s: &[u8],
+    work: &[u32],
+    t: u32,
+    i: u32,
+    p: usize,
+    g: PgnView,
+    k: u32,
+    f: FieldView,
+    id: Text,
+    j: u32,
+) -> usize
+    requires { ⌜ Fits n (continued-at (packOf (now s) .fieldtypes) t i (pgnIn (packOf (now s)) t i) k (fieldIn (packOf (now s)) t i k) (bytesOf (now s) id) j (fieldIn (packOf (now s)) t i j)) × PgnAt (now s) (now work) t i p × PgnIs (now s) (pgnIn (packOf (now s)) t i) g × (k < g .fields) × (j < k) × (fieldMeaning (now s) f ≡ fieldIn (packOf (now s)) t i k) ⌝ }
+    ensures { λ r. ⌜ Emitted (now (out .entry)) n (continued-at (packOf (now (s .entry)) .fieldtypes) t i (pgnIn (packOf (now (s .entry))) t i) k (fieldIn (packOf (now (s .entry))) t i k) (bytesOf (now (s .entry)) id) j (fieldIn (packOf (now (s .entry))) t i j)) (now (out .exit)) r ⌝ }
+{
+    let low = field_of(s, work, t, i, p, j);
+    let words = not_integers(s, work, low, f);
+    let dressed = not_raw(s, f);
+    let scaled = not_plain(s, work, low);
+    let wide = too_wide(s, low);
+    let a = placed_at(
+        out,
+        n,
+        s,
+        work,
+        t,
+        i,
+        p,
+        g,
+        k,
+        id,
+        j,
+        low.links.continuation.given,
+    );
+    let b = put_if(
+        out,
+        a,
+        low.authored.continues.given,
+        pgn_error(43, 5, t, i, k, j),
+    );
+    let c = put_if(out, b, words, pgn_error(43, 6, t, i, k, j));
+    let d = put_if(out, c, dressed, pgn_error(43, 7, t, i, k, j));
+    let e = put_if(out, d, scaled, pgn_error(43, 8, t, i, k, j));
+    put_if(out, e, wide, pgn_error(43, 9, t, i, k, j))
+}
+
+// Field k, which is f.
+fn continues_at(
+    out: &mut [u32],
+    n: usize,
+    s: &[u8],
+    work: &[u32],
+    t: u32,
+    i: u32,
+    p: usize,
+    g: PgnView,
+    k: u32,
+    f: FieldView,
+) -> usize
+    requires { ⌜ Fits n (continues-at (packOf (now s) .fieldtypes) t i (pgnIn (packOf (now s)) t i) k (fieldIn (packOf (now s)) t i k .continues)) × PgnAt (now s) (now work) t i p × PgnIs (now s) (pgnIn (packOf (now s)) t i) g × (k < g .fields) × (fieldMeaning (now s) f ≡ fieldIn (packOf (now s)) t i k) ⌝ }
+    ensures { λ r. ⌜ Emitted (now (out .entry)) n (continues-at (packOf (now (s .entry)) .fieldtypes) t i (pgnIn (packOf (now (s .entry))) t i) k (fieldIn (packOf (now (s .entry))) t i k .continues)) (now (out .exit)) r ⌝ }
+{
+    if !f.authored.continues.given {
+        return n;
+    }
+    let id = f.authored.continues.text;
+    let j = first_with_id(s, work, t, i, p, k, id);
+    if !j.given {
+        return put(out, n, pgn_error(43, 1, t, i, k, 0));
+    }
+    continued_at(out, n, s, work, t, i, p, g, k, f, id, j.value)
+}
+
+// R43: a `continues:` field adds high bits to an earlier, plain integer field of the same record, at a fixed distance from it.
+pub fn check_continues(
+    out: &mut [u32],
+    n: usize,
+    s: &[u8],
+    work: &[u32],
+    t: u32,
+    i: u32,
+    p: usize,
+    g: PgnView,
+) -> usize
+    requires { ⌜ Fits n (check-continues (packOf (now s) .fieldtypes) t i (pgnIn (packOf (now s)) t i)) × PgnAt (now s) (now work) t i p × PgnIs (now s) (pgnIn (packOf (now s)) t i) g ⌝ }
+    ensures { λ r. ⌜ Emitted (now (out .entry)) n (check-continues (packOf (now (s .entry)) .fieldtypes) t i (pgnIn (packOf (now (s .entry))) t i)) (now (out .exit)) r ⌝ }
+{
+    let fields = g.fields;
+    let mut m = n;
+    let mut k: u32 = 0;
+    while k < fields {
+        let f = field_of(s, work, t, i, p, k);
+        m = continues_at(out, m, s, work, t, i, p, g, k, f);
+        k += 1;
+    }
+    m
+}
