@@ -37,7 +37,8 @@ pub fn bench() -> Result<(), String> {
     println!(
         "microseconds for one pack, the best of many runs (seed {SEED}); in brackets the growth from the size before,"
     );
-    println!("which is 4 where the time grows as the size; ratio: the library's load to the harness's own");
+    println!("which is 4 where the time grows as the size; ratio: the library's load to the harness's own;");
+    println!("both built for release, the work buffers not cleared between runs");
     let mut before: Vec<f64> = Vec::new();
     for size in [1, 4, 16, 64, 256, 1024].map(|kib| kib * 1024) {
         let pack = Generator::new(SEED).pack_of_size(size, 0);
