@@ -42,6 +42,12 @@ module _ (s : List ℕ) where
       let j = judged-clean c (numberAt s c) (numberAt s c .value <ᵇ k) 5 e in
       rw (j .0) (ltb-true (numberAt s c .value) k (j .1))
 
+  pub sum-fits : (c : Cursor) (o : ℕ) → sumAt o s c .next .refused ≡ 0 → o + sumAt o s c .value ≤ largest32
+  unfolding sumAt
+  sum-fits c o e =
+      let j = judged-clean c (numberAt s c) (o + numberAt s c .value ≤ᵇ largest32) 6 e in
+      rw (j .0) (leb-true (o + numberAt s c .value) largest32 (j .1))
+
   sum-free : (c : Cursor) (o : ℕ) → sumAt o s c .next .refused ≡ 0 → sumAt o s c ≡ sumAt 0 s c
   unfolding sumAt
   sum-free c o e =

@@ -8,5 +8,6 @@ pub mod Tables
 pub mod Clean
 pub mod Values
 pub mod Positions
+pub mod SetSums
 pub mod Accepted
 pub mod Bounds

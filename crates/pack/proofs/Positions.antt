@@ -208,6 +208,11 @@ module _ {s w : List ℕ} {t i p : ℕ} (a : PgnAt s w t i p) where
   unfolding fieldAt namesAt
   field-id-law j h = ap (λ (f : Field). f .id) (field-law j h)
 
+  pub field-name-law : (j : ℕ) → j < length (pgnIn (packOf s) t i .fields)
+      → bytesOf s (textAt s (textAt s (fresh (getD w (p + 1 + j) 0)) .next) .value) ≡ fieldIn (packOf s) t i j .name
+  unfolding fieldAt namesAt
+  field-name-law j h = ap (λ (f : Field). f .name) (field-law j h)
+
 -- ---- a field's field type is there: 6 refuses every other index
 
 module _ (s : List ℕ) where

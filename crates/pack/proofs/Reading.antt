@@ -364,7 +364,7 @@ module _ (s : List ℕ) where
   unfolding repeatingAt
   repeating-reader = followed number-reader (λ c. sum-reader (numberAt s c .value)) ▸ opt-number-reader ▸ mark-reader
 
-  opt-repeating-reader : Reader s (λ c. optRepeatingAt s c .next)
+  pub opt-repeating-reader : Reader s (λ c. optRepeatingAt s c .next)
   unfolding optRepeatingAt
   opt-repeating-reader = optionally repeating-reader (λ c e. rw e) (λ c e. rw e)
 

@@ -34,6 +34,15 @@ pub fn text_at(s: &[u8], at: usize) -> Text
     r.value
 }
 
+// The text behind it: a field's name.
+pub fn second_text_at(s: &[u8], at: usize) -> Text
+    ensures { λ r. ⌜ r ≡ textAt (now (s .entry)) (textAt (now (s .entry)) (fresh at) .next) .value ⌝ }
+{
+    let first = cursor_at(at).text(s);
+    let r = first.next.text(s);
+    r.value
+}
+
 pub fn type_at(s: &[u8], at: usize) -> FieldTypeView
     ensures { λ r. ⌜ r ≡ typeAt (now (s .entry)) (fresh at) .value ⌝ }
 {

@@ -12,6 +12,7 @@ use crate::at::field_at;
 use crate::at::lookup_at;
 use crate::at::number_at;
 use crate::at::pgn_at;
+use crate::at::second_text_at;
 use crate::at::text_at;
 use crate::at::type_at;
 use crate::records::EntryView;
@@ -103,4 +104,14 @@ pub fn field_id_of(s: &[u8], work: &[u32], t: u32, i: u32, p: usize, j: u32) -> 
     let q = p + 1 + j as usize;
     let at = offset(work, q);
     text_at(s, at)
+}
+
+// Its name.
+pub fn field_name_of(s: &[u8], work: &[u32], t: u32, i: u32, p: usize, j: u32) -> Text
+    requires { ⌜ PgnAt (now s) (now work) t i p × (j < length (pgnIn (packOf (now s)) t i .fields)) ⌝ }
+    ensures { λ r. ⌜ bytesOf (now (s .entry)) r ≡ fieldIn (packOf (now (s .entry))) t i j .name ⌝ }
+{
+    let q = p + 1 + j as usize;
+    let at = offset(work, q);
+    second_text_at(s, at)
 }

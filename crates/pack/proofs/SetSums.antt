@@ -1,0 +1,56 @@
+-- A set of an accepted pack ends at a number of 32 bits: 7 refuses every other.
+use Prim.Native.Nat.{ℕ, _+_, _≤_, _<_}
+use native.Mathlib.Omega.{arith}
+use mathlib.Core.Path.{_≡_, refl}
+use mathlib.Core.List.{List}
+use mathlib.Core.Bool.{Bool, true, false}
+use mathlib.Core.Option.{Option, none, some}
+use Rattle.pack.specs.Value.{Repeating}
+use Rattle.pack.specs.Items.{largest32, numberAt, markAt}
+use Rattle.pack.specs.Records.{repeatingAt, optRepeatingAt, pgnAt}
+use Rattle.pack.specs.Format.{fields, treeList, pgnStart}
+use Rattle.pack.specs.Meaning.{repeatingMeaning, optRepeating, pgnOf, packOf}
+use Rattle.pack.specs.Ready.{pgnIn, PgnAt}
+use Rattle.pack.specs.declared.cursor.Cursor.{Cursor}
+use Rattle.pack.proofs.Reading.{back, number-reader, opt-number-reader, mark-reader, opt-repeating-reader}
+use Rattle.pack.proofs.Free.{sum-fits}
+use Rattle.pack.proofs.Clean.{accepted-end, field-clean}
+use Rattle.pack.proofs.Values.{pgns-are, pgn-is}
+
+-- the set that is given there ends so
+abbrev pub SetFits : Option Repeating → Type 0
+SetFits o = (r : Repeating) → o ≡ some r → r .start + r .count ≤ largest32
+
+module _ (s : List ℕ) where
+  set-fits : (c : Cursor) → repeatingAt s c .next .refused ≡ 0 → repeatingAt s c .value .start + repeatingAt s c .value .count ≤ largest32
+  unfolding repeatingAt
+  set-fits c e =
+      let n = numberAt s c in
+      let a = sum-fits s (n .next) (n .value) (back (opt-number-reader s) _ (back (mark-reader s) _ e)) in
+      omega (arith, a)
+
+  opt-set-fits : (c : Cursor) → optRepeatingAt s c .next .refused ≡ 0 → SetFits (optRepeating (optRepeatingAt s c .value))
+  unfolding optRepeatingAt
+  opt-set-fits c e r h = go (markAt s c .value) refl
+    where
+      go : (b : Bool) → markAt s c .value ≡ b → r .start + r .count ≤ largest32
+      go true x =
+          let m = repeatingMeaning (repeatingAt s (markAt s c .next) .value) in
+          let q : some m ≡ some r = rw x at h in
+          let y : m ≡ r = cc in
+          rw (← y) (set-fits (markAt s c .next) (rw x at e))
+      go false x = let q : none ≡ some r = rw x at h in let u : _≡_ {A = ℕ} 0 1 = cc in absurd (omega arith)
+
+  pgn-sets-fit : (c : Cursor) → pgnAt s c .next .refused ≡ 0 → SetFits (optRepeating (pgnAt s c .value .repeating1)) × SetFits (optRepeating (pgnAt s c .value .repeating2))
+  unfolding pgnAt
+  pgn-sets-fit c e =
+      let b = back (number-reader s) _ e in
+      (opt-set-fits _ (back (opt-repeating-reader s) _ b), opt-set-fits _ b)
+
+module _ {s w : List ℕ} {t i p : ℕ} (a : PgnAt s w t i p) where
+  pub pgn-sets-law : SetFits (pgnIn (packOf s) t i .repeating1) × SetFits (pgnIn (packOf s) t i .repeating2)
+  unfolding fields pgnOf
+  pgn-sets-law =
+      let l : i < treeList s t .value = omega (arith, pgns-are s t (a .tree), a .pgn) in
+      let e = field-clean s (accepted-end s (a .ready .accepted) .0) t i 0 (a .tree) l (omega arith) in
+      rw (pgn-is s t i (a .tree) l) (pgn-sets-fit s (pgnStart s t i) e)
