@@ -38,3 +38,8 @@ fits-right xs ys a e = record { small = omega (arith, a .small, e .count, length
 -- at a turn of a loop of k turns
 pub fits-turn : {o o′ : List ℕ} {n m : ℕ} (f : ℕ → List Finding) (k i : ℕ) → i < k → Fits n (concatBelow f k) → Emitted o n (concatBelow f i) o′ m → Fits m (f i)
 fits-turn f k i h a e = record { small = omega (arith, a .small, e .count, length-concatBelow f k i h) }
+
+-- over an empty part of a buffer nothing is put, and the buffer is what it was
+pub empty-part : (p o : List ℕ) → length p ≡ 0 → p ++ o ≡ o
+empty-part [] o e = refl
+empty-part (x ∷ p) o e = absurd (omega arith)

@@ -1,3 +1,15 @@
+pub mod Candidates
 pub mod Emits
+pub mod Extremes
+pub mod Groups
+pub mod Marking
+pub mod MatchKeys
+pub mod PlaceCalls
+pub mod PlaceTexts
+pub mod Reports
+pub mod Sections
 pub mod Sizes
+pub mod SpnClashLaws
+pub mod SpnLaws
+pub mod Totals
 pub mod Types

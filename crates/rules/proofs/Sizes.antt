@@ -1,10 +1,12 @@
 -- Sizes of an accepted pack's lists, for the counters of loops.
 use Prim.Native.Nat.{ℕ, zero, suc, _+_, _≤_, _<_}
 use native.Mathlib.Omega.{arith}
+use mathlib.Core.Bool.{Bool, true, false}
 use mathlib.Core.List.{List}
 use lib.ListN.{length}
 use lib.Seq.{take-length}
 use mathlib.Core.Path.{_≡_}
+use Rattle.pack.specs.Notation.{if_then_else_}
 use Rattle.pack.specs.Value.{Pgn, Pack, pgns-of}
 use Rattle.pack.specs.Format.{offsets}
 use Rattle.pack.specs.Meaning.{packOf}
@@ -45,3 +47,8 @@ at-pgn r h l k e = record { ready = r; tree = h; pgn = omega arith; place = e }
 -- lookup l, at its place
 pub at-lookup : {s w : List ℕ} {n l p : ℕ} → Ready s w → n ≡ length (packOf s .lookups) → p ≡ lookupPlace (packOf s) l → l < n → LookupAt s w l p
 at-lookup r e q h = record { ready = r; lookup = omega arith; place = q }
+
+-- a count of hits among the first i
+pub hits-few : (hit : Bool) (count i : ℕ) → count ≤ i → (if hit then count + 1 else count) ≤ i + 1
+hits-few true count i h = omega arith
+hits-few false count i h = omega arith

@@ -3,17 +3,20 @@ use Prim.Native.Nat.{ℕ, suc}
 use native.Mathlib.Omega.{arith}
 use borrow.Author.Tests.{lt-ltb}
 use mathlib.Core.Bool.{Bool, true, false, _&&_}
-use mathlib.Core.List.{List, [], _∷_}
+use mathlib.Core.List.{List, [], _∷_, _++_}
 use mathlib.Core.Option.{Option, none, some}
 use mathlib.Core.Path.{_≡_, refl}
 use Rattle.pack.specs.Notation.{_==_, _≐_, if_then_else_, tab}
 use Rattle.pack.specs.Value.{Bytes, FieldType, Entry, Lookup, Repeating, Reference, Field, Pgn, Pack}
+use Rattle.pack.specs.declared.load.Refusal.the-variants.{Absent, Place}
 use Rattle.rules.specs.declared.Finding.{Finding}
+use Rattle.rules.specs.declared.place_text.Placed.the-variants.{Refused, Written}
 use Rattle.rules.specs.Check.{check}
 use Rattle.rules.specs.Computed.{computed}
 use Rattle.rules.specs.Findings.{pgn-error, group-error}
 use Rattle.rules.specs.Floats.{ONE}
 use Rattle.rules.specs.MatchValues.{resolved-at}
+use Rattle.rules.specs.PlaceCall.{named, textLeft}
 use Rattle.rules.specs.PlaceText.{place-text}
 use Rattle.rules.specs.Texts.{bytes, NUMBER, DECIMAL}
 
@@ -293,6 +296,14 @@ places : (place-text reported 0 0 0 ≡ some (bytes "fieldtypes.yaml"))
     × (place-text (in-nmea2000 (on-off 0 ∷ []) []) 2 0 0 ≡ some (bytes "lookups/ON_OFF.yaml"))
 unfolding computed
 places = (refl, refl, refl, refl, refl, refl, refl)
+
+-- 23 before 24, the length needed, and nothing written behind the text
+place-ends : (named (place-text reported 1 0 1) 0 ≡ Refused Absent)
+    × (named (place-text reported 1 0 0) 17 ≡ Refused (Place 18))
+    × (named (place-text reported 1 0 0) 18 ≡ Written 18)
+    × (textLeft (Written 15) (place-text reported 0 0 0) (tab (λ i. i) 17) ≡ bytes "fieldtypes.yaml" ++ (15 ∷ 16 ∷ []))
+unfolding computed
+place-ends = (refl, refl, refl, refl)
 
 -- a group without matches stands at the number
 matchless : check (in-nmea2000 [] (a-pgn 127488 (bytes "a") none [] ∷ a-pgn 127488 (bytes "b") none [] ∷ [])) ≡ group-error 20 2 0 127488 2 ∷ []

@@ -6,6 +6,8 @@ pub mod Digits
 pub mod Model
 pub mod Emit
 pub mod PlaceText
+pub mod Locs
+pub mod PlaceCall
 -- R02
 pub mod PgnRange
 -- R04
@@ -18,6 +20,7 @@ pub mod DynamicLength
 pub mod Proprietary
 -- R08, R22
 pub mod LookupWiring
+pub mod Marks
 -- R09
 pub mod SpecialValues
 -- R11
@@ -34,6 +37,7 @@ pub mod BitLengthField
 pub mod MinLength
 -- R20
 pub mod Variants
+pub mod MatchKeys
 -- R21
 pub mod UniqueIds
 -- R23
@@ -41,6 +45,8 @@ pub mod Fieldtypes
 -- R24
 pub mod LookupNames
 pub mod SpnNames
+pub mod Namers
+pub mod SpnClashes
 -- R42
 pub mod Spns
 -- R43
@@ -48,6 +54,7 @@ pub mod Continues
 -- R44
 pub mod TrailingZero
 pub mod Check
+pub mod Checked
 -- laws
 pub mod SearchLaws
 pub mod PlaceLaws

@@ -15,11 +15,11 @@ use Rattle.rules.specs.PlaceText.{check-prefix, pgn-loc}
 use Rattle.rules.specs.Texts.{bytes}
 
 -- the same bytes
-same-refl : (s : Bytes) → (s ≐ s) ≡ true
+pub same-refl : (s : Bytes) → (s ≐ s) ≡ true
 same-refl [] = refl
 same-refl (b ∷ s) = rw (eq-eqb b b refl) (same-refl s)
 
-same-eq : (s t : Bytes) → (s ≐ t) ≡ true → s ≡ t
+pub same-eq : (s t : Bytes) → (s ≐ t) ≡ true → s ≡ t
 same-eq [] [] e = refl
 same-eq [] (b ∷ t) e = absurd (false≢true e)
 same-eq (a ∷ s) [] e = absurd (false≢true e)

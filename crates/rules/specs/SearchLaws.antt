@@ -105,6 +105,10 @@ latest-is p (suc n) k e = go (p n) refl e (latest-is p n k)
     go true v w rec = let q : n ≡ k = Option·some-injective n k w in (omega arith, ap p (sym q) ∙ v)
     go false v w rec = let r = rec w in (omega arith, r .1)
 
+pub latest-none : (p : ℕ → Bool) (n : ℕ) → ((k : ℕ) → p k ≡ false) → latestBelow p n ≡ none
+latest-none p zero h = refl
+latest-none p (suc n) h = rw (h n) (latest-none p n h)
+
 -- ---- ranks: once they have ended, nothing follows
 
 pub ranked-ends : (least : ℕ → Option ℕ) (r d : ℕ) → ranked least r ≡ none → ranked least (r + d) ≡ none

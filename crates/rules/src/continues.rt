@@ -12,7 +12,7 @@ ghost use Rattle.rules.specs.Emit.{Emitted, Fits};
 ghost use Rattle.rules.specs.Findings.{report-if, pgn-error};
 ghost use Rattle.rules.specs.Floats.{float-eq, ZERO};
 ghost use Rattle.rules.specs.Texts.{NUMBER};
-ghost use Rattle.rules.specs.Model.{is-text, fieldtype-of, root-of, value-bits};
+ghost use Rattle.rules.specs.Model.{fieldtype-of, root-of, value-bits};
 ghost use Rattle.rules.specs.Continues.{holds-order, set-of, integer, differs-from, not-raw, continued-by, continued-at, continues-at, check-continues};
 use crate::emit::pgn_error;
 use crate::emit::put;
@@ -20,29 +20,33 @@ use crate::emit::put_if;
 use crate::floats::ONE;
 use crate::floats::ZERO;
 use crate::floats::float_eq;
+use crate::model::is_text;
+use crate::model::value_bits;
+use crate::repeating::precedes;
+use crate::searches::counted;
 use crate::targets::first_with_id;
 use crate::targets::integer;
 use pack::cursor::OptFloat;
 use pack::of::field_of;
 use pack::of::type_of;
+use pack::protocol::FieldOrder;
 use pack::records::FieldView;
 use pack::records::OptRepeating;
 use pack::records::PgnView;
 use pack::text::Text;
-use pack::text::same_text;
 use pack::text::text_is;
 
 // The set holds the order.
-fn holds_order(set: OptRepeating, order: u32) -> bool
-    ensures { λ r. ⌜ r ≡ holds-order (optRepeating set) order ⌝ }
+fn holds_order(set: OptRepeating, order: FieldOrder) -> bool
+    ensures { λ r. ⌜ r ≡ holds-order (optRepeating set) (order .0) ⌝ }
 {
     if !set.given {
         return false;
     }
-    if order < set.set.start {
+    if precedes(order, FieldOrder(set.set.start)) {
         return false;
     }
-    order - set.set.start < set.set.count
+    order.0 - set.set.start < set.set.count
 }
 
 // The set of field k: 2, 1, or 0 for none.
@@ -51,10 +55,10 @@ fn set_of(g: PgnView, k: u32) -> u32
     ensures { λ r. ⌜ r ≡ (if holds-order (optRepeating (g .repeating2)) (k + 1) then 2 else if holds-order (optRepeating (g .repeating1)) (k + 1) then 1 else 0) ⌝ }
 {
     let order = k + 1;
-    if holds_order(g.repeating2, order) {
+    if holds_order(g.repeating2, FieldOrder(order)) {
         return 2;
     }
-    if holds_order(g.repeating1, order) {
+    if holds_order(g.repeating1, FieldOrder(order)) {
         return 1;
     }
     0
@@ -92,27 +96,6 @@ fn not_raw(s: &[u8], f: FieldView) -> bool
     f.authored.spn.given
 }
 
-// Whether field f continues the field with that id.
-fn continues_id(s: &[u8], f: FieldView, id: Text) -> bool
-    ensures { λ r. ⌜ r ≡ is-text (fieldMeaning (now (s .entry)) f .continues) (bytesOf (now (s .entry)) id) ⌝ }
-{
-    if f.authored.continues.given {
-        return same_text(s, f.authored.continues.text, id);
-    }
-    false
-}
-
-// One more, at a hit.
-fn counted(count: u32, hit: bool) -> u32
-    requires { ⌜ count < 4294967295 ⌝ }
-    ensures { λ r. ⌜ r ≡ (if hit then count + 1 else count) ⌝ }
-{
-    if hit {
-        return count + 1;
-    }
-    count
-}
-
 // How many of n fields do.
 fn continued_by(s: &[u8], work: &[u32], t: u32, i: u32, p: usize, n: u32, id: Text) -> u32
     requires { ⌜ PgnAt (now s) (now work) t i p × (n ≡ length (pgnIn (packOf (now s)) t i .fields)) ⌝ }
@@ -122,7 +105,7 @@ fn continued_by(s: &[u8], work: &[u32], t: u32, i: u32, p: usize, n: u32, id: Te
     let mut k: u32 = 0;
     while k < n {
         let f = field_of(s, work, t, i, p, k);
-        let hit = continues_id(s, f, id);
+        let hit = is_text(s, f.authored.continues, id);
         count = counted(count, hit);
         k += 1;
     }
@@ -158,13 +141,7 @@ fn not_plain(s: &[u8], work: &[u32], low: FieldView) -> bool
 fn too_wide(s: &[u8], low: FieldView) -> bool
     ensures { λ r. ⌜ r ≡ (64 <ᵇ value-bits (fieldMeaning (now (s .entry)) low)) ⌝ }
 {
-    if 64 < low.scaling.bits {
-        return true;
-    }
-    if low.links.continuation.given {
-        return 64 - low.scaling.bits < low.links.continuation.value;
-    }
-    false
+    64 < value_bits(s, low)
 }
 
 // Where field k lies that continues field j: another set, no fixed distance, or not the only one.

@@ -19,17 +19,24 @@ use pack::records::PgnView;
 use pack::text::Text;
 use pack::text::text_is;
 
-// Whether there was a length source, or a field is one: dynamicFieldLength or DYNAMIC_FIELD_KEY.
+// Whether a field is a length source: dynamicFieldLength or DYNAMIC_FIELD_KEY.
+pub fn length_source(s: &[u8], dynamic: bool, root: Text) -> bool
+    ensures { λ r. ⌜ r ≡ (dynamic || (bytesOf (now (s .entry)) root ≐ DYNAMIC-FIELD-KEY)) ⌝ }
+{
+    if dynamic {
+        return true;
+    }
+    text_is(s, root, b"DYNAMIC_FIELD_KEY")
+}
+
+// Whether there was one, or the field is one.
 fn have_length_source(s: &[u8], have: bool, dynamic: bool, root: Text) -> bool
     ensures { λ r. ⌜ r ≡ (have || (dynamic || (bytesOf (now (s .entry)) root ≐ DYNAMIC-FIELD-KEY))) ⌝ }
 {
     if have {
         return true;
     }
-    if dynamic {
-        return true;
-    }
-    text_is(s, root, b"DYNAMIC_FIELD_KEY")
+    length_source(s, dynamic, root)
 }
 
 // Field k with its root's name, and whether there is a length source by then.

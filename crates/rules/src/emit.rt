@@ -1,11 +1,10 @@
-// Findings put into the buffer one after the other. A finding is stored only where its eight numbers fit, so the same code over an empty
-// part of the buffer counts.
+// Findings put into a buffer one after the other. A finding is stored only where its eight numbers fit; all are counted.
 ghost use mathlib.Core.Path.{_≡_};
 ghost use mathlib.Core.List.{[], _∷_};
 ghost use Prim.Native.Nat.{_+_, _*_, _≤_};
 ghost use lib.ListN.{length};
 ghost use lib.Seq.{sets};
-ghost use Rattle.rules.specs.Findings.{report-if, fieldtype-error, pgn-error, pgn-finding, lookup-finding};
+ghost use Rattle.rules.specs.Findings.{report-if, fieldtype-error, pgn-error, pgn-warning, group-error};
 ghost use Rattle.rules.specs.Emit.{numbers, Emitted, Fits};
 use crate::Finding;
 
@@ -76,6 +75,38 @@ pub fn pgn_error(rule: u32, cause: u32, tree: u32, item: u32, part: u32, other: 
         tree,
         item,
         part,
+        other,
+    }
+}
+
+// A warning at a PGN of a tree.
+pub fn pgn_warning(rule: u32, cause: u32, tree: u32, item: u32, part: u32, other: u32) -> Finding
+    ensures { λ r. ⌜ r ≡ pgn-warning rule cause tree item part other ⌝ }
+{
+    Finding {
+        rule,
+        severity: 0,
+        cause,
+        place: 1,
+        tree,
+        item,
+        part,
+        other,
+    }
+}
+
+// An error at the PGNs of a number.
+pub fn group_error(rule: u32, cause: u32, tree: u32, number: u32, other: u32) -> Finding
+    ensures { λ r. ⌜ r ≡ group-error rule cause tree number other ⌝ }
+{
+    Finding {
+        rule,
+        severity: 1,
+        cause,
+        place: 3,
+        tree,
+        item: number,
+        part: 0,
         other,
     }
 }

@@ -3,11 +3,15 @@ ghost use mathlib.Core.Path.{_≡_};
 ghost use Prim.Native.Nat.{_<_};
 ghost use lib.ListN.{length, getD};
 ghost use Rattle.pack.specs.Items.{bytesOf};
-ghost use Rattle.pack.specs.Meaning.{packOf};
+ghost use Rattle.pack.specs.Meaning.{optBytes, fieldMeaning, packOf};
 ghost use Rattle.pack.specs.Ready.{Ready};
 ghost use Rattle.pack.specs.Value.{noFieldType};
+ghost use Rattle.rules.specs.Model.{is-text, value-bits};
 use pack::of::type_of;
+use pack::records::FieldView;
+use pack::text::OptText;
 use pack::text::Text;
+use pack::text::same_text;
 
 // The name of the root of field type ft.
 pub fn root_of(s: &[u8], work: &[u32], ft: u32) -> Text
@@ -16,4 +20,25 @@ pub fn root_of(s: &[u8], work: &[u32], ft: u32) -> Text
 {
     let v = type_of(s, work, ft);
     v.root
+}
+
+// Whether a text is given and is that one.
+pub fn is_text(s: &[u8], o: OptText, t: Text) -> bool
+    ensures { λ r. ⌜ r ≡ is-text (optBytes (now (s .entry)) o) (bytesOf (now (s .entry)) t) ⌝ }
+{
+    if o.given {
+        return same_text(s, o.text, t);
+    }
+    false
+}
+
+// "its own bits plus any bits a later field continues it with"
+pub fn value_bits(s: &[u8], f: FieldView) -> u64
+    ensures { λ r. ⌜ r ≡ value-bits (fieldMeaning (now (s .entry)) f) ⌝ }
+{
+    let own = f.scaling.bits as u64;
+    if f.links.continuation.given {
+        return own + f.links.continuation.value as u64;
+    }
+    own
 }

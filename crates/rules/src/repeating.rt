@@ -16,7 +16,7 @@ use pack::records::OptRepeating;
 use pack::records::PgnView;
 use pack::records::RepeatingView;
 
-fn precedes(a: FieldOrder, b: FieldOrder) -> bool
+pub fn precedes(a: FieldOrder, b: FieldOrder) -> bool
     ensures { λ r. ⌜ r ≡ (a .0 <ᵇ b .0) ⌝ }
 {
     a.0 < b.0

@@ -1,9 +1,21 @@
 // Answers of searches that go on to the end.
 ghost use mathlib.Core.Path.{_≡_};
-ghost use Rattle.pack.specs.Notation.{optional};
+ghost use Prim.Native.Nat.{_+_, _<_};
+ghost use Rattle.pack.specs.Notation.{if_then_else_, optional};
 ghost use Rattle.pack.specs.Meaning.{optNumber};
-ghost use Rattle.rules.specs.Search.{or-else};
+ghost use Rattle.rules.specs.Search.{or-else, larger, smaller};
 use pack::cursor::OptNumber;
+
+// One more, at a hit.
+pub fn counted(count: u32, hit: bool) -> u32
+    requires { ⌜ count < 4294967295 ⌝ }
+    ensures { λ r. ⌜ r ≡ (if hit then count + 1 else count) ⌝ }
+{
+    if hit {
+        return count + 1;
+    }
+    count
+}
 
 // The latest hit, when index j is tried.
 pub fn latest(hit: bool, j: u32, earlier: OptNumber) -> OptNumber
@@ -16,4 +28,48 @@ pub fn latest(hit: bool, j: u32, earlier: OptNumber) -> OptNumber
         };
     }
     earlier
+}
+
+// The largest so far, when v is tried.
+pub fn larger(found: OptNumber, hit: bool, v: u32) -> OptNumber
+    ensures { λ r. ⌜ optNumber r ≡ larger (optNumber found) (optional hit v) ⌝ }
+{
+    if !hit {
+        return found;
+    }
+    if found.given {
+        if v <= found.value {
+            return found;
+        }
+        return OptNumber {
+            given: true,
+            value: v,
+        };
+    }
+    OptNumber {
+        given: true,
+        value: v,
+    }
+}
+
+// The smallest so far, when v is tried.
+pub fn smaller(found: OptNumber, hit: bool, v: u32) -> OptNumber
+    ensures { λ r. ⌜ optNumber r ≡ smaller (optNumber found) (optional hit v) ⌝ }
+{
+    if !hit {
+        return found;
+    }
+    if found.given {
+        if found.value <= v {
+            return found;
+        }
+        return OptNumber {
+            given: true,
+            value: v,
+        };
+    }
+    OptNumber {
+        given: true,
+        value: v,
+    }
 }

@@ -15,22 +15,24 @@ use crate::emit::put_if;
 use crate::floats::ONE;
 use crate::floats::ZERO;
 use crate::floats::float_eq;
+use crate::repeating::precedes;
 use crate::targets::integer;
 use crate::targets::target;
 use pack::cursor::OptNumber;
 use pack::of::field_of;
 use pack::of::type_of;
+use pack::protocol::FieldOrder;
 use pack::records::FieldView;
 use pack::records::OptRepeating;
 use pack::records::PgnView;
 use pack::text::text_is;
 
 // The set, if any, starts behind the order.
-fn starts_behind(set: OptRepeating, order: u32) -> bool
-    ensures { λ r. ⌜ r ≡ starts-behind (optRepeating set) order ⌝ }
+fn starts_behind(set: OptRepeating, order: FieldOrder) -> bool
+    ensures { λ r. ⌜ r ≡ starts-behind (optRepeating set) (order .0) ⌝ }
 {
     if set.given {
-        return order < set.set.start;
+        return precedes(order, FieldOrder(set.set.start));
     }
     true
 }
@@ -70,8 +72,8 @@ fn fixed(s: &[u8], work: &[u32], t: u32, i: u32, p: usize, g: PgnView, j: u32) -
         return false;
     }
     let order = j + 1;
-    if starts_behind(g.repeating1, order) {
-        return starts_behind(g.repeating2, order);
+    if starts_behind(g.repeating1, FieldOrder(order)) {
+        return starts_behind(g.repeating2, FieldOrder(order));
     }
     false
 }

@@ -1,4 +1,4 @@
-use Rattle.rules.proofs.Sizes.{fields-few}
+use Rattle.rules.proofs.Sizes.{fields-few, hits-few}
 use Rattle.rules.specs.Continues.{continued-by}
 use Rattle.rules.specs.SearchLaws.{count-turn}
 use Rattle.rules.specs.Search.{countBelow}
@@ -7,9 +7,8 @@ use Rattle.pack.specs.Ready.{pgnIn, fieldIn}
 use Rattle.pack.specs.Meaning.{packOf}
 use Rattle.pack.specs.Items.{bytesOf}
 use Rattle.pack.specs.Value.{Field}
-use Rattle.pack.specs.Notation.{if_then_else_}
-use mathlib.Core.Bool.{Bool, true, false}
-use Prim.Native.Nat.{ℕ, _+_, _-_, _≤_}
+use mathlib.Core.Bool.{Bool}
+use Prim.Native.Nat.{ℕ, _-_, _≤_}
 use native.Mathlib.Omega.{arith}
 use mathlib.Core.Path.{_≡_, refl, ap, _∙_, sym}
 use mathlib.Core.List.{List}
@@ -23,10 +22,6 @@ use Rattle.rules.proofs.continues.continued_by.Tie as tie
 abbrev continuing : List ℕ → ℕ → ℕ → List ℕ → ℕ → Bool
 continuing s t i id k = is-text (fieldIn (packOf s) t i k .continues) id
 
-more : (b : Bool) (c k : ℕ) → c ≤ k → (if b then c + 1 else c) ≤ k + 1
-more true c k h = omega arith
-more false c k h = omega arith
-
 abbrev Inv-loop : tie.InvT-loop
 Inv-loop s work t i p n id count₀ k₀ count k = (k ≤ n) × (count ≤ k) × (count ≡ countBelow (continuing s t i (bytesOf s id)) k)
 
@@ -39,8 +34,8 @@ loop-holds c = (search needs, search needs, refl)
 field-of-requires : tie.Need-field-of-requires Inv-loop μ-loop
 field-of-requires c κs = (c .before .before .before .before .pre .0, omega (arith, c .before .before .before .before .pre .1, c .loop-test .taken))
 
-continues-id-requires : tie.Need-continues-id-requires Inv-loop μ-loop
-continues-id-requires c κs = search needs
+is-text-requires : tie.Need-is-text-requires Inv-loop μ-loop
+is-text-requires c κs = search needs
 
 counted-requires : tie.Need-counted-requires Inv-loop μ-loop
 counted-requires c κs = omega (arith, c .before .before .before .loop .inv .1, c .before .before .loop-test .taken, c .before .before .before .before .before .before .pre .1, fields-few (c .before .before .before .before .before .before .pre .0))
@@ -53,8 +48,8 @@ loop-less c = search needs
 
 loop-again : tie.Need-loop-again Inv-loop μ-loop
 loop-again c =
-    let e : continuing (now (c .before .before .before .before .before .before .before .args .s)) (c .before .before .before .before .before .before .before .args .t) (c .before .before .before .before .before .before .before .args .i) (bytesOf (now (c .before .before .before .before .before .before .before .args .s)) (c .before .before .before .before .before .before .before .args .id)) (c .before .before .before .before .loop .k) ≡ c .before .continues-id .result = ap (λ (F : Field). is-text (F .continues) (bytesOf (now (c .before .before .before .before .before .before .before .args .s)) (c .before .before .before .before .before .before .before .args .id))) (sym (c .before .before .field-of .ensures)) ∙ sym (c .before .continues-id .ensures) in
-    (search needs, (rw (c .counted .ensures) (more (c .before .continues-id .result) (c .before .before .before .before .loop .count) (c .before .before .before .before .loop .k) (c .before .before .before .before .loop .inv .1))), c .counted .ensures ∙ (rw (count-turn (continuing (now (c .before .before .before .before .before .before .before .args .s)) (c .before .before .before .before .before .before .before .args .t) (c .before .before .before .before .before .before .before .args .i) (bytesOf (now (c .before .before .before .before .before .before .before .args .s)) (c .before .before .before .before .before .before .before .args .id))) (c .before .before .before .before .loop .k), e, ← c .before .before .before .before .loop .inv .2)))
+    let e : continuing (now (c .before .before .before .before .before .before .before .args .s)) (c .before .before .before .before .before .before .before .args .t) (c .before .before .before .before .before .before .before .args .i) (bytesOf (now (c .before .before .before .before .before .before .before .args .s)) (c .before .before .before .before .before .before .before .args .id)) (c .before .before .before .before .loop .k) ≡ c .before .is-text .result = ap (λ (F : Field). is-text (F .continues) (bytesOf (now (c .before .before .before .before .before .before .before .args .s)) (c .before .before .before .before .before .before .before .args .id))) (sym (c .before .before .field-of .ensures)) ∙ sym (c .before .is-text .ensures) in
+    (search needs, (rw (c .counted .ensures) (hits-few (c .before .is-text .result) (c .before .before .before .before .loop .count) (c .before .before .before .before .loop .k) (c .before .before .before .before .loop .inv .1))), c .counted .ensures ∙ (rw (count-turn (continuing (now (c .before .before .before .before .before .before .before .args .s)) (c .before .before .before .before .before .before .before .args .t) (c .before .before .before .before .before .before .before .args .i) (bytesOf (now (c .before .before .before .before .before .before .before .args .s)) (c .before .before .before .before .before .before .before .args .id))) (c .before .before .before .before .loop .k), e, ← c .before .before .before .before .loop .inv .2)))
 
 returns : tie.Need-returns Inv-loop μ-loop
 unfolding continued-by
@@ -68,7 +63,7 @@ continued-by-spec =
     μ-loop
     loop-holds
     field-of-requires
-    continues-id-requires
+    is-text-requires
     counted-requires
     add-k
     loop-less

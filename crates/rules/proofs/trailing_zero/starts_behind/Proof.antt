@@ -1,11 +1,15 @@
+use borrow.Author.Needs.{needs}
 use Rattle.rules.proofs.trailing_zero.starts_behind.Statement.{statement}
 use Rattle.rules.proofs.trailing_zero.starts_behind.Tie as tie
 
+precedes-requires : tie.Need-precedes-requires
+precedes-requires c κs = search needs
+
 returns : tie.Need-returns
-returns c = rw (c .before .if1 .taken)
+returns c = rw (c .before .if1 .taken) (c .precedes .ensures)
 
 returns-2 : tie.Need-returns-2
 returns-2 c = rw (c .if1 .left)
 
 pub starts-behind-spec : {M : Type 1} → statement M
-starts-behind-spec = tie.close (tie.spec returns returns-2)
+starts-behind-spec = tie.close (tie.spec precedes-requires returns returns-2)

@@ -1,0 +1,22 @@
+-- R20's groups, said of the views, and tests that come after them.
+use Prim.Native.Nat.{ℕ}
+use mathlib.Core.Path.{_≡_, sym, ap}
+use mathlib.Core.Bool.{Bool, true, false, not, _&&_}
+use mathlib.Core.List.{List}
+use Rattle.pack.specs.Notation.{_==_}
+use Rattle.pack.specs.Value.{Pgn, pgns-of}
+use Rattle.pack.specs.Meaning.{packOf}
+use Rattle.pack.specs.Ready.{PgnIs, pgnIn}
+use Rattle.pack.specs.declared.records.PgnView.{PgnView}
+use Rattle.rules.specs.Variants.{in-group}
+
+pub in-group-is : (s : List ℕ) (t number i : ℕ) (g : PgnView) → PgnIs s (pgnIn (packOf s) t i) g
+    → in-group t (pgns-of (packOf s) t) number i ≡ (not (g .flags .fallback) && (g .pgn == number))
+unfolding in-group
+in-group-is s t number i g is = ap (λ (p : Pgn). not (p .fallback) && (p .pgn == number)) (sym (is .means))
+
+pub outside : (a b : Bool) → a ≡ false → false ≡ (a && b)
+outside a b e = rw e
+
+pub within : (a b r : Bool) → a ≡ true → r ≡ b → r ≡ (a && b)
+within a b r e f = rw (e, f)

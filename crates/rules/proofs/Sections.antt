@@ -1,0 +1,17 @@
+-- A tree's section of the index.
+use Prim.Native.Nat.{ℕ, _<_}
+use mathlib.Core.Path.{_≡_, ap, _∙_}
+use lib.ListN.{length}
+use Rattle.pack.specs.Value.{Pack, pgns-of}
+use Rattle.pack.specs.Ready.{treePlace}
+use Rattle.pack.specs.Trees.{protocolOf, sectionOf}
+use Rattle.pack.specs.declared.load.Index.{Index}
+use Rattle.pack.specs.declared.load.Section.{Section}
+use Rattle.pack.specs.declared.protocol.Protocol.{Protocol}
+use Rattle.pack.proofs.Accepted.{IndexIs}
+
+pub at-tree : (P : Pack) (index : Index) → IndexIs P index → (t : ℕ) → t < 3 → (p : Protocol) (S : Section) → p ≡ protocolOf t → S ≡ sectionOf p index
+    → (S .count ≡ length (pgns-of P t)) × (S .place ≡ treePlace P t)
+at-tree P index is t h p S x y =
+    let e : S ≡ sectionOf (protocolOf t) index = y ∙ ap (λ (q : Protocol). sectionOf q index) x in
+    (ap (λ (T : Section). T .count) e ∙ is .trees t h, ap (λ (T : Section). T .place) e ∙ is .trees-place t h)

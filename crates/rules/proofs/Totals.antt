@@ -1,0 +1,46 @@
+-- A pack has few findings: what the counters of `check` ask for.
+use Prim.Native.Nat.{ℕ, zero, suc, _+_, _*_, _≤_}
+use native.Mathlib.Omega.{arith}
+use native.Mathlib.Nat.{mul-le-mul}
+use mathlib.Core.Path.{_≡_}
+use mathlib.Core.List.{List}
+use lib.ListN.{length, getD}
+use Rattle.pack.specs.Value.{Pgn, Pack, pgns-of, noPgn}
+use Rattle.pack.specs.Format.{offsets}
+use Rattle.pack.specs.Meaning.{packOf}
+use Rattle.pack.specs.Ready.{Ready, lookupIn, lookupPlace, treePlace, pgnRecordsBelow}
+use Rattle.pack.proofs.Bounds.{records-bound}
+use Rattle.pack.proofs.Values.{tree-place}
+use Rattle.rules.specs.Bound.{most-findings, check-most}
+use Rattle.rules.specs.Check.{check}
+use Rattle.rules.specs.Emit.{Fits}
+use Rattle.rules.specs.Search.{sumBelow}
+
+lookups-total : (P : Pack) (n : ℕ) → lookupPlace P n ≡ length (P .fieldtypes) + n + sumBelow (λ l. length (lookupIn P l .entries)) n
+lookups-total P zero = omega arith
+lookups-total P (suc n) = omega (arith, lookups-total P n)
+
+pgns-total : (ps : List Pgn) (n : ℕ) → pgnRecordsBelow ps n ≡ n + sumBelow (λ i. length (getD ps i noPgn .fields)) n
+pgns-total ps zero = omega arith
+pgns-total ps (suc n) = omega (arith, pgns-total ps n)
+
+all-records : (s w : List ℕ) → Ready s w → treePlace (packOf s) 3 ≤ 1048576
+unfolding offsets
+all-records s w r = omega (arith, tree-place s 3 (omega arith), records-bound s w r)
+
+square-few : (n : ℕ) → n ≤ 1048576 → n * (n + 15) ≤ 1099527356416
+square-few n h = let k : n + 15 ≤ 1048591 = omega arith in mul-le-mul h k
+
+pub findings-few : (s w : List ℕ) → Ready s w → Fits 0 (check (packOf s))
+unfolding most-findings
+findings-few s w r =
+    let P = packOf s in
+    let a = all-records s w r in
+    let l = lookups-total P (length (P .lookups)) in
+    let p0 = pgns-total (pgns-of P 0) (length (pgns-of P 0)) in
+    let p1 = pgns-total (pgns-of P 1) (length (pgns-of P 1)) in
+    let p2 = pgns-total (pgns-of P 2) (length (pgns-of P 2)) in
+    let q0 = square-few (length (pgns-of P 0)) (omega arith) in
+    let q1 = square-few (length (pgns-of P 1)) (omega arith) in
+    let q2 = square-few (length (pgns-of P 2)) (omega arith) in
+    record { small = omega (arith, check-most P) }

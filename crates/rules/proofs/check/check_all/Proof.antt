@@ -1,0 +1,73 @@
+-- the whole list is as long as its parts
+use lib.ListN.{length-append, length}
+use Rattle.pack.specs.Value.{Pack}
+use Rattle.rules.specs.Spns.{check-spns}
+use Rattle.rules.specs.LookupNames.{lookup-names-of, check-lookup-names}
+use Rattle.rules.specs.SpnNames.{check-spn-names}
+use Rattle.rules.specs.LookupWiring.{check-lookup-wiring}
+use Rattle.rules.specs.Fieldtypes.{check-fieldtypes}
+use Rattle.rules.specs.Check.{check-tree, check-tree-continues, check}
+use native.Mathlib.Omega.{arith}
+use Prim.Native.Nat.{_+_}
+use mathlib.Core.Path.{_≡_, _∙_}
+use mathlib.Core.List.{_++_}
+use denote.Ref.{now}
+use Rattle.pack.specs.Notation.{concatBelow}
+use Rattle.pack.specs.Ready.{lookupIn}
+use Rattle.pack.specs.Meaning.{packOf}
+use Rattle.rules.proofs.Emits.{emitted-append}
+use Rattle.rules.proofs.check.check_all.Statement.{statement}
+use Rattle.rules.proofs.check.check_all.Tie as tie
+
+parts : (P : Pack) → length (check P) ≡ length (check-fieldtypes (P .fieldtypes)) + length (check-lookup-wiring P) + length (check-spn-names (P .pgns-j1939)) + length (concatBelow (λ l. lookup-names-of l (lookupIn P l)) (length (P .lookups))) + length (concatBelow (check-tree P) 3) + length (check-spns P) + length (concatBelow (check-tree-continues P) 3)
+unfolding check check-lookup-names
+parts P =
+    let names = length-append (check-spn-names (P .pgns-j1939)) (concatBelow (λ l. lookup-names-of l (lookupIn P l)) (length (P .lookups))) in
+    let a = length-append (check-fieldtypes (P .fieldtypes)) (check-lookup-wiring P) in
+    let b = length-append (check-fieldtypes (P .fieldtypes) ++ check-lookup-wiring P) (check-lookup-names P) in
+    let c = length-append (check-fieldtypes (P .fieldtypes) ++ check-lookup-wiring P ++ check-lookup-names P) (concatBelow (check-tree P) 3) in
+    let d = length-append (check-fieldtypes (P .fieldtypes) ++ check-lookup-wiring P ++ check-lookup-names P ++ concatBelow (check-tree P) 3) (check-spns P) in
+    let e = length-append (check-fieldtypes (P .fieldtypes) ++ check-lookup-wiring P ++ check-lookup-names P ++ concatBelow (check-tree P) 3 ++ check-spns P) (concatBelow (check-tree-continues P) 3) in
+    omega arith
+
+check-fieldtypes-requires : tie.Need-check-fieldtypes-requires
+check-fieldtypes-requires c κs = (record { small = omega (arith, c .before .before .before .before .pre .0 .small, parts (packOf (now (c .before .before .before .before .args .s)))) }, c .before .before .before .before .pre .1, c .before .before .before .before .pre .2 .types)
+
+check-lookup-wiring-requires : tie.Need-check-lookup-wiring-requires
+check-lookup-wiring-requires c κs = (record { small = omega (arith, c .before .before .before .before .before .before .before .before .pre .0 .small, parts (packOf (now (c .before .before .before .before .before .before .before .before .args .s))), c .before .before .before .check-fieldtypes .ensures .count) }, c .before .before .before .before .before .before .before .before .pre .1, c .before .before .before .before .before .before .before .before .pre .2)
+
+check-spn-names-requires : tie.Need-check-spn-names-requires
+check-spn-names-requires c κs = (record { small = omega (arith, c .before .before .before .before .before .before .before .before .before .before .before .before .pre .0 .small, parts (packOf (now (c .before .before .before .before .before .before .before .before .before .before .before .before .args .s))), c .before .before .before .before .before .before .before .check-fieldtypes .ensures .count, c .before .before .before .check-lookup-wiring .ensures .count) }, c .before .before .before .before .before .before .before .before .before .before .before .before .pre .1, c .before .before .before .before .before .before .before .before .before .before .before .before .pre .2 .trees 1 (omega arith), c .before .before .before .before .before .before .before .before .before .before .before .before .pre .2 .trees-place 1 (omega arith))
+
+check-lookup-names-requires : tie.Need-check-lookup-names-requires
+check-lookup-names-requires c κs = (record { small = omega (arith, c .before .before .before .before .before .before .before .before .before .before .before .before .before .before .before .before .pre .0 .small, parts (packOf (now (c .before .before .before .before .before .before .before .before .before .before .before .before .before .before .before .before .args .s))), c .before .before .before .before .before .before .before .before .before .before .before .check-fieldtypes .ensures .count, c .before .before .before .before .before .before .before .check-lookup-wiring .ensures .count, c .before .before .before .check-spn-names .ensures .count) }, c .before .before .before .before .before .before .before .before .before .before .before .before .before .before .before .before .pre .1, c .before .before .before .before .before .before .before .before .before .before .before .before .before .before .before .before .pre .2 .lookups, c .before .before .before .before .before .before .before .before .before .before .before .before .before .before .before .before .pre .2 .lookups-place)
+
+check-trees-requires : tie.Need-check-trees-requires
+check-trees-requires c κs = (record { small = omega (arith, c .before .before .before .before .before .before .before .before .before .before .before .before .before .before .before .before .before .before .before .before .pre .0 .small, parts (packOf (now (c .before .before .before .before .before .before .before .before .before .before .before .before .before .before .before .before .before .before .before .before .args .s))), c .before .before .before .before .before .before .before .before .before .before .before .before .before .before .before .check-fieldtypes .ensures .count, c .before .before .before .before .before .before .before .before .before .before .before .check-lookup-wiring .ensures .count, c .before .before .before .before .before .before .before .check-spn-names .ensures .count, c .before .before .before .check-lookup-names .ensures .count) }, c .before .before .before .before .before .before .before .before .before .before .before .before .before .before .before .before .before .before .before .before .pre .1, c .before .before .before .before .before .before .before .before .before .before .before .before .before .before .before .before .before .before .before .before .pre .2)
+
+check-spns-requires : tie.Need-check-spns-requires
+check-spns-requires c κs = (record { small = omega (arith, c .before .before .before .before .before .before .before .before .before .before .before .before .before .before .before .before .before .before .before .before .before .before .before .before .pre .0 .small, parts (packOf (now (c .before .before .before .before .before .before .before .before .before .before .before .before .before .before .before .before .before .before .before .before .before .before .before .before .args .s))), c .before .before .before .before .before .before .before .before .before .before .before .before .before .before .before .before .before .before .before .check-fieldtypes .ensures .count, c .before .before .before .before .before .before .before .before .before .before .before .before .before .before .before .check-lookup-wiring .ensures .count, c .before .before .before .before .before .before .before .before .before .before .before .check-spn-names .ensures .count, c .before .before .before .before .before .before .before .check-lookup-names .ensures .count, c .before .before .before .check-trees .ensures .count) }, c .before .before .before .before .before .before .before .before .before .before .before .before .before .before .before .before .before .before .before .before .before .before .before .before .pre .1, c .before .before .before .before .before .before .before .before .before .before .before .before .before .before .before .before .before .before .before .before .before .before .before .before .pre .2)
+
+check-trees-continues-requires : tie.Need-check-trees-continues-requires
+check-trees-continues-requires c κs = (record { small = omega (arith, c .before .before .before .before .before .before .before .before .before .before .before .before .before .before .before .before .before .before .before .before .before .before .before .before .before .before .before .before .pre .0 .small, parts (packOf (now (c .before .before .before .before .before .before .before .before .before .before .before .before .before .before .before .before .before .before .before .before .before .before .before .before .before .before .before .before .args .s))), c .before .before .before .before .before .before .before .before .before .before .before .before .before .before .before .before .before .before .before .before .before .before .before .check-fieldtypes .ensures .count, c .before .before .before .before .before .before .before .before .before .before .before .before .before .before .before .before .before .before .before .check-lookup-wiring .ensures .count, c .before .before .before .before .before .before .before .before .before .before .before .before .before .before .before .check-spn-names .ensures .count, c .before .before .before .before .before .before .before .before .before .before .before .check-lookup-names .ensures .count, c .before .before .before .before .before .before .before .check-trees .ensures .count, c .before .before .before .check-spns .ensures .count) }, c .before .before .before .before .before .before .before .before .before .before .before .before .before .before .before .before .before .before .before .before .before .before .before .before .before .before .before .before .pre .1, c .before .before .before .before .before .before .before .before .before .before .before .before .before .before .before .before .before .before .before .before .before .before .before .before .before .before .before .before .pre .2)
+
+same-length : tie.Need-same-length
+same-length c = c .before .before .check-trees-continues .kept .0 ∙ c .before .before .before .before .before .before .check-spns .kept .0 ∙ c .before .before .before .before .before .before .before .before .before .before .check-trees .kept .0 ∙ c .before .before .before .before .before .before .before .before .before .before .before .before .before .before .check-lookup-names .kept .0 ∙ c .before .before .before .before .before .before .before .before .before .before .before .before .before .before .before .before .before .before .check-spn-names .kept .0 ∙ c .before .before .before .before .before .before .before .before .before .before .before .before .before .before .before .before .before .before .before .before .before .before .check-lookup-wiring .kept .0 ∙ c .before .before .before .before .before .before .before .before .before .before .before .before .before .before .before .before .before .before .before .before .before .before .before .before .before .before .check-fieldtypes .kept .0
+
+returns : tie.Need-returns
+unfolding check check-lookup-names
+returns c = emitted-append (emitted-append (emitted-append (emitted-append (emitted-append (c .before .before .before .before .before .before .before .before .before .before .before .before .before .before .before .before .before .before .before .before .before .before .before .before .before .before .check-fieldtypes .ensures) (c .before .before .before .before .before .before .before .before .before .before .before .before .before .before .before .before .before .before .before .before .before .before .check-lookup-wiring .ensures)) (emitted-append (c .before .before .before .before .before .before .before .before .before .before .before .before .before .before .before .before .before .before .check-spn-names .ensures) (c .before .before .before .before .before .before .before .before .before .before .before .before .before .before .check-lookup-names .ensures))) (c .before .before .before .before .before .before .before .before .before .before .check-trees .ensures)) (c .before .before .before .before .before .before .check-spns .ensures)) (c .before .before .check-trees-continues .ensures)
+
+pub check-all-spec : {M : Type 1} → statement M
+check-all-spec =
+    tie.close
+    (tie.spec
+    check-fieldtypes-requires
+    check-lookup-wiring-requires
+    check-spn-names-requires
+    check-lookup-names-requires
+    check-trees-requires
+    check-spns-requires
+    check-trees-continues-requires
+    same-length
+    returns)

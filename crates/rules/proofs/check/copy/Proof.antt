@@ -1,0 +1,69 @@
+use Rattle.pack.proofs.Stores.{stored-none, stored-one, sets-over}
+use Rattle.pack.specs.Placing.{Stored}
+use native.Mathlib.Numerals.{add-one}
+use lib.ListN.{length-set, take, set, length, getD}
+use lib.Seq.{take-suc, length-take-le}
+use borrow.Author.Needs.{needs}
+use native.Mathlib.Omega.{arith}
+use Prim.Native.Nat.{ℕ, _+_, _-_, _≤_, _<_}
+use mathlib.Core.Path.{_≡_, refl, _∙_}
+use mathlib.Core.List.{List}
+use denote.Ref.{now}
+use Rattle.rules.proofs.check.copy.Statement.{statement}
+use Rattle.rules.proofs.check.copy.Tie as tie
+
+turn : (w from w′ : List ℕ) (q i : ℕ) → i < length from → Stored w 0 (take i from) w′ q → Stored w 0 (take (i + 1) from) (set w′ q (getD from i 0)) (q + 1)
+turn w from w′ q i h a = rw (add-one i, take-suc from i 0 h) (stored-one a (getD from i 0))
+
+abbrev Inv-loop : tie.InvT-loop
+Inv-loop from to₀ n i₀ to i = (i ≤ n) × (length to ≡ length to₀) × Stored to₀ 0 (take i from) to i
+
+abbrev μ-loop : tie.MeasureT-loop
+μ-loop from to₀ n i₀ to i = n - i
+
+loop-holds : tie.Need-loop-holds Inv-loop μ-loop
+loop-holds c = (omega arith, refl, stored-none (now (c .args .to)) 0)
+
+mul-to : tie.Need-mul-to Inv-loop μ-loop
+mul-to c = omega (arith, c .loop-test .taken, c .before .before .pre)
+
+shared-slice-read-to : tie.Need-shared-slice-read-to Inv-loop μ-loop
+shared-slice-read-to c = omega (arith, c .before .loop-test .taken, c .before .before .before .pre)
+
+mul-to-2 : tie.Need-mul-to-2 Inv-loop μ-loop
+mul-to-2 c = omega (arith, c .before .loop-test .taken, c .before .before .before .pre, c .before .before .loop .inv .1)
+
+slice-write-to : tie.Need-slice-write-to Inv-loop μ-loop
+slice-write-to c = omega (arith, c .before .loop-test .taken, c .before .before .before .pre, c .before .before .loop .inv .1)
+
+add-i : tie.Need-add-i Inv-loop μ-loop
+add-i c = search needs
+
+loop-less : tie.Need-loop-less Inv-loop μ-loop
+loop-less c = search needs
+
+loop-again : tie.Need-loop-again Inv-loop μ-loop
+loop-again c = (omega (arith, c .before .loop-test .taken), length-set (c .before .before .loop .to) (c .before .before .loop .i) (getD (now (c .before .before .before .args .from)) (c .before .before .loop .i) 0) ∙ c .before .before .loop .inv .1, turn (now (c .before .before .before .args .to)) (now (c .before .before .before .args .from)) (c .before .before .loop .to) (c .before .before .loop .i) (c .before .before .loop .i) (omega (arith, c .before .loop-test .taken, c .before .before .before .pre)) (c .before .before .loop .inv .2))
+
+same-length : tie.Need-same-length Inv-loop μ-loop
+same-length c = c .before .loop .inv .1
+
+returns : tie.Need-returns Inv-loop μ-loop
+returns c = let e : c .before .loop .i ≡ c .before .before .args .n = omega (arith, c .before .loop .inv .0, c .loop-test .left) in (rw e at (c .before .loop .inv .2)) .work ∙ sets-over (now (c .before .before .args .to)) (take (c .before .before .args .n) (now (c .before .before .args .from))) (omega (arith, length-take-le (c .before .before .args .n) (now (c .before .before .args .from)) (c .before .before .pre .0), c .before .before .pre .1))
+
+pub copy-spec : {M : Type 1} → statement M
+copy-spec =
+    tie.close
+    (tie.spec
+    Inv-loop
+    μ-loop
+    loop-holds
+    mul-to
+    shared-slice-read-to
+    mul-to-2
+    slice-write-to
+    add-i
+    loop-less
+    loop-again
+    same-length
+    returns)

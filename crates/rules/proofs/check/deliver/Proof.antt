@@ -1,0 +1,43 @@
+use Rattle.rules.specs.Check.{check}
+use Rattle.rules.proofs.Reports.{put-all}
+use Rattle.rules.proofs.Totals.{findings-few}
+use native.Mathlib.Omega.{arith}
+use mathlib.Core.Path.{_∙_}
+use denote.Ref.{now}
+use Rattle.pack.specs.Meaning.{packOf}
+use borrow.Author.Needs.{needs}
+use Rattle.rules.proofs.check.deliver.Statement.{statement}
+use Rattle.rules.proofs.check.deliver.Tie as tie
+
+mul-numbers : tie.Need-mul-numbers
+mul-numbers c = search needs
+
+copy-requires : tie.Need-copy-requires
+copy-requires c κs = (c .before .if1 .taken, c .before .before .before .before .before .before .pre .4)
+
+same-length : tie.Need-same-length
+same-length c = c .before .before .copy .kept .1 .0
+
+returns : tie.Need-returns
+returns c = rw (c .before .before .before .before .before .before .before .before .before .pre .3 (c .before .before .before .before .if1 .taken)) at (c .before .before .copy .ensures)
+
+check-all-requires : tie.Need-check-all-requires
+check-all-requires c κs = (findings-few (now (c .before .before .before .before .before .before .args .pack)) (now (c .before .before .before .before .before .before .args .work)) (c .before .before .before .before .before .before .pre .0), c .before .before .before .before .before .before .pre .0, c .before .before .before .before .before .before .pre .1)
+
+same-length-2 : tie.Need-same-length-2
+same-length-2 c = c .before .before .check-all .kept .0
+
+returns-2 : tie.Need-returns-2
+returns-2 c = c .before .before .check-all .ensures .out ∙ put-all (check (packOf (now (c .before .before .before .before .before .before .before .before .before .args .pack)))) (now (c .before .before .before .before .before .before .before .before .before .args .findings)) (omega (arith, c .before .before .before .before .before .before .before .before .before .pre .2, c .before .before .before .before .before .before .before .before .before .pre .4))
+
+pub deliver-spec : {M : Type 1} → statement M
+deliver-spec =
+    tie.close
+    (tie.spec
+    mul-numbers
+    copy-requires
+    same-length
+    returns
+    check-all-requires
+    same-length-2
+    returns-2)

@@ -1,0 +1,15 @@
+use borrow.Author.Needs.{needs}
+use Rattle.rules.proofs.check.one_more.Statement.{statement}
+use Rattle.rules.proofs.check.one_more.Tie as tie
+
+add-result : tie.Need-add-result
+add-result c = search needs
+
+returns : tie.Need-returns
+returns c = rw (c .if1 .taken)
+
+returns-2 : tie.Need-returns-2
+returns-2 c = search needs
+
+pub one-more-spec : {M : Type 1} → statement M
+one-more-spec = tie.close (tie.spec add-result returns returns-2)

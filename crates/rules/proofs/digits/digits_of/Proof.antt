@@ -1,0 +1,18 @@
+use mathlib.Core.List.{append-nil}
+use Rattle.rules.specs.Digits.{digits}
+use mathlib.Core.Path.{_∙_}
+use borrow.Author.Needs.{needs}
+use Rattle.rules.proofs.digits.digits_of.Statement.{statement}
+use Rattle.rules.proofs.digits.digits_of.Tie as tie
+
+slice-aggregate-digits-before : tie.Need-slice-aggregate-digits-before
+slice-aggregate-digits-before c = search needs
+
+digits-before-requires : tie.Need-digits-before-requires
+digits-before-requires c κs = search needs
+
+returns : tie.Need-returns
+returns c = (c .before .digits-before .ensures .0 ∙ append-nil (digits (c .before .before .before .args .n)), c .before .digits-before .ensures .1)
+
+pub digits-of-spec : {M : Type 1} → statement M
+digits-of-spec = tie.close (tie.spec slice-aggregate-digits-before digits-before-requires returns)

@@ -1,0 +1,67 @@
+use Rattle.rules.proofs.Marking.{marked-none, marked-as, marked-turn}
+use Rattle.rules.specs.Marks.{Marked}
+use Rattle.rules.specs.LookupWiring.{ref-is, referenced-by-pgn}
+use Rattle.rules.specs.Search.{anyBelow}
+use Rattle.pack.specs.Value.{Field}
+use Rattle.pack.specs.Meaning.{optReference, packOf}
+use borrow.Author.Needs.{needs}
+use native.Mathlib.Omega.{arith}
+use Prim.Native.Nat.{ℕ, _-_, _≤_}
+use mathlib.Core.Path.{_≡_, refl, _∙_, ap}
+use mathlib.Core.Bool.{Bool}
+use mathlib.Core.List.{List}
+use lib.ListN.{length}
+use denote.Ref.{now}
+use Rattle.pack.specs.Ready.{pgnIn, fieldIn}
+use Rattle.rules.proofs.lookup_marks.mark_by_pgn.Statement.{statement}
+use Rattle.rules.proofs.lookup_marks.mark_by_pgn.Tie as tie
+
+-- whether field k refers to the name
+abbrev refers : List ℕ → ℕ → ℕ → List ℕ → ℕ → Bool
+refers s t i name k = ref-is (fieldIn (packOf s) t i k .reference) name
+
+abbrev Inv-loop : tie.InvT-loop
+Inv-loop marks₀ s work lookups t i p fields k₀ marks k = (k ≤ fields) × (length marks ≡ length marks₀) × Marked (packOf s) marks₀ (λ n. anyBelow (refers s t i n) k) marks
+
+abbrev μ-loop : tie.MeasureT-loop
+μ-loop marks₀ s work lookups t i p fields k₀ marks k = fields - k
+
+loop-holds : tie.Need-loop-holds Inv-loop μ-loop
+loop-holds c = (search needs, refl, marked-none (packOf (now (c .before .before .before .args .s))) (now (c .before .before .before .args .marks)))
+
+field-of-requires : tie.Need-field-of-requires Inv-loop μ-loop
+field-of-requires c κs = (c .before .before .before .before .before .pre .1, omega (arith, c .before .before .before .before .before .pre .4, c .loop-test .taken))
+
+mark-reference-requires : tie.Need-mark-reference-requires Inv-loop μ-loop
+mark-reference-requires c κs = (omega (arith, c .before .before .before .loop .inv .1, c .before .before .before .before .before .before .before .pre .0), c .before .before .before .before .before .before .before .pre .1 .ready, c .before .before .before .before .before .before .before .pre .2, c .before .before .before .before .before .before .before .pre .3)
+
+add-k : tie.Need-add-k Inv-loop μ-loop
+add-k c = search needs
+
+loop-less : tie.Need-loop-less Inv-loop μ-loop
+loop-less c = search needs
+
+loop-again : tie.Need-loop-again Inv-loop μ-loop
+loop-again c = (search needs, c .before .before .mark-reference .kept .0 ∙ c .before .before .before .before .before .before .loop .inv .1, marked-turn (refers (now (c .before .before .before .before .before .before .before .before .before .before .args .s)) (c .before .before .before .before .before .before .before .before .before .before .args .t) (c .before .before .before .before .before .before .before .before .before .before .args .i)) (c .before .before .before .before .before .before .loop .k) (c .before .before .before .before .before .before .loop .inv .2) (marked-as (λ n. ref-is (optReference (now (c .before .before .before .before .before .before .before .before .before .before .args .s)) (c .before .before .before .before .field-of .result .links .reference)) n) (λ n. refers (now (c .before .before .before .before .before .before .before .before .before .before .args .s)) (c .before .before .before .before .before .before .before .before .before .before .args .t) (c .before .before .before .before .before .before .before .before .before .before .args .i) n (c .before .before .before .before .before .before .loop .k)) (λ n. ap (λ (F : Field). ref-is (F .reference) n) (c .before .before .before .before .field-of .ensures)) (c .before .before .mark-reference .ensures)))
+
+same-length : tie.Need-same-length Inv-loop μ-loop
+same-length c = c .before .loop .inv .1
+
+returns : tie.Need-returns Inv-loop μ-loop
+unfolding referenced-by-pgn
+returns c = let q : c .before .loop .k ≡ length (pgnIn (packOf (now (c .before .before .before .before .before .args .s))) (c .before .before .before .before .before .args .t) (c .before .before .before .before .before .args .i) .fields) = omega (arith, c .before .before .before .before .before .pre .4, c .before .loop .inv .0, c .loop-test .left) in marked-as (λ n. anyBelow (refers (now (c .before .before .before .before .before .args .s)) (c .before .before .before .before .before .args .t) (c .before .before .before .before .before .args .i) n) (c .before .loop .k)) (λ n. referenced-by-pgn n (pgnIn (packOf (now (c .before .before .before .before .before .args .s))) (c .before .before .before .before .before .args .t) (c .before .before .before .before .before .args .i))) (λ n. ap (anyBelow (refers (now (c .before .before .before .before .before .args .s)) (c .before .before .before .before .before .args .t) (c .before .before .before .before .before .args .i) n)) q) (c .before .loop .inv .2)
+
+pub mark-by-pgn-spec : {M : Type 1} → statement M
+mark-by-pgn-spec =
+    tie.close
+    (tie.spec
+    Inv-loop
+    μ-loop
+    loop-holds
+    field-of-requires
+    mark-reference-requires
+    add-k
+    loop-less
+    loop-again
+    same-length
+    returns)

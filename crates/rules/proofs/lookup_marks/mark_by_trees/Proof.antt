@@ -1,0 +1,71 @@
+use Rattle.rules.proofs.Marking.{marked-none, marked-as, marked-turn}
+use Rattle.rules.proofs.Sections.{at-tree}
+use Rattle.rules.specs.Marks.{Marked}
+use Rattle.rules.specs.LookupWiring.{referenced-by-tree}
+use Rattle.rules.specs.Search.{anyBelow}
+use borrow.Author.Needs.{needs}
+use native.Mathlib.Omega.{arith}
+use Prim.Native.Nat.{ℕ, _-_, _≤_}
+use mathlib.Core.Path.{_≡_, refl, _∙_, ap}
+use mathlib.Core.Bool.{Bool}
+use mathlib.Core.List.{List}
+use lib.ListN.{length}
+use denote.Ref.{now}
+use Rattle.pack.specs.Meaning.{packOf}
+use Rattle.rules.proofs.lookup_marks.mark_by_trees.Statement.{statement}
+use Rattle.rules.proofs.lookup_marks.mark_by_trees.Tie as tie
+
+-- whether tree t references the name
+abbrev has : List ℕ → List ℕ → ℕ → Bool
+has s name t = referenced-by-tree (packOf s) name t
+
+abbrev Inv-loop : tie.InvT-loop
+Inv-loop marks₀ s work index t₀ marks t = (t ≤ 3) × (length marks ≡ length marks₀) × Marked (packOf s) marks₀ (λ n. anyBelow (has s n) t) marks
+
+abbrev μ-loop : tie.MeasureT-loop
+μ-loop marks₀ s work index t₀ marks t = 3 - t
+
+loop-holds : tie.Need-loop-holds Inv-loop μ-loop
+loop-holds c = (search needs, refl, marked-none (packOf (now (c .before .before .before .args .s))) (now (c .before .before .before .args .marks)))
+
+of-tree-requires : tie.Need-of-tree-requires Inv-loop μ-loop
+of-tree-requires c κs = search needs
+
+section-requires : tie.Need-section-requires Inv-loop μ-loop
+section-requires c κs = search needs
+
+mark-by-tree-requires : tie.Need-mark-by-tree-requires Inv-loop μ-loop
+mark-by-tree-requires c κs =
+    let a = at-tree (packOf (now (c .before .before .before .before .before .before .before .before .args .s))) (c .before .before .before .before .before .before .before .before .args .index) (c .before .before .before .before .before .before .before .before .pre .2) (c .before .before .before .before .loop .t) (c .before .before .before .loop-test .taken) (c .before .before .of-tree .result) (c .before .section .result) (c .before .before .of-tree .ensures) (c .before .section .ensures) in
+    (omega (arith, c .before .before .before .before .loop .inv .1, c .before .before .before .before .before .before .before .before .pre .0), c .before .before .before .before .before .before .before .before .pre .1, c .before .before .before .before .before .before .before .before .pre .2 .lookups, c .before .before .before .before .before .before .before .before .pre .2 .lookups-place, c .before .before .before .loop-test .taken, a .0, a .1)
+
+add-t : tie.Need-add-t Inv-loop μ-loop
+add-t c = omega (arith, c .before .before .before .before .before .before .loop-test .taken)
+
+loop-less : tie.Need-loop-less Inv-loop μ-loop
+loop-less c = search needs
+
+loop-again : tie.Need-loop-again Inv-loop μ-loop
+loop-again c = (search needs, c .before .before .mark-by-tree .kept .0 ∙ c .before .before .before .before .before .before .before .loop .inv .1, marked-turn (has (now (c .before .before .before .before .before .before .before .before .before .before .before .args .s))) (c .before .before .before .before .before .before .before .loop .t) (c .before .before .before .before .before .before .before .loop .inv .2) (c .before .before .mark-by-tree .ensures))
+
+same-length : tie.Need-same-length Inv-loop μ-loop
+same-length c = c .before .loop .inv .1
+
+returns : tie.Need-returns Inv-loop μ-loop
+returns c = let q : c .before .loop .t ≡ 3 = omega (arith, c .before .loop .inv .0, c .loop-test .left) in marked-as (λ n. anyBelow (has (now (c .before .before .before .before .before .args .s)) n) (c .before .loop .t)) (λ n. anyBelow (has (now (c .before .before .before .before .before .args .s)) n) 3) (λ n. ap (anyBelow (has (now (c .before .before .before .before .before .args .s)) n)) q) (c .before .loop .inv .2)
+
+pub mark-by-trees-spec : {M : Type 1} → statement M
+mark-by-trees-spec =
+    tie.close
+    (tie.spec
+    Inv-loop
+    μ-loop
+    loop-holds
+    of-tree-requires
+    section-requires
+    mark-by-tree-requires
+    add-t
+    loop-less
+    loop-again
+    same-length
+    returns)

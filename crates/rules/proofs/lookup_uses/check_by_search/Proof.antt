@@ -1,0 +1,98 @@
+use Rattle.pack.specs.declared.records.LookupView.{LookupView}
+use Rattle.pack.specs.Value.{Lookup}
+use Rattle.pack.specs.Items.{bytesOf}
+use Rattle.pack.proofs.Positions.{lookup-place-next}
+use Rattle.rules.proofs.Sizes.{at-lookup, entries-few, lookups-few}
+use Rattle.rules.specs.LookupWiring.{referenced}
+use borrow.Author.Needs.{needs}
+use native.Mathlib.Omega.{arith}
+use Prim.Native.Nat.{ℕ, _-_, _≤_}
+use mathlib.Core.Path.{_≡_, refl, sym, _∙_, ap}
+use mathlib.Core.Bool.{Bool, not}
+use mathlib.Core.List.{List}
+use lib.ListN.{length}
+use denote.Ref.{now}
+use Rattle.pack.specs.Notation.{concatBelow}
+use Rattle.pack.specs.Ready.{LookupIs, lookupIn, lookupPlace}
+use Rattle.pack.specs.Meaning.{packOf}
+use Rattle.rules.specs.declared.Finding.{Finding}
+use Rattle.rules.specs.Emit.{Emitted}
+use Rattle.rules.specs.Findings.{report-if, lookup-warning}
+use Rattle.rules.proofs.Emits.{emitted-none, emitted-turn, fits-turn}
+use Rattle.rules.proofs.lookup_uses.check_by_search.Statement.{statement}
+use Rattle.rules.proofs.lookup_uses.check_by_search.Tie as tie
+
+-- the finding of lookup l
+abbrev of-lookup : List ℕ → ℕ → List Finding
+of-lookup s l = report-if (not (referenced (packOf s) (lookupIn (packOf s) l .name))) (lookup-warning 22 1 l 0 0)
+
+said : (s : List ℕ) (l : ℕ) (v : LookupView) → LookupIs s (lookupIn (packOf s) l) v → (b : Bool) → b ≡ referenced (packOf s) (bytesOf s (v .name)) → (F : Finding) → F ≡ lookup-warning 22 1 l 0 0
+    → of-lookup s l ≡ report-if (not b) F
+said s l v is b x F y =
+    let e : b ≡ referenced (packOf s) (lookupIn (packOf s) l .name) = x ∙ ap (λ (L : Lookup). referenced (packOf s) (L .name)) (is .means) in
+    sym (λ j. report-if (not (e j)) (y j))
+
+abbrev Inv-loop : tie.InvT-loop
+Inv-loop out₀ n s work index count m₀ p₀ l₀ out m p l = (l ≤ count) × (p ≡ lookupPlace (packOf s) l) × (length out ≡ length out₀) × Emitted out₀ n (concatBelow (of-lookup s) l) out m
+
+abbrev μ-loop : tie.MeasureT-loop
+μ-loop out₀ n s work index count m₀ p₀ l₀ out m p l = count - l
+
+loop-holds : tie.Need-loop-holds Inv-loop μ-loop
+loop-holds c = (search needs, c .before .before .before .pre .2 .lookups-place, refl, emitted-none (now (c .before .before .before .args .out)) (c .before .before .before .args .n))
+
+lookup-of-requires : tie.Need-lookup-of-requires Inv-loop μ-loop
+lookup-of-requires c κs = (at-lookup (c .before .before .before .before .before .pre .1) (c .before .before .before .before .before .pre .2 .lookups) (c .before .loop .inv .1) (c .loop-test .taken))
+
+referenced-requires : tie.Need-referenced-requires Inv-loop μ-loop
+referenced-requires c κs = (c .before .before .before .before .before .before .pre .1, c .before .before .before .before .before .before .pre .2)
+
+lookup-warning-requires : tie.Need-lookup-warning-requires Inv-loop μ-loop
+lookup-warning-requires c κs = search needs
+
+put-if-requires : tie.Need-put-if-requires Inv-loop μ-loop
+put-if-requires c κs = rw (said (now (c .before .before .before .before .before .before .before .before .before .args .s)) (c .before .before .before .before .before .loop .l) (c .before .before .before .lookup-of .result) (c .before .before .before .lookup-of .ensures) (c .before .before .referenced .result) (c .before .before .referenced .ensures) (c .lookup-warning .result) (c .lookup-warning .ensures)) at (fits-turn (of-lookup (now (c .before .before .before .before .before .before .before .before .before .args .s))) (c .before .before .before .before .before .before .before .before .before .args .index .lookups .count) (c .before .before .before .before .before .loop .l) (c .before .before .before .before .loop-test .taken) (rw (← c .before .before .before .before .before .before .before .before .before .pre .2 .lookups) at (c .before .before .before .before .before .before .before .before .before .pre .0)) (c .before .before .before .before .before .loop .inv .3))
+
+add-p : tie.Need-add-p Inv-loop μ-loop
+add-p c = omega (arith, entries-few (at-lookup (c .before .before .before .before .before .before .before .before .before .before .before .before .pre .1) (c .before .before .before .before .before .before .before .before .before .before .before .before .pre .2 .lookups) (c .before .before .before .before .before .before .before .before .loop .inv .1) (c .before .before .before .before .before .before .before .loop-test .taken)))
+
+cast-p : tie.Need-cast-p Inv-loop μ-loop
+cast-p c = omega (arith, entries-few (at-lookup (c .before .before .before .before .before .before .before .before .before .before .before .before .before .pre .1) (c .before .before .before .before .before .before .before .before .before .before .before .before .before .pre .2 .lookups) (c .before .before .before .before .before .before .before .before .before .loop .inv .1) (c .before .before .before .before .before .before .before .before .loop-test .taken)), c .before .before .before .before .before .before .before .lookup-of .ensures .entries)
+
+add-p-2 : tie.Need-add-p-2 Inv-loop μ-loop
+add-p-2 c = omega (arith, entries-few (at-lookup (c .before .before .before .before .before .before .before .before .before .before .before .before .before .pre .1) (c .before .before .before .before .before .before .before .before .before .before .before .before .before .pre .2 .lookups) (c .before .before .before .before .before .before .before .before .before .loop .inv .1) (c .before .before .before .before .before .before .before .before .loop-test .taken)), c .before .before .before .before .before .before .before .lookup-of .ensures .entries)
+
+add-l : tie.Need-add-l Inv-loop μ-loop
+add-l c = omega (arith, lookups-few (at-lookup (c .before .before .before .before .before .before .before .before .before .before .before .before .before .pre .1) (c .before .before .before .before .before .before .before .before .before .before .before .before .before .pre .2 .lookups) (c .before .before .before .before .before .before .before .before .before .loop .inv .1) (c .before .before .before .before .before .before .before .before .loop-test .taken)))
+
+loop-less : tie.Need-loop-less Inv-loop μ-loop
+loop-less c = search needs
+
+loop-again : tie.Need-loop-again Inv-loop μ-loop
+loop-again c = (search needs, omega (arith, lookup-place-next (packOf (now (c .before .before .before .before .before .before .before .before .before .before .before .before .before .args .s))) (c .before .before .before .before .before .before .before .before .before .loop .l), c .before .before .before .before .before .before .before .lookup-of .ensures .entries, c .before .before .before .before .before .before .before .before .before .loop .inv .1), c .before .before .before .put-if .kept .0 ∙ c .before .before .before .before .before .before .before .before .before .loop .inv .2, emitted-turn (of-lookup (now (c .before .before .before .before .before .before .before .before .before .before .before .before .before .args .s))) (c .before .before .before .before .before .before .before .before .before .loop .l) (c .before .before .before .before .before .before .before .before .before .loop .inv .3) (rw (said (now (c .before .before .before .before .before .before .before .before .before .before .before .before .before .args .s)) (c .before .before .before .before .before .before .before .before .before .loop .l) (c .before .before .before .before .before .before .before .lookup-of .result) (c .before .before .before .before .before .before .before .lookup-of .ensures) (c .before .before .before .before .before .before .referenced .result) (c .before .before .before .before .before .before .referenced .ensures) (c .before .before .before .before .lookup-warning .result) (c .before .before .before .before .lookup-warning .ensures)) (c .before .before .before .put-if .ensures)))
+
+same-length : tie.Need-same-length Inv-loop μ-loop
+same-length c = c .before .loop .inv .2
+
+returns : tie.Need-returns Inv-loop μ-loop
+returns c = let e : c .before .before .before .before .before .args .index .lookups .count ≡ c .before .loop .l = omega (arith, c .before .loop .inv .0, c .loop-test .left) in rw (← c .before .before .before .before .before .pre .2 .lookups, e) (c .before .loop .inv .3)
+
+pub check-by-search-spec : {M : Type 1} → statement M
+check-by-search-spec =
+    tie.close
+    (tie.spec
+    Inv-loop
+    μ-loop
+    loop-holds
+    lookup-of-requires
+    referenced-requires
+    lookup-warning-requires
+    put-if-requires
+    add-p
+    cast-p
+    add-p-2
+    add-l
+    loop-less
+    loop-again
+    same-length
+    returns)

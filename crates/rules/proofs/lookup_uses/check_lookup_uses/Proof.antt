@@ -1,0 +1,41 @@
+use Rattle.rules.proofs.Marking.{clear-replicate, room-replicate}
+use native.Mathlib.Omega.{arith}
+use lib.ListN.{length}
+use denote.Ref.{now}
+use Rattle.pack.specs.Meaning.{packOf}
+use borrow.Author.Needs.{needs}
+use Rattle.rules.proofs.lookup_uses.check_lookup_uses.Statement.{statement}
+use Rattle.rules.proofs.lookup_uses.check_lookup_uses.Tie as tie
+
+check-by-search-requires : tie.Need-check-by-search-requires
+check-by-search-requires c κs = (c .before .before .before .before .before .before .pre .0, c .before .before .before .before .before .before .pre .1, c .before .before .before .before .before .before .pre .2)
+
+same-length : tie.Need-same-length
+same-length c = search needs
+
+returns : tie.Need-returns
+returns c = c .before .before .check-by-search .ensures
+
+slice-aggregate-check-by-marks : tie.Need-slice-aggregate-check-by-marks
+slice-aggregate-check-by-marks c = search needs
+
+check-by-marks-requires : tie.Need-check-by-marks-requires
+check-by-marks-requires c κs = (c .before .before .before .before .before .before .before .pre .0, clear-replicate 4096, room-replicate 4096 (length (packOf (now (c .before .before .before .before .before .before .before .args .s)) .lookups)) (omega (arith, c .before .before .before .before .before .before .before .pre .2 .lookups, c .before .before .if1 .left)), c .before .before .before .before .before .before .before .pre .1, c .before .before .before .before .before .before .before .pre .2)
+
+same-length-2 : tie.Need-same-length-2
+same-length-2 c = search needs
+
+returns-2 : tie.Need-returns-2
+returns-2 c = c .before .before .before .check-by-marks .ensures
+
+pub check-lookup-uses-spec : {M : Type 1} → statement M
+check-lookup-uses-spec =
+    tie.close
+    (tie.spec
+    check-by-search-requires
+    same-length
+    returns
+    slice-aggregate-check-by-marks
+    check-by-marks-requires
+    same-length-2
+    returns-2)

@@ -1,0 +1,79 @@
+use Rattle.pack.specs.Items.{bytesOf}
+use Rattle.pack.proofs.Positions.{lookup-place-next}
+use Rattle.rules.proofs.Sizes.{at-lookup, entries-few, lookups-few}
+use Rattle.rules.specs.Search.{anyBelow}
+use Rattle.rules.specs.SearchLaws.{any-turn, any-hit}
+use Rattle.rules.specs.LookupWiring.{referenced-by-lookup}
+use borrow.Author.Needs.{needs}
+use native.Mathlib.Omega.{arith}
+use Prim.Native.Nat.{ℕ, _-_, _≤_}
+use mathlib.Core.Path.{_≡_, refl, sym, _∙_}
+use mathlib.Core.Bool.{Bool, false}
+use mathlib.Core.List.{List}
+use lib.ListN.{length}
+use denote.Ref.{now}
+use Rattle.pack.specs.Ready.{lookupIn, lookupPlace}
+use Rattle.pack.specs.Meaning.{packOf}
+use Rattle.rules.proofs.lookup_uses.referenced_by_lookups.Statement.{statement}
+use Rattle.rules.proofs.lookup_uses.referenced_by_lookups.Tie as tie
+
+-- whether lookup l nests the name
+abbrev has : List ℕ → List ℕ → ℕ → Bool
+has s name l = referenced-by-lookup name (lookupIn (packOf s) l)
+
+abbrev Inv-loop : tie.InvT-loop
+Inv-loop s work name count p₀ l₀ p l = (l ≤ count) × (p ≡ lookupPlace (packOf s) l) × (anyBelow (has s (bytesOf s name)) l ≡ false)
+
+abbrev μ-loop : tie.MeasureT-loop
+μ-loop s work name count p₀ l₀ p l = count - l
+
+loop-holds : tie.Need-loop-holds Inv-loop μ-loop
+loop-holds c = (search needs, c .before .before .pre .2, refl)
+
+lookup-of-requires : tie.Need-lookup-of-requires Inv-loop μ-loop
+lookup-of-requires c κs = (at-lookup (c .before .before .before .before .pre .0) (c .before .before .before .before .pre .1) (c .before .loop .inv .1) (c .loop-test .taken))
+
+referenced-by-lookup-requires : tie.Need-referenced-by-lookup-requires Inv-loop μ-loop
+referenced-by-lookup-requires c κs = ((at-lookup (c .before .before .before .before .before .pre .0) (c .before .before .before .before .before .pre .1) (c .before .before .loop .inv .1) (c .before .loop-test .taken)), c .lookup-of .ensures)
+
+returns : tie.Need-returns Inv-loop μ-loop
+returns c = sym (any-hit (has (now (c .before .before .before .before .before .before .before .args .s)) (bytesOf (now (c .before .before .before .before .before .before .before .args .s)) (c .before .before .before .before .before .before .before .args .name))) (length (packOf (now (c .before .before .before .before .before .before .before .args .s)) .lookups)) (c .before .before .before .before .loop .l) (omega (arith, c .before .before .before .before .before .before .before .pre .1, c .before .before .before .loop-test .taken)) (sym (c .before .referenced-by-lookup .ensures) ∙ c .if1 .taken))
+
+add-p : tie.Need-add-p Inv-loop μ-loop
+add-p c = omega (arith, entries-few (at-lookup (c .before .before .before .before .before .before .before .pre .0) (c .before .before .before .before .before .before .before .pre .1) (c .before .before .before .before .loop .inv .1) (c .before .before .before .loop-test .taken)))
+
+cast-p : tie.Need-cast-p Inv-loop μ-loop
+cast-p c = omega (arith, entries-few (at-lookup (c .before .before .before .before .before .before .before .before .pre .0) (c .before .before .before .before .before .before .before .before .pre .1) (c .before .before .before .before .before .loop .inv .1) (c .before .before .before .before .loop-test .taken)), c .before .before .before .lookup-of .ensures .entries)
+
+add-p-2 : tie.Need-add-p-2 Inv-loop μ-loop
+add-p-2 c = omega (arith, entries-few (at-lookup (c .before .before .before .before .before .before .before .before .pre .0) (c .before .before .before .before .before .before .before .before .pre .1) (c .before .before .before .before .before .loop .inv .1) (c .before .before .before .before .loop-test .taken)), c .before .before .before .lookup-of .ensures .entries)
+
+add-l : tie.Need-add-l Inv-loop μ-loop
+add-l c = omega (arith, lookups-few (at-lookup (c .before .before .before .before .before .before .before .before .pre .0) (c .before .before .before .before .before .before .before .before .pre .1) (c .before .before .before .before .before .loop .inv .1) (c .before .before .before .before .loop-test .taken)))
+
+loop-less : tie.Need-loop-less Inv-loop μ-loop
+loop-less c = search needs
+
+loop-again : tie.Need-loop-again Inv-loop μ-loop
+loop-again c = (search needs, omega (arith, lookup-place-next (packOf (now (c .before .before .before .before .before .before .before .before .args .s))) (c .before .before .before .before .before .loop .l), c .before .before .before .lookup-of .ensures .entries, c .before .before .before .before .before .loop .inv .1), any-turn (has (now (c .before .before .before .before .before .before .before .before .args .s)) (bytesOf (now (c .before .before .before .before .before .before .before .before .args .s)) (c .before .before .before .before .before .before .before .before .args .name))) (c .before .before .before .before .before .loop .l) ∙ (rw (c .before .before .before .before .before .loop .inv .2, sym (c .before .before .referenced-by-lookup .ensures) ∙ c .before .if1 .left)))
+
+returns-2 : tie.Need-returns-2 Inv-loop μ-loop
+returns-2 c = let q : length (packOf (now (c .before .before .before .before .args .s)) .lookups) ≡ c .before .loop .l = omega (arith, c .before .before .before .before .pre .1, c .before .loop .inv .0, c .loop-test .left) in rw (q, c .before .loop .inv .2)
+
+pub referenced-by-lookups-spec : {M : Type 1} → statement M
+referenced-by-lookups-spec =
+    tie.close
+    (tie.spec
+    Inv-loop
+    μ-loop
+    loop-holds
+    lookup-of-requires
+    referenced-by-lookup-requires
+    returns
+    add-p
+    cast-p
+    add-p-2
+    add-l
+    loop-less
+    loop-again
+    returns-2)

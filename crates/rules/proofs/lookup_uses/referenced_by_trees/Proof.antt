@@ -1,0 +1,70 @@
+use Rattle.pack.specs.Items.{bytesOf}
+use Rattle.rules.proofs.Sections.{at-tree}
+use Rattle.rules.specs.Search.{anyBelow}
+use Rattle.rules.specs.SearchLaws.{any-turn, any-hit}
+use Rattle.rules.specs.LookupWiring.{referenced-by-tree}
+use borrow.Author.Needs.{needs}
+use native.Mathlib.Omega.{arith}
+use Prim.Native.Nat.{ℕ, _-_, _≤_}
+use mathlib.Core.Path.{_≡_, refl, sym, _∙_, ap}
+use mathlib.Core.Bool.{Bool, false}
+use mathlib.Core.List.{List}
+use denote.Ref.{now}
+use Rattle.pack.specs.Meaning.{packOf}
+use Rattle.rules.proofs.lookup_uses.referenced_by_trees.Statement.{statement}
+use Rattle.rules.proofs.lookup_uses.referenced_by_trees.Tie as tie
+
+-- whether tree t references the name
+abbrev has : List ℕ → List ℕ → ℕ → Bool
+has s name t = referenced-by-tree (packOf s) name t
+
+abbrev Inv-loop : tie.InvT-loop
+Inv-loop s work index name t₀ t = (t ≤ 3) × (anyBelow (has s (bytesOf s name)) t ≡ false)
+
+abbrev μ-loop : tie.MeasureT-loop
+μ-loop s work index name t₀ t = 3 - t
+
+loop-holds : tie.Need-loop-holds Inv-loop μ-loop
+loop-holds c = (search needs, refl)
+
+of-tree-requires : tie.Need-of-tree-requires Inv-loop μ-loop
+of-tree-requires c κs = search needs
+
+section-requires : tie.Need-section-requires Inv-loop μ-loop
+section-requires c κs = search needs
+
+referenced-by-tree-requires : tie.Need-referenced-by-tree-requires Inv-loop μ-loop
+referenced-by-tree-requires c κs =
+    let a = at-tree (packOf (now (c .before .before .before .before .before .before .args .s))) (c .before .before .before .before .before .before .args .index) (c .before .before .before .before .before .before .pre .1) (c .before .before .before .loop .t) (c .before .before .loop-test .taken) (c .before .of-tree .result) (c .section .result) (c .before .of-tree .ensures) (c .section .ensures) in
+    (c .before .before .before .before .before .before .pre .0, c .before .before .loop-test .taken, a .0, a .1)
+
+returns : tie.Need-returns Inv-loop μ-loop
+returns c = sym (any-hit (has (now (c .before .before .before .before .before .before .before .before .args .s)) (bytesOf (now (c .before .before .before .before .before .before .before .before .args .s)) (c .before .before .before .before .before .before .before .before .args .name))) 3 (c .before .before .before .before .before .loop .t) (c .before .before .before .before .loop-test .taken) (sym (c .before .referenced-by-tree .ensures) ∙ c .if1 .taken))
+
+add-t : tie.Need-add-t Inv-loop μ-loop
+add-t c = omega (arith, c .before .before .before .before .loop-test .taken)
+
+loop-less : tie.Need-loop-less Inv-loop μ-loop
+loop-less c = search needs
+
+loop-again : tie.Need-loop-again Inv-loop μ-loop
+loop-again c = (search needs, any-turn (has (now (c .before .before .before .before .before .before .before .before .args .s)) (bytesOf (now (c .before .before .before .before .before .before .before .before .args .s)) (c .before .before .before .before .before .before .before .before .args .name))) (c .before .before .before .before .before .loop .t) ∙ (rw (c .before .before .before .before .before .loop .inv .1, sym (c .before .referenced-by-tree .ensures) ∙ c .if1 .left)))
+
+returns-2 : tie.Need-returns-2 Inv-loop μ-loop
+returns-2 c = let q : c .before .loop .t ≡ 3 = omega (arith, c .before .loop .inv .0, c .loop-test .left) in sym (ap (anyBelow (has (now (c .before .before .before .before .args .s)) (bytesOf (now (c .before .before .before .before .args .s)) (c .before .before .before .before .args .name)))) (sym q) ∙ c .before .loop .inv .1)
+
+pub referenced-by-trees-spec : {M : Type 1} → statement M
+referenced-by-trees-spec =
+    tie.close
+    (tie.spec
+    Inv-loop
+    μ-loop
+    loop-holds
+    of-tree-requires
+    section-requires
+    referenced-by-tree-requires
+    returns
+    add-t
+    loop-less
+    loop-again
+    returns-2)

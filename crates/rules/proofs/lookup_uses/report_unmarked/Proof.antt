@@ -1,0 +1,75 @@
+use borrow.Author.Needs.{needs}
+use native.Mathlib.Omega.{arith}
+use Prim.Native.Nat.{ℕ, _-_, _≤_}
+use mathlib.Core.Path.{_≡_, refl, sym, _∙_, ap}
+use mathlib.Core.Bool.{Bool, false, not}
+use mathlib.Core.List.{List}
+use lib.ListN.{length, getD}
+use denote.Ref.{now}
+use Rattle.pack.specs.Notation.{concatBelow}
+use Rattle.rules.specs.declared.Finding.{Finding}
+use Rattle.rules.specs.Emit.{Emitted}
+use Rattle.rules.specs.Findings.{report-if, lookup-warning}
+use Rattle.rules.proofs.Emits.{emitted-none, emitted-turn, fits-turn}
+use Rattle.rules.proofs.lookup_uses.report_unmarked.Statement.{statement}
+use Rattle.rules.proofs.lookup_uses.report_unmarked.Tie as tie
+
+-- the finding of lookup l
+abbrev of-mark : List Bool → ℕ → List Finding
+of-mark marks l = report-if (not (getD marks l false)) (lookup-warning 22 1 l 0 0)
+
+said : (marks : List Bool) (l : ℕ) (F : Finding) → F ≡ lookup-warning 22 1 l 0 0 → of-mark marks l ≡ report-if (not (getD marks l false)) F
+said marks l F y = ap (λ (G : Finding). report-if (not (getD marks l false)) G) (sym y)
+
+abbrev Inv-loop : tie.InvT-loop
+Inv-loop out₀ n marks count m₀ l₀ out m l = (l ≤ count) × (length out ≡ length out₀) × Emitted out₀ n (concatBelow (of-mark marks) l) out m
+
+abbrev μ-loop : tie.MeasureT-loop
+μ-loop out₀ n marks count m₀ l₀ out m l = count - l
+
+loop-holds : tie.Need-loop-holds Inv-loop μ-loop
+loop-holds c = (search needs, refl, emitted-none (now (c .before .before .args .out)) (c .before .before .args .n))
+
+cast-used : tie.Need-cast-used Inv-loop μ-loop
+cast-used c = search needs
+
+shared-slice-read-used : tie.Need-shared-slice-read-used Inv-loop μ-loop
+shared-slice-read-used c = omega (arith, c .before .loop-test .taken, c .before .before .before .before .before .pre .1)
+
+lookup-warning-requires : tie.Need-lookup-warning-requires Inv-loop μ-loop
+lookup-warning-requires c κs = search needs
+
+put-if-requires : tie.Need-put-if-requires Inv-loop μ-loop
+put-if-requires c κs = rw (said (now (c .before .before .before .before .before .before .before .args .marks)) (c .before .before .before .before .loop .l) (c .lookup-warning .result) (c .lookup-warning .ensures)) at (fits-turn (of-mark (now (c .before .before .before .before .before .before .before .args .marks))) (c .before .before .before .before .before .before .before .args .count) (c .before .before .before .before .loop .l) (c .before .before .before .loop-test .taken) (c .before .before .before .before .before .before .before .pre .0) (c .before .before .before .before .loop .inv .2))
+
+add-l : tie.Need-add-l Inv-loop μ-loop
+add-l c = search needs
+
+loop-less : tie.Need-loop-less Inv-loop μ-loop
+loop-less c = search needs
+
+loop-again : tie.Need-loop-again Inv-loop μ-loop
+loop-again c = (search needs, c .before .before .put-if .kept .0 ∙ c .before .before .before .before .before .before .before .loop .inv .1, emitted-turn (of-mark (now (c .before .before .before .before .before .before .before .before .before .before .args .marks))) (c .before .before .before .before .before .before .before .loop .l) (c .before .before .before .before .before .before .before .loop .inv .2) (rw (said (now (c .before .before .before .before .before .before .before .before .before .before .args .marks)) (c .before .before .before .before .before .before .before .loop .l) (c .before .before .before .lookup-warning .result) (c .before .before .before .lookup-warning .ensures)) (c .before .before .put-if .ensures)))
+
+same-length : tie.Need-same-length Inv-loop μ-loop
+same-length c = c .before .loop .inv .1
+
+returns : tie.Need-returns Inv-loop μ-loop
+returns c = let q : c .before .before .before .before .args .count ≡ c .before .loop .l = omega (arith, c .before .loop .inv .0, c .loop-test .left) in rw q (c .before .loop .inv .2)
+
+pub report-unmarked-spec : {M : Type 1} → statement M
+report-unmarked-spec =
+    tie.close
+    (tie.spec
+    Inv-loop
+    μ-loop
+    loop-holds
+    cast-used
+    shared-slice-read-used
+    lookup-warning-requires
+    put-if-requires
+    add-l
+    loop-less
+    loop-again
+    same-length
+    returns)

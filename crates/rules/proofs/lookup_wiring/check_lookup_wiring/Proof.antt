@@ -1,0 +1,53 @@
+use Rattle.pack.specs.Value.{Pack, pgns-of}
+use Rattle.rules.specs.LookupWiring.{check-lookup-refs, check-nested-refs, referenced, check-lookup-wiring}
+use borrow.Author.Needs.{needs}
+use mathlib.Core.Bool.{not}
+use mathlib.Core.List.{List, _++_}
+use lib.ListN.{length}
+use denote.Ref.{now}
+use Rattle.pack.specs.Notation.{concatBelow}
+use Rattle.pack.specs.Ready.{lookupIn, pgnIn}
+use Rattle.pack.specs.Meaning.{packOf}
+use Rattle.rules.specs.declared.Finding.{Finding}
+use Rattle.rules.specs.Findings.{report-if, lookup-warning}
+use Rattle.rules.proofs.Emits.{emitted-append, fits-left, fits-right}
+use Rattle.rules.proofs.lookup_wiring.check_lookup_wiring.Statement.{statement}
+use Rattle.rules.proofs.lookup_wiring.check_lookup_wiring.Tie as tie
+
+abbrev refs : Pack → List Finding
+refs P = concatBelow (λ t. concatBelow (λ i. check-lookup-refs (P .lookups) t i (pgnIn P t i)) (length (pgns-of P t))) 3
+
+abbrev nested : Pack → List Finding
+nested P = concatBelow (λ l. check-nested-refs P l (lookupIn P l)) (length (P .lookups))
+
+abbrev unused : Pack → List Finding
+unused P = concatBelow (λ l. report-if (not (referenced P (lookupIn P l .name))) (lookup-warning 22 1 l 0 0)) (length (P .lookups))
+
+check-all-refs-requires : tie.Need-check-all-refs-requires
+unfolding check-lookup-wiring
+check-all-refs-requires c κs = (fits-left (refs (packOf (now (c .before .before .before .before .args .s)))) (nested (packOf (now (c .before .before .before .before .args .s)))) (fits-left (refs (packOf (now (c .before .before .before .before .args .s))) ++ nested (packOf (now (c .before .before .before .before .args .s)))) (unused (packOf (now (c .before .before .before .before .args .s)))) (c .before .before .before .before .pre .0)), c .before .before .before .before .pre .1, c .before .before .before .before .pre .2)
+
+check-all-nested-refs-requires : tie.Need-check-all-nested-refs-requires
+unfolding check-lookup-wiring
+check-all-nested-refs-requires c κs = (fits-right (refs (packOf (now (c .before .before .before .before .before .before .before .before .args .s)))) (nested (packOf (now (c .before .before .before .before .before .before .before .before .args .s)))) (fits-left (refs (packOf (now (c .before .before .before .before .before .before .before .before .args .s))) ++ nested (packOf (now (c .before .before .before .before .before .before .before .before .args .s)))) (unused (packOf (now (c .before .before .before .before .before .before .before .before .args .s)))) (c .before .before .before .before .before .before .before .before .pre .0)) (c .before .before .before .check-all-refs .ensures), c .before .before .before .before .before .before .before .before .pre .1, c .before .before .before .before .before .before .before .before .pre .2)
+
+check-lookup-uses-requires : tie.Need-check-lookup-uses-requires
+unfolding check-lookup-wiring
+check-lookup-uses-requires c κs = (fits-right (refs (packOf (now (c .before .before .before .before .before .before .before .before .before .before .before .before .args .s))) ++ nested (packOf (now (c .before .before .before .before .before .before .before .before .before .before .before .before .args .s)))) (unused (packOf (now (c .before .before .before .before .before .before .before .before .before .before .before .before .args .s)))) (c .before .before .before .before .before .before .before .before .before .before .before .before .pre .0) (emitted-append {xs = refs (packOf (now (c .before .before .before .before .before .before .before .before .before .before .before .before .args .s)))} {ys = nested (packOf (now (c .before .before .before .before .before .before .before .before .before .before .before .before .args .s)))} (c .before .before .before .before .before .before .before .check-all-refs .ensures) (c .before .before .before .check-all-nested-refs .ensures)), c .before .before .before .before .before .before .before .before .before .before .before .before .pre .1, c .before .before .before .before .before .before .before .before .before .before .before .before .pre .2)
+
+same-length : tie.Need-same-length
+same-length c = search needs
+
+returns : tie.Need-returns
+unfolding check-lookup-wiring
+returns c = emitted-append {xs = refs (packOf (now (c .before .before .before .before .before .before .before .before .before .before .before .before .before .before .before .args .s))) ++ nested (packOf (now (c .before .before .before .before .before .before .before .before .before .before .before .before .before .before .before .args .s)))} {ys = unused (packOf (now (c .before .before .before .before .before .before .before .before .before .before .before .before .before .before .before .args .s)))} (emitted-append {xs = refs (packOf (now (c .before .before .before .before .before .before .before .before .before .before .before .before .before .before .before .args .s)))} {ys = nested (packOf (now (c .before .before .before .before .before .before .before .before .before .before .before .before .before .before .before .args .s)))} (c .before .before .before .before .before .before .before .before .before .before .check-all-refs .ensures) (c .before .before .before .before .before .before .check-all-nested-refs .ensures)) (c .before .before .check-lookup-uses .ensures)
+
+pub check-lookup-wiring-spec : {M : Type 1} → statement M
+check-lookup-wiring-spec =
+    tie.close
+    (tie.spec
+    check-all-refs-requires
+    check-all-nested-refs-requires
+    check-lookup-uses-requires
+    same-length
+    returns)

@@ -1,0 +1,79 @@
+use Rattle.pack.specs.Ready.{pgnPlace, pgnIn}
+use Rattle.pack.proofs.Positions.{pgn-place-next}
+use Rattle.rules.proofs.Sizes.{at-pgn, fields-few, pgns-few}
+use Rattle.rules.specs.LookupWiring.{check-lookup-refs}
+use borrow.Author.Needs.{needs}
+use native.Mathlib.Omega.{arith}
+use Prim.Native.Nat.{ℕ, _-_, _≤_}
+use mathlib.Core.Path.{_≡_, refl, _∙_}
+use mathlib.Core.List.{List}
+use lib.ListN.{length}
+use denote.Ref.{now}
+use Rattle.pack.specs.Notation.{concatBelow}
+use Rattle.pack.specs.Meaning.{packOf}
+use Rattle.rules.specs.declared.Finding.{Finding}
+use Rattle.rules.specs.Emit.{Emitted}
+use Rattle.rules.proofs.Emits.{emitted-none, emitted-turn, fits-turn}
+use Rattle.rules.proofs.lookup_wiring.check_tree_refs.Statement.{statement}
+use Rattle.rules.proofs.lookup_wiring.check_tree_refs.Tie as tie
+
+-- the findings of PGN i
+abbrev of-pgn : List ℕ → ℕ → ℕ → List Finding
+of-pgn s t i = check-lookup-refs (packOf s .lookups) t i (pgnIn (packOf s) t i)
+
+abbrev Inv-loop : tie.InvT-loop
+Inv-loop out₀ n s work lookups t count m₀ p₀ i₀ out m p i = (i ≤ count) × (p ≡ pgnPlace (packOf s) t i) × (length out ≡ length out₀) × Emitted out₀ n (concatBelow (of-pgn s t) i) out m
+
+abbrev μ-loop : tie.MeasureT-loop
+μ-loop out₀ n s work lookups t count m₀ p₀ i₀ out m p i = count - i
+
+loop-holds : tie.Need-loop-holds Inv-loop μ-loop
+loop-holds c = (search needs, omega (arith, c .before .before .before .pre .6), refl, emitted-none (now (c .before .before .before .args .out)) (c .before .before .before .args .n))
+
+pgn-of-requires : tie.Need-pgn-of-requires Inv-loop μ-loop
+pgn-of-requires c κs = (at-pgn (c .before .before .before .before .before .pre .1) (c .before .before .before .before .before .pre .4) (omega (arith, c .before .before .before .before .before .pre .5)) (c .loop-test .taken) (c .before .loop .inv .1))
+
+check-lookup-refs-requires : tie.Need-check-lookup-refs-requires Inv-loop μ-loop
+check-lookup-refs-requires c κs = (fits-turn (of-pgn (now (c .before .before .before .before .before .before .before .args .s)) (c .before .before .before .before .before .before .before .args .t)) (c .before .before .before .before .before .before .before .args .tree .count) (c .before .before .before .loop .i) (c .before .before .loop-test .taken) (rw (← c .before .before .before .before .before .before .before .pre .5) at (c .before .before .before .before .before .before .before .pre .0)) (c .before .before .before .loop .inv .3), (at-pgn (c .before .before .before .before .before .before .before .pre .1) (c .before .before .before .before .before .before .before .pre .4) (omega (arith, c .before .before .before .before .before .before .before .pre .5)) (c .before .before .loop-test .taken) (c .before .before .before .loop .inv .1)), c .before .before .before .before .before .before .before .pre .2, c .before .before .before .before .before .before .before .pre .3, c .before .pgn-of .ensures .fields)
+
+add-p : tie.Need-add-p Inv-loop μ-loop
+add-p c = omega (arith, fields-few (at-pgn (c .before .before .before .before .before .before .before .before .before .before .pre .1) (c .before .before .before .before .before .before .before .before .before .before .pre .4) (omega (arith, c .before .before .before .before .before .before .before .before .before .before .pre .5)) (c .before .before .before .before .before .loop-test .taken) (c .before .before .before .before .before .before .loop .inv .1)))
+
+cast-p : tie.Need-cast-p Inv-loop μ-loop
+cast-p c = omega (arith, fields-few (at-pgn (c .before .before .before .before .before .before .before .before .before .before .before .pre .1) (c .before .before .before .before .before .before .before .before .before .before .before .pre .4) (omega (arith, c .before .before .before .before .before .before .before .before .before .before .before .pre .5)) (c .before .before .before .before .before .before .loop-test .taken) (c .before .before .before .before .before .before .before .loop .inv .1)), c .before .before .before .before .before .pgn-of .ensures .fields)
+
+add-p-2 : tie.Need-add-p-2 Inv-loop μ-loop
+add-p-2 c = omega (arith, fields-few (at-pgn (c .before .before .before .before .before .before .before .before .before .before .before .pre .1) (c .before .before .before .before .before .before .before .before .before .before .before .pre .4) (omega (arith, c .before .before .before .before .before .before .before .before .before .before .before .pre .5)) (c .before .before .before .before .before .before .loop-test .taken) (c .before .before .before .before .before .before .before .loop .inv .1)), c .before .before .before .before .before .pgn-of .ensures .fields)
+
+add-i : tie.Need-add-i Inv-loop μ-loop
+add-i c = omega (arith, pgns-few (at-pgn (c .before .before .before .before .before .before .before .before .before .before .before .pre .1) (c .before .before .before .before .before .before .before .before .before .before .before .pre .4) (omega (arith, c .before .before .before .before .before .before .before .before .before .before .before .pre .5)) (c .before .before .before .before .before .before .loop-test .taken) (c .before .before .before .before .before .before .before .loop .inv .1)))
+
+loop-less : tie.Need-loop-less Inv-loop μ-loop
+loop-less c = search needs
+
+loop-again : tie.Need-loop-again Inv-loop μ-loop
+loop-again c = (search needs, omega (arith, pgn-place-next (packOf (now (c .before .before .before .before .before .before .before .before .before .before .before .args .s))) (c .before .before .before .before .before .before .before .before .before .before .before .args .t) (c .before .before .before .before .before .before .before .loop .i), c .before .before .before .before .before .pgn-of .ensures .fields, c .before .before .before .before .before .before .before .loop .inv .1), c .before .before .before .check-lookup-refs .kept .0 ∙ c .before .before .before .before .before .before .before .loop .inv .2, emitted-turn (of-pgn (now (c .before .before .before .before .before .before .before .before .before .before .before .args .s)) (c .before .before .before .before .before .before .before .before .before .before .before .args .t)) (c .before .before .before .before .before .before .before .loop .i) (c .before .before .before .before .before .before .before .loop .inv .3) (c .before .before .before .check-lookup-refs .ensures))
+
+same-length : tie.Need-same-length Inv-loop μ-loop
+same-length c = c .before .loop .inv .2
+
+returns : tie.Need-returns Inv-loop μ-loop
+returns c = let e : c .before .before .before .before .before .args .tree .count ≡ c .before .loop .i = omega (arith, c .before .loop .inv .0, c .loop-test .left) in rw (← c .before .before .before .before .before .pre .5, e) (c .before .loop .inv .3)
+
+pub check-tree-refs-spec : {M : Type 1} → statement M
+check-tree-refs-spec =
+    tie.close
+    (tie.spec
+    Inv-loop
+    μ-loop
+    loop-holds
+    pgn-of-requires
+    check-lookup-refs-requires
+    add-p
+    cast-p
+    add-p-2
+    add-i
+    loop-less
+    loop-again
+    same-length
+    returns)

@@ -1,0 +1,69 @@
+use Rattle.pack.specs.declared.records.FieldView.{FieldView}
+use Rattle.pack.specs.Items.{bytesOf}
+use Rattle.pack.specs.Value.{Pgn, Field}
+use Rattle.rules.proofs.Types.{given-is}
+use Rattle.rules.specs.Model.{given, field-at}
+use Rattle.rules.specs.SearchLaws.{any-turn, any-hit}
+use Rattle.rules.specs.Search.{anyBelow}
+use Rattle.rules.specs.Variants.{has-match}
+use borrow.Author.Needs.{needs}
+use native.Mathlib.Omega.{arith}
+use Prim.Native.Nat.{ℕ, _-_, _≤_}
+use mathlib.Core.Path.{_≡_, refl, sym, _∙_, ap}
+use mathlib.Core.Bool.{Bool, false}
+use mathlib.Core.List.{List}
+use denote.Ref.{now}
+use Rattle.pack.specs.Ready.{pgnIn}
+use Rattle.pack.specs.Meaning.{packOf, fieldMeaning}
+use Rattle.rules.proofs.match_keys.has_match.Statement.{statement}
+use Rattle.rules.proofs.match_keys.has_match.Tie as tie
+
+-- whether field k has a match
+abbrev has : Pgn → ℕ → Bool
+has p k = given (field-at p k .match)
+
+said : (s : List ℕ) (p : Pgn) (k : ℕ) (f : FieldView) → fieldMeaning s f ≡ field-at p k → has p k ≡ f .authored .matched .given
+said s p k f e = ap (λ (x : Field). given (x .match)) (sym e) ∙ given-is (f .authored .matched .given) (bytesOf s (f .authored .matched .text))
+
+abbrev Inv-loop : tie.InvT-loop
+Inv-loop s work t i p fields k₀ k = (k ≤ fields) × (anyBelow (has (pgnIn (packOf s) t i)) k ≡ false)
+
+abbrev μ-loop : tie.MeasureT-loop
+μ-loop s work t i p fields k₀ k = fields - k
+
+loop-holds : tie.Need-loop-holds Inv-loop μ-loop
+loop-holds c = (search needs, refl)
+
+field-of-requires : tie.Need-field-of-requires Inv-loop μ-loop
+field-of-requires c κs = (c .before .before .before .before .pre .0, omega (arith, c .before .before .before .before .pre .1, c .loop-test .taken))
+
+returns : tie.Need-returns Inv-loop μ-loop
+unfolding has-match
+returns c = sym (any-hit (has (pgnIn (packOf (now (c .before .before .before .before .before .before .args .s))) (c .before .before .before .before .before .before .args .t) (c .before .before .before .before .before .before .args .i))) (c .before .before .before .before .before .before .args .fields) (c .before .before .before .loop .k) (c .before .before .loop-test .taken) (said (now (c .before .before .before .before .before .before .args .s)) (pgnIn (packOf (now (c .before .before .before .before .before .before .args .s))) (c .before .before .before .before .before .before .args .t) (c .before .before .before .before .before .before .args .i)) (c .before .before .before .loop .k) (c .before .field-of .result) (c .before .field-of .ensures) ∙ c .if1 .taken))
+
+add-k : tie.Need-add-k Inv-loop μ-loop
+add-k c = search needs
+
+loop-less : tie.Need-loop-less Inv-loop μ-loop
+loop-less c = search needs
+
+loop-again : tie.Need-loop-again Inv-loop μ-loop
+loop-again c = (search needs, any-turn (has (pgnIn (packOf (now (c .before .before .before .before .before .before .args .s))) (c .before .before .before .before .before .before .args .t) (c .before .before .before .before .before .before .args .i))) (c .before .before .before .loop .k) ∙ (rw (c .before .before .before .loop .inv .1) (said (now (c .before .before .before .before .before .before .args .s)) (pgnIn (packOf (now (c .before .before .before .before .before .before .args .s))) (c .before .before .before .before .before .before .args .t) (c .before .before .before .before .before .before .args .i)) (c .before .before .before .loop .k) (c .before .field-of .result) (c .before .field-of .ensures) ∙ c .if1 .left)))
+
+returns-2 : tie.Need-returns-2 Inv-loop μ-loop
+unfolding has-match
+returns-2 c = let e : c .before .before .before .before .args .fields ≡ c .before .loop .k = omega (arith, c .before .loop .inv .0, c .loop-test .left) in rw e (sym (c .before .loop .inv .1))
+
+pub has-match-spec : {M : Type 1} → statement M
+has-match-spec =
+    tie.close
+    (tie.spec
+    Inv-loop
+    μ-loop
+    loop-holds
+    field-of-requires
+    returns
+    add-k
+    loop-less
+    loop-again
+    returns-2)

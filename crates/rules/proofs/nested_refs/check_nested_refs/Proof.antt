@@ -1,0 +1,92 @@
+use borrow.Author.Tests.{eq-eqb, ne-eqb}
+use Rattle.pack.specs.declared.records.LookupView.{LookupView}
+use Rattle.pack.specs.declared.records.EntryView.{EntryView}
+use Rattle.pack.specs.Value.{Entry, Lookup, Pack, noEntry}
+use Rattle.pack.specs.Meaning.{entryMeaning, packOf}
+use Rattle.rules.proofs.Sizes.{entries-few}
+use Rattle.rules.specs.Model.{fieldtypes}
+use Rattle.rules.specs.LookupWiring.{fieldtype-entry-at, check-nested-refs}
+use borrow.Author.Needs.{needs}
+use native.Mathlib.Omega.{arith}
+use Prim.Native.Nat.{ℕ, _-_, _≤_}
+use mathlib.Core.Path.{_≡_, refl, sym, _∙_, ap}
+use mathlib.Core.Bool.{true, false}
+use mathlib.Core.List.{List, []}
+use lib.ListN.{length, getD}
+use denote.Ref.{now}
+use Rattle.pack.specs.Notation.{concatBelow, _==_}
+use Rattle.pack.specs.Ready.{LookupIs, lookupIn}
+use Rattle.rules.specs.declared.Finding.{Finding}
+use Rattle.rules.specs.Emit.{Emitted, Fits}
+use Rattle.rules.proofs.Emits.{emitted-none, emitted-turn, fits-turn}
+use Rattle.rules.proofs.nested_refs.check_nested_refs.Statement.{statement}
+use Rattle.rules.proofs.nested_refs.check_nested_refs.Tie as tie
+
+-- the findings of entry e
+abbrev of-entry : List ℕ → ℕ → ℕ → List Finding
+of-entry s l e = fieldtype-entry-at (packOf s) l e (getD (lookupIn (packOf s) l .entries) e noEntry)
+
+module _ (s : List ℕ) (P : Pack) (L : Lookup) (v : LookupView) (is : LookupIs s L v) (l : ℕ) where
+  others : (v .kind ≡ 3 → ⊥) → check-nested-refs P l L ≡ []
+  unfolding check-nested-refs fieldtypes
+  others h = let e : (L .kind == 3) ≡ false = ap (λ (M : Lookup). M .kind == 3) (sym (is .means)) ∙ ne-eqb (v .kind) 3 h in rw e
+
+  nesting : v .kind ≡ 3 → check-nested-refs P l L ≡ concatBelow (λ e. fieldtype-entry-at P l e (getD (L .entries) e noEntry)) (v .entries)
+  unfolding check-nested-refs fieldtypes
+  nesting h = let e : (L .kind == 3) ≡ true = ap (λ (M : Lookup). M .kind == 3) (sym (is .means)) ∙ eq-eqb (v .kind) 3 h in rw (e, is .entries)
+
+module _ (s : List ℕ) (P : Pack) (l e : ℕ) (v : EntryView) (E : Entry) (is : entryMeaning s v ≡ E) where
+  asked : {m : ℕ} → Fits m (fieldtype-entry-at P l e E) → Fits m (fieldtype-entry-at P l e (entryMeaning s v))
+  asked h = rw (← is) at h
+
+  told : {o o′ : List ℕ} {n m : ℕ} → Emitted o n (fieldtype-entry-at P l e (entryMeaning s v)) o′ m → Emitted o n (fieldtype-entry-at P l e E) o′ m
+  told h = rw (← is) h
+
+abbrev Inv-loop : tie.InvT-loop
+Inv-loop out₀ n s work index l p entries m₀ e₀ out m e = (e ≤ entries) × (length out ≡ length out₀) × Emitted out₀ n (concatBelow (of-entry s l) e) out m
+
+abbrev μ-loop : tie.MeasureT-loop
+μ-loop out₀ n s work index l p entries m₀ e₀ out m e = entries - e
+
+returns : tie.Need-returns Inv-loop μ-loop
+returns c = rw (others (now (c .before .before .before .before .before .args .s)) (packOf (now (c .before .before .before .before .before .args .s))) (lookupIn (packOf (now (c .before .before .before .before .before .args .s))) (c .before .before .before .before .before .args .l)) (c .before .before .before .before .before .args .v) (c .before .before .before .before .before .pre .2) (c .before .before .before .before .before .args .l) (c .if1 .taken)) (emitted-none (now (c .before .before .before .before .before .args .out)) (c .before .before .before .before .before .args .n))
+
+loop-holds : tie.Need-loop-holds Inv-loop μ-loop
+loop-holds c = (search needs, refl, emitted-none (now (c .before .before .before .before .before .args .out)) (c .before .before .before .before .before .args .n))
+
+entry-of-requires : tie.Need-entry-of-requires Inv-loop μ-loop
+entry-of-requires c κs = (c .before .before .before .before .before .before .before .pre .1, sym (c .before .before .if1 .left) ∙ ap (λ (L : Lookup). L .kind) (c .before .before .before .before .before .before .before .pre .2 .means), omega (arith, c .before .before .before .before .before .before .before .pre .2 .entries, c .loop-test .taken))
+
+fieldtype-entry-at-requires : tie.Need-fieldtype-entry-at-requires Inv-loop μ-loop
+fieldtype-entry-at-requires c κs = (asked (now (c .before .before .before .before .before .before .before .before .before .args .s)) (packOf (now (c .before .before .before .before .before .before .before .before .before .args .s))) (c .before .before .before .before .before .before .before .before .before .args .l) (c .before .before .before .loop .e) (c .before .entry-of .result) (getD (lookupIn (packOf (now (c .before .before .before .before .before .before .before .before .before .args .s))) (c .before .before .before .before .before .before .before .before .before .args .l) .entries) (c .before .before .before .loop .e) noEntry) (c .before .entry-of .ensures) (fits-turn (of-entry (now (c .before .before .before .before .before .before .before .before .before .args .s)) (c .before .before .before .before .before .before .before .before .before .args .l)) (c .before .before .before .before .before .before .before .before .before .args .v .entries) (c .before .before .before .loop .e) (c .before .before .loop-test .taken) (rw (nesting (now (c .before .before .before .before .before .before .before .before .before .args .s)) (packOf (now (c .before .before .before .before .before .before .before .before .before .args .s))) (lookupIn (packOf (now (c .before .before .before .before .before .before .before .before .before .args .s))) (c .before .before .before .before .before .before .before .before .before .args .l)) (c .before .before .before .before .before .before .before .before .before .args .v) (c .before .before .before .before .before .before .before .before .before .pre .2) (c .before .before .before .before .before .before .before .before .before .args .l) (c .before .before .before .before .if1 .left)) at (c .before .before .before .before .before .before .before .before .before .pre .0)) (c .before .before .before .loop .inv .2)), c .before .before .before .before .before .before .before .before .before .pre .1 .ready, c .before .before .before .before .before .before .before .before .before .pre .3)
+
+add-e : tie.Need-add-e Inv-loop μ-loop
+add-e c = omega (arith, c .before .before .before .before .before .loop-test .taken, c .before .before .before .before .before .before .before .before .before .before .before .before .pre .2 .entries, entries-few (c .before .before .before .before .before .before .before .before .before .before .before .before .pre .1))
+
+loop-less : tie.Need-loop-less Inv-loop μ-loop
+loop-less c = search needs
+
+loop-again : tie.Need-loop-again Inv-loop μ-loop
+loop-again c = (search needs, c .before .before .fieldtype-entry-at .kept .0 ∙ c .before .before .before .before .before .before .loop .inv .1, emitted-turn (of-entry (now (c .before .before .before .before .before .before .before .before .before .before .before .before .args .s)) (c .before .before .before .before .before .before .before .before .before .before .before .before .args .l)) (c .before .before .before .before .before .before .loop .e) (c .before .before .before .before .before .before .loop .inv .2) (told (now (c .before .before .before .before .before .before .before .before .before .before .before .before .args .s)) (packOf (now (c .before .before .before .before .before .before .before .before .before .before .before .before .args .s))) (c .before .before .before .before .before .before .before .before .before .before .before .before .args .l) (c .before .before .before .before .before .before .loop .e) (c .before .before .before .before .entry-of .result) (getD (lookupIn (packOf (now (c .before .before .before .before .before .before .before .before .before .before .before .before .args .s))) (c .before .before .before .before .before .before .before .before .before .before .before .before .args .l) .entries) (c .before .before .before .before .before .before .loop .e) noEntry) (c .before .before .before .before .entry-of .ensures) (c .before .before .fieldtype-entry-at .ensures)))
+
+same-length : tie.Need-same-length Inv-loop μ-loop
+same-length c = c .before .loop .inv .1
+
+returns-2 : tie.Need-returns-2 Inv-loop μ-loop
+returns-2 c = let q : c .before .before .before .before .before .before .before .args .v .entries ≡ c .before .loop .e = omega (arith, c .before .loop .inv .0, c .loop-test .left) in rw (nesting (now (c .before .before .before .before .before .before .before .args .s)) (packOf (now (c .before .before .before .before .before .before .before .args .s))) (lookupIn (packOf (now (c .before .before .before .before .before .before .before .args .s))) (c .before .before .before .before .before .before .before .args .l)) (c .before .before .before .before .before .before .before .args .v) (c .before .before .before .before .before .before .before .pre .2) (c .before .before .before .before .before .before .before .args .l) (c .before .before .if1 .left), q) (c .before .loop .inv .2)
+
+pub check-nested-refs-spec : {M : Type 1} → statement M
+check-nested-refs-spec =
+    tie.close
+    (tie.spec
+    Inv-loop
+    μ-loop
+    returns
+    loop-holds
+    entry-of-requires
+    fieldtype-entry-at-requires
+    add-e
+    loop-less
+    loop-again
+    same-length
+    returns-2)

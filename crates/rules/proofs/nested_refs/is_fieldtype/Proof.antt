@@ -1,0 +1,76 @@
+use Rattle.pack.specs.declared.records.FieldTypeView.{FieldTypeView}
+use Rattle.pack.specs.Value.{noFieldType}
+use Rattle.pack.specs.Meaning.{typeMeaning, packOf}
+use Rattle.pack.specs.Items.{bytesOf}
+use Rattle.rules.specs.Search.{anyBelow}
+use Rattle.rules.specs.SearchLaws.{any-turn, any-hit}
+use Rattle.rules.specs.LookupWiring.{is-fieldtype}
+use borrow.Author.Needs.{needs}
+use native.Mathlib.Omega.{arith}
+use Prim.Native.Nat.{ℕ, _-_, _≤_}
+use mathlib.Core.Path.{_≡_, refl, sym, _∙_}
+use mathlib.Core.Bool.{Bool, false}
+use mathlib.Core.List.{List}
+use lib.ListN.{length, getD}
+use denote.Ref.{now}
+use Rattle.pack.specs.Notation.{_≐_}
+use Rattle.rules.proofs.nested_refs.is_fieldtype.Statement.{statement}
+use Rattle.rules.proofs.nested_refs.is_fieldtype.Tie as tie
+
+-- whether field type j has the name
+abbrev named : List ℕ → List ℕ → ℕ → Bool
+named s name j = getD (packOf s .fieldtypes) j noFieldType .name ≐ name
+
+said : (s name : List ℕ) (j : ℕ) (v : FieldTypeView) (r : Bool) → typeMeaning s v ≡ getD (packOf s .fieldtypes) j noFieldType → r ≡ (bytesOf s (v .name) ≐ name) → named s name j ≡ r
+said s name j v r y h = sym (h ∙ (λ k. y k .name ≐ name))
+
+abbrev Inv-loop : tie.InvT-loop
+Inv-loop s work types name j₀ j = (j ≤ types) × (anyBelow (named s (bytesOf s name)) j ≡ false)
+
+abbrev μ-loop : tie.MeasureT-loop
+μ-loop s work types name j₀ j = types - j
+
+loop-holds : tie.Need-loop-holds Inv-loop μ-loop
+loop-holds c = (search needs, refl)
+
+type-of-requires : tie.Need-type-of-requires Inv-loop μ-loop
+type-of-requires c κs = (c .before .before .before .before .pre .0, omega (arith, c .before .before .before .before .pre .1, c .loop-test .taken))
+
+same-text-requires : tie.Need-same-text-requires Inv-loop μ-loop
+same-text-requires c κs = search needs
+
+returns : tie.Need-returns Inv-loop μ-loop
+unfolding is-fieldtype
+returns c =
+    let h = said (now (c .before .before .before .before .before .before .before .args .s)) (bytesOf (now (c .before .before .before .before .before .before .before .args .s)) (c .before .before .before .before .before .before .before .args .name)) (c .before .before .before .before .loop .j) (c .before .before .type-of .result) (c .before .same-text .result) (c .before .before .type-of .ensures) (c .before .same-text .ensures) in
+    sym (any-hit (named (now (c .before .before .before .before .before .before .before .args .s)) (bytesOf (now (c .before .before .before .before .before .before .before .args .s)) (c .before .before .before .before .before .before .before .args .name))) (length (packOf (now (c .before .before .before .before .before .before .before .args .s)) .fieldtypes)) (c .before .before .before .before .loop .j) (omega (arith, c .before .before .before .before .before .before .before .pre .1, c .before .before .before .loop-test .taken)) (h ∙ c .if1 .taken))
+
+add-j : tie.Need-add-j Inv-loop μ-loop
+add-j c = search needs
+
+loop-less : tie.Need-loop-less Inv-loop μ-loop
+loop-less c = search needs
+
+loop-again : tie.Need-loop-again Inv-loop μ-loop
+loop-again c =
+    let h = said (now (c .before .before .before .before .before .before .before .args .s)) (bytesOf (now (c .before .before .before .before .before .before .before .args .s)) (c .before .before .before .before .before .before .before .args .name)) (c .before .before .before .before .loop .j) (c .before .before .type-of .result) (c .before .same-text .result) (c .before .before .type-of .ensures) (c .before .same-text .ensures) in
+    (search needs, any-turn (named (now (c .before .before .before .before .before .before .before .args .s)) (bytesOf (now (c .before .before .before .before .before .before .before .args .s)) (c .before .before .before .before .before .before .before .args .name))) (c .before .before .before .before .loop .j) ∙ (rw (c .before .before .before .before .loop .inv .1, h ∙ c .if1 .left)))
+
+returns-2 : tie.Need-returns-2 Inv-loop μ-loop
+unfolding is-fieldtype
+returns-2 c = let q : length (packOf (now (c .before .before .before .before .args .s)) .fieldtypes) ≡ c .before .loop .j = omega (arith, c .before .before .before .before .pre .1, c .before .loop .inv .0, c .loop-test .left) in rw (q, c .before .loop .inv .1)
+
+pub is-fieldtype-spec : {M : Type 1} → statement M
+is-fieldtype-spec =
+    tie.close
+    (tie.spec
+    Inv-loop
+    μ-loop
+    loop-holds
+    type-of-requires
+    same-text-requires
+    returns
+    add-j
+    loop-less
+    loop-again
+    returns-2)

@@ -1,0 +1,36 @@
+use borrow.Author.Tests.{lt-ltb, le-ltb}
+use Rattle.rules.proofs.Sections.{at-tree}
+use denote.Ref.{now}
+use Rattle.pack.specs.Meaning.{packOf}
+use borrow.Author.Needs.{needs}
+use Rattle.rules.proofs.places.group_loc.Statement.{statement}
+use Rattle.rules.proofs.places.group_loc.Tie as tie
+
+absent-requires : tie.Need-absent-requires
+absent-requires c κs = search needs
+
+returns : tie.Need-returns
+returns c = rw (c .absent .ensures, le-ltb (c .before .before .before .before .args .tree) 3 (c .before .if1 .taken))
+
+of-tree-requires : tie.Need-of-tree-requires
+of-tree-requires c κs = search needs
+
+section-requires : tie.Need-section-requires
+section-requires c κs = search needs
+
+has-number-requires : tie.Need-has-number-requires
+has-number-requires c κs = let a = at-tree (packOf (now (c .before .before .before .before .before .args .s))) (c .before .before .before .before .before .args .index) (c .before .before .before .before .before .pre .1) (c .before .before .before .before .before .args .tree) (c .before .before .if1 .left) (c .before .of-tree .result) (c .section .result) (c .before .of-tree .ensures) (c .section .ensures) in (c .before .before .before .before .before .pre .0, c .before .before .if1 .left, a .0, a .1)
+
+returns-2 : tie.Need-returns-2
+returns-2 c = rw (lt-ltb (c .before .before .before .before .before .before .args .tree) 3 (c .before .before .before .if1 .left), c .has-number .ensures)
+
+pub group-loc-spec : {M : Type 1} → statement M
+group-loc-spec =
+    tie.close
+    (tie.spec
+    absent-requires
+    returns
+    of-tree-requires
+    section-requires
+    has-number-requires
+    returns-2)

@@ -1,0 +1,65 @@
+use Rattle.pack.proofs.Positions.{lookup-place-next}
+use Rattle.rules.proofs.Sizes.{entries-few}
+use borrow.Author.Needs.{needs}
+use native.Mathlib.Omega.{arith}
+use Prim.Native.Nat.{ℕ, _-_, _≤_, _<_}
+use mathlib.Core.Path.{_≡_}
+use mathlib.Core.List.{List}
+use lib.ListN.{length}
+use denote.Ref.{now}
+use Rattle.pack.specs.Ready.{Ready, LookupAt, lookupPlace}
+use Rattle.pack.specs.Meaning.{packOf}
+use Rattle.rules.proofs.places.lookup_position.Statement.{statement}
+use Rattle.rules.proofs.places.lookup_position.Tie as tie
+
+there : (s w : List ℕ) (item l p : ℕ) → Ready s w → item < length (packOf s .lookups) → l < item → p ≡ lookupPlace (packOf s) l → LookupAt s w l p
+there s w item l p r h k e = record { ready = r; lookup = omega arith; place = e }
+
+abbrev Inv-loop : tie.InvT-loop
+Inv-loop s work first item p₀ l₀ p l = (l ≤ item) × (p ≡ lookupPlace (packOf s) l)
+
+abbrev μ-loop : tie.MeasureT-loop
+μ-loop s work first item p₀ l₀ p l = item - l
+
+loop-holds : tie.Need-loop-holds Inv-loop μ-loop
+loop-holds c = (omega arith, c .before .before .pre .1)
+
+lookup-of-requires : tie.Need-lookup-of-requires Inv-loop μ-loop
+lookup-of-requires c κs = there (now (c .before .before .before .before .args .s)) (now (c .before .before .before .before .args .work)) (c .before .before .before .before .args .item) (c .before .loop .l) (c .before .loop .p) (c .before .before .before .before .pre .0) (c .before .before .before .before .pre .2) (c .loop-test .taken) (c .before .loop .inv .1)
+
+add-p : tie.Need-add-p Inv-loop μ-loop
+add-p c = omega (arith, entries-few (there (now (c .before .before .before .before .before .args .s)) (now (c .before .before .before .before .before .args .work)) (c .before .before .before .before .before .args .item) (c .before .before .loop .l) (c .before .before .loop .p) (c .before .before .before .before .before .pre .0) (c .before .before .before .before .before .pre .2) (c .before .loop-test .taken) (c .before .before .loop .inv .1)))
+
+cast-p : tie.Need-cast-p Inv-loop μ-loop
+cast-p c = omega (arith, entries-few (there (now (c .before .before .before .before .before .before .args .s)) (now (c .before .before .before .before .before .before .args .work)) (c .before .before .before .before .before .before .args .item) (c .before .before .before .loop .l) (c .before .before .before .loop .p) (c .before .before .before .before .before .before .pre .0) (c .before .before .before .before .before .before .pre .2) (c .before .before .loop-test .taken) (c .before .before .before .loop .inv .1)), c .before .lookup-of .ensures .entries)
+
+add-p-2 : tie.Need-add-p-2 Inv-loop μ-loop
+add-p-2 c = omega (arith, entries-few (there (now (c .before .before .before .before .before .before .args .s)) (now (c .before .before .before .before .before .before .args .work)) (c .before .before .before .before .before .before .args .item) (c .before .before .before .loop .l) (c .before .before .before .loop .p) (c .before .before .before .before .before .before .pre .0) (c .before .before .before .before .before .before .pre .2) (c .before .before .loop-test .taken) (c .before .before .before .loop .inv .1)), c .before .lookup-of .ensures .entries)
+
+add-l : tie.Need-add-l Inv-loop μ-loop
+add-l c = search needs
+
+loop-less : tie.Need-loop-less Inv-loop μ-loop
+loop-less c = search needs
+
+loop-again : tie.Need-loop-again Inv-loop μ-loop
+loop-again c = (omega (arith, c .before .before .loop-test .taken), omega (arith, lookup-place-next (packOf (now (c .before .before .before .before .before .before .args .s))) (c .before .before .before .loop .l), c .before .lookup-of .ensures .entries, c .before .before .before .loop .inv .1))
+
+returns : tie.Need-returns Inv-loop μ-loop
+returns c = let e : c .before .loop .l ≡ c .before .before .before .before .args .item = omega (arith, c .before .loop .inv .0, c .loop-test .left) in record { ready = c .before .before .before .before .pre .0; lookup = c .before .before .before .before .pre .2; place = (rw (← e) (c .before .loop .inv .1)) }
+
+pub lookup-position-spec : {M : Type 1} → statement M
+lookup-position-spec =
+    tie.close
+    (tie.spec
+    Inv-loop
+    μ-loop
+    loop-holds
+    lookup-of-requires
+    add-p
+    cast-p
+    add-p-2
+    add-l
+    loop-less
+    loop-again
+    returns)

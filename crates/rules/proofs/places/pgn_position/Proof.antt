@@ -1,0 +1,60 @@
+use Rattle.pack.specs.Ready.{pgnPlace}
+use Rattle.pack.proofs.Positions.{pgn-place-next}
+use Rattle.rules.proofs.Sizes.{at-pgn, fields-few}
+use borrow.Author.Needs.{needs}
+use native.Mathlib.Omega.{arith}
+use Prim.Native.Nat.{_-_, _≤_}
+use mathlib.Core.Path.{_≡_}
+use denote.Ref.{now}
+use Rattle.pack.specs.Meaning.{packOf}
+use Rattle.rules.proofs.places.pgn_position.Statement.{statement}
+use Rattle.rules.proofs.places.pgn_position.Tie as tie
+
+abbrev Inv-loop : tie.InvT-loop
+Inv-loop s work t first item p₀ i₀ p i = (i ≤ item) × (p ≡ pgnPlace (packOf s) t i)
+
+abbrev μ-loop : tie.MeasureT-loop
+μ-loop s work t first item p₀ i₀ p i = item - i
+
+loop-holds : tie.Need-loop-holds Inv-loop μ-loop
+loop-holds c = (omega arith, omega (arith, c .before .before .pre .2))
+
+pgn-of-requires : tie.Need-pgn-of-requires Inv-loop μ-loop
+pgn-of-requires c κs = at-pgn (c .before .before .before .before .pre .0) (c .before .before .before .before .pre .1) (omega (arith, c .before .before .before .before .pre .3)) (c .loop-test .taken) (c .before .loop .inv .1)
+
+add-p : tie.Need-add-p Inv-loop μ-loop
+add-p c = omega (arith, fields-few (at-pgn (c .before .before .before .before .before .pre .0) (c .before .before .before .before .before .pre .1) (omega (arith, c .before .before .before .before .before .pre .3)) (c .before .loop-test .taken) (c .before .before .loop .inv .1)))
+
+cast-p : tie.Need-cast-p Inv-loop μ-loop
+cast-p c = omega (arith, fields-few (at-pgn (c .before .before .before .before .before .before .pre .0) (c .before .before .before .before .before .before .pre .1) (omega (arith, c .before .before .before .before .before .before .pre .3)) (c .before .before .loop-test .taken) (c .before .before .before .loop .inv .1)), c .before .pgn-of .ensures .fields)
+
+add-p-2 : tie.Need-add-p-2 Inv-loop μ-loop
+add-p-2 c = omega (arith, fields-few (at-pgn (c .before .before .before .before .before .before .pre .0) (c .before .before .before .before .before .before .pre .1) (omega (arith, c .before .before .before .before .before .before .pre .3)) (c .before .before .loop-test .taken) (c .before .before .before .loop .inv .1)), c .before .pgn-of .ensures .fields)
+
+add-i : tie.Need-add-i Inv-loop μ-loop
+add-i c = search needs
+
+loop-less : tie.Need-loop-less Inv-loop μ-loop
+loop-less c = search needs
+
+loop-again : tie.Need-loop-again Inv-loop μ-loop
+loop-again c = (omega (arith, c .before .before .loop-test .taken), omega (arith, pgn-place-next (packOf (now (c .before .before .before .before .before .before .args .s))) (c .before .before .before .before .before .before .args .t) (c .before .before .before .loop .i), c .before .pgn-of .ensures .fields, c .before .before .before .loop .inv .1))
+
+returns : tie.Need-returns Inv-loop μ-loop
+returns c = let e : c .before .loop .i ≡ c .before .before .before .before .args .item = omega (arith, c .before .loop .inv .0, c .loop-test .left) in record { ready = c .before .before .before .before .pre .0; tree = c .before .before .before .before .pre .1; pgn = c .before .before .before .before .pre .3; place = (rw (← e) (c .before .loop .inv .1)) }
+
+pub pgn-position-spec : {M : Type 1} → statement M
+pgn-position-spec =
+    tie.close
+    (tie.spec
+    Inv-loop
+    μ-loop
+    loop-holds
+    pgn-of-requires
+    add-p
+    cast-p
+    add-p-2
+    add-i
+    loop-less
+    loop-again
+    returns)

@@ -1,0 +1,30 @@
+use borrow.Author.Tests.{lt-ltb, le-ltb, not-true, not-false}
+use Rattle.rules.specs.Search.{larger}
+use Prim.Native.Nat.{ℕ}
+use mathlib.Core.Path.{_≡_}
+use mathlib.Core.Bool.{Bool, false}
+use mathlib.Core.Option.{Option, none, some}
+use Rattle.pack.specs.Notation.{optional}
+use Rattle.pack.specs.Meaning.{optNumber}
+use Rattle.rules.proofs.searches.larger.Statement.{statement}
+use Rattle.rules.proofs.searches.larger.Tie as tie
+
+-- the four ways, of what was found and whether v is tried
+unhit : (o : Option ℕ) (h : Bool) (v : ℕ) → h ≡ false → o ≡ larger o (optional h v)
+unhit none h v e = rw e
+unhit (some x) h v e = rw e
+
+returns : tie.Need-returns
+returns c = unhit (optNumber (c .before .args .found)) (c .before .args .hit) (c .before .args .v) (not-true (c .before .args .hit) (c .if1 .taken))
+
+returns-2 : tie.Need-returns-2
+returns-2 c = rw (not-false (c .before .before .before .before .args .hit) (c .before .before .before .if1 .left), c .before .before .if2 .taken, le-ltb (c .before .before .before .before .args .found .value) (c .before .before .before .before .args .v) (c .if3 .taken))
+
+returns-3 : tie.Need-returns-3
+returns-3 c = rw (not-false (c .before .before .before .before .args .hit) (c .before .before .before .if1 .left), c .before .before .if2 .taken, lt-ltb (c .before .before .before .before .args .found .value) (c .before .before .before .before .args .v) (c .if3 .left))
+
+returns-4 : tie.Need-returns-4
+returns-4 c = rw (not-false (c .before .before .args .hit) (c .before .if1 .left), c .if2 .left)
+
+pub larger-spec : {M : Type 1} → statement M
+larger-spec = tie.close (tie.spec returns returns-2 returns-3 returns-4)

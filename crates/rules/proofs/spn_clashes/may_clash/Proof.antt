@@ -1,0 +1,59 @@
+use native.Mathlib.Omega.{arith}
+use Prim.Native.Nat.{_-_, _≤_}
+use mathlib.Core.Path.{_≡_, refl, sym, _∙_}
+use mathlib.Core.Bool.{false}
+use lib.ListN.{length}
+use denote.Ref.{now}
+use Rattle.pack.specs.Ready.{pgnPlace}
+use Rattle.pack.specs.Meaning.{packOf}
+use Rattle.pack.proofs.Positions.{pgn-place-next}
+use Rattle.rules.specs.Search.{anyBelow}
+use Rattle.rules.specs.SearchLaws.{any-turn, any-hit}
+use Rattle.rules.specs.SpnClashes.{clash-from, may-clash}
+use Rattle.rules.proofs.Sizes.{at-pgn, fields-few, pgns-few}
+use Rattle.rules.proofs.spn_clashes.may_clash.Statement.{statement}
+use Rattle.rules.proofs.spn_clashes.may_clash.Tie as tie
+
+abbrev Inv-loop : tie.InvT-loop
+Inv-loop s work count first p₀ i₀ p i = (i ≤ count) × (p ≡ pgnPlace (packOf s) 1 i) × (anyBelow (clash-from (packOf s .pgns-j1939)) i ≡ false)
+
+abbrev μ-loop : tie.MeasureT-loop
+μ-loop s work count first p₀ i₀ p i = count - i
+
+loop-holds : tie.Need-loop-holds Inv-loop μ-loop
+loop-holds c = (omega arith, omega (arith, c .before .before .pre .2), refl)
+
+pgn-of-requires : tie.Need-pgn-of-requires Inv-loop μ-loop
+pgn-of-requires c κs = (at-pgn {t = 1} (c .before .before .before .before .pre .0) (omega arith) (omega (arith, c .before .before .before .before .pre .1)) (c .loop-test .taken) (c .before .loop .inv .1))
+
+clash-from-requires : tie.Need-clash-from-requires Inv-loop μ-loop
+clash-from-requires c κs = (c .before .before .before .before .before .pre .2, (at-pgn {t = 1} (c .before .before .before .before .before .pre .0) (omega arith) (omega (arith, c .before .before .before .before .before .pre .1)) (c .before .loop-test .taken) (c .before .before .loop .inv .1)), c .pgn-of .ensures .fields)
+
+returns : tie.Need-returns Inv-loop μ-loop
+unfolding may-clash
+returns c = sym (any-hit (clash-from (packOf (now (c .before .before .before .before .before .before .before .args .s)) .pgns-j1939)) (length (packOf (now (c .before .before .before .before .before .before .before .args .s)) .pgns-j1939)) (c .before .before .before .before .loop .i) (omega (arith, c .before .before .before .before .before .before .before .pre .1, c .before .before .before .loop-test .taken)) (sym (c .before .clash-from .ensures) ∙ c .if1 .taken))
+
+add-p : tie.Need-add-p Inv-loop μ-loop
+add-p c = omega (arith, fields-few (at-pgn {t = 1} (c .before .before .before .before .before .before .before .pre .0) (omega arith) (omega (arith, c .before .before .before .before .before .before .before .pre .1)) (c .before .before .before .loop-test .taken) (c .before .before .before .before .loop .inv .1)))
+
+cast-p : tie.Need-cast-p Inv-loop μ-loop
+cast-p c = omega (arith, fields-few (at-pgn {t = 1} (c .before .before .before .before .before .before .before .before .pre .0) (omega arith) (omega (arith, c .before .before .before .before .before .before .before .before .pre .1)) (c .before .before .before .before .loop-test .taken) (c .before .before .before .before .before .loop .inv .1)), c .before .before .before .pgn-of .ensures .fields)
+
+add-p-2 : tie.Need-add-p-2 Inv-loop μ-loop
+add-p-2 c = omega (arith, fields-few (at-pgn {t = 1} (c .before .before .before .before .before .before .before .before .pre .0) (omega arith) (omega (arith, c .before .before .before .before .before .before .before .before .pre .1)) (c .before .before .before .before .loop-test .taken) (c .before .before .before .before .before .loop .inv .1)), c .before .before .before .pgn-of .ensures .fields)
+
+add-i : tie.Need-add-i Inv-loop μ-loop
+add-i c = omega (arith, pgns-few (at-pgn {t = 1} (c .before .before .before .before .before .before .before .before .pre .0) (omega arith) (omega (arith, c .before .before .before .before .before .before .before .before .pre .1)) (c .before .before .before .before .loop-test .taken) (c .before .before .before .before .before .loop .inv .1)))
+
+loop-less : tie.Need-loop-less Inv-loop μ-loop
+loop-less c = omega (arith, c .before .before .before .before .loop-test .taken)
+
+loop-again : tie.Need-loop-again Inv-loop μ-loop
+loop-again c = (omega (arith, c .before .before .before .before .loop-test .taken), omega (arith, pgn-place-next (packOf (now (c .before .before .before .before .before .before .before .before .args .s))) 1 (c .before .before .before .before .before .loop .i), c .before .before .before .pgn-of .ensures .fields, c .before .before .before .before .before .loop .inv .1), any-turn (clash-from (packOf (now (c .before .before .before .before .before .before .before .before .args .s)) .pgns-j1939)) (c .before .before .before .before .before .loop .i) ∙ (rw (c .before .before .before .before .before .loop .inv .2, sym (c .before .before .clash-from .ensures) ∙ c .before .if1 .left)))
+
+returns-2 : tie.Need-returns-2 Inv-loop μ-loop
+unfolding may-clash
+returns-2 c = let e : length (packOf (now (c .before .before .before .before .args .s)) .pgns-j1939) ≡ c .before .loop .i = omega (arith, c .before .before .before .before .pre .1, c .before .loop .inv .0, c .loop-test .left) in rw (e, c .before .loop .inv .2)
+
+pub may-clash-spec : {M : Type 1} → statement M
+may-clash-spec = tie.close (tie.spec Inv-loop μ-loop loop-holds pgn-of-requires clash-from-requires returns add-p cast-p add-p-2 add-i loop-less loop-again returns-2)

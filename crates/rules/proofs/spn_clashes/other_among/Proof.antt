@@ -1,0 +1,67 @@
+-- whether a field of PGN j has the name, and carries another SPN
+use native.Mathlib.Omega.{arith}
+use borrow.Author.Tests.{not-true, not-false}
+use Prim.Native.Nat.{ℕ, _+_, _-_, _≤_}
+use mathlib.Core.Path.{_≡_, refl, sym, _∙_}
+use mathlib.Core.Bool.{Bool, false}
+use mathlib.Core.List.{List}
+use denote.Ref.{now}
+use Rattle.pack.specs.Value.{Bytes}
+use Rattle.pack.specs.Items.{bytesOf}
+use Rattle.pack.specs.Ready.{pgnIn, pgnPlace}
+use Rattle.pack.specs.Meaning.{packOf}
+use Rattle.pack.proofs.Positions.{pgn-place-next}
+use Rattle.rules.specs.Search.{anyBelow}
+use Rattle.rules.specs.SearchLaws.{any-turn, any-hit}
+use Rattle.rules.specs.SpnClashes.{other-in}
+use Rattle.rules.proofs.Sizes.{at-pgn, fields-few, pgns-few}
+use Rattle.rules.proofs.spn_clashes.other_among.Statement.{statement}
+use Rattle.rules.proofs.spn_clashes.other_among.Tie as tie
+
+abbrev has : List ℕ → Bytes → ℕ → ℕ → Bool
+has s name spn j = other-in name spn (pgnIn (packOf s) 1 j)
+
+abbrev Inv-loop : tie.InvT-loop
+Inv-loop s work first i name spn q₀ j₀ q j = (j ≤ i + 1) × (q ≡ pgnPlace (packOf s) 1 j) × (anyBelow (has s (bytesOf s name) (spn .value)) j ≡ false)
+
+abbrev μ-loop : tie.MeasureT-loop
+μ-loop s work first i name spn q₀ j₀ q j = i + 1 - j
+
+returns : tie.Need-returns Inv-loop μ-loop
+returns c = rw (not-true (c .before .before .before .before .args .spn .given) (c .if1 .taken))
+
+loop-holds : tie.Need-loop-holds Inv-loop μ-loop
+loop-holds c = (omega arith, omega (arith, c .before .before .before .before .pre .1), refl)
+
+pgn-of-requires : tie.Need-pgn-of-requires Inv-loop μ-loop
+pgn-of-requires c κs = (at-pgn {t = 1} {i = c .before .loop .j} {n = c .before .before .before .before .before .before .args .i + 1} (c .before .before .before .before .before .before .pre .0) (omega arith) (omega (arith, c .before .before .before .before .before .before .pre .2)) (omega (arith, c .loop-test .taken)) (c .before .loop .inv .1))
+
+other-in-requires : tie.Need-other-in-requires Inv-loop μ-loop
+other-in-requires c κs = ((at-pgn {t = 1} {i = c .before .before .loop .j} {n = c .before .before .before .before .before .before .before .args .i + 1} (c .before .before .before .before .before .before .before .pre .0) (omega arith) (omega (arith, c .before .before .before .before .before .before .before .pre .2)) (omega (arith, c .before .loop-test .taken)) (c .before .before .loop .inv .1)), c .pgn-of .ensures .fields)
+
+returns-2 : tie.Need-returns-2 Inv-loop μ-loop
+returns-2 c = rw (not-false (c .before .before .before .before .before .before .before .before .before .args .spn .given) (c .before .before .before .before .before .if1 .left)) (sym (any-hit (has (now (c .before .before .before .before .before .before .before .before .before .args .s)) (bytesOf (now (c .before .before .before .before .before .before .before .before .before .args .s)) (c .before .before .before .before .before .before .before .before .before .args .name)) (c .before .before .before .before .before .before .before .before .before .args .spn .value)) (c .before .before .before .before .before .before .before .before .before .args .i + 1) (c .before .before .before .before .loop .j) (omega (arith, c .before .before .before .loop-test .taken)) (sym (c .before .other-in .ensures) ∙ c .if2 .taken)))
+
+add-q : tie.Need-add-q Inv-loop μ-loop
+add-q c = omega (arith, fields-few (at-pgn {t = 1} {i = c .before .before .before .before .loop .j} {n = c .before .before .before .before .before .before .before .before .before .args .i + 1} (c .before .before .before .before .before .before .before .before .before .pre .0) (omega arith) (omega (arith, c .before .before .before .before .before .before .before .before .before .pre .2)) (omega (arith, c .before .before .before .loop-test .taken)) (c .before .before .before .before .loop .inv .1)))
+
+cast-q : tie.Need-cast-q Inv-loop μ-loop
+cast-q c = omega (arith, fields-few (at-pgn {t = 1} {i = c .before .before .before .before .before .loop .j} {n = c .before .before .before .before .before .before .before .before .before .before .args .i + 1} (c .before .before .before .before .before .before .before .before .before .before .pre .0) (omega arith) (omega (arith, c .before .before .before .before .before .before .before .before .before .before .pre .2)) (omega (arith, c .before .before .before .before .loop-test .taken)) (c .before .before .before .before .before .loop .inv .1)), c .before .before .before .pgn-of .ensures .fields)
+
+add-q-2 : tie.Need-add-q-2 Inv-loop μ-loop
+add-q-2 c = omega (arith, fields-few (at-pgn {t = 1} {i = c .before .before .before .before .before .loop .j} {n = c .before .before .before .before .before .before .before .before .before .before .args .i + 1} (c .before .before .before .before .before .before .before .before .before .before .pre .0) (omega arith) (omega (arith, c .before .before .before .before .before .before .before .before .before .before .pre .2)) (omega (arith, c .before .before .before .before .loop-test .taken)) (c .before .before .before .before .before .loop .inv .1)), c .before .before .before .pgn-of .ensures .fields)
+
+add-j : tie.Need-add-j Inv-loop μ-loop
+add-j c = omega (arith, pgns-few (at-pgn {t = 1} {i = c .before .before .before .before .before .loop .j} {n = c .before .before .before .before .before .before .before .before .before .before .args .i + 1} (c .before .before .before .before .before .before .before .before .before .before .pre .0) (omega arith) (omega (arith, c .before .before .before .before .before .before .before .before .before .before .pre .2)) (omega (arith, c .before .before .before .before .loop-test .taken)) (c .before .before .before .before .before .loop .inv .1)))
+
+loop-less : tie.Need-loop-less Inv-loop μ-loop
+loop-less c = omega (arith, c .before .before .before .before .loop-test .taken)
+
+loop-again : tie.Need-loop-again Inv-loop μ-loop
+loop-again c = (omega (arith, c .before .before .before .before .loop-test .taken), omega (arith, pgn-place-next (packOf (now (c .before .before .before .before .before .before .before .before .before .before .args .s))) 1 (c .before .before .before .before .before .loop .j), c .before .before .before .pgn-of .ensures .fields, c .before .before .before .before .before .loop .inv .1), any-turn (has (now (c .before .before .before .before .before .before .before .before .before .before .args .s)) (bytesOf (now (c .before .before .before .before .before .before .before .before .before .before .args .s)) (c .before .before .before .before .before .before .before .before .before .before .args .name)) (c .before .before .before .before .before .before .before .before .before .before .args .spn .value)) (c .before .before .before .before .before .loop .j) ∙ (rw (c .before .before .before .before .before .loop .inv .2, sym (c .before .before .other-in .ensures) ∙ c .before .if2 .left)))
+
+returns-3 : tie.Need-returns-3 Inv-loop μ-loop
+returns-3 c = let e : c .before .before .before .before .before .before .args .i + 1 ≡ c .before .loop .j = omega (arith, c .before .loop .inv .0, c .loop-test .left) in rw (not-false (c .before .before .before .before .before .before .args .spn .given) (c .before .before .if1 .left), e, c .before .loop .inv .2)
+
+pub other-among-spec : {M : Type 1} → statement M
+other-among-spec = tie.close (tie.spec Inv-loop μ-loop returns loop-holds pgn-of-requires other-in-requires returns-2 add-q cast-q add-q-2 add-j loop-less loop-again returns-3)

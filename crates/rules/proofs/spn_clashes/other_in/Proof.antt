@@ -1,0 +1,53 @@
+-- whether field h has the name, and carries another SPN
+use borrow.Author.Needs.{needs}
+use native.Mathlib.Omega.{arith}
+use Prim.Native.Nat.{ℕ, _-_, _≤_}
+use mathlib.Core.Path.{_≡_, refl, sym, _∙_}
+use mathlib.Core.Bool.{Bool, false}
+use mathlib.Core.List.{List}
+use lib.ListN.{length}
+use denote.Ref.{now}
+use Rattle.pack.specs.Value.{Bytes}
+use Rattle.pack.specs.Items.{bytesOf}
+use Rattle.pack.specs.Ready.{pgnIn, fieldIn}
+use Rattle.pack.specs.Meaning.{packOf}
+use Rattle.rules.specs.Search.{anyBelow}
+use Rattle.rules.specs.SearchLaws.{any-turn, any-hit}
+use Rattle.rules.specs.SpnClashes.{other-spn, other-in}
+use Rattle.rules.proofs.spn_clashes.other_in.Statement.{statement}
+use Rattle.rules.proofs.spn_clashes.other_in.Tie as tie
+
+abbrev other : List ℕ → Bytes → ℕ → ℕ → ℕ → Bool
+other s name spn j h = other-spn name spn (fieldIn (packOf s) 1 j h .name) (fieldIn (packOf s) 1 j h .spn)
+
+abbrev Inv-loop : tie.InvT-loop
+Inv-loop s work name spn j q fields h₀ h = (h ≤ fields) × (anyBelow (other s (bytesOf s name) spn j) h ≡ false)
+
+abbrev μ-loop : tie.MeasureT-loop
+μ-loop s work name spn j q fields h₀ h = fields - h
+
+loop-holds : tie.Need-loop-holds Inv-loop μ-loop
+loop-holds c = (omega arith, refl)
+
+other-spn-requires : tie.Need-other-spn-requires Inv-loop μ-loop
+other-spn-requires c κs = (c .before .before .before .before .pre .0, omega (arith, c .before .before .before .before .pre .1, c .loop-test .taken))
+
+returns : tie.Need-returns Inv-loop μ-loop
+unfolding other-in
+returns c = sym (any-hit (other (now (c .before .before .before .before .before .before .args .s)) (bytesOf (now (c .before .before .before .before .before .before .args .s)) (c .before .before .before .before .before .before .args .name)) (c .before .before .before .before .before .before .args .spn) (c .before .before .before .before .before .before .args .j)) (length (pgnIn (packOf (now (c .before .before .before .before .before .before .args .s))) 1 (c .before .before .before .before .before .before .args .j) .fields)) (c .before .before .before .loop .h) (omega (arith, c .before .before .before .before .before .before .pre .1, c .before .before .loop-test .taken)) (sym (c .before .other-spn .ensures) ∙ c .if1 .taken))
+
+add-h : tie.Need-add-h Inv-loop μ-loop
+add-h c = search needs
+
+loop-less : tie.Need-loop-less Inv-loop μ-loop
+loop-less c = search needs
+
+loop-again : tie.Need-loop-again Inv-loop μ-loop
+loop-again c = (search needs, any-turn (other (now (c .before .before .before .before .before .before .args .s)) (bytesOf (now (c .before .before .before .before .before .before .args .s)) (c .before .before .before .before .before .before .args .name)) (c .before .before .before .before .before .before .args .spn) (c .before .before .before .before .before .before .args .j)) (c .before .before .before .loop .h) ∙ (rw (c .before .before .before .loop .inv .1, sym (c .before .other-spn .ensures) ∙ c .if1 .left)))
+
+returns-2 : tie.Need-returns-2 Inv-loop μ-loop
+unfolding other-in
+returns-2 c = let e : length (pgnIn (packOf (now (c .before .before .before .before .args .s))) 1 (c .before .before .before .before .args .j) .fields) ≡ c .before .loop .h = omega (arith, c .before .before .before .before .pre .1, c .before .loop .inv .0, c .loop-test .left) in rw (e, c .before .loop .inv .1)
+
+pub other-in-spec : {M : Type 1} → statement M
+other-in-spec = tie.close (tie.spec Inv-loop μ-loop loop-holds other-spn-requires returns add-h loop-less loop-again returns-2)

@@ -1,0 +1,44 @@
+use borrow.Author.Needs.{needs}
+use borrow.Author.Tests.{not-true, not-false}
+use Prim.Native.Nat.{ℕ}
+use mathlib.Core.Path.{_≡_, refl, sym, _∙_, ap}
+use mathlib.Core.Bool.{Bool, true, false, not, _&&_}
+use mathlib.Core.Option.{Option, none, some}
+use denote.Ref.{now}
+use Rattle.pack.specs.Notation.{_==_, _≐_, optional}
+use Rattle.pack.specs.Value.{Bytes, Field}
+use Rattle.pack.specs.Items.{bytesOf}
+use Rattle.pack.specs.Ready.{fieldIn}
+use Rattle.pack.specs.Meaning.{packOf}
+use Rattle.rules.specs.SpnClashes.{other-spn}
+use Rattle.rules.proofs.spn_clashes.other_spn.Statement.{statement}
+use Rattle.rules.proofs.spn_clashes.other_spn.Tie as tie
+
+missed : (name own : Bytes) (spn : ℕ) (o : Option ℕ) → (own ≐ name) ≡ false → other-spn name spn own o ≡ false
+missed name own spn none e = refl
+missed name own spn (some n) e = rw e
+
+told : (name own : Bytes) (spn : ℕ) (g : Bool) (v : ℕ) → (own ≐ name) ≡ true → (g && not (v == spn)) ≡ other-spn name spn own (optional g v)
+told name own spn false v e = refl
+told name own spn true v e = rw e
+
+field-name-of-requires : tie.Need-field-name-of-requires
+field-name-of-requires c κs = search needs
+
+same-text-requires : tie.Need-same-text-requires
+same-text-requires c κs = search needs
+
+returns : tie.Need-returns
+returns c = sym (missed (bytesOf (now (c .before .before .before .before .before .args .s)) (c .before .before .before .before .before .args .name)) (fieldIn (packOf (now (c .before .before .before .before .before .args .s))) 1 (c .before .before .before .before .before .args .j) (c .before .before .before .before .before .args .h) .name) (c .before .before .before .before .before .args .spn) (fieldIn (packOf (now (c .before .before .before .before .before .args .s))) 1 (c .before .before .before .before .before .args .j) (c .before .before .before .before .before .args .h) .spn) (ap (λ (t : Bytes). t ≐ bytesOf (now (c .before .before .before .before .before .args .s)) (c .before .before .before .before .before .args .name)) (sym (c .before .before .field-name-of .ensures)) ∙ sym (c .before .same-text .ensures) ∙ not-true (c .before .same-text .result) (c .if1 .taken)))
+
+field-of-requires : tie.Need-field-of-requires
+field-of-requires c κs = search needs
+
+differs-requires : tie.Need-differs-requires
+differs-requires c κs = search needs
+
+returns-2 : tie.Need-returns-2
+returns-2 c = c .differs .ensures ∙ told (bytesOf (now (c .before .before .before .before .before .before .before .args .s)) (c .before .before .before .before .before .before .before .args .name)) (fieldIn (packOf (now (c .before .before .before .before .before .before .before .args .s))) 1 (c .before .before .before .before .before .before .before .args .j) (c .before .before .before .before .before .before .before .args .h) .name) (c .before .before .before .before .before .before .before .args .spn) (c .before .field-of .result .authored .spn .given) (c .before .field-of .result .authored .spn .value) (ap (λ (t : Bytes). t ≐ bytesOf (now (c .before .before .before .before .before .before .before .args .s)) (c .before .before .before .before .before .before .before .args .name)) (sym (c .before .before .before .before .field-name-of .ensures)) ∙ sym (c .before .before .before .same-text .ensures) ∙ not-false (c .before .before .before .same-text .result) (c .before .before .if1 .left)) ∙ ap (λ (G : Field). other-spn (bytesOf (now (c .before .before .before .before .before .before .before .args .s)) (c .before .before .before .before .before .before .before .args .name)) (c .before .before .before .before .before .before .before .args .spn) (fieldIn (packOf (now (c .before .before .before .before .before .before .before .args .s))) 1 (c .before .before .before .before .before .before .before .args .j) (c .before .before .before .before .before .before .before .args .h) .name) (G .spn)) (c .before .field-of .ensures)
+
+pub other-spn-spec : {M : Type 1} → statement M
+other-spn-spec = tie.close (tie.spec field-name-of-requires same-text-requires returns field-of-requires differs-requires returns-2)

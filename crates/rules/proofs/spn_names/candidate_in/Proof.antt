@@ -1,0 +1,81 @@
+use Rattle.pack.specs.declared.records.FieldView.{FieldView}
+use Rattle.pack.specs.Items.{bytesOf}
+use Rattle.pack.specs.Value.{Bytes, Field}
+use Rattle.rules.specs.Namers.{candidate-at, candidate-in}
+use Rattle.rules.specs.SearchLaws.{max-turn}
+use Rattle.rules.specs.Search.{maxBelow, larger}
+use borrow.Author.Needs.{needs}
+use native.Mathlib.Omega.{arith}
+use Prim.Native.Nat.{ℕ, _-_, _≤_}
+use mathlib.Core.Path.{_≡_, refl, sym, _∙_, ap}
+use mathlib.Core.Bool.{Bool, true, false, _&&_}
+use mathlib.Core.List.{List}
+use mathlib.Core.Option.{Option}
+use lib.ListN.{length}
+use denote.Ref.{now}
+use Rattle.pack.specs.Notation.{optional, _<ᵇ_, _≐_}
+use Rattle.pack.specs.Ready.{pgnIn, fieldIn}
+use Rattle.pack.specs.Meaning.{packOf, fieldMeaning, optNumber}
+use Rattle.rules.proofs.spn_names.candidate_in.Statement.{statement}
+use Rattle.rules.proofs.spn_names.candidate_in.Tie as tie
+
+abbrev cand : List ℕ → Bytes → ℕ → ℕ → ℕ → Option ℕ
+cand s name b i k = candidate-at name b (fieldIn (packOf s) 1 i k .name) (fieldIn (packOf s) 1 i k .spn)
+
+both : (name own : Bytes) (b : ℕ) (g : Bool) (v : ℕ) → optional (g && (v <ᵇ b) && (own ≐ name)) v ≡ candidate-at name b own (optional g v)
+both name own b true v = refl
+both name own b false v = refl
+
+said : (s : List ℕ) (name : Bytes) (b i k : ℕ) (v : FieldView) (h : Bool) → fieldMeaning s v ≡ fieldIn (packOf s) 1 i k
+    → h ≡ (v .authored .spn .given && (v .authored .spn .value <ᵇ b) && (bytesOf s (v .names .name) ≐ name)) → optional h (v .authored .spn .value) ≡ cand s name b i k
+said s name b i k v h is e =
+    ap (λ (x : Bool). optional x (v .authored .spn .value)) e ∙ both name (bytesOf s (v .names .name)) b (v .authored .spn .given) (v .authored .spn .value)
+    ∙ ap (λ (F : Field). candidate-at name b (F .name) (F .spn)) is
+
+abbrev Inv-loop : tie.InvT-loop
+Inv-loop s work b name i p fields found₀ k₀ found k = (k ≤ fields) × (optNumber found ≡ maxBelow (cand s (bytesOf s name) b i) k)
+
+abbrev μ-loop : tie.MeasureT-loop
+μ-loop s work b name i p fields found₀ k₀ found k = fields - k
+
+loop-holds : tie.Need-loop-holds Inv-loop μ-loop
+loop-holds c = (omega arith, refl)
+
+field-of-requires : tie.Need-field-of-requires Inv-loop μ-loop
+field-of-requires c κs = (c .before .before .before .before .pre .0, omega (arith, c .loop-test .taken, c .before .before .before .before .pre .1))
+
+is-candidate-requires : tie.Need-is-candidate-requires Inv-loop μ-loop
+is-candidate-requires c κs = search needs
+
+larger-requires : tie.Need-larger-requires Inv-loop μ-loop
+larger-requires c κs = search needs
+
+add-k : tie.Need-add-k Inv-loop μ-loop
+add-k c = search needs
+
+loop-less : tie.Need-loop-less Inv-loop μ-loop
+loop-less c = omega (arith, c .before .before .before .loop-test .taken)
+
+loop-again : tie.Need-loop-again Inv-loop μ-loop
+loop-again c =
+    let f = cand (now (c .before .before .before .before .before .before .before .args .s)) (bytesOf (now (c .before .before .before .before .before .before .before .args .s)) (c .before .before .before .before .before .before .before .args .name)) (c .before .before .before .before .before .before .before .args .b) (c .before .before .before .before .before .before .before .args .i) in
+    (omega (arith, c .before .before .before .loop-test .taken), c .larger .ensures ∙ ap (λ (x : Option ℕ). larger x (optional (c .before .is-candidate .result) (c .before .before .field-of .result .authored .spn .value))) (c .before .before .before .before .loop .inv .1) ∙ ap (larger (maxBelow f (c .before .before .before .before .loop .k))) (said (now (c .before .before .before .before .before .before .before .args .s)) (bytesOf (now (c .before .before .before .before .before .before .before .args .s)) (c .before .before .before .before .before .before .before .args .name)) (c .before .before .before .before .before .before .before .args .b) (c .before .before .before .before .before .before .before .args .i) (c .before .before .before .before .loop .k) (c .before .before .field-of .result) (c .before .is-candidate .result) (c .before .before .field-of .ensures) (c .before .is-candidate .ensures)) ∙ sym (max-turn f (c .before .before .before .before .loop .k)))
+
+returns : tie.Need-returns Inv-loop μ-loop
+unfolding candidate-in
+returns c = let e : length (pgnIn (packOf (now (c .before .before .before .before .args .s))) 1 (c .before .before .before .before .args .i) .fields) ≡ c .before .loop .k = omega (arith, c .before .before .before .before .pre .1, c .before .loop .inv .0, c .loop-test .left) in c .before .loop .inv .1 ∙ ap (maxBelow (cand (now (c .before .before .before .before .args .s)) (bytesOf (now (c .before .before .before .before .args .s)) (c .before .before .before .before .args .name)) (c .before .before .before .before .args .b) (c .before .before .before .before .args .i))) (sym e)
+
+pub candidate-in-spec : {M : Type 1} → statement M
+candidate-in-spec =
+    tie.close
+    (tie.spec
+    Inv-loop
+    μ-loop
+    loop-holds
+    field-of-requires
+    is-candidate-requires
+    larger-requires
+    add-k
+    loop-less
+    loop-again
+    returns)

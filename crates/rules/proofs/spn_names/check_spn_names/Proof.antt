@@ -1,0 +1,26 @@
+use borrow.Author.Needs.{needs}
+use mathlib.Core.Path.{sym, _∙_}
+use denote.Ref.{now}
+use Rattle.pack.specs.Meaning.{packOf}
+use Rattle.rules.proofs.Emits.{emitted-none}
+use Rattle.rules.proofs.SpnClashLaws.{no-clash}
+use Rattle.rules.proofs.spn_names.check_spn_names.Statement.{statement}
+use Rattle.rules.proofs.spn_names.check_spn_names.Tie as tie
+
+may-clash-requires : tie.Need-may-clash-requires
+may-clash-requires c κs = (c .before .before .before .pre .1, c .before .before .before .pre .2, c .before .before .before .pre .3)
+
+spn-clashes-requires : tie.Need-spn-clashes-requires
+spn-clashes-requires c κs = c .before .before .before .before .before .before .pre
+
+same-length : tie.Need-same-length
+same-length c = search needs
+
+returns : tie.Need-returns
+returns c = c .before .before .spn-clashes .ensures
+
+returns-2 : tie.Need-returns-2
+returns-2 c = rw (no-clash (packOf (now (c .before .before .before .before .before .args .s)) .pgns-j1939) (sym (c .before .may-clash .ensures) ∙ c .if1 .left)) (emitted-none (now (c .before .before .before .before .before .args .out)) (c .before .before .before .before .before .args .n))
+
+pub check-spn-names-spec : {M : Type 1} → statement M
+check-spn-names-spec = tie.close (tie.spec may-clash-requires spn-clashes-requires same-length returns returns-2)

@@ -1,0 +1,76 @@
+use Rattle.pack.specs.Ready.{pgnPlace, pgnRecordsBelow}
+use Rattle.pack.proofs.Positions.{pgn-place-next}
+use Rattle.rules.proofs.Sizes.{at-pgn, fields-few, pgns-few}
+use Rattle.pack.specs.Value.{Pgn, noPgn}
+use Prim.Native.Nat.{zero, suc, ℕ, _-_, _≤_}
+use Rattle.rules.specs.SearchLaws.{sum-turn}
+use Rattle.rules.specs.Search.{sumBelow}
+use native.Mathlib.Omega.{arith}
+use mathlib.Core.Path.{_≡_, refl, sym, _∙_, ap}
+use mathlib.Core.List.{List}
+use lib.ListN.{length, getD}
+use denote.Ref.{now}
+use Rattle.pack.specs.Meaning.{packOf}
+use Rattle.rules.proofs.spn_names.field_total.Statement.{statement}
+use Rattle.rules.proofs.spn_names.field_total.Tie as tie
+
+abbrev fields-in : List Pgn → ℕ → ℕ
+fields-in pgns i = length (getD pgns i noPgn .fields)
+
+-- fields are records
+total-few : (pgns : List Pgn) (i : ℕ) → sumBelow (fields-in pgns) i ≤ pgnRecordsBelow pgns i
+total-few pgns zero = omega arith
+total-few pgns (suc i) = omega (arith, total-few pgns i)
+
+abbrev Inv-loop : tie.InvT-loop
+Inv-loop s work count total₀ p₀ i₀ total p i = (i ≤ count) × (p ≡ pgnPlace (packOf s) 1 i) × (total ≡ sumBelow (fields-in (packOf s .pgns-j1939)) i)
+
+abbrev μ-loop : tie.MeasureT-loop
+μ-loop s work count total₀ p₀ i₀ total p i = count - i
+
+loop-holds : tie.Need-loop-holds Inv-loop μ-loop
+loop-holds c = (omega arith, omega (arith, c .before .before .pre .2), refl)
+
+pgn-of-requires : tie.Need-pgn-of-requires Inv-loop μ-loop
+pgn-of-requires c κs = (at-pgn {t = 1} (c .before .before .before .before .pre .0) (omega arith) (omega (arith, c .before .before .before .before .pre .1)) (c .loop-test .taken) (c .before .loop .inv .1))
+
+add-total : tie.Need-add-total Inv-loop μ-loop
+add-total c = omega (arith, fields-few (at-pgn {t = 1} (c .before .before .before .before .before .before .pre .0) (omega arith) (omega (arith, c .before .before .before .before .before .before .pre .1)) (c .before .before .loop-test .taken) (c .before .before .before .loop .inv .1)), c .before .pgn-of .ensures .fields, c .before .before .before .loop .inv .1, c .before .before .before .loop .inv .2, total-few (packOf (now (c .before .before .before .before .before .before .args .s)) .pgns-j1939) (c .before .before .before .loop .i))
+
+add-p : tie.Need-add-p Inv-loop μ-loop
+add-p c = omega (arith, fields-few (at-pgn {t = 1} (c .before .before .before .before .before .before .pre .0) (omega arith) (omega (arith, c .before .before .before .before .before .before .pre .1)) (c .before .before .loop-test .taken) (c .before .before .before .loop .inv .1)))
+
+cast-p : tie.Need-cast-p Inv-loop μ-loop
+cast-p c = omega (arith, fields-few (at-pgn {t = 1} (c .before .before .before .before .before .before .before .pre .0) (omega arith) (omega (arith, c .before .before .before .before .before .before .before .pre .1)) (c .before .before .before .loop-test .taken) (c .before .before .before .before .loop .inv .1)), c .before .before .pgn-of .ensures .fields)
+
+add-p-2 : tie.Need-add-p-2 Inv-loop μ-loop
+add-p-2 c = omega (arith, fields-few (at-pgn {t = 1} (c .before .before .before .before .before .before .before .pre .0) (omega arith) (omega (arith, c .before .before .before .before .before .before .before .pre .1)) (c .before .before .before .loop-test .taken) (c .before .before .before .before .loop .inv .1)), c .before .before .pgn-of .ensures .fields)
+
+add-i : tie.Need-add-i Inv-loop μ-loop
+add-i c = omega (arith, pgns-few (at-pgn {t = 1} (c .before .before .before .before .before .before .before .pre .0) (omega arith) (omega (arith, c .before .before .before .before .before .before .before .pre .1)) (c .before .before .before .loop-test .taken) (c .before .before .before .before .loop .inv .1)))
+
+loop-less : tie.Need-loop-less Inv-loop μ-loop
+loop-less c = omega (arith, c .before .before .before .loop-test .taken)
+
+loop-again : tie.Need-loop-again Inv-loop μ-loop
+loop-again c = (omega (arith, c .before .before .before .loop-test .taken), omega (arith, pgn-place-next (packOf (now (c .before .before .before .before .before .before .before .args .s))) 1 (c .before .before .before .before .loop .i), c .before .before .pgn-of .ensures .fields, c .before .before .before .before .loop .inv .1), omega (arith, sum-turn (fields-in (packOf (now (c .before .before .before .before .before .before .before .args .s)) .pgns-j1939)) (c .before .before .before .before .loop .i), c .before .before .pgn-of .ensures .fields, c .before .before .before .before .loop .inv .2))
+
+returns : tie.Need-returns Inv-loop μ-loop
+returns c = let e : length (packOf (now (c .before .before .before .before .args .s)) .pgns-j1939) ≡ c .before .loop .i = omega (arith, c .before .before .before .before .pre .1, c .before .loop .inv .0, c .loop-test .left) in c .before .loop .inv .2 ∙ ap (sumBelow (fields-in (packOf (now (c .before .before .before .before .args .s)) .pgns-j1939))) (sym e)
+
+pub field-total-spec : {M : Type 1} → statement M
+field-total-spec =
+    tie.close
+    (tie.spec
+    Inv-loop
+    μ-loop
+    loop-holds
+    pgn-of-requires
+    add-total
+    add-p
+    cast-p
+    add-p-2
+    add-i
+    loop-less
+    loop-again
+    returns)

@@ -1,0 +1,79 @@
+use Rattle.pack.specs.declared.records.FieldView.{FieldView}
+use Rattle.pack.specs.Value.{Pgn, Field}
+use Rattle.rules.specs.SpnNames.{spn-from, least-spn-in}
+use Rattle.rules.specs.SearchLaws.{min-turn}
+use Rattle.rules.specs.Search.{minBelow, smaller}
+use borrow.Author.Needs.{needs}
+use native.Mathlib.Omega.{arith}
+use Prim.Native.Nat.{ℕ, _-_, _≤_}
+use mathlib.Core.Path.{_≡_, refl, sym, _∙_, ap}
+use mathlib.Core.Bool.{Bool, true, false, _&&_}
+use mathlib.Core.List.{List}
+use mathlib.Core.Option.{Option}
+use lib.ListN.{length}
+use denote.Ref.{now}
+use Rattle.pack.specs.Notation.{optional, _≤ᵇ_}
+use Rattle.pack.specs.Ready.{pgnIn, fieldIn}
+use Rattle.pack.specs.Meaning.{packOf, fieldMeaning, optNumber}
+use Rattle.rules.proofs.spn_names.least_spn_in.Statement.{statement}
+use Rattle.rules.proofs.spn_names.least_spn_in.Tie as tie
+
+abbrev from : List ℕ → ℕ → ℕ → ℕ → Option ℕ
+from s b i k = spn-from (packOf s .pgns-j1939) b (fieldIn (packOf s) 1 i k .spn)
+
+both : (pgns : List Pgn) (b : ℕ) (g : Bool) (v : ℕ) → optional (g && (b ≤ᵇ v)) v ≡ spn-from pgns b (optional g v)
+both pgns b true v = refl
+both pgns b false v = refl
+
+said : (s : List ℕ) (b i k : ℕ) (v : FieldView) (h : Bool) → fieldMeaning s v ≡ fieldIn (packOf s) 1 i k → h ≡ (v .authored .spn .given && (b ≤ᵇ v .authored .spn .value)) → optional h (v .authored .spn .value) ≡ from s b i k
+said s b i k v h is e =
+    ap (λ (x : Bool). optional x (v .authored .spn .value)) e ∙ both (packOf s .pgns-j1939) b (v .authored .spn .given) (v .authored .spn .value)
+    ∙ ap (λ (F : Field). spn-from (packOf s .pgns-j1939) b (F .spn)) is
+
+abbrev Inv-loop : tie.InvT-loop
+Inv-loop s work b i p fields found₀ k₀ found k = (k ≤ fields) × (optNumber found ≡ minBelow (from s b i) k)
+
+abbrev μ-loop : tie.MeasureT-loop
+μ-loop s work b i p fields found₀ k₀ found k = fields - k
+
+loop-holds : tie.Need-loop-holds Inv-loop μ-loop
+loop-holds c = (omega arith, refl)
+
+field-of-requires : tie.Need-field-of-requires Inv-loop μ-loop
+field-of-requires c κs = (c .before .before .before .before .pre .0, omega (arith, c .loop-test .taken, c .before .before .before .before .pre .1))
+
+is-from-requires : tie.Need-is-from-requires Inv-loop μ-loop
+is-from-requires c κs = search needs
+
+smaller-requires : tie.Need-smaller-requires Inv-loop μ-loop
+smaller-requires c κs = search needs
+
+add-k : tie.Need-add-k Inv-loop μ-loop
+add-k c = search needs
+
+loop-less : tie.Need-loop-less Inv-loop μ-loop
+loop-less c = omega (arith, c .before .before .before .loop-test .taken)
+
+loop-again : tie.Need-loop-again Inv-loop μ-loop
+loop-again c =
+    let f = from (now (c .before .before .before .before .before .before .before .args .s)) (c .before .before .before .before .before .before .before .args .b) (c .before .before .before .before .before .before .before .args .i) in
+    (omega (arith, c .before .before .before .loop-test .taken), c .smaller .ensures ∙ ap (λ (x : Option ℕ). smaller x (optional (c .before .is-from .result) (c .before .before .field-of .result .authored .spn .value))) (c .before .before .before .before .loop .inv .1) ∙ ap (smaller (minBelow f (c .before .before .before .before .loop .k))) (said (now (c .before .before .before .before .before .before .before .args .s)) (c .before .before .before .before .before .before .before .args .b) (c .before .before .before .before .before .before .before .args .i) (c .before .before .before .before .loop .k) (c .before .before .field-of .result) (c .before .is-from .result) (c .before .before .field-of .ensures) (c .before .is-from .ensures)) ∙ sym (min-turn f (c .before .before .before .before .loop .k)))
+
+returns : tie.Need-returns Inv-loop μ-loop
+unfolding least-spn-in
+returns c = let e : length (pgnIn (packOf (now (c .before .before .before .before .args .s))) 1 (c .before .before .before .before .args .i) .fields) ≡ c .before .loop .k = omega (arith, c .before .before .before .before .pre .1, c .before .loop .inv .0, c .loop-test .left) in c .before .loop .inv .1 ∙ ap (minBelow (from (now (c .before .before .before .before .args .s)) (c .before .before .before .before .args .b) (c .before .before .before .before .args .i))) (sym e)
+
+pub least-spn-in-spec : {M : Type 1} → statement M
+least-spn-in-spec =
+    tie.close
+    (tie.spec
+    Inv-loop
+    μ-loop
+    loop-holds
+    field-of-requires
+    is-from-requires
+    smaller-requires
+    add-k
+    loop-less
+    loop-again
+    returns)

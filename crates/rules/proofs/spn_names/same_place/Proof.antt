@@ -1,0 +1,32 @@
+use Rattle.pack.specs.declared.records.PgnView.{PgnView}
+use Rattle.pack.specs.Items.{bytesOf}
+use Rattle.pack.specs.Meaning.{pgnMeaning}
+use Rattle.rules.specs.PlaceText.{pgn-loc}
+use Rattle.rules.specs.PlaceLaws.{same-place}
+use borrow.Author.Tests.{eq-eqb, ne-eqb}
+use native.Mathlib.Omega.{arith}
+use Prim.Native.Nat.{ℕ, _<_}
+use mathlib.Core.Path.{_≡_, sym, _∙_, ap}
+use mathlib.Core.Bool.{Bool, _&&_}
+use mathlib.Core.List.{List, []}
+use denote.Ref.{now}
+use Rattle.pack.specs.Notation.{_==_, _≐_}
+use borrow.Author.Needs.{needs}
+use Rattle.rules.proofs.spn_names.same_place.Statement.{statement}
+use Rattle.rules.proofs.spn_names.same_place.Tie as tie
+
+placed : (s : List ℕ) (a b : PgnView) → a .pgn < 10000000000 → b .pgn < 10000000000
+    → (pgn-loc 1 (pgnMeaning s a []) ≐ pgn-loc 1 (pgnMeaning s b [])) ≡ ((a .pgn == b .pgn) && (bytesOf s (a .id) ≐ bytesOf s (b .id)))
+placed s a b u v = same-place 1 (pgnMeaning s a []) (pgnMeaning s b []) u v
+
+same-text-requires : tie.Need-same-text-requires
+same-text-requires c κs = search needs
+
+returns : tie.Need-returns
+returns c = c .same-text .ensures ∙ sym (placed (now (c .before .before .before .before .before .args .s)) (c .before .before .before .before .before .args .a) (c .before .before .before .before .before .args .b) (omega (arith, c .before .before .before .struct-known .given)) (omega (arith, c .before .before .struct-known2 .given)) ∙ ap (λ (x : Bool). x && (bytesOf (now (c .before .before .before .before .before .args .s)) (c .before .before .before .before .before .args .a .id) ≐ bytesOf (now (c .before .before .before .before .before .args .s)) (c .before .before .before .before .before .args .b .id))) (eq-eqb _ _ (c .before .if1 .taken)))
+
+returns-2 : tie.Need-returns-2
+returns-2 c = sym (placed (now (c .before .before .before .before .args .s)) (c .before .before .before .before .args .a) (c .before .before .before .before .args .b) (omega (arith, c .before .before .struct-known .given)) (omega (arith, c .before .struct-known2 .given)) ∙ ap (λ (x : Bool). x && (bytesOf (now (c .before .before .before .before .args .s)) (c .before .before .before .before .args .a .id) ≐ bytesOf (now (c .before .before .before .before .args .s)) (c .before .before .before .before .args .b .id))) (ne-eqb _ _ (c .if1 .left)))
+
+pub same-place-spec : {M : Type 1} → statement M
+same-place-spec = tie.close (tie.spec same-text-requires returns returns-2)

@@ -1,0 +1,74 @@
+use Rattle.pack.specs.declared.records.FieldView.{FieldView}
+use Rattle.pack.specs.Value.{Field}
+use Rattle.rules.specs.SpnNames.{is-number, spn-field}
+use Rattle.rules.specs.Search.{firstBelow}
+use Rattle.rules.specs.SearchLaws.{first-turn, first-hit}
+use borrow.Author.Needs.{needs}
+use native.Mathlib.Omega.{arith}
+use Prim.Native.Nat.{ℕ, _-_, _≤_}
+use mathlib.Core.Path.{_≡_, refl, sym, _∙_, ap}
+use mathlib.Core.Bool.{Bool, true, false}
+use mathlib.Core.List.{List}
+use mathlib.Core.Option.{none}
+use lib.ListN.{length}
+use denote.Ref.{now}
+use Rattle.pack.specs.Ready.{pgnIn, fieldIn}
+use Rattle.pack.specs.Meaning.{packOf, fieldMeaning, optNumber}
+use Rattle.rules.proofs.spn_names.spn_field.Statement.{statement}
+use Rattle.rules.proofs.spn_names.spn_field.Tie as tie
+
+-- whether field k carries the SPN
+abbrev carries : List ℕ → ℕ → ℕ → ℕ → Bool
+carries s spn j k = is-number (fieldIn (packOf s) 1 j k .spn) spn
+
+told : (s : List ℕ) (spn j k : ℕ) (v : FieldView) (b d : Bool) → fieldMeaning s v ≡ fieldIn (packOf s) 1 j k → b ≡ is-number (optNumber (v .authored .spn)) spn → b ≡ d → carries s spn j k ≡ d
+told s spn j k v b d is e t = ap (λ (F : Field). is-number (F .spn) spn) (sym is) ∙ sym e ∙ t
+
+abbrev Inv-loop : tie.InvT-loop
+Inv-loop s work j p fields spn k₀ k = (k ≤ fields) × (firstBelow (carries s spn j) k ≡ none)
+
+abbrev μ-loop : tie.MeasureT-loop
+μ-loop s work j p fields spn k₀ k = fields - k
+
+loop-holds : tie.Need-loop-holds Inv-loop μ-loop
+loop-holds c = (omega arith, refl)
+
+field-of-requires : tie.Need-field-of-requires Inv-loop μ-loop
+field-of-requires c κs = (c .before .before .before .before .pre .0, omega (arith, c .loop-test .taken, c .before .before .before .before .pre .1))
+
+is-number-requires : tie.Need-is-number-requires Inv-loop μ-loop
+is-number-requires c κs = search needs
+
+returns : tie.Need-returns Inv-loop μ-loop
+unfolding spn-field
+returns c = sym (first-hit (carries (now (c .before .before .before .before .before .before .before .args .s)) (c .before .before .before .before .before .before .before .args .spn) (c .before .before .before .before .before .before .before .args .j)) (length (pgnIn (packOf (now (c .before .before .before .before .before .before .before .args .s))) 1 (c .before .before .before .before .before .before .before .args .j) .fields)) (c .before .before .before .before .loop .k) (omega (arith, c .before .before .before .loop-test .taken, c .before .before .before .before .before .before .before .pre .1)) (c .before .before .before .before .loop .inv .1) (told (now (c .before .before .before .before .before .before .before .args .s)) (c .before .before .before .before .before .before .before .args .spn) (c .before .before .before .before .before .before .before .args .j) (c .before .before .before .before .loop .k) (c .before .before .field-of .result) (c .before .is-number .result) true (c .before .before .field-of .ensures) (c .before .is-number .ensures) (c .if1 .taken)))
+
+add-k : tie.Need-add-k Inv-loop μ-loop
+add-k c = search needs
+
+loop-less : tie.Need-loop-less Inv-loop μ-loop
+loop-less c = omega (arith, c .before .before .before .loop-test .taken)
+
+loop-again : tie.Need-loop-again Inv-loop μ-loop
+loop-again c =
+    let e = told (now (c .before .before .before .before .before .before .before .args .s)) (c .before .before .before .before .before .before .before .args .spn) (c .before .before .before .before .before .before .before .args .j) (c .before .before .before .before .loop .k) (c .before .before .field-of .result) (c .before .is-number .result) false (c .before .before .field-of .ensures) (c .before .is-number .ensures) (c .if1 .left) in
+    (omega (arith, c .before .before .before .loop-test .taken), first-turn (carries (now (c .before .before .before .before .before .before .before .args .s)) (c .before .before .before .before .before .before .before .args .spn) (c .before .before .before .before .before .before .before .args .j)) (c .before .before .before .before .loop .k) ∙ (rw (c .before .before .before .before .loop .inv .1, e)))
+
+returns-2 : tie.Need-returns-2 Inv-loop μ-loop
+unfolding spn-field
+returns-2 c = let e : length (pgnIn (packOf (now (c .before .before .before .before .args .s))) 1 (c .before .before .before .before .args .j) .fields) ≡ c .before .loop .k = omega (arith, c .before .before .before .before .pre .1, c .before .loop .inv .0, c .loop-test .left) in sym (ap (firstBelow (carries (now (c .before .before .before .before .args .s)) (c .before .before .before .before .args .spn) (c .before .before .before .before .args .j))) e ∙ c .before .loop .inv .1)
+
+pub spn-field-spec : {M : Type 1} → statement M
+spn-field-spec =
+    tie.close
+    (tie.spec
+    Inv-loop
+    μ-loop
+    loop-holds
+    field-of-requires
+    is-number-requires
+    returns
+    add-k
+    loop-less
+    loop-again
+    returns-2)

@@ -1,0 +1,68 @@
+-- the findings of field k
+use Rattle.rules.specs.Spns.{spn-at, check-scalings}
+use borrow.Author.Needs.{needs}
+use native.Mathlib.Omega.{arith}
+use Prim.Native.Nat.{ℕ, _-_, _≤_}
+use mathlib.Core.Path.{_≡_, refl, _∙_}
+use mathlib.Core.List.{List}
+use lib.ListN.{length}
+use denote.Ref.{now}
+use Rattle.pack.specs.Notation.{concatBelow}
+use Rattle.pack.specs.Ready.{pgnIn, fieldIn}
+use Rattle.pack.specs.Meaning.{packOf}
+use Rattle.pack.specs.Value.{pgns-of}
+use Rattle.rules.specs.declared.Finding.{Finding}
+use Rattle.rules.specs.Emit.{Emitted}
+use Rattle.rules.proofs.Emits.{emitted-none, emitted-turn, fits-turn}
+use Rattle.rules.proofs.spns.check_scalings.Statement.{statement}
+use Rattle.rules.proofs.spns.check_scalings.Tie as tie
+
+abbrev of-field : List ℕ → ℕ → ℕ → List Finding
+of-field s i k = spn-at (pgns-of (packOf s) 1) i k (fieldIn (packOf s) 1 i k .spn)
+
+abbrev Inv-loop : tie.InvT-loop
+Inv-loop out₀ n s work first i p g m₀ k₀ out m k = (k ≤ g .fields) × (length out ≡ length out₀) × Emitted out₀ n (concatBelow (of-field s i) k) out m
+
+abbrev μ-loop : tie.MeasureT-loop
+μ-loop out₀ n s work first i p g m₀ k₀ out m k = g .fields - k
+
+loop-holds : tie.Need-loop-holds Inv-loop μ-loop
+loop-holds c = (omega arith, refl, emitted-none _ _)
+
+field-of-requires : tie.Need-field-of-requires Inv-loop μ-loop
+field-of-requires c κs = (c .before .before .before .before .before .before .pre .1, omega (arith, c .if1 .taken, c .before .before .before .before .before .before .pre .3 .fields))
+
+spn-at-requires : tie.Need-spn-at-requires Inv-loop μ-loop
+unfolding check-scalings
+spn-at-requires c κs = (fits-turn (of-field (now (c .before .before .before .before .before .before .before .before .args .s)) (c .before .before .before .before .before .before .before .before .args .i)) (c .before .before .before .before .before .before .before .before .args .g .fields) (c .before .before .before .before .loop .k) (c .before .before .if1 .taken) (rw (← c .before .before .before .before .before .before .before .before .pre .3 .fields) at (c .before .before .before .before .before .before .before .before .pre .0)) (c .before .before .before .before .loop .inv .2), c .before .before .before .before .before .before .before .before .pre .1 .ready, c .before .before .before .before .before .before .before .before .pre .2, c .before .before .before .before .before .before .before .before .pre .1 .pgn, omega (arith, c .before .before .if1 .taken, c .before .before .before .before .before .before .before .before .pre .3 .fields), c .before .field-of .ensures)
+
+add-k : tie.Need-add-k Inv-loop μ-loop
+add-k c = omega (arith, c .before .before .before .before .before .before .struct-known .given)
+
+loop-less : tie.Need-loop-less Inv-loop μ-loop
+loop-less c = search needs
+
+loop-again : tie.Need-loop-again Inv-loop μ-loop
+loop-again c = (omega (arith, c .before .before .before .before .before .if1 .taken), c .before .before .spn-at .kept .0 ∙ c .before .before .before .before .before .before .before .loop .inv .1, emitted-turn (of-field (now (c .before .before .before .before .before .before .before .before .before .before .before .args .s)) (c .before .before .before .before .before .before .before .before .before .before .before .args .i)) (c .before .before .before .before .before .before .before .loop .k) (c .before .before .before .before .before .before .before .loop .inv .2) (c .before .before .spn-at .ensures))
+
+same-length : tie.Need-same-length Inv-loop μ-loop
+same-length c = search needs
+
+returns : tie.Need-returns Inv-loop μ-loop
+unfolding check-scalings
+returns c = let e : c .before .before .loop .k ≡ length (pgnIn (packOf (now (c .before .before .before .before .before .before .args .s))) 1 (c .before .before .before .before .before .before .args .i) .fields) = omega (arith, c .before .before .before .before .before .before .pre .3 .fields) in rw (← e) (c .before .before .loop .inv .2)
+
+pub check-scalings-spec : {M : Type 1} → statement M
+check-scalings-spec =
+    tie.close
+    (tie.spec
+    Inv-loop
+    μ-loop
+    loop-holds
+    field-of-requires
+    spn-at-requires
+    add-k
+    loop-less
+    loop-again
+    same-length
+    returns)

@@ -1,0 +1,73 @@
+-- the three parts
+use Rattle.pack.specs.declared.load.Section.{Section}
+use Rattle.pack.specs.Value.{Pack, pgns-of}
+use Rattle.rules.specs.Spns.{spns-elsewhere, check-scalings, check-spns}
+use native.Mathlib.Omega.{arith}
+use Prim.Native.Nat.{ℕ}
+use mathlib.Core.Path.{_∙_, ap}
+use mathlib.Core.List.{List, _++_}
+use lib.ListN.{length}
+use denote.Ref.{now}
+use Rattle.pack.specs.Notation.{concatBelow}
+use Rattle.pack.specs.Ready.{pgnIn}
+use Rattle.pack.specs.Meaning.{packOf}
+use Rattle.rules.specs.declared.Finding.{Finding}
+use Rattle.rules.proofs.Emits.{emitted-append, fits-left, fits-right}
+use borrow.Author.Needs.{needs}
+use Rattle.rules.proofs.spns.check_spns.Statement.{statement}
+use Rattle.rules.proofs.spns.check_spns.Tie as tie
+
+abbrev elsewhere-in : Pack → ℕ → List Finding
+elsewhere-in P t = concatBelow (λ i. spns-elsewhere t i (pgnIn P t i)) (length (pgns-of P t))
+
+abbrev scalings-in : Pack → List Finding
+scalings-in P = concatBelow (λ i. check-scalings (pgns-of P 1) i (pgnIn P 1 i)) (length (pgns-of P 1))
+
+section-requires : tie.Need-section-requires
+section-requires c κs = search needs
+
+elsewhere-requires : tie.Need-elsewhere-requires
+unfolding check-spns
+elsewhere-requires c κs =
+    let P = packOf (now (c .before .before .before .before .before .args .s)) in
+    (fits-left (elsewhere-in P 0) (elsewhere-in P 2) (fits-left (elsewhere-in P 0 ++ elsewhere-in P 2) (scalings-in P) (c .before .before .before .before .before .pre .0)), c .before .before .before .before .before .pre .1, omega arith, ap (λ (x : Section). x .count) (c .section .ensures) ∙ c .before .before .before .before .before .pre .2 .trees 0 (omega arith), ap (λ (x : Section). x .place) (c .section .ensures) ∙ c .before .before .before .before .before .pre .2 .trees-place 0 (omega arith))
+
+section-requires-2 : tie.Need-section-requires-2
+section-requires-2 c κs = search needs
+
+elsewhere-requires-2 : tie.Need-elsewhere-requires-2
+unfolding check-spns
+elsewhere-requires-2 c κs =
+    let P = packOf (now (c .before .before .before .before .before .before .before .before .before .before .args .s)) in
+    (fits-right (elsewhere-in P 0) (elsewhere-in P 2) (fits-left (elsewhere-in P 0 ++ elsewhere-in P 2) (scalings-in P) (c .before .before .before .before .before .before .before .before .before .before .pre .0)) (c .before .before .before .before .elsewhere .ensures), c .before .before .before .before .before .before .before .before .before .before .pre .1, omega arith, ap (λ (x : Section). x .count) (c .section2 .ensures) ∙ c .before .before .before .before .before .before .before .before .before .before .pre .2 .trees 2 (omega arith), ap (λ (x : Section). x .place) (c .section2 .ensures) ∙ c .before .before .before .before .before .before .before .before .before .before .pre .2 .trees-place 2 (omega arith))
+
+section-requires-3 : tie.Need-section-requires-3
+section-requires-3 c κs = search needs
+
+scalings-requires : tie.Need-scalings-requires
+unfolding check-spns
+scalings-requires c κs =
+    let P = packOf (now (c .before .before .before .before .before .before .before .before .before .before .before .before .before .before .before .args .s)) in
+    (fits-right (elsewhere-in P 0 ++ elsewhere-in P 2) (scalings-in P) (c .before .before .before .before .before .before .before .before .before .before .before .before .before .before .before .pre .0) (emitted-append {xs = elsewhere-in P 0} {ys = elsewhere-in P 2} (c .before .before .before .before .before .before .before .before .before .elsewhere .ensures) (c .before .before .before .before .elsewhere2 .ensures)), c .before .before .before .before .before .before .before .before .before .before .before .before .before .before .before .pre .1, ap (λ (x : Section). x .count) (c .section3 .ensures) ∙ c .before .before .before .before .before .before .before .before .before .before .before .before .before .before .before .pre .2 .trees 1 (omega arith), ap (λ (x : Section). x .place) (c .section3 .ensures) ∙ c .before .before .before .before .before .before .before .before .before .before .before .before .before .before .before .pre .2 .trees-place 1 (omega arith))
+
+same-length : tie.Need-same-length
+same-length c = search needs
+
+returns : tie.Need-returns
+unfolding check-spns
+returns c =
+    let P = packOf (now (c .before .before .before .before .before .before .before .before .before .before .before .before .before .before .before .before .before .before .args .s)) in
+    emitted-append {xs = elsewhere-in P 0 ++ elsewhere-in P 2} {ys = scalings-in P} (emitted-append {xs = elsewhere-in P 0} {ys = elsewhere-in P 2} (c .before .before .before .before .before .before .before .before .before .before .before .before .elsewhere .ensures) (c .before .before .before .before .before .before .before .elsewhere2 .ensures)) (c .before .before .scalings .ensures)
+
+pub check-spns-spec : {M : Type 1} → statement M
+check-spns-spec =
+    tie.close
+    (tie.spec
+    section-requires
+    elsewhere-requires
+    section-requires-2
+    elsewhere-requires-2
+    section-requires-3
+    scalings-requires
+    same-length
+    returns)

@@ -1,0 +1,156 @@
+-- whether field h of PGN j carries the SPN, and whether a field of PGN j does
+use borrow.Author.Tests.{eq-eqb}
+use mathlib.Core.Bool.{false≢true, Bool, true, false}
+use native.Mathlib.Decide.{ℕ-discrete}
+use Rattle.rules.proofs.Sizes.{fields-few, pgns-few}
+use Rattle.pack.proofs.Positions.{pgn-place-next}
+use Rattle.pack.specs.declared.records.FieldView.{FieldView}
+use Rattle.pack.specs.Ready.{pgnPlace, Ready, PgnAt, pgnIn, fieldIn}
+use Rattle.pack.specs.Value.{Pack, Field, pgns-of, noPgn}
+use Rattle.rules.specs.Model.{given}
+use Rattle.rules.specs.Spns.{first-seen}
+use Rattle.rules.specs.SpnNames.{is-number, spn-field}
+use Rattle.rules.specs.Search.{firstBelow}
+use Rattle.rules.specs.SearchLaws.{first-turn, first-hit, first-misses}
+use borrow.Author.Needs.{needs}
+use native.Mathlib.Omega.{arith}
+use Prim.Native.Nat.{ℕ, _-_, _≤_, _<_}
+use mathlib.Core.Path.{_≡_, refl, sym, _∙_, ap}
+use mathlib.Core.List.{List}
+use mathlib.Core.Option.{Option, none, some}
+use lib.ListN.{length, getD}
+use denote.Ref.{now}
+use Rattle.pack.specs.Meaning.{packOf, fieldMeaning, optNumber}
+use Rattle.rules.proofs.spns.first_seen.Statement.{statement}
+use Rattle.rules.proofs.spns.first_seen.Tie as tie
+
+abbrev carries : Pack → ℕ → ℕ → ℕ → Bool
+carries P spn j h = is-number (fieldIn P 1 j h .spn) spn
+
+abbrev carried : Pack → ℕ → ℕ → Bool
+carried P spn j = given (spn-field (getD (pgns-of P 1) j noPgn) spn)
+
+told : (P : Pack) (s : List ℕ) (spn j h : ℕ) (v : FieldView) (b d : Bool) → fieldMeaning s v ≡ fieldIn P 1 j h → b ≡ is-number (optNumber (v .authored .spn)) spn → b ≡ d → carries P spn j h ≡ d
+told P s spn j h v b d is e t = ap (λ (F : Field). is-number (F .spn) spn) (sym is) ∙ sym e ∙ t
+
+missed : (P : Pack) (spn j n h : ℕ) → n ≡ length (pgnIn P 1 j .fields) → h ≤ n → n ≤ h → firstBelow (carries P spn j) h ≡ none → spn-field (pgnIn P 1 j) spn ≡ none
+unfolding spn-field
+missed P spn j n h e u v m = let q : length (pgnIn P 1 j .fields) ≡ h = omega arith in ap (firstBelow (carries P spn j)) q ∙ m
+
+-- PGN i carries it, so the search does not go beyond
+before : (P : Pack) (spn i k j : ℕ) → k < length (pgnIn P 1 i .fields) → fieldIn P 1 i k .spn ≡ some spn → j ≤ i → spn-field (pgnIn P 1 j) spn ≡ none → j < i
+unfolding spn-field
+before P spn i k j h e l m = go (ℕ-discrete j i)
+  where
+    go : Dec (j ≡ i) → j < i
+    go (yes q) =
+        let u : firstBelow (carries P spn i) (length (pgnIn P 1 i .fields)) ≡ none = ap (λ (x : ℕ). spn-field (pgnIn P 1 x) spn) (sym q) ∙ m in
+        let hit : carries P spn i k ≡ true = ap (λ (x : Option ℕ). is-number x spn) e ∙ eq-eqb spn spn refl in
+        absurd (false≢true (sym (first-misses (carries P spn i) (length (pgnIn P 1 i .fields)) u k h) ∙ hit))
+    go (no q) = omega arith
+
+found : (P : Pack) (spn j h n : ℕ) → n ≡ length (pgnIn P 1 j .fields) → h < n → firstBelow (carries P spn j) h ≡ none → carries P spn j h ≡ true → spn-field (pgnIn P 1 j) spn ≡ some h
+unfolding spn-field
+found P spn j h n e l m t = first-hit (carries P spn j) (length (pgnIn P 1 j .fields)) h (omega arith) m t
+
+seen-first : (P : Pack) (spn j h : ℕ) → j < length (pgns-of P 1) → firstBelow (carried P spn) j ≡ none → spn-field (pgnIn P 1 j) spn ≡ some h → first-seen (pgns-of P 1) spn ≡ some j
+unfolding first-seen
+seen-first P spn j h l m e = first-hit (carried P spn) (length (pgns-of P 1)) j l m (ap given e)
+
+here : {s w : List ℕ} {i j p : ℕ} → Ready s w → i < length (pgns-of (packOf s) 1) → j ≤ i → p ≡ pgnPlace (packOf s) 1 j → PgnAt s w 1 j p
+here r h l e = record { ready = r; tree = omega arith; pgn = omega arith; place = e }
+
+abbrev Inv-loop : tie.InvT-loop
+Inv-loop s work first i k spn pgn place field₀ g field = (field ≤ g .fields) × (firstBelow (carries (packOf s) spn pgn) field ≡ none)
+
+abbrev μ-loop : tie.MeasureT-loop
+μ-loop s work first i k spn pgn place field₀ g field = g .fields - field
+
+abbrev Inv-search : tie.InvT-search
+Inv-search s work first i k spn pgn₀ place₀ field₀ pgn place field = (field ≡ 0) × (pgn ≤ i) × (place ≡ pgnPlace (packOf s) 1 pgn) × (firstBelow (carried (packOf s) spn) pgn ≡ none)
+
+abbrev μ-search : tie.MeasureT-search
+μ-search s work first i k spn pgn₀ place₀ field₀ pgn place field = i - pgn
+
+search-holds : tie.Need-search-holds Inv-loop μ-loop Inv-search μ-search
+search-holds c = (refl, omega arith, omega (arith, c .before .before .pre .1), refl)
+
+pgn-of-requires : tie.Need-pgn-of-requires Inv-loop μ-loop Inv-search μ-search
+pgn-of-requires c κs = here (c .before .before .before .pre .0) (c .before .before .before .pre .2) (c .search .inv .1) (c .search .inv .2)
+
+loop-holds : tie.Need-loop-holds Inv-loop μ-loop Inv-search μ-search
+loop-holds c = (omega (arith, c .before .search .inv .0), rw (c .before .search .inv .0))
+
+field-of-requires : tie.Need-field-of-requires Inv-loop μ-loop Inv-search μ-search
+field-of-requires c κs = (here (c .before .before .before .before .before .before .before .pre .0) (c .before .before .before .before .before .before .before .pre .2) (c .before .before .before .before .search .inv .1) (c .before .before .before .before .search .inv .2), omega (arith, c .if1 .taken, c .before .before .before .pgn-of .ensures .fields))
+
+is-number-requires : tie.Need-is-number-requires Inv-loop μ-loop Inv-search μ-search
+is-number-requires c κs = search needs
+
+add-field : tie.Need-add-field Inv-loop μ-loop Inv-search μ-search
+add-field c = omega (arith, c .before .before .before .before .struct-known .given)
+
+loop-less : tie.Need-loop-less Inv-loop μ-loop Inv-search μ-search
+loop-less c = search needs
+
+loop-again : tie.Need-loop-again Inv-loop μ-loop Inv-search μ-search
+loop-again c =
+    let P = packOf (now (c .before .before .before .before .before .before .before .before .before .before .args .s)) in
+    let e = told P (now (c .before .before .before .before .before .before .before .before .before .before .args .s)) (c .before .before .before .before .before .before .before .before .before .before .args .spn) (c .before .before .before .before .before .before .before .search .pgn) (c .before .before .before .before .before .loop .field) (c .before .before .field-of .result) (c .before .is-number .result) false (c .before .before .field-of .ensures) (c .before .is-number .ensures) (c .if2 .left) in
+    (omega (arith, c .before .before .before .if1 .taken), first-turn (carries P (c .before .before .before .before .before .before .before .before .before .before .args .spn) (c .before .before .before .before .before .before .before .search .pgn)) (c .before .before .before .before .before .loop .field) ∙ (rw (c .before .before .before .before .before .loop .inv .1, e)))
+
+add-place : tie.Need-add-place Inv-loop μ-loop Inv-search μ-search
+add-place c = omega (arith, fields-few (here (c .before .before .before .before .before .before .before .pre .0) (c .before .before .before .before .before .before .before .pre .2) (c .before .before .before .before .search .inv .1) (c .before .before .before .before .search .inv .2)))
+
+cast-place : tie.Need-cast-place Inv-loop μ-loop Inv-search μ-search
+cast-place c = omega (arith, fields-few (here (c .before .before .before .before .before .before .before .before .pre .0) (c .before .before .before .before .before .before .before .before .pre .2) (c .before .before .before .before .before .search .inv .1) (c .before .before .before .before .before .search .inv .2)), c .before .before .before .before .pgn-of .ensures .fields)
+
+add-place-2 : tie.Need-add-place-2 Inv-loop μ-loop Inv-search μ-search
+add-place-2 c = omega (arith, fields-few (here (c .before .before .before .before .before .before .before .before .pre .0) (c .before .before .before .before .before .before .before .before .pre .2) (c .before .before .before .before .before .search .inv .1) (c .before .before .before .before .before .search .inv .2)), c .before .before .before .before .pgn-of .ensures .fields)
+
+add-pgn : tie.Need-add-pgn Inv-loop μ-loop Inv-search μ-search
+add-pgn c = omega (arith, pgns-few (here (c .before .before .before .before .before .before .before .before .pre .0) (c .before .before .before .before .before .before .before .before .pre .2) (c .before .before .before .before .before .search .inv .1) (c .before .before .before .before .before .search .inv .2)))
+
+search-less : tie.Need-search-less Inv-loop μ-loop Inv-search μ-search
+search-less c =
+    let P = packOf (now (c .before .before .before .before .before .before .before .before .args .s)) in
+    let e = missed P (c .before .before .before .before .before .before .before .before .args .spn) (c .before .before .before .before .before .search .pgn) (c .before .before .before .before .pgn-of .result .fields) (c .before .before .before .loop .field) (c .before .before .before .before .pgn-of .ensures .fields) (c .before .before .before .loop .inv .0) (c .before .if1 .left) (c .before .before .before .loop .inv .1) in
+    omega (arith, before P (c .before .before .before .before .before .before .before .before .args .spn) (c .before .before .before .before .before .before .before .before .args .i) (c .before .before .before .before .before .before .before .before .args .k) (c .before .before .before .before .before .search .pgn) (c .before .before .before .before .before .before .before .before .pre .3) (c .before .before .before .before .before .before .before .before .pre .4) (c .before .before .before .before .before .search .inv .1) e)
+
+search-again : tie.Need-search-again Inv-loop μ-loop Inv-search μ-search
+search-again c =
+    let P = packOf (now (c .before .before .before .before .before .before .before .before .args .s)) in
+    let e = missed P (c .before .before .before .before .before .before .before .before .args .spn) (c .before .before .before .before .before .search .pgn) (c .before .before .before .before .pgn-of .result .fields) (c .before .before .before .loop .field) (c .before .before .before .before .pgn-of .ensures .fields) (c .before .before .before .loop .inv .0) (c .before .if1 .left) (c .before .before .before .loop .inv .1) in
+    (refl, omega (arith, before P (c .before .before .before .before .before .before .before .before .args .spn) (c .before .before .before .before .before .before .before .before .args .i) (c .before .before .before .before .before .before .before .before .args .k) (c .before .before .before .before .before .search .pgn) (c .before .before .before .before .before .before .before .before .pre .3) (c .before .before .before .before .before .before .before .before .pre .4) (c .before .before .before .before .before .search .inv .1) e), omega (arith, pgn-place-next P 1 (c .before .before .before .before .before .search .pgn), c .before .before .before .before .pgn-of .ensures .fields, c .before .before .before .before .before .search .inv .2), first-turn (carried P (c .before .before .before .before .before .before .before .before .args .spn)) (c .before .before .before .before .before .search .pgn) ∙ (rw (c .before .before .before .before .before .search .inv .3, e)))
+
+returns : tie.Need-returns Inv-loop μ-loop Inv-search μ-search
+returns c =
+    let P = packOf (now (c .before .before .before .before .before .before .before .before .before .before .args .s)) in
+    let hit = told P (now (c .before .before .before .before .before .before .before .before .before .before .args .s)) (c .before .before .before .before .before .before .before .before .before .before .args .spn) (c .before .before .before .before .before .before .before .search .pgn) (c .before .before .before .before .before .loop .field) (c .before .before .field-of .result) (c .before .is-number .result) true (c .before .before .field-of .ensures) (c .before .is-number .ensures) (c .if2 .taken) in
+    let e = found P (c .before .before .before .before .before .before .before .before .before .before .args .spn) (c .before .before .before .before .before .before .before .search .pgn) (c .before .before .before .before .before .loop .field) (c .before .before .before .before .before .before .pgn-of .result .fields) (c .before .before .before .before .before .before .pgn-of .ensures .fields) (c .before .before .before .if1 .taken) (c .before .before .before .before .before .loop .inv .1) hit in
+    let a = here (c .before .before .before .before .before .before .before .before .before .before .pre .0) (c .before .before .before .before .before .before .before .before .before .before .pre .2) (c .before .before .before .before .before .before .before .search .inv .1) (c .before .before .before .before .before .before .before .search .inv .2) in
+    (seen-first P (c .before .before .before .before .before .before .before .before .before .before .args .spn) (c .before .before .before .before .before .before .before .search .pgn) (c .before .before .before .before .before .loop .field) (a .pgn) (c .before .before .before .before .before .before .before .search .inv .3) e, e, a)
+
+pub first-seen-spec : {M : Type 1} → statement M
+first-seen-spec =
+    tie.close
+    (tie.spec
+    Inv-loop
+    μ-loop
+    Inv-search
+    μ-search
+    search-holds
+    pgn-of-requires
+    loop-holds
+    field-of-requires
+    is-number-requires
+    add-field
+    loop-less
+    loop-again
+    add-place
+    cast-place
+    add-place-2
+    add-pgn
+    search-less
+    search-again
+    returns)

@@ -1,0 +1,33 @@
+use Rattle.rules.specs.Check.{check-tree-continues}
+use native.Mathlib.Omega.{arith}
+use mathlib.Core.Path.{_∙_}
+use denote.Ref.{now}
+use Rattle.pack.specs.Meaning.{packOf}
+use Rattle.rules.proofs.Emits.{emitted-none, emitted-turn, fits-turn}
+use Rattle.rules.proofs.trees.check_trees_continues.Statement.{statement}
+use Rattle.rules.proofs.trees.check_trees_continues.Tie as tie
+
+check-tree-continues-requires : tie.Need-check-tree-continues-requires
+check-tree-continues-requires c κs = (fits-turn (check-tree-continues (packOf (now (c .before .before .before .before .args .s)))) 3 0 (omega arith) (c .before .before .before .before .pre .0) (emitted-none (now (c .before .before .before .before .args .out)) (c .before .before .before .before .args .n)), c .before .before .before .before .pre .1, omega arith, c .before .before .before .before .pre .2 .trees 0 (omega arith), c .before .before .before .before .pre .2 .trees-place 0 (omega arith))
+
+check-tree-continues-requires-2 : tie.Need-check-tree-continues-requires-2
+check-tree-continues-requires-2 c κs = (fits-turn (check-tree-continues (packOf (now (c .before .before .before .before .before .before .before .before .args .s)))) 3 1 (omega arith) (c .before .before .before .before .before .before .before .before .pre .0) (emitted-turn (check-tree-continues (packOf (now (c .before .before .before .before .before .before .before .before .args .s)))) 0 (emitted-none (now (c .before .before .before .before .before .before .before .before .args .out)) (c .before .before .before .before .before .before .before .before .args .n)) (c .before .before .before .check-tree-continues .ensures)), c .before .before .before .before .before .before .before .before .pre .1, omega arith, c .before .before .before .before .before .before .before .before .pre .2 .trees 1 (omega arith), c .before .before .before .before .before .before .before .before .pre .2 .trees-place 1 (omega arith))
+
+check-tree-continues-requires-3 : tie.Need-check-tree-continues-requires-3
+check-tree-continues-requires-3 c κs = (fits-turn (check-tree-continues (packOf (now (c .before .before .before .before .before .before .before .before .before .before .before .before .args .s)))) 3 2 (omega arith) (c .before .before .before .before .before .before .before .before .before .before .before .before .pre .0) (emitted-turn (check-tree-continues (packOf (now (c .before .before .before .before .before .before .before .before .before .before .before .before .args .s)))) 1 (emitted-turn (check-tree-continues (packOf (now (c .before .before .before .before .before .before .before .before .before .before .before .before .args .s)))) 0 (emitted-none (now (c .before .before .before .before .before .before .before .before .before .before .before .before .args .out)) (c .before .before .before .before .before .before .before .before .before .before .before .before .args .n)) (c .before .before .before .before .before .before .before .check-tree-continues .ensures)) (c .before .before .before .check-tree-continues2 .ensures)), c .before .before .before .before .before .before .before .before .before .before .before .before .pre .1, omega arith, c .before .before .before .before .before .before .before .before .before .before .before .before .pre .2 .trees 2 (omega arith), c .before .before .before .before .before .before .before .before .before .before .before .before .pre .2 .trees-place 2 (omega arith))
+
+same-length : tie.Need-same-length
+same-length c = c .before .before .check-tree-continues3 .kept .0 ∙ c .before .before .before .before .before .before .check-tree-continues2 .kept .0 ∙ c .before .before .before .before .before .before .before .before .before .before .check-tree-continues .kept .0
+
+returns : tie.Need-returns
+returns c = emitted-turn (check-tree-continues (packOf (now (c .before .before .before .before .before .before .before .before .before .before .before .before .before .before .before .args .s)))) 2 (emitted-turn (check-tree-continues (packOf (now (c .before .before .before .before .before .before .before .before .before .before .before .before .before .before .before .args .s)))) 1 (emitted-turn (check-tree-continues (packOf (now (c .before .before .before .before .before .before .before .before .before .before .before .before .before .before .before .args .s)))) 0 (emitted-none (now (c .before .before .before .before .before .before .before .before .before .before .before .before .before .before .before .args .out)) (c .before .before .before .before .before .before .before .before .before .before .before .before .before .before .before .args .n)) (c .before .before .before .before .before .before .before .before .before .before .check-tree-continues .ensures)) (c .before .before .before .before .before .before .check-tree-continues2 .ensures)) (c .before .before .check-tree-continues3 .ensures)
+
+pub check-trees-continues-spec : {M : Type 1} → statement M
+check-trees-continues-spec =
+    tie.close
+    (tie.spec
+    check-tree-continues-requires
+    check-tree-continues-requires-2
+    check-tree-continues-requires-3
+    same-length
+    returns)

@@ -1,0 +1,42 @@
+-- What the place text call answers, and what it leaves in the text buffer.
+use Prim.Native.Nat.{ℕ}
+use mathlib.Core.List.{List}
+use mathlib.Core.Option.{Option, none, some}
+use lib.ListN.{length}
+use Rattle.pack.specs.Notation.{_≤ᵇ_, if_then_else_}
+use Rattle.pack.specs.Load.{loaded, over}
+use Rattle.pack.specs.Meaning.{packOf}
+use Rattle.pack.specs.Value.{Bytes}
+use Rattle.pack.specs.declared.load.Loaded.{Loaded}
+use Rattle.pack.specs.declared.load.Loaded.the-variants as load
+use Rattle.pack.specs.declared.load.Refusal.the-variants.{Absent, Place}
+use Rattle.rules.specs.declared.place_text.Placed.{Placed}
+use Rattle.rules.specs.declared.place_text.Placed.the-variants.{Refused, Written}
+use Rattle.rules.specs.PlaceText.{place-text}
+
+-- 24: "text buffer shorter than the place text"; the detail is "the length needed"
+abbrev pub fitted : Bytes → ℕ → Placed
+fitted b n = if length b ≤ᵇ n then Written (length b) else Refused (Place (length b))
+
+-- 23: "tree, PGN, field or finding named is not in the pack", which comes before 24
+abbrev pub named : Option Bytes → ℕ → Placed
+named none n = Refused Absent
+named (some b) n = fitted b n
+
+-- "Input refusals come before these; then 21, 23, .. 24"
+abbrev pub after-load : Loaded → Option Bytes → ℕ → Placed
+after-load (load.Refused r) b n = Refused r
+after-load (load.Accepted i) b n = named b n
+
+-- the text of a finding's place, of the pack s with a work buffer of m numbers and a text buffer of n bytes
+unfoldable pub placed : List ℕ → (m place tree item n : ℕ) → Placed
+placed s m place t item n = after-load (loaded s m) (place-text (packOf s) place t item) n
+
+-- "After 22 and higher numbers no other buffer has changed"; "Success writes only the entries it reports."
+abbrev pub textLeft : Placed → Option Bytes → List ℕ → List ℕ
+textLeft (Refused r) b o = o
+textLeft (Written n) none o = o
+textLeft (Written n) (some b) o = over b o
+
+unfoldable pub textAfter : List ℕ → (m place tree item : ℕ) → List ℕ → List ℕ
+textAfter s m place t item o = textLeft (placed s m place t item (length o)) (place-text (packOf s) place t item) o

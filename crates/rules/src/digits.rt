@@ -1,0 +1,47 @@
+// Numbers as decimal digits.
+ghost use mathlib.Core.Path.{_≡_};
+ghost use mathlib.Core.List.{_++_};
+ghost use Prim.Native.Nat.{_+_, _%_, _≤_};
+ghost use lib.ListN.{length, drop};
+ghost use Rattle.rules.specs.Digits.{digits};
+
+// At most ten digits, at the end of the array, from `start` on.
+pub struct Digits {
+    pub bytes: [u8; 10],
+    pub start: usize,
+}
+
+// The lowest digit.
+fn lowest(n: u32) -> u8
+    ensures { λ r. ⌜ r ≡ 48 + n % 10 ⌝ }
+{
+    48 + (n % 10) as u8
+}
+
+// The digits of n put so that they end before `end`; answers where they begin.
+pub fn digits_before(b: &mut [u8], end: usize, n: u32) -> usize
+    requires { ⌜ (10 ≤ end) × (end ≤ length (now b)) ⌝ }
+    ensures { λ r. ⌜ drop r (now (b .exit)) ≡ digits n ++ drop end (now (b .entry)) ⌝ }
+    ensures { λ r. ⌜ r + length (digits n) ≡ end ⌝ }
+{
+    let mut at = end;
+    let mut v = n;
+    while 10 <= v {
+        at -= 1;
+        b[at] = lowest(v);
+        v = v / 10;
+    }
+    at -= 1;
+    b[at] = lowest(v);
+    at
+}
+
+// The digits of n.
+pub fn digits_of(n: u32) -> Digits
+    ensures { λ r. ⌜ drop (r .start) (r .bytes) ≡ digits n ⌝ }
+    ensures { λ r. ⌜ r .start + length (digits n) ≡ 10 ⌝ }
+{
+    let mut bytes = [0u8; 10];
+    let start = digits_before(&mut bytes, 10, n);
+    Digits { bytes, start }
+}

@@ -1,0 +1,213 @@
+// R22: by a field of any tree, whatever the reference's kind, or by an entry of any fieldtype lookup, its own included. Each search ends
+// at the first hit.
+ghost use mathlib.Core.Path.{_≡_};
+ghost use mathlib.Core.Bool.{false, not};
+ghost use Prim.Native.Nat.{_<_, _≤_};
+ghost use lib.ListN.{length, getD};
+ghost use Rattle.pack.specs.Notation.{concatBelow};
+ghost use Rattle.pack.specs.Value.{pgns-of};
+ghost use Rattle.pack.specs.Items.{bytesOf};
+ghost use Rattle.pack.specs.Meaning.{optReference, packOf};
+ghost use Rattle.pack.specs.Ready.{Ready, LookupAt, LookupIs, PgnAt, lookupIn, pgnIn, lookupPlace, treePlace};
+ghost use Rattle.pack.proofs.Accepted.{IndexIs};
+ghost use Rattle.rules.specs.Emit.{Emitted, Fits};
+ghost use Rattle.rules.specs.Findings.{report-if, lookup-warning};
+ghost use Rattle.rules.specs.Marks.{Clear};
+ghost use Rattle.rules.specs.Search.{anyBelow};
+ghost use Rattle.rules.specs.LookupWiring.{ref-is, referenced-by-pgn, referenced-by-tree, referenced-by-lookup, referenced};
+use crate::emit::put_if;
+use crate::lookup_marks::mark_referenced;
+use crate::lookups::lookup_warning;
+use crate::model::is_text;
+use pack::load::Index;
+use pack::load::Section;
+use pack::of::entry_of;
+use pack::of::field_of;
+use pack::of::lookup_of;
+use pack::of::pgn_of;
+use pack::protocol::Protocol;
+use pack::records::LookupView;
+use pack::records::OptReference;
+use pack::text::Text;
+use pack::text::same_text;
+
+// Whether a reference is given and names that.
+fn ref_is(s: &[u8], r: OptReference, name: Text) -> bool
+    ensures { λ b. ⌜ b ≡ ref-is (optReference (now (s .entry)) r) (bytesOf (now (s .entry)) name) ⌝ }
+{
+    if r.given {
+        return same_text(s, r.name, name);
+    }
+    false
+}
+
+// By a field of PGN i of tree t.
+fn referenced_by_pgn(
+    s: &[u8],
+    work: &[u32],
+    t: u32,
+    i: u32,
+    p: usize,
+    fields: u32,
+    name: Text,
+) -> bool
+    requires { ⌜ PgnAt (now s) (now work) t i p × (fields ≡ length (pgnIn (packOf (now s)) t i .fields)) ⌝ }
+    ensures { λ r. ⌜ r ≡ referenced-by-pgn (bytesOf (now (s .entry)) name) (pgnIn (packOf (now (s .entry))) t i) ⌝ }
+{
+    let mut k: u32 = 0;
+    while k < fields {
+        let f = field_of(s, work, t, i, p, k);
+        if ref_is(s, f.links.reference, name) {
+            return true;
+        }
+        k += 1;
+    }
+    false
+}
+
+// By a PGN of tree t.
+fn referenced_by_tree(s: &[u8], work: &[u32], t: u32, tree: Section, name: Text) -> bool
+    requires { ⌜ Ready (now s) (now work) × (t < 3) × (tree .count ≡ length (pgns-of (packOf (now s)) t)) × (tree .place ≡ treePlace (packOf (now s)) t) ⌝ }
+    ensures { λ r. ⌜ r ≡ referenced-by-tree (packOf (now (s .entry))) (bytesOf (now (s .entry)) name) t ⌝ }
+{
+    let count = tree.count;
+    let mut p = tree.place;
+    let mut i: u32 = 0;
+    while i < count {
+        let g = pgn_of(s, work, t, i, p);
+        if referenced_by_pgn(s, work, t, i, p, g.fields, name) {
+            return true;
+        }
+        p = p + 1 + g.fields as usize;
+        i += 1;
+    }
+    false
+}
+
+// By a tree.
+fn referenced_by_trees(s: &[u8], work: &[u32], index: Index, name: Text) -> bool
+    requires { ⌜ Ready (now s) (now work) × IndexIs (packOf (now s)) index ⌝ }
+    ensures { λ r. ⌜ r ≡ anyBelow (λ t. referenced-by-tree (packOf (now (s .entry))) (bytesOf (now (s .entry)) name) t) 3 ⌝ }
+{
+    let mut t: u32 = 0;
+    while t < 3 {
+        let tree = Protocol::of_tree(t).section(index);
+        if referenced_by_tree(s, work, t, tree, name) {
+            return true;
+        }
+        t += 1;
+    }
+    false
+}
+
+// By an entry of lookup l, which is v.
+fn referenced_by_lookup(s: &[u8], work: &[u32], l: u32, p: usize, v: LookupView, name: Text) -> bool
+    requires { ⌜ LookupAt (now s) (now work) l p × LookupIs (now s) (lookupIn (packOf (now s)) l) v ⌝ }
+    ensures { λ r. ⌜ r ≡ referenced-by-lookup (bytesOf (now (s .entry)) name) (lookupIn (packOf (now (s .entry))) l) ⌝ }
+{
+    if v.kind != 3 {
+        return false;
+    }
+    let entries = v.entries;
+    let mut e: u32 = 0;
+    while e < entries {
+        let entry = entry_of(s, work, l, p, 3, e);
+        if is_text(s, entry.nested, name) {
+            return true;
+        }
+        e += 1;
+    }
+    false
+}
+
+// By a lookup.
+fn referenced_by_lookups(s: &[u8], work: &[u32], lookups: Section, name: Text) -> bool
+    requires { ⌜ Ready (now s) (now work) × (lookups .count ≡ length (packOf (now s) .lookups)) × (lookups .place ≡ lookupPlace (packOf (now s)) 0) ⌝ }
+    ensures { λ r. ⌜ r ≡ anyBelow (λ l. referenced-by-lookup (bytesOf (now (s .entry)) name) (lookupIn (packOf (now (s .entry))) l)) (length (packOf (now (s .entry)) .lookups)) ⌝ }
+{
+    let count = lookups.count;
+    let mut p = lookups.place;
+    let mut l: u32 = 0;
+    while l < count {
+        let v = lookup_of(s, work, l, p);
+        if referenced_by_lookup(s, work, l, p, v, name) {
+            return true;
+        }
+        p = p + 1 + v.entries as usize;
+        l += 1;
+    }
+    false
+}
+
+// By anything.
+fn referenced(s: &[u8], work: &[u32], index: Index, name: Text) -> bool
+    requires { ⌜ Ready (now s) (now work) × IndexIs (packOf (now s)) index ⌝ }
+    ensures { λ r. ⌜ r ≡ referenced (packOf (now (s .entry))) (bytesOf (now (s .entry)) name) ⌝ }
+{
+    if referenced_by_trees(s, work, index, name) {
+        return true;
+    }
+    referenced_by_lookups(s, work, index.lookups, name)
+}
+
+// Each lookup searched for.
+fn check_by_search(out: &mut [u32], n: usize, s: &[u8], work: &[u32], index: Index) -> usize
+    requires { ⌜ Fits n (concatBelow (λ l. report-if (not (referenced (packOf (now s)) (lookupIn (packOf (now s)) l .name))) (lookup-warning 22 1 l 0 0)) (length (packOf (now s) .lookups))) × Ready (now s) (now work) × IndexIs (packOf (now s)) index ⌝ }
+    ensures { λ r. ⌜ Emitted (now (out .entry)) n (concatBelow (λ l. report-if (not (referenced (packOf (now (s .entry))) (lookupIn (packOf (now (s .entry))) l .name))) (lookup-warning 22 1 l 0 0)) (length (packOf (now (s .entry)) .lookups))) (now (out .exit)) r ⌝ }
+{
+    let count = index.lookups.count;
+    let mut m = n;
+    let mut p = index.lookups.place;
+    let mut l: u32 = 0;
+    while l < count {
+        let v = lookup_of(s, work, l, p);
+        let used = referenced(s, work, index, v.name);
+        m = put_if(out, m, !used, lookup_warning(22, 1, l, 0, 0));
+        p = p + 1 + v.entries as usize;
+        l += 1;
+    }
+    m
+}
+
+// The lookups without a mark.
+fn report_unmarked(out: &mut [u32], n: usize, marks: &[bool], count: u32) -> usize
+    requires { ⌜ Fits n (concatBelow (λ l. report-if (not (getD (now marks) l false)) (lookup-warning 22 1 l 0 0)) count) × (count ≤ length (now marks)) ⌝ }
+    ensures { λ r. ⌜ Emitted (now (out .entry)) n (concatBelow (λ l. report-if (not (getD (now (marks .entry)) l false)) (lookup-warning 22 1 l 0 0)) count) (now (out .exit)) r ⌝ }
+{
+    let mut m = n;
+    let mut l: u32 = 0;
+    while l < count {
+        let used = marks[l as usize];
+        m = put_if(out, m, !used, lookup_warning(22, 1, l, 0, 0));
+        l += 1;
+    }
+    m
+}
+
+// All lookups by one pass over the references, with marks that are clear.
+fn check_by_marks(
+    out: &mut [u32],
+    n: usize,
+    marks: &mut [bool],
+    s: &[u8],
+    work: &[u32],
+    index: Index,
+) -> usize
+    requires { ⌜ Fits n (concatBelow (λ l. report-if (not (referenced (packOf (now s)) (lookupIn (packOf (now s)) l .name))) (lookup-warning 22 1 l 0 0)) (length (packOf (now s) .lookups))) × Clear (now marks) × (length (packOf (now s) .lookups) ≤ length (now marks)) × Ready (now s) (now work) × IndexIs (packOf (now s)) index ⌝ }
+    ensures { λ r. ⌜ Emitted (now (out .entry)) n (concatBelow (λ l. report-if (not (referenced (packOf (now (s .entry))) (lookupIn (packOf (now (s .entry))) l .name))) (lookup-warning 22 1 l 0 0)) (length (packOf (now (s .entry)) .lookups))) (now (out .exit)) r ⌝ }
+{
+    mark_referenced(marks, s, work, index);
+    report_unmarked(out, n, marks, index.lookups.count)
+}
+
+// R22: every lookup is referenced somewhere. A search for each is slow, so it is left to packs with more lookups than there are marks.
+pub fn check_lookup_uses(out: &mut [u32], n: usize, s: &[u8], work: &[u32], index: Index) -> usize
+    requires { ⌜ Fits n (concatBelow (λ l. report-if (not (referenced (packOf (now s)) (lookupIn (packOf (now s)) l .name))) (lookup-warning 22 1 l 0 0)) (length (packOf (now s) .lookups))) × Ready (now s) (now work) × IndexIs (packOf (now s)) index ⌝ }
+    ensures { λ r. ⌜ Emitted (now (out .entry)) n (concatBelow (λ l. report-if (not (referenced (packOf (now (s .entry))) (lookupIn (packOf (now (s .entry))) l .name))) (lookup-warning 22 1 l 0 0)) (length (packOf (now (s .entry)) .lookups))) (now (out .exit)) r ⌝ }
+{
+    if 4096 < index.lookups.count {
+        return check_by_search(out, n, s, work, index);
+    }
+    let mut marks = [false; 4096];
+    check_by_marks(out, n, &mut marks, s, work, index)
+}

@@ -1,0 +1,131 @@
+// R08, causes 6 and 7: what the entries of fieldtype lookups name.
+ghost use mathlib.Core.Path.{_≡_};
+ghost use lib.ListN.{length};
+ghost use Rattle.pack.specs.Notation.{concatBelow};
+ghost use Rattle.pack.specs.Items.{bytesOf};
+ghost use Rattle.pack.specs.Meaning.{optBytes, entryMeaning, packOf};
+ghost use Rattle.pack.specs.Ready.{Ready, LookupAt, LookupIs, lookupIn, lookupPlace};
+ghost use Rattle.pack.proofs.Accepted.{IndexIs};
+ghost use Rattle.rules.specs.Emit.{Emitted, Fits};
+ghost use Rattle.rules.specs.LookupWiring.{is-fieldtype, nested-lookup-at, fieldtype-entry-at, check-nested-refs};
+use crate::emit::put_if;
+use crate::lookups::find_lookup;
+use crate::lookups::lookup_error;
+use pack::load::Index;
+use pack::load::Section;
+use pack::of::entry_of;
+use pack::of::lookup_of;
+use pack::of::type_of;
+use pack::records::EntryView;
+use pack::records::LookupView;
+use pack::text::OptText;
+use pack::text::Text;
+use pack::text::same_text;
+
+// `db.fieldtype(name)`, of so many field types.
+pub fn is_fieldtype(s: &[u8], work: &[u32], types: u32, name: Text) -> bool
+    requires { ⌜ Ready (now s) (now work) × (types ≡ length (packOf (now s) .fieldtypes)) ⌝ }
+    ensures { λ r. ⌜ r ≡ is-fieldtype (packOf (now (s .entry)) .fieldtypes) (bytesOf (now (s .entry)) name) ⌝ }
+{
+    let mut j: u32 = 0;
+    while j < types {
+        let v = type_of(s, work, j);
+        if same_text(s, v.name, name) {
+            return true;
+        }
+        j += 1;
+    }
+    false
+}
+
+// Cause 7: the nested lookup of entry e of lookup l.
+fn nested_lookup_at(
+    out: &mut [u32],
+    n: usize,
+    s: &[u8],
+    work: &[u32],
+    lookups: Section,
+    l: u32,
+    e: u32,
+    nested: OptText,
+) -> usize
+    requires { ⌜ Fits n (nested-lookup-at (packOf (now s) .lookups) l e (optBytes (now s) nested)) × Ready (now s) (now work) × (lookups .count ≡ length (packOf (now s) .lookups)) × (lookups .place ≡ lookupPlace (packOf (now s)) 0) ⌝ }
+    ensures { λ r. ⌜ Emitted (now (out .entry)) n (nested-lookup-at (packOf (now (s .entry)) .lookups) l e (optBytes (now (s .entry)) nested)) (now (out .exit)) r ⌝ }
+{
+    if !nested.given {
+        return n;
+    }
+    let found = find_lookup(s, work, lookups, nested.text);
+    put_if(out, n, !found.given, lookup_error(8, 7, l, e, 0))
+}
+
+// Entry e of lookup l.
+fn fieldtype_entry_at(
+    out: &mut [u32],
+    n: usize,
+    s: &[u8],
+    work: &[u32],
+    index: Index,
+    l: u32,
+    e: u32,
+    entry: EntryView,
+) -> usize
+    requires { ⌜ Fits n (fieldtype-entry-at (packOf (now s)) l e (entryMeaning (now s) entry)) × Ready (now s) (now work) × IndexIs (packOf (now s)) index ⌝ }
+    ensures { λ r. ⌜ Emitted (now (out .entry)) n (fieldtype-entry-at (packOf (now (s .entry))) l e (entryMeaning (now (s .entry)) entry)) (now (out .exit)) r ⌝ }
+{
+    let known = is_fieldtype(s, work, index.types.count, entry.fieldtype);
+    let m = put_if(out, n, !known, lookup_error(8, 6, l, e, 0));
+    nested_lookup_at(out, m, s, work, index.lookups, l, e, entry.nested)
+}
+
+// Lookup l, which is v.
+fn check_nested_refs(
+    out: &mut [u32],
+    n: usize,
+    s: &[u8],
+    work: &[u32],
+    index: Index,
+    l: u32,
+    p: usize,
+    v: LookupView,
+) -> usize
+    requires { ⌜ Fits n (check-nested-refs (packOf (now s)) l (lookupIn (packOf (now s)) l)) × LookupAt (now s) (now work) l p × LookupIs (now s) (lookupIn (packOf (now s)) l) v × IndexIs (packOf (now s)) index ⌝ }
+    ensures { λ r. ⌜ Emitted (now (out .entry)) n (check-nested-refs (packOf (now (s .entry))) l (lookupIn (packOf (now (s .entry))) l)) (now (out .exit)) r ⌝ }
+{
+    if v.kind != 3 {
+        return n;
+    }
+    let entries = v.entries;
+    let mut m = n;
+    let mut e: u32 = 0;
+    while e < entries {
+        let entry = entry_of(s, work, l, p, 3, e);
+        m = fieldtype_entry_at(out, m, s, work, index, l, e, entry);
+        e += 1;
+    }
+    m
+}
+
+// Every lookup.
+pub fn check_all_nested_refs(
+    out: &mut [u32],
+    n: usize,
+    s: &[u8],
+    work: &[u32],
+    index: Index,
+) -> usize
+    requires { ⌜ Fits n (concatBelow (λ l. check-nested-refs (packOf (now s)) l (lookupIn (packOf (now s)) l)) (length (packOf (now s) .lookups))) × Ready (now s) (now work) × IndexIs (packOf (now s)) index ⌝ }
+    ensures { λ r. ⌜ Emitted (now (out .entry)) n (concatBelow (λ l. check-nested-refs (packOf (now (s .entry))) l (lookupIn (packOf (now (s .entry))) l)) (length (packOf (now (s .entry)) .lookups))) (now (out .exit)) r ⌝ }
+{
+    let count = index.lookups.count;
+    let mut m = n;
+    let mut p = index.lookups.place;
+    let mut l: u32 = 0;
+    while l < count {
+        let v = lookup_of(s, work, l, p);
+        m = check_nested_refs(out, m, s, work, index, l, p, v);
+        p = p + 1 + v.entries as usize;
+        l += 1;
+    }
+    m
+}

@@ -1,0 +1,66 @@
+// The place text call.
+ghost use mathlib.Core.Path.{_≡_};
+ghost use lib.ListN.{length};
+ghost use Rattle.pack.specs.Load.{workAfter};
+ghost use Rattle.pack.specs.Meaning.{packOf};
+ghost use Rattle.pack.specs.Ready.{Ready};
+ghost use Rattle.pack.proofs.Accepted.{IndexIs};
+ghost use Rattle.rules.specs.PlaceCall.{named, placed, textLeft, textAfter};
+ghost use Rattle.rules.specs.PlaceText.{place-text};
+use crate::locs::put_loc;
+use crate::places::find_loc;
+use pack::load::Index;
+use pack::load::Loaded;
+use pack::load::Refusal;
+use pack::load::load;
+
+pub enum Placed {
+    Refused(Refusal),
+    // how long the text is
+    Written(usize),
+}
+
+// Over an empty part of the buffer the text is only measured: after 24 it has not changed.
+fn write_named(
+    pack: &[u8],
+    work: &[u32],
+    index: Index,
+    place: u32,
+    tree: u32,
+    item: u32,
+    text: &mut [u8],
+) -> Placed
+    requires { ⌜ Ready (now pack) (now work) × IndexIs (packOf (now pack)) index ⌝ }
+    ensures { λ r. ⌜ r ≡ named (place-text (packOf (now (pack .entry))) place tree item) (length (now (text .entry))) ⌝ }
+    ensures { λ r. ⌜ now (text .exit) ≡ textLeft (named (place-text (packOf (now (pack .entry))) place tree item) (length (now (text .entry)))) (place-text (packOf (now (pack .entry))) place tree item) (now (text .entry)) ⌝ }
+{
+    let found = find_loc(pack, work, index, place, tree, item);
+    if !found.given {
+        return Placed::Refused(Refusal::Absent);
+    }
+    let loc = found.loc;
+    let needed = put_loc(&mut text[..0], pack, loc);
+    if text.len() < needed {
+        return Placed::Refused(Refusal::Place(needed));
+    }
+    put_loc(text, pack, loc);
+    Placed::Written(needed)
+}
+
+pub fn place_text(
+    pack: &[u8],
+    work: &mut [u32],
+    place: u32,
+    tree: u32,
+    item: u32,
+    text: &mut [u8],
+) -> Placed
+    ensures { λ r. ⌜ r ≡ placed (now (pack .entry)) (length (now (work .entry))) place tree item (length (now (text .entry))) ⌝ }
+    ensures { λ r. ⌜ now (work .exit) ≡ workAfter (now (pack .entry)) (now (work .entry)) ⌝ }
+    ensures { λ r. ⌜ now (text .exit) ≡ textAfter (now (pack .entry)) (length (now (work .entry))) place tree item (now (text .entry)) ⌝ }
+{
+    match load(pack, work) {
+        Loaded::Refused(refusal) => Placed::Refused(refusal),
+        Loaded::Accepted(index) => write_named(pack, work, index, place, tree, item, text),
+    }
+}
