@@ -5,6 +5,10 @@ use Rattle.pack.specs.Load.{refusalNumber, refusalDetail}
 use Rattle.pack.specs.declared.load.Section.{Section}
 use Rattle.pack.specs.declared.load.Loaded.{Loaded}
 use Rattle.pack.specs.declared.load.Loaded.the-variants.{Refused, Accepted}
+use Rattle.rules.specs.declared.check.Checked.{Checked}
+use Rattle.rules.specs.declared.check.Checked.the-variants as check
+use Rattle.rules.specs.declared.place_text.Placed.{Placed}
+use Rattle.rules.specs.declared.place_text.Placed.the-variants as place
 
 -- "A refusal gives its number"; 0 where there is none
 abbrev pub loadNumber : Loaded → ℕ
@@ -19,3 +23,21 @@ section s = s .count ∷ s .place ∷ []
 abbrev pub loadAnswer : Loaded → List ℕ
 loadAnswer (Refused r) = refusalDetail r ∷ 0 ∷ 0 ∷ 0 ∷ 0 ∷ 0 ∷ 0 ∷ 0 ∷ 0 ∷ 0 ∷ 0 ∷ []
 loadAnswer (Accepted i) = i .records ∷ section (i .types) ++ section (i .lookups) ++ section (i .nmea2000) ++ section (i .j1939) ++ section (i .quick)
+
+abbrev pub checkNumber : Checked → ℕ
+checkNumber (check.Refused r) = refusalNumber r
+checkNumber (check.Reported n e) = 0
+
+-- the detail and 0; or the number of findings and of errors
+abbrev pub checkAnswer : Checked → List ℕ
+checkAnswer (check.Refused r) = refusalDetail r ∷ 0 ∷ []
+checkAnswer (check.Reported n e) = n ∷ e ∷ []
+
+abbrev pub placeNumber : Placed → ℕ
+placeNumber (place.Refused r) = refusalNumber r
+placeNumber (place.Written n) = 0
+
+-- the detail, or the length of the text
+abbrev pub placeAnswer : Placed → List ℕ
+placeAnswer (place.Refused r) = refusalDetail r ∷ []
+placeAnswer (place.Written n) = n ∷ []

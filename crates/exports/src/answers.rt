@@ -1,7 +1,9 @@
 // Answers as numbers.
 ghost use mathlib.Core.Path.{_≡_};
-ghost use Rattle.exports.specs.Answers.{loadNumber, loadAnswer};
+ghost use Rattle.exports.specs.Answers.{loadNumber, loadAnswer, checkNumber, checkAnswer, placeNumber, placeAnswer};
 use pack::load::Loaded;
+use rules::check::Checked;
+use rules::place_text::Placed;
 
 pub fn load_number(l: Loaded) -> u32
     ensures { λ n. ⌜ n ≡ loadNumber l ⌝ }
@@ -30,5 +32,44 @@ pub fn load_answer(l: Loaded) -> [u64; 11]
             i.quick.count as u64,
             i.quick.place as u64,
         ],
+    }
+}
+
+pub fn check_number(c: Checked) -> u32
+    ensures { λ n. ⌜ n ≡ checkNumber c ⌝ }
+{
+    match c {
+        Checked::Refused(r) => r.number(),
+        Checked::Reported {
+            findings: _,
+            errors: _,
+        } => 0,
+    }
+}
+
+pub fn check_answer(c: Checked) -> [u64; 2]
+    ensures { λ a. ⌜ a ≡ checkAnswer c ⌝ }
+{
+    match c {
+        Checked::Refused(r) => [r.detail() as u64, 0],
+        Checked::Reported { findings, errors } => [findings as u64, errors as u64],
+    }
+}
+
+pub fn place_number(p: Placed) -> u32
+    ensures { λ n. ⌜ n ≡ placeNumber p ⌝ }
+{
+    match p {
+        Placed::Refused(r) => r.number(),
+        Placed::Written(_) => 0,
+    }
+}
+
+pub fn place_answer(p: Placed) -> [u64; 1]
+    ensures { λ a. ⌜ a ≡ placeAnswer p ⌝ }
+{
+    match p {
+        Placed::Refused(r) => [r.detail() as u64],
+        Placed::Written(n) => [n as u64],
     }
 }

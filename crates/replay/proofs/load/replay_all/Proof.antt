@@ -1,8 +1,8 @@
--- `main` is safe and ends: each turn leaves one case fewer.
+-- `replay_all` is safe and ends: each turn leaves one case fewer.
 use Prim.Native.Nat.{_≤_, _-_}
 use borrow.Author.Needs.{needs}
-use Rattle.replay_load.proofs.main.Statement.{statement}
-use Rattle.replay_load.proofs.main.Tie as tie
+use Rattle.replay.proofs.load.replay_all.Statement.{statement}
+use Rattle.replay.proofs.load.replay_all.Tie as tie
 
 abbrev Inv-loop : tie.InvT-loop
 Inv-loop n i₀ i = i ≤ n
@@ -31,8 +31,8 @@ loop-again c = search needs
 returns : tie.Need-returns Inv-loop μ-loop
 returns c = search needs
 
-pub main-spec : {M : Type 1} → statement M
-main-spec =
+pub replay-all-spec : {M : Type 1} → statement M
+replay-all-spec =
     tie.close
     (tie.spec
     Inv-loop

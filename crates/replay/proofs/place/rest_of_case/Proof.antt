@@ -1,12 +1,24 @@
--- `one_case` is safe and ends: the first n of a buffer are n, where it has as many.
-use mathlib.Core.Path.{sym}
+-- `rest_of_case` is safe and ends: the first n of a buffer are n, where it has as many.
 use lib.Seq.{length-take-le}
+use mathlib.Core.Path.{sym}
 use borrow.Author.Needs.{needs}
-use Rattle.replay_load.proofs.one_case.Statement.{statement}
-use Rattle.replay_load.proofs.one_case.Tie as tie
+use Rattle.replay.proofs.place.rest_of_case.Statement.{statement}
+use Rattle.replay.proofs.place.rest_of_case.Tie as tie
+
+read-pack-requires : tie.Need-read-pack-requires
+read-pack-requires c κs = search needs
 
 count-requires : tie.Need-count-requires
 count-requires c κs = search needs
+
+number-requires : tie.Need-number-requires
+number-requires c κs = search needs
+
+number-requires-2 : tie.Need-number-requires-2
+number-requires-2 c κs = search needs
+
+number-requires-3 : tie.Need-number-requires-3
+number-requires-3 c κs = search needs
 
 count-requires-2 : tie.Need-count-requires-2
 count-requires-2 c κs = search needs
@@ -15,13 +27,13 @@ slice-relend-prefix-replay : tie.Need-slice-relend-prefix-replay
 slice-relend-prefix-replay c = search needs
 
 slice-aggregate-replay : tie.Need-slice-aggregate-replay
-slice-aggregate-replay c = sym (length-take-le (c .before .count2 .result) (c .before .before .before .before .before .args .pack .now) (search needs))
+slice-aggregate-replay c = sym (length-take-le _ _ (c .before .before .before .before .before .before .count .ensures))
 
 slice-relend-prefix-replay-2 : tie.Need-slice-relend-prefix-replay-2
 slice-relend-prefix-replay-2 c = search needs
 
 slice-aggregate-replay-2 : tie.Need-slice-aggregate-replay-2
-slice-aggregate-replay-2 c = sym (length-take-le (c .before .before .before .count .result) (c .before .before .before .before .before .before .args .work .now) (search needs))
+slice-aggregate-replay-2 c = sym (length-take-le _ _ (c .before .before .before .count2 .ensures))
 
 replay-requires : tie.Need-replay-requires
 replay-requires c κs = search needs
@@ -32,14 +44,21 @@ same-length c = search needs
 same-length-2 : tie.Need-same-length-2
 same-length-2 c = search needs
 
+same-length-3 : tie.Need-same-length-3
+same-length-3 c = search needs
+
 returns : tie.Need-returns
 returns c = search needs
 
-pub one-case-spec : {M : Type 1} → statement M
-one-case-spec =
+pub rest-of-case-spec : {M : Type 1} → statement M
+rest-of-case-spec =
     tie.close
     (tie.spec
+    read-pack-requires
     count-requires
+    number-requires
+    number-requires-2
+    number-requires-3
     count-requires-2
     slice-relend-prefix-replay
     slice-aggregate-replay
@@ -48,4 +67,5 @@ one-case-spec =
     replay-requires
     same-length
     same-length-2
+    same-length-3
     returns)

@@ -2,8 +2,8 @@
 use Prim.Native.Nat.{_≤_, _-_}
 use borrow.Author.Needs.{needs}
 use lib.ListN.{length}
-use Rattle.replay_load.proofs.print_all.Statement.{statement}
-use Rattle.replay_load.proofs.print_all.Tie as tie
+use Rattle.replay.proofs.load.print_all.Statement.{statement}
+use Rattle.replay.proofs.load.print_all.Tie as tie
 
 abbrev Inv-loop : tie.InvT-loop
 Inv-loop numbers i₀ i = i ≤ length numbers

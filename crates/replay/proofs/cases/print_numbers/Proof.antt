@@ -1,15 +1,15 @@
--- `print_offsets` is safe and ends. The loop's invariant: `i` is at most the length; the measure is what is left of it.
+-- `print_numbers` is safe and ends. The loop's invariant: `i` is at most the length; the measure is what is left of it.
 use Prim.Native.Nat.{_≤_, _-_}
 use borrow.Author.Needs.{needs}
 use lib.ListN.{length}
-use Rattle.replay_load.proofs.print_offsets.Statement.{statement}
-use Rattle.replay_load.proofs.print_offsets.Tie as tie
+use Rattle.replay.proofs.cases.print_numbers.Statement.{statement}
+use Rattle.replay.proofs.cases.print_numbers.Tie as tie
 
 abbrev Inv-loop : tie.InvT-loop
-Inv-loop work i₀ i = i ≤ length work
+Inv-loop numbers i₀ i = i ≤ length numbers
 
 abbrev μ-loop : tie.MeasureT-loop
-μ-loop work i₀ i = length work - i
+μ-loop numbers i₀ i = length numbers - i
 
 loop-holds : tie.Need-loop-holds Inv-loop μ-loop
 loop-holds c = search needs
@@ -38,8 +38,8 @@ loop-again c = search needs
 returns : tie.Need-returns Inv-loop μ-loop
 returns c = search needs
 
-pub print-offsets-spec : {M : Type 1} → statement M
-print-offsets-spec =
+pub print-numbers-spec : {M : Type 1} → statement M
+print-numbers-spec =
     tie.close
     (tie.spec
     Inv-loop

@@ -1,0 +1,34 @@
+use Rattle.exports.specs.Answers.{placeNumber, placeAnswer}
+use mathlib.Core.Path.{_∙_, ap}
+use borrow.Author.Needs.{needs}
+use Rattle.exports.proofs.sarwymp_place_text.Statement.{statement}
+use Rattle.exports.proofs.sarwymp_place_text.Tie as tie
+
+place-text-requires : tie.Need-place-text-requires
+place-text-requires c κs = search needs
+
+place-answer-requires : tie.Need-place-answer-requires
+place-answer-requires c κs = search needs
+
+place-number-requires : tie.Need-place-number-requires
+place-number-requires c κs = search needs
+
+same-length : tie.Need-same-length
+same-length c = search needs
+
+same-length-2 : tie.Need-same-length-2
+same-length-2 c = search needs
+
+returns : tie.Need-returns
+returns c = (c .place-number .ensures ∙ ap placeNumber (c .before .before .before .before .before .before .place-text .ensures .0), (c .before .place-answer .ensures ∙ ap placeAnswer (c .before .before .before .before .before .before .place-text .ensures .0), (c .before .before .before .before .before .before .place-text .ensures .1 .0, c .before .before .before .before .before .before .place-text .ensures .1 .1)))
+
+pub sarwymp-place-text-spec : {M : Type 1} → statement M
+sarwymp-place-text-spec =
+    tie.close
+    (tie.spec
+    place-text-requires
+    place-answer-requires
+    place-number-requires
+    same-length
+    same-length-2
+    returns)

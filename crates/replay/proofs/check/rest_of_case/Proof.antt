@@ -1,0 +1,63 @@
+-- `rest_of_case` is safe and ends: the first n of a buffer are n, where it has as many.
+use lib.Seq.{length-take-le}
+use mathlib.Core.Path.{sym}
+use borrow.Author.Needs.{needs}
+use Rattle.replay.proofs.check.rest_of_case.Statement.{statement}
+use Rattle.replay.proofs.check.rest_of_case.Tie as tie
+
+read-pack-requires : tie.Need-read-pack-requires
+read-pack-requires c κs = search needs
+
+count-requires : tie.Need-count-requires
+count-requires c κs = search needs
+
+count-requires-2 : tie.Need-count-requires-2
+count-requires-2 c κs = search needs
+
+slice-relend-prefix-replay : tie.Need-slice-relend-prefix-replay
+slice-relend-prefix-replay c = search needs
+
+slice-aggregate-replay : tie.Need-slice-aggregate-replay
+slice-aggregate-replay c = sym (length-take-le _ _ (c .before .before .before .count .ensures))
+
+slice-relend-prefix-replay-2 : tie.Need-slice-relend-prefix-replay-2
+slice-relend-prefix-replay-2 c = search needs
+
+slice-aggregate-replay-2 : tie.Need-slice-aggregate-replay-2
+slice-aggregate-replay-2 c = sym (length-take-le _ _ (c .before .before .before .count2 .ensures))
+
+replay-requires : tie.Need-replay-requires
+replay-requires c κs = search needs
+
+same-length : tie.Need-same-length
+same-length c = search needs
+
+same-length-2 : tie.Need-same-length-2
+same-length-2 c = search needs
+
+same-length-3 : tie.Need-same-length-3
+same-length-3 c = search needs
+
+same-length-4 : tie.Need-same-length-4
+same-length-4 c = search needs
+
+returns : tie.Need-returns
+returns c = search needs
+
+pub rest-of-case-spec : {M : Type 1} → statement M
+rest-of-case-spec =
+    tie.close
+    (tie.spec
+    read-pack-requires
+    count-requires
+    count-requires-2
+    slice-relend-prefix-replay
+    slice-aggregate-replay
+    slice-relend-prefix-replay-2
+    slice-aggregate-replay-2
+    replay-requires
+    same-length
+    same-length-2
+    same-length-3
+    same-length-4
+    returns)
