@@ -20,6 +20,13 @@ fn open(pack: &[u8], work: &mut [u32]) -> Answer<Loaded> {
     Ok(loaded)
 }
 
+/// As `open`, of a pack that has been read.
+fn open_as_read<'a>(read: &'a Answer<Loaded>, work: &mut [u32]) -> Answer<&'a Loaded> {
+    let loaded = read.as_ref().map_err(|refusal| *refusal)?;
+    fill(loaded, work)?;
+    Ok(loaded)
+}
+
 fn fill(loaded: &Loaded, work: &mut [u32]) -> Answer<()> {
     let needed = loaded.records.len();
     if work.len() < needed {
@@ -36,8 +43,7 @@ pub fn load(pack: &[u8], work: &mut [u32]) -> Answer<[u64; 11]> {
 
 /// As `load`, of a pack that has been read.
 pub fn load_as_read(read: &Answer<Loaded>, work: &mut [u32]) -> Answer<[u64; 11]> {
-    let loaded = read.as_ref().map_err(|refusal| *refusal)?;
-    fill(loaded, work)?;
+    let loaded = open_as_read(read, work)?;
     let mut answer = [0; 11];
     answer[0] = loaded.records.len() as u64;
     for (i, section) in loaded.sections.iter().enumerate() {
@@ -47,22 +53,57 @@ pub fn load_as_read(read: &Answer<Loaded>, work: &mut [u32]) -> Answer<[u64; 11]
     Ok(answer)
 }
 
-/// The number of findings, eight numbers each.
-pub fn check(pack: &[u8], work: &mut [u32], findings: &mut [u32]) -> Answer<usize> {
-    let loaded = open(pack, work)?;
-    let list = rules::check(&loaded.pack);
+/// The number of findings, eight numbers each, and the number of errors among them.
+pub fn check(pack: &[u8], work: &mut [u32], findings: &mut [u32]) -> Answer<[u64; 2]> {
+    let read = read(pack);
+    check_as_read(&read, &found(&read), work, findings)
+}
+
+/// What the rules find in a pack that has been read; nothing where it is refused.
+pub fn found(read: &Answer<Loaded>) -> Vec<Finding> {
+    read.as_ref().map_or_else(|_| Vec::new(), |loaded| rules::check(&loaded.pack))
+}
+
+/// As `check`, of a pack that has been read and in which the rules have found `list`.
+pub fn check_as_read(
+    read: &Answer<Loaded>,
+    list: &[Finding],
+    work: &mut [u32],
+    findings: &mut [u32],
+) -> Answer<[u64; 2]> {
+    open_as_read(read, work)?;
     if findings.len() < 8 * list.len() {
         return refused(22, 8 * list.len());
     }
-    for (numbers, finding) in findings.chunks_exact_mut(8).zip(&list) {
-        numbers.copy_from_slice(&Finding::numbers(finding));
+    for (numbers, finding) in findings.chunks_exact_mut(8).zip(list) {
+        numbers.copy_from_slice(&finding.numbers());
     }
-    Ok(list.len())
+    let errors = list.iter().filter(|finding| finding.is_error()).count();
+    Ok([list.len() as u64, errors as u64])
 }
 
 /// The length of the place text.
-pub fn place_text(pack: &[u8], work: &mut [u32], place: u32, tree: u32, item: u32, text: &mut [u8]) -> Answer<usize> {
-    let loaded = open(pack, work)?;
+pub fn place_text(
+    pack: &[u8],
+    work: &mut [u32],
+    place: u32,
+    tree: u32,
+    item: u32,
+    text: &mut [u8],
+) -> Answer<[u64; 1]> {
+    place_text_as_read(&read(pack), work, place, tree, item, text)
+}
+
+/// As `place_text`, of a pack that has been read.
+pub fn place_text_as_read(
+    read: &Answer<Loaded>,
+    work: &mut [u32],
+    place: u32,
+    tree: u32,
+    item: u32,
+    text: &mut [u8],
+) -> Answer<[u64; 1]> {
+    let loaded = open_as_read(read, work)?;
     let Some(bytes) = words::place_text(&loaded.pack, place, tree, item) else {
         return refused(23, 0);
     };
@@ -70,7 +111,7 @@ pub fn place_text(pack: &[u8], work: &mut [u32], place: u32, tree: u32, item: u3
         return refused(24, bytes.len());
     }
     text[..bytes.len()].copy_from_slice(&bytes);
-    Ok(bytes.len())
+    Ok([bytes.len() as u64])
 }
 
 fn named(loaded: &Loaded, tree: u32, item: u32) -> Answer<&Pgn> {

@@ -1,15 +1,21 @@
 //! The differential runs: random packs, the same question to two sides, a table of what was reached.
 
+mod check;
+mod lent;
+mod rust;
+
+use self::check::check;
+use self::lent::Lent;
+use self::rust::rust;
 use crate::calls;
 use crate::damage::damage;
-use crate::encode::{Encoded, encode};
-use crate::finding::Finding;
+use crate::encode::encode;
 use crate::generate::{Generator, packs_of_sizes};
 use crate::reader::{LIMIT, Loaded, Refusal, read};
 use crate::table::{RuleTable, Table};
 use crate::value::Pack;
 use crate::walk::{End, held, walk};
-use crate::words::{Words, place_text, words};
+use crate::words::{Words, words};
 use crate::{library, oracle, rules};
 
 /// What went wrong, in words; the run goes no further.
@@ -21,7 +27,8 @@ type Run = Result<(), Failure>;
 pub type RunOver = fn(u64, usize) -> Run;
 
 /// The runs by name.
-pub const RUNS: [(&str, RunOver); 4] = [("oracle", oracle), ("load", load), ("check", check), ("walk", walks)];
+pub const RUNS: [(&str, RunOver); 5] =
+    [("oracle", oracle), ("load", load), ("check", check), ("rust", rust), ("walk", walks)];
 
 /// The oracle against `rules`, through the words.
 pub fn oracle(seed: u64, count: usize) -> Run {
@@ -38,7 +45,7 @@ pub fn oracle(seed: u64, count: usize) -> Run {
         let expected = oracle::violations(&pack).ok_or("a generated pack is not UTF-8")?;
         let ours: Vec<Words> = findings.iter().map(|finding| words(&pack, finding)).collect();
         if ours != expected {
-            return Err(difference(case, &pack, &ours, &expected));
+            return Err(format!("case {case}, {}\n{pack:#?}", difference(&ours, &expected)));
         }
         for finding in &findings {
             table.hit(finding.rule, finding.cause);
@@ -55,9 +62,10 @@ pub fn oracle(seed: u64, count: usize) -> Run {
     finish(&[&table.table, &kinds])
 }
 
-fn difference(case: usize, pack: &Pack, ours: &[Words], expected: &[Words]) -> Failure {
+/// The first finding of which the words differ.
+fn difference(ours: &[Words], expected: &[Words]) -> String {
     let at = ours.iter().zip(expected).take_while(|(a, b)| a == b).count();
-    format!("case {case}, finding {at}:\n  ours   {:?}\n  oracle {:?}\n{pack:#?}", ours.get(at), expected.get(at))
+    format!("finding {at}:\n  ours   {:?}\n  oracle {:?}", ours.get(at), expected.get(at))
 }
 
 /// Keeps a pack that shows a difference, and says where.
@@ -154,9 +162,6 @@ fn one_input(generator: &mut Generator, bytes: &[u8], read: &Result<Loaded, Refu
     one_load(generator, bytes, read, table)
 }
 
-/// What a buffer holds before a call.
-const PATTERN: u32 = 0xa5a5_a5a5;
-
 /// One call of load with some length of work buffer, by the model and by the library; numbers beyond the part that is
 /// lent stay as they are.
 fn one_load(generator: &mut Generator, bytes: &[u8], read: &Result<Loaded, Refusal>, table: &mut Table) -> Run {
@@ -167,102 +172,18 @@ fn one_load(generator: &mut Generator, bytes: &[u8], read: &Result<Loaded, Refus
         2 => needed + generator.rng.below(5),
         _ => needed,
     };
-    let mut work = vec![PATTERN; needed + 8];
-    let answer = calls::load_as_read(read, &mut work[..lent]);
+    let mut work = Lent::numbers(lent);
+    let answer = calls::load_as_read(read, work.part());
     // rows: accepted, 1 to 9, 21
     table.hit(answer.map_or_else(|refusal| refusal.number.min(10) as usize, |_| 0));
-    let mut other = vec![PATTERN; needed + 8];
-    if let Some(theirs) = library::load(bytes, &mut other[..lent])
+    let mut other = Lent::numbers(lent);
+    if let Some(theirs) = library::load(bytes, other.part())
         && (theirs != library::as_numbers(answer) || other != work)
     {
-        let changed = work.iter().zip(&other).position(|(a, b)| a != b);
-        return Err(format!(
-            "work of {lent}: {answer:?}, the library {theirs:?}; work differs at {changed:?}\n{}",
-            keep(bytes)
-        ));
+        let work = work.unlike(&other);
+        return Err(format!("work of {lent}: {answer:?}, the library {theirs:?}; work {work}\n{}", keep(bytes)));
     }
     Ok(())
-}
-
-/// The check and place text calls of the model, with buffers of many lengths: what 21 to 24 leave unchanged.
-pub fn check(seed: u64, count: usize) -> Run {
-    println!("check: the library exports no check yet, so only the model of the calls is tried");
-    let mut generator = Generator::new(seed);
-    let answers = ["findings", "text", "21", "22", "23", "24"];
-    let mut table = Table::new("answers of check and place text", answers.map(String::from));
-    let mut rule_table = RuleTable::new();
-    for case in 0..count {
-        let pack = generator.pack(true);
-        let findings = rules::check(&pack);
-        for finding in &findings {
-            rule_table.hit(finding.rule, finding.cause);
-        }
-        let encoded = encode(&pack);
-        one_check(&mut generator, &encoded, &findings, &mut table)
-            .and_then(|()| one_place_text(&mut generator, &pack, &encoded, &findings, &mut table))
-            .map_err(|failure| format!("case {case}: {failure}\n{}", keep(&encoded.bytes)))?;
-    }
-    println!("check: {count} packs, seed {seed}: no difference");
-    finish(&[&rule_table.table, &table])
-}
-
-/// The length that is needed, or now and then one less.
-fn maybe_short(generator: &mut Generator, needed: usize) -> usize {
-    needed - usize::from(needed > 0 && generator.rng.chance(1, 8))
-}
-
-fn one_check(generator: &mut Generator, pack: &Encoded, findings: &[Finding], table: &mut Table) -> Run {
-    let mut work = vec![PATTERN; maybe_short(generator, pack.records.len())];
-    let mut buffer = vec![PATTERN; maybe_short(generator, 8 * findings.len())];
-    match calls::check(&pack.bytes, &mut work, &mut buffer) {
-        Ok(found) => {
-            table.reached("findings");
-            let numbers: Vec<u32> = findings.iter().flat_map(|finding| finding.numbers()).collect();
-            if found != findings.len() || buffer != numbers {
-                return Err("other findings".into());
-            }
-        }
-        Err(refusal) => {
-            table.reached(&refusal.number.to_string());
-            let work_kept = work.iter().all(|number| *number == PATTERN);
-            if buffer.iter().any(|number| *number != PATTERN) || (refusal.number == 21) != work_kept {
-                return Err(format!("a buffer changed with {refusal:?}"));
-            }
-        }
-    }
-    Ok(())
-}
-
-/// The place text of a finding, of the item after it, or of anything.
-fn one_place_text(
-    generator: &mut Generator,
-    pack: &Pack,
-    encoded: &Encoded,
-    findings: &[Finding],
-    table: &mut Table,
-) -> Run {
-    let (place, tree, item) = match findings.len() {
-        0 => (generator.rng.below(5) as u32, generator.rng.below(4) as u32, generator.rng.below(4) as u32),
-        some => {
-            let finding = findings[generator.rng.below(some)];
-            (finding.place, finding.tree, finding.item.wrapping_add(generator.rng.chance(1, 8).into()))
-        }
-    };
-    let expected = place_text(pack, place, tree, item);
-    let mut work = vec![PATTERN; encoded.records.len()];
-    let mut text = vec![b'#'; maybe_short(generator, expected.as_ref().map_or(0, Vec::len))];
-    let answer = calls::place_text(&encoded.bytes, &mut work, place, tree, item, &mut text);
-    let good = match answer {
-        Ok(_) => {
-            table.reached("text");
-            Some(text) == expected
-        }
-        Err(refusal) => {
-            table.reached(&refusal.number.to_string());
-            text.iter().all(|byte| *byte == b'#')
-        }
-    };
-    if good { Ok(()) } else { Err(format!("place text {answer:?}")) }
 }
 
 /// The walk: on a held PGN of a pack without error no readings bring a stop.
@@ -322,12 +243,13 @@ fn walk_refusals(generator: &mut Generator, pack: &Pack, table: &mut Table) -> R
     let encoded = encode(pack);
     let (tree, item) = (generator.rng.below(4) as u32, generator.rng.below(3) as u32);
     let readings = generator.readings(6);
-    let mut work = vec![PATTERN; encoded.records.len() - usize::from(generator.rng.chance(1, 8))];
-    let mut visits = vec![PATTERN; readings.len().saturating_sub(generator.rng.below(2))];
-    let answer = calls::walk_pgn(&encoded.bytes, &mut work, tree, item, &readings, &mut visits);
+    let mut work = Lent::numbers(encoded.records.len() - usize::from(generator.rng.chance(1, 8)));
+    let visits_lent = readings.len().saturating_sub(generator.rng.below(2));
+    let mut visits = Lent::numbers(visits_lent);
+    let answer = calls::walk_pgn(&encoded.bytes, work.part(), tree, item, &readings, visits.part());
     if let Err(refusal) = answer {
         table.reached(&refusal.number.to_string());
-        if visits.iter().any(|number| *number != PATTERN) {
+        if visits != Lent::numbers(visits_lent) {
             return Err(format!("a visit was written with {refusal:?}"));
         }
     }

@@ -4,9 +4,11 @@
 mod change;
 mod fields;
 mod pools;
+mod sample;
 
 use self::pools::*;
-use crate::encode::encode;
+pub use self::sample::sample_of_size;
+use crate::encode::{encode, number};
 use crate::reader::LIMIT;
 use crate::rng::Rng;
 use crate::rules::match_set;
@@ -97,6 +99,8 @@ impl Generator {
             }
             pack.trees[tree] = pgns;
         }
+        // a slip may have lengthened an earlier PGN
+        while encode(&pack).bytes.len() > size && pack.trees.iter_mut().rev().any(|pgns| pgns.pop().is_some()) {}
         pad(&mut pack, size);
         pack
     }
@@ -372,6 +376,14 @@ pub fn pad(pack: &mut Pack, size: usize) {
             return;
         }
         let name = &mut pack.fieldtypes[0].name;
+        if length + 1 == size
+            && number(name.len() as u128 + 1).len() > number(name.len() as u128).len()
+            && let Some(pgn) = pack.trees.iter_mut().flatten().next()
+        {
+            // one byte more would be two, so it goes elsewhere
+            pgn.id.push(b'x');
+            continue;
+        }
         // the length's own bytes may grow too: come near, then byte by byte
         let more = (size - length).saturating_sub(3).max(1);
         name.extend(std::iter::repeat_n(b'x', more));
@@ -383,4 +395,12 @@ pub fn packs_of_sizes(seed: u64) -> impl Iterator<Item = Pack> {
     let mut generator = Generator::new(seed);
     let sizes = [1 << 10, 1 << 13, 1 << 16, 1 << 18, LIMIT - 1, LIMIT, LIMIT + 1];
     sizes.into_iter().map(move |size| generator.pack_of_size(size, 20))
+}
+
+/// PGNs with numbers at each edge of their digits, in each tree.
+pub fn pack_of_digits() -> Pack {
+    let edges = (1..=9).flat_map(|digits| [10u32.pow(digits) - 1, 10u32.pow(digits)]);
+    let numbers = [0, 1].into_iter().chain(edges).chain([u32::MAX - 1, u32::MAX]);
+    let pgns: Vec<Pgn> = numbers.map(|pgn| Pgn { pgn, id: text("a"), ..Pgn::default() }).collect();
+    Pack { trees: [pgns.clone(), pgns.clone(), pgns], ..Pack::default() }
 }

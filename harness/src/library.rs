@@ -1,22 +1,97 @@
-//! The Rattle library's exported calls, wrapped: linked where SARWYMP_LIB named its folder at build time.
+//! The Rattle library's exported calls, wrapped: linked where SARWYMP_LIB named its folder at build time. Each wrapper
+//! answers the refusal number, 0 where there is none, and the numbers of the answer as the call left them; none where the
+//! library was not linked. Each number must be written: they hold something else before the call.
 
 use crate::reader::Refusal;
 
 /// Whether the library was linked.
 pub const PRESENT: bool = cfg!(sarwymp);
 
+/// What a number of an answer holds before the call.
+#[cfg(sarwymp)]
+const UNWRITTEN: u64 = u64::MAX;
+
 #[cfg(sarwymp)]
 unsafe extern "C" {
     fn sarwymp_load(pack: *const u8, pack_len: usize, work: *mut u32, work_len: usize, answer: *mut [u64; 11]) -> u32;
+
+    fn sarwymp_check(
+        pack: *const u8,
+        pack_len: usize,
+        work: *mut u32,
+        work_len: usize,
+        findings: *mut u32,
+        findings_len: usize,
+        answer: *mut [u64; 2],
+    ) -> u32;
+
+    fn sarwymp_place_text(
+        pack: *const u8,
+        pack_len: usize,
+        work: *mut u32,
+        work_len: usize,
+        place: u32,
+        tree: u32,
+        item: u32,
+        text: *mut u8,
+        text_len: usize,
+        answer: *mut [u64; 1],
+    ) -> u32;
 }
 
-/// The refusal number, 0 where there is none, and the eleven numbers of the answer as the call left them; none where the
-/// library was not linked. Each number must be written: they hold something else before the call.
 #[cfg(sarwymp)]
 pub fn load(pack: &[u8], work: &mut [u32]) -> Option<(u32, [u64; 11])> {
-    let mut answer = [u64::MAX; 11];
+    let mut answer = [UNWRITTEN; 11];
     // SAFETY: the pointers and lengths are those of live slices, and the answer is writable for the call.
     let number = unsafe { sarwymp_load(pack.as_ptr(), pack.len(), work.as_mut_ptr(), work.len(), &mut answer) };
+    Some((number, answer))
+}
+
+/// The answer is the number of findings and of errors, or the detail and 0.
+#[cfg(sarwymp)]
+pub fn check(pack: &[u8], work: &mut [u32], findings: &mut [u32]) -> Option<(u32, [u64; 2])> {
+    let mut answer = [UNWRITTEN; 2];
+    // SAFETY: as for load; the two lent buffers are apart.
+    let number = unsafe {
+        sarwymp_check(
+            pack.as_ptr(),
+            pack.len(),
+            work.as_mut_ptr(),
+            work.len(),
+            findings.as_mut_ptr(),
+            findings.len(),
+            &mut answer,
+        )
+    };
+    Some((number, answer))
+}
+
+/// The answer is the length of the text, or the detail.
+#[cfg(sarwymp)]
+pub fn place_text(
+    pack: &[u8],
+    work: &mut [u32],
+    place: u32,
+    tree: u32,
+    item: u32,
+    text: &mut [u8],
+) -> Option<(u32, [u64; 1])> {
+    let mut answer = [UNWRITTEN; 1];
+    // SAFETY: as for load; the two lent buffers are apart.
+    let number = unsafe {
+        sarwymp_place_text(
+            pack.as_ptr(),
+            pack.len(),
+            work.as_mut_ptr(),
+            work.len(),
+            place,
+            tree,
+            item,
+            text.as_mut_ptr(),
+            text.len(),
+            &mut answer,
+        )
+    };
     Some((number, answer))
 }
 
@@ -25,12 +100,22 @@ pub fn load(_: &[u8], _: &mut [u32]) -> Option<(u32, [u64; 11])> {
     None
 }
 
-/// An answer of `calls::load` as the library gives it: a refusal's detail comes first, the rest is 0.
-pub fn as_numbers(answer: Result<[u64; 11], Refusal>) -> (u32, [u64; 11]) {
+#[cfg(not(sarwymp))]
+pub fn check(_: &[u8], _: &mut [u32], _: &mut [u32]) -> Option<(u32, [u64; 2])> {
+    None
+}
+
+#[cfg(not(sarwymp))]
+pub fn place_text(_: &[u8], _: &mut [u32], _: u32, _: u32, _: u32, _: &mut [u8]) -> Option<(u32, [u64; 1])> {
+    None
+}
+
+/// An answer of `calls` as the library gives it: a refusal's detail comes first, the rest is 0.
+pub fn as_numbers<const N: usize>(answer: Result<[u64; N], Refusal>) -> (u32, [u64; N]) {
     match answer {
         Ok(numbers) => (0, numbers),
         Err(refusal) => {
-            let mut numbers = [0; 11];
+            let mut numbers = [0; N];
             numbers[0] = refusal.detail;
             (refusal.number, numbers)
         }

@@ -6,6 +6,35 @@ use crate::words::Words;
 /// Whether the oracle's files were there when the harness was built.
 pub const PRESENT: bool = cfg!(keel);
 
+/// What the oracle checks: a pack turned into its `Database`.
+#[cfg(keel)]
+pub struct Database(crate::model::Database);
+
+#[cfg(not(keel))]
+pub enum Database {}
+
+/// None where a text is not UTF-8 or the oracle is not there.
+#[cfg(keel)]
+pub fn database(pack: &Pack) -> Option<Database> {
+    database::database(pack).map(Database)
+}
+
+#[cfg(not(keel))]
+pub fn database(_: &Pack) -> Option<Database> {
+    None
+}
+
+/// The oracle's check alone: how many violations it gives.
+#[cfg(keel)]
+pub fn check(database: &Database) -> usize {
+    crate::check::check(&database.0).len()
+}
+
+#[cfg(not(keel))]
+pub fn check(database: &Database) -> usize {
+    match *database {}
+}
+
 /// The oracle's violations in words, R08 causes 6 and 7 put in the order of lookup names; none where a text is not UTF-8
 /// or the oracle is not there.
 #[cfg(not(keel))]

@@ -4,12 +4,12 @@
 use crate::calls;
 use crate::damage::damage;
 use crate::encode::encode;
-use crate::finding::{CAUSES, Finding};
-use crate::generate::Generator;
+use crate::finding::{CAUSES, FIELDTYPES, Finding, GROUP, LOOKUP, PGN};
+use crate::generate::{Generator, pack_of_digits};
 use crate::reader::{LIMIT, Refusal, read};
 use crate::report::worked_example;
 use crate::walk::{End, held};
-use crate::{rules, text};
+use crate::{text, words};
 use std::collections::HashMap;
 use std::fs;
 use std::io::Write;
@@ -21,11 +21,12 @@ const LONGEST: usize = 1400;
 const README: &str = "\
 Recorded cases, made by `harness record` (seed 2000) from the harness's own reader, rules and walk, which its
 differential runs compare with the Rust checker. A case is kept where it reaches something that few before it reached:
-a refusal, a rule's cause, an end of the walk. Refusal 24 is not among them.
+a refusal, a rule's cause, a place, an end of the walk.
 
 Each folder has `stdin`, the number of cases and then the cases, and `stdout`, the lines that a program must write for
 them. In `stdin` a number has 4 bytes, lowest first, a reading 8; a pack is its length and its bytes, but one of more
-than 65536 bytes is zeros, and only its length stands there. A work buffer of load holds 165 everywhere before the call.
+than 65536 bytes is zeros, and only its length stands there. Before the call a work buffer of load holds 165 everywhere,
+a text buffer of place holds 46, a full stop. In check and place no work or findings buffer has more than 2048 numbers.
 
 load    a case: length of the work buffer, pack
         lines:  refused NUMBER DETAIL
@@ -34,6 +35,11 @@ load    a case: length of the work buffer, pack
 check   a case: pack, length of the work buffer, length of the findings buffer
         lines:  refused NUMBER DETAIL
            or   a line for each finding, its eight numbers and its place text, then: findings N errors N
+        Packs, some of them damaged: every rule and cause, every place, refusals 1 to 9, 21 and 22.
+place   a case: pack, length of the work buffer, place, tree, item, length of the text buffer
+        lines:  refused NUMBER DETAIL (only where it is refused)
+                text BYTES (the whole buffer after the call, refused or not)
+        Texts of every place and tree, refusals 1 to 8, 21, 23 and 24. All bytes of a text are printable ASCII.
 walk    a case: pack, length of the work buffer, tree, index of the PGN, length of the visit buffer, number of readings,
                 the readings
         lines:  refused NUMBER DETAIL
@@ -52,7 +58,8 @@ pub fn record(folder: &Path) -> Result<(), String> {
     write("README.txt", README.as_bytes())?;
     for (name, recording, all) in [
         ("load", load(), numbers((1..=9).chain([21]))),
-        ("check", check(), numbers([22]).into_iter().chain(causes()).collect()),
+        ("check", check(), numbers((1..=9).chain([21, 22])).into_iter().chain(causes()).chain(places()).collect()),
+        ("place", place(), numbers((1..=8).chain([21, 23, 24])).into_iter().chain(places()).collect()),
         ("walk", walks(), numbers([23, 25]).into_iter().chain(ends()).collect()),
     ] {
         if let Some(missing) = all.iter().find(|key| !recording.reached.contains_key(*key)) {
@@ -73,6 +80,17 @@ fn numbers(numbers: impl IntoIterator<Item = u32>) -> Vec<String> {
 
 fn causes() -> impl Iterator<Item = String> {
     CAUSES.into_iter().flat_map(|(rule, causes)| (1..=causes).map(move |cause| format!("R{rule}.{cause}")))
+}
+
+/// Every place and tree that a text can have.
+fn places() -> impl Iterator<Item = String> {
+    let places = (0..4).flat_map(|place| (0..3).map(move |tree| (place, tree)));
+    let places = places.filter(|(place, tree)| *tree == 0 || matches!(*place, PGN | GROUP));
+    places.map(|(place, tree)| place_key(place, tree))
+}
+
+fn place_key(place: u32, tree: u32) -> String {
+    format!("place {place} tree {tree}")
 }
 
 fn ends() -> impl Iterator<Item = String> {
@@ -172,62 +190,142 @@ fn load() -> Recording {
     out
 }
 
+/// A case of check is kept where it reaches something that this many before it did not reach.
+const CHECKS: usize = 8;
+/// No buffer of check or place has more numbers.
+const MOST: usize = 2048;
+
 fn check() -> Recording {
     let mut out = Recording::default();
     let mut generator = Generator::new(SEED);
-    let one = |out: &mut Recording, bytes: &[u8], less: usize| {
-        let loaded = read(bytes).expect("a good pack");
-        let list = rules::check(&loaded.pack);
-        let (work_lent, lent) = (loaded.records.len(), (8 * list.len()).saturating_sub(less));
-        let mut findings = vec![0; lent];
-        let answer = calls::check(bytes, &mut vec![0; work_lent], &mut findings);
-        let mut reaches: Vec<String> = match answer {
-            Ok(_) => list.iter().map(|finding| format!("R{}.{}", finding.rule, finding.cause)).collect(),
-            Err(refusal) => vec![refusal.number.to_string()],
-        };
-        if !list.iter().any(Finding::is_error) {
-            reaches.push("clean".into());
-        }
-        if !out.wants(2, &reaches) {
-            return;
-        }
-        out.pack(bytes);
-        out.number(work_lent);
-        out.number(lent);
-        if let Err(refusal) = answer {
-            return out.refused(refusal);
-        }
-        for finding in &list {
-            let mut line = spaced(finding.numbers()).trim_start().as_bytes().to_vec();
-            let mut place = vec![0; bytes.len() + 64];
-            let length = calls::place_text(
-                bytes,
-                &mut vec![0; work_lent],
-                finding.place,
-                finding.tree,
-                finding.item,
-                &mut place,
-            );
-            line.push(b' ');
-            line.extend(&place[..length.expect("a finding's place is in the pack")]);
-            out.line(&line);
-        }
-        let errors = list.iter().filter(|finding| finding.is_error()).count();
-        out.line(format!("findings {} errors {errors}", list.len()).as_bytes());
-    };
-    for bytes in first_packs() {
-        one(&mut out, &bytes, 0);
+    let first = first_packs();
+    for bytes in &first {
+        one_check(&mut out, bytes, [0, 0]);
     }
+    one_check(&mut out, &vec![0; LIMIT + 1], [0, 0]);
     // R11 wants more fields than a short pack has
-    for (longest, count) in [(LONGEST, 60_000), (4 * LONGEST, 4_000)] {
+    for (longest, count) in [(LONGEST - 200, 30_000), (4 * LONGEST, 4_000)] {
         for case in 0..count {
-            let bytes = encode(&generator.pack(false)).bytes;
-            if bytes.len() < longest {
-                one(&mut out, &bytes, usize::from(case % 32 == 0));
+            let encoded = encode(&generator.pack(false));
+            if encoded.bytes.len() < longest {
+                one_check(&mut out, &encoded.bytes, [usize::from(case % 31 == 0), usize::from(case % 32 == 0)]);
+                if case % 8 == 0 {
+                    one_check(&mut out, &damage(&mut generator.rng, &encoded).bytes, [0, 0]);
+                }
             }
         }
     }
     out
+}
+
+/// A call of check whose work and findings buffers are `less` shorter than they should be.
+fn one_check(out: &mut Recording, bytes: &[u8], less: [usize; 2]) {
+    let read = read(bytes);
+    let list = calls::found(&read);
+    let work_lent = read.as_ref().map_or(3, |loaded| loaded.records.len()).saturating_sub(less[0]);
+    let lent = (8 * list.len()).saturating_sub(less[1]);
+    let mut findings = vec![0; lent];
+    let answer = calls::check_as_read(&read, &list, &mut vec![0; work_lent], &mut findings);
+    let reaches: Vec<String> = match answer {
+        Ok([_, errors]) => {
+            let found = list.iter().map(|finding| format!("R{}.{}", finding.rule, finding.cause));
+            let places = list.iter().map(|finding| place_key(finding.place, finding.tree));
+            let clean = (errors == 0).then(|| "clean".to_string());
+            found.chain(places).chain(clean).collect()
+        }
+        Err(refusal) => vec![refusal.number.to_string()],
+    };
+    if work_lent.max(lent) > MOST || !out.wants(CHECKS, &reaches) {
+        return;
+    }
+    out.pack(bytes);
+    out.number(work_lent);
+    out.number(lent);
+    let [count, errors] = match answer {
+        Ok(answer) => answer,
+        Err(refusal) => return out.refused(refusal),
+    };
+    for finding in &list {
+        let mut line = spaced(finding.numbers()).trim_start().as_bytes().to_vec();
+        let Finding { place, tree, item, .. } = *finding;
+        let mut text = vec![0; bytes.len() + 64];
+        let length = calls::place_text_as_read(&read, &mut vec![0; work_lent], place, tree, item, &mut text);
+        let [length] = length.expect("a finding's place is in the pack");
+        line.push(b' ');
+        line.extend(&text[..length as usize]);
+        out.line(&line);
+    }
+    out.line(format!("findings {count} errors {errors}").as_bytes());
+}
+
+fn place() -> Recording {
+    let mut out = Recording::default();
+    let mut generator = Generator::new(SEED);
+    let [example, sample] = first_packs();
+    for (place, item) in [(0, 0), (1, 0), (2, 0), (3, 127488)] {
+        one_place(&mut out, &example, [place, 0, item], [0, 0], 1);
+    }
+    one_place(&mut out, &sample, [LOOKUP, 0, 3], [0, 0], 1);
+    // each number of digits, which no other case shows
+    let digits = pack_of_digits();
+    let bytes = encode(&digits).bytes;
+    for (item, pgn) in digits.trees[0].iter().enumerate() {
+        let tree = item as u32 % 3;
+        one_place(&mut out, &bytes, [PGN, tree, item as u32], [0, 0], usize::MAX);
+        one_place(&mut out, &bytes, [GROUP, tree, pgn.pgn], [0, 2], usize::MAX);
+    }
+    for case in 0..4_000 {
+        let encoded = encode(&generator.pack(false));
+        if encoded.bytes.len() > LONGEST / 2 {
+            continue;
+        }
+        let rng = &mut generator.rng;
+        let place = rng.below(5) as u32;
+        let tree = if matches!(place, FIELDTYPES | LOOKUP) && rng.chance(7, 8) { 0 } else { rng.below(4) as u32 };
+        let loaded = read(&encoded.bytes).expect("a good pack");
+        let numbers: Vec<u32> = loaded.pack.trees.iter().flatten().map(|pgn| pgn.pgn).collect();
+        let item = match place {
+            GROUP if !numbers.is_empty() => *rng.pick(&numbers),
+            _ => rng.below(4) as u32,
+        };
+        let less = [usize::from(rng.chance(1, 8)), rng.below(4)];
+        one_place(&mut out, &encoded.bytes, [place, tree, item], less, 5);
+        if case % 4 == 0 {
+            one_place(&mut out, &damage(rng, &encoded).bytes, [place, tree, item], [0, 0], 2);
+        }
+    }
+    out
+}
+
+/// A call of place text whose work buffer is `less[0]` shorter than it should be; the text buffer has the length needed,
+/// or with `less[1]` 1, 2 or 3 it is 1 shorter, 3 longer, or empty. The case is kept where fewer than `times` are like it.
+fn one_place(out: &mut Recording, bytes: &[u8], at: [u32; 3], less: [usize; 2], times: usize) {
+    let [place, tree, item] = at;
+    let read = read(bytes);
+    let loaded = read.as_ref().ok();
+    let expected = loaded.and_then(|loaded| words::place_text(&loaded.pack, place, tree, item));
+    let needed = expected.as_ref().map_or(8, Vec::len);
+    let work_lent = loaded.map_or(3, |loaded| loaded.records.len()).saturating_sub(less[0]);
+    let lent = [needed, needed - 1, needed + 3, 0][less[1]];
+    let mut text = vec![b'.'; lent];
+    let answer = calls::place_text_as_read(&read, &mut vec![0; work_lent], place, tree, item, &mut text);
+    let reached = match answer {
+        Ok(_) => place_key(place, tree),
+        Err(refusal) => refusal.number.to_string(),
+    };
+    let more = format!("{reached}, {} {}", less[0], less[1]);
+    let printable = expected.is_none_or(|text| text.iter().all(|byte| matches!(byte, b' '..=b'~')));
+    if !printable || work_lent > MOST || !out.wants(times, &[reached, more]) {
+        return;
+    }
+    out.pack(bytes);
+    for number in [work_lent, place as usize, tree as usize, item as usize, lent] {
+        out.number(number);
+    }
+    if let Err(refusal) = answer {
+        out.refused(refusal);
+    }
+    out.line(&[b"text ", &text[..]].concat());
 }
 
 fn walks() -> Recording {

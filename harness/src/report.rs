@@ -23,16 +23,14 @@ pub fn report(pack: &[u8]) -> Vec<u8> {
 fn print(pack: &[u8], out: &mut Vec<u8>) -> Result<(), Refusal> {
     let mut work = [0; NUMBERS];
     let mut buffer = [0; NUMBERS];
-    let count = calls::check(pack, &mut work, &mut buffer)?;
-    let findings = buffer.as_chunks().0[..count].iter().map(|numbers| Finding::from_numbers(*numbers));
-    let mut errors = 0;
+    let [count, errors] = calls::check(pack, &mut work, &mut buffer)?;
+    let findings = buffer.as_chunks().0[..count as usize].iter().map(|numbers| Finding::from_numbers(*numbers));
     let mut text = vec![0; TEXT];
     for finding in findings {
-        let length = calls::place_text(pack, &mut work, finding.place, finding.tree, finding.item, &mut text)?;
-        errors += finding.severity;
+        let [length] = calls::place_text(pack, &mut work, finding.place, finding.tree, finding.item, &mut text)?;
         let severity = if finding.is_error() { "error" } else { "warning" };
         out.extend(format!("R{:02} {severity} ", finding.rule).bytes());
-        out.extend(&text[..length]);
+        out.extend(&text[..length as usize]);
         out.extend(format!(" {} {} {}\n", finding.cause, finding.part, finding.other).bytes());
     }
     out.extend(format!("findings {count} errors {errors}\n").bytes());

@@ -40,10 +40,15 @@ pub fn place_text(pack: &Pack, place: u32, tree: u32, item: u32) -> Option<Text>
 
 pub fn words(pack: &Pack, finding: &Finding) -> Words {
     let place = place_text(pack, finding.place, finding.tree, finding.item);
+    words_at(pack, finding, place.as_deref().unwrap_or(b"not in the pack"))
+}
+
+/// As `words`, with a place text from elsewhere. A finding whose numbers say nothing of the pack makes it panic.
+pub fn words_at(pack: &Pack, finding: &Finding, place: &[u8]) -> Words {
     Words {
         rule: format!("R{:02}", finding.rule),
         error: finding.is_error(),
-        location: place.map_or("not in the pack".into(), |text| s(&text).into_owned()),
+        location: s(place).into_owned(),
         message: message(pack, finding),
     }
 }

@@ -166,11 +166,11 @@ fn state_refusals_and_buffers() {
     assert_eq!(calls::check(&bytes, &mut work, &mut findings), refused(22, 16));
     assert_eq!((work, findings), ([2, 28, 44, 7, 7], [7; 15]));
     let mut findings = [7; 17];
-    assert_eq!(calls::check(&bytes, &mut work, &mut findings), Ok(2));
+    assert_eq!(calls::check(&bytes, &mut work, &mut findings), Ok([2, 2]));
     assert_eq!(findings, [5, 1, 2, 1, 0, 0, 1, 0, 12, 1, 1, 1, 0, 0, 0, 0, 7]);
     let place = |place, tree, item, length: usize| {
         let mut text = vec![b'#'; length];
-        calls::place_text(&bytes, &mut [0; 3], place, tree, item, &mut text).map(|n| text[..n].to_vec())
+        calls::place_text(&bytes, &mut [0; 3], place, tree, item, &mut text).map(|[n]| text[..n as usize].to_vec())
     };
     assert_eq!(place(1, 0, 0, 18), Ok(b"pgns/127488-a.yaml".to_vec()));
     assert_eq!(place(1, 0, 0, 17), refused(24, 18));

@@ -1,5 +1,8 @@
 //! The sample pack: its two forms agree, and a check finds in it what its comments say.
 
+use harness::encode::encode;
+use harness::finding::Finding;
+use harness::generate::sample_of_size;
 use harness::reader::read;
 use harness::rules::check;
 use harness::text::to_bytes;
@@ -48,4 +51,19 @@ fn position_repeats_once_for_each_reference_station() {
     readings.resize(30, 0);
     let walked = walk(&pack, position, &readings);
     assert_eq!((walked.end, walked.visits.len()), (End::Whole, 15 + 2 * 3));
+}
+
+#[test]
+fn repeated_it_is_without_error() {
+    for size in [1 << 10, 1 << 12, 1 << 16, 1 << 18] {
+        let pack = sample_of_size(size);
+        let bytes = encode(&pack).bytes;
+        assert!(bytes.len() <= size && bytes.len() > size / 4 * 3, "{size}: {}", bytes.len());
+        assert!(read(&bytes).is_ok_and(|loaded| loaded.pack == pack));
+        let found = check(&pack);
+        assert_eq!(found.iter().find(|finding| Finding::is_error(finding)), None);
+        if oracle::PRESENT {
+            assert_eq!(oracle::violations(&pack), Some(found.iter().map(|f| words::words(&pack, f)).collect()));
+        }
+    }
 }
