@@ -13,7 +13,7 @@ use Rattle.walk.specs.Passes.{Place, first, Stand, again, arrived, ready
 use Rattle.walk.specs.Visits.{Visits, latest, is-current}
 use Rattle.walk.specs.Walk.{Arrival, refused, over, enter, arrive, Settled, past, halted, due, visit-then, settle, settled, onward, walk-on, walk-with, by-visits, Stops}
 use Rattle.walk.specs.ByPlace.{placed, by-place}
-use Rattle.walk.proofs.Sets.{Good, good}
+use Rattle.walk.proofs.SetFacts.{Good, good}
 use Rattle.walk.proofs.Position.{standing, visiting, Comes, at-first, another, no-start, entered, passed-over, after-visit, at-field, on-arriving}
 
 -- what the walk by place keeps: the latest readings of the countFields

@@ -27,7 +27,7 @@ use Rattle.walk.specs.Stops.{is-missing, name-of, lookup-missing, unfit,
 use Rattle.walk.specs.ByPlace.{placed}
 use Rattle.walk.proofs.Tests.{and-l, and-r, and-i, or-l, or-r, or-i, none-below}
 use Rattle.walk.proofs.Clean.{clean-then, clean-else}
-use Rattle.walk.proofs.Sets.{Holds, short, placed-i, Good}
+use Rattle.walk.proofs.SetFacts.{Holds, short, placed-i, Good}
 
 -- a first index stays the first where more are looked at
 first-more : (f : ℕ → Bool) (k n j : ℕ) → firstBelow f k ≡ some j → k ≤ n → firstBelow f n ≡ some j

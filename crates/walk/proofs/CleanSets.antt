@@ -16,7 +16,7 @@ use Rattle.walk.specs.Layout.{Layout, set-or-empty, layout, start, insid
 use Rattle.walk.proofs.Tests.{and-l, and-r, and-i, or-l, or-r}
 use Rattle.walk.proofs.Clean.{clean-then, clean-else}
 use Rattle.walk.proofs.HeldSets.{Fits}
-use Rattle.walk.proofs.Sets.{Holds, short}
+use Rattle.walk.proofs.SetFacts.{Holds, short}
 
 -- of a nonempty set
 abbrev Inside : Option Repeating → Repeating → Type 0

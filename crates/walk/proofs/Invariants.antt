@@ -14,7 +14,7 @@ use Rattle.walk.specs.Passes.{Rest, endless, more, present, Place, first
 use Rattle.walk.specs.Visits.{Visit, Visits, visited}
 use Rattle.walk.specs.Walk.{by-visits}
 use Rattle.walk.proofs.Tests.{and-l, and-r, put-same, put-other, tri}
-use Rattle.walk.proofs.Sets.{Holds, short, Good}
+use Rattle.walk.proofs.SetFacts.{Holds, short, Good}
 
 -- set k has a present pass
 abbrev pub Present : Place → ℕ → Type 0

@@ -1,6 +1,10 @@
 -- tests as facts; what stop 1 shuts out
 pub mod Tests
-pub mod Sets
+pub mod SetFacts
+-- the two sets as values
+pub mod TwoSets
+-- the stops in parts
+pub mod Parts
 -- the law of position; the walk by place; the rounds
 pub mod Invariants
 pub mod Position

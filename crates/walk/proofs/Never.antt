@@ -12,7 +12,7 @@ use Rattle.walk.specs.Passes.{passes, Place}
 use Rattle.walk.specs.Visits.{Visits}
 use Rattle.walk.specs.Walk.{Memory, counted, refused, arrive, Settled, past, halted, due, End, whole, used-up, stop, Answer, onward, walk-on, walk-with, by-visits, Stops}
 use Rattle.walk.specs.ByPlace.{placed, by-place}
-use Rattle.walk.proofs.Sets.{Holds, Good, good}
+use Rattle.walk.proofs.SetFacts.{Holds, Good, good}
 use Rattle.walk.proofs.Position.{due-order, arriving-at}
 use Rattle.walk.proofs.Agree.{Same, both-past, both-halted, both-due, next-same, first-same, agree}
 

@@ -27,7 +27,7 @@ use Rattle.walk.specs.ByPlace.{placed}
 use Rattle.walk.specs.Held.{shares-held, count-fields-held, bit-length-held, dynamic-value-held, held}
 use Rattle.walk.specs.Guarantee.{Unstopped, ends-whole, ends-used-up, Guarantee, Quiet}
 use Rattle.walk.proofs.Tests.{and-l, and-r, and-i, and-not, imp-e, every-e, any-e, and-4}
-use Rattle.walk.proofs.Sets.{Holds, good}
+use Rattle.walk.proofs.SetFacts.{Holds, good}
 use Rattle.walk.proofs.HeldSets.{Fits, nonempty-count-fields-held, counts-weaker, past-stop-1, counts-placed}
 use Rattle.walk.proofs.Never.{Counted, walk-counted, Runs, Sound, never}
 use Rattle.walk.proofs.CleanSets.{sets-fit}

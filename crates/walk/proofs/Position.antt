@@ -14,7 +14,7 @@ use Rattle.walk.specs.Visits.{Visits, visited, is-current}
 use Rattle.walk.specs.Walk.{by-visits, Arrival, refused, over, enter, arrive, Settled, past, halted, due, settle, settled, onward}
 use Rattle.walk.specs.ByPlace.{placed}
 use Rattle.walk.proofs.Tests.{and-l, and-r, and-i, bool-eq}
-use Rattle.walk.proofs.Sets.{Holds, holds-e, holds-i, each-e, each-i, Good, good}
+use Rattle.walk.proofs.SetFacts.{Holds, holds-e, holds-i, each-e, each-i, Good, good}
 use Rattle.walk.proofs.Invariants.{Present, Law, Due, Stood, now, still, law-visit, moved-visit, entering, law-over, due-enter, moved-over, stand-ok, moved-first, law-first}
 
 -- A walk stands somewhere before a visit, or a field is due.

@@ -1,11 +1,12 @@
 -- Tests as facts: what it says that a Bool is true or false.
-use Prim.Native.Nat.{ℕ, zero, suc, _<_}
+use Prim.Native.Nat.{ℕ, zero, suc, _+_, _<_}
 use native.Mathlib.Omega.{arith}
+use native.Mathlib.Numerals.{add-one}
 use native.Mathlib.Decide.{ℕ-discrete}
-use mathlib.Core.Path.{_≡_, refl, sym}
+use mathlib.Core.Path.{_≡_, refl, sym, _∙_}
 use mathlib.Core.Bool.{Bool, true, false, not, _&&_, _||_, false≢true}
-use lib.Dec.{ltb}
-use borrow.Author.Tests.{ltb-true, ltb-false, eq-eqb, ne-eqb}
+use lib.Dec.{ltb, leb}
+use borrow.Author.Tests.{ltb-true, ltb-false, le-leb, lt-leb, eq-eqb, ne-eqb}
 use Rattle.rules.specs.Search.{anyBelow}
 use Rattle.walk.specs.Layout.{everyBelow}
 use Rattle.walk.specs.Passes.{put}
@@ -42,6 +43,14 @@ pub or-i : (a b : Bool) → a ≡ false → b ≡ false → (a || b) ≡ false
 or-i true b p q = p
 or-i false b p q = q
 
+pub and-true : (b : Bool) → (b && true) ≡ b
+and-true true = refl
+and-true false = refl
+
+pub and-none : (b : Bool) → (b && false) ≡ false
+and-none true = refl
+and-none false = refl
+
 -- a test that is not both passed and failed
 pub and-false : (a b : Bool) → (a && b) ≡ false → a ≡ true → b ≡ false
 and-false true b e p = e
@@ -60,6 +69,13 @@ bool-eq true b f g = sym (f refl)
 bool-eq false true f g = g refl
 bool-eq false false f g = refl
 
+pub leb-not : (a b : ℕ) → leb a b ≡ not (ltb b a)
+leb-not a b = go (ltb b a) refl
+  where
+    go : (t : Bool) → ltb b a ≡ t → leb a b ≡ not t
+    go true e = lt-leb a b (ltb-true b a e)
+    go false e = le-leb a b (ltb-false b a e)
+
 -- for all, and for some, below a number
 pub every-e : (f : ℕ → Bool) (n : ℕ) → everyBelow f n ≡ true → (k : ℕ) → k < n → f k ≡ true
 every-e f zero e k h = absurd (omega arith)
@@ -72,6 +88,16 @@ every-e f (suc n) e k h = go (ℕ-discrete k n) (every-e f n (and-l _ _ e) k)
 pub every-i : (f : ℕ → Bool) (n : ℕ) → ((k : ℕ) → k < n → f k ≡ true) → everyBelow f n ≡ true
 every-i f zero h = refl
 every-i f (suc n) h = and-i (everyBelow f n) _ (every-i f n (λ k l. h k (omega arith))) (h n (omega arith))
+
+pub every-turn : (f : ℕ → Bool) (k : ℕ) → everyBelow f (k + 1) ≡ (everyBelow f k && f k)
+every-turn f k = rw (add-one k)
+
+pub every-missed : (f : ℕ → Bool) (n k : ℕ) → k < n → f k ≡ false → everyBelow f n ≡ false
+every-missed f n k h e = go (everyBelow f n) refl
+  where
+    go : (b : Bool) → everyBelow f n ≡ b → b ≡ false
+    go true q = absurd (false≢true (sym e ∙ every-e f n q k h))
+    go false q = refl
 
 pub none-below : (f : ℕ → Bool) (n : ℕ) → ((k : ℕ) → k < n → f k ≡ false) → anyBelow f n ≡ false
 none-below f zero h = refl

@@ -7,3 +7,7 @@ pub mod Walk
 pub mod Held
 pub mod Guarantee
 pub mod ByPlace
+-- the sets as values
+pub mod SetsOf
+-- the stops in parts
+pub mod StopParts

@@ -1,0 +1,16 @@
+use native.Mathlib.Omega.{arith}
+use mathlib.Core.Path.{refl}
+use Rattle.walk.proofs.sets.set_of.Statement.{statement}
+use Rattle.walk.proofs.sets.set_of.Tie as tie
+
+add-t6 : tie.Need-add-t6
+add-t6 c = omega (arith, c .before .before .before .before .pre (c .before .before .before .if1 .taken))
+
+returns : tie.Need-returns
+returns c = rw (c .before .before .before .if1 .taken) (record { start = refl; end = refl; counter = refl; nested = refl })
+
+returns-2 : tie.Need-returns-2
+returns-2 c = rw (c .if1 .left) (record { start = refl; end = refl; counter = refl; nested = refl })
+
+pub set-of-spec : {M : Type 1} → statement M
+set-of-spec = tie.close (tie.spec add-t6 returns returns-2)

@@ -1,0 +1,78 @@
+use Rattle.walk.specs.Stops.{names-missing, entries-name-missing}
+use Rattle.rules.specs.SearchLaws.{any-turn, any-hit}
+use Rattle.rules.specs.Search.{anyBelow}
+use Rattle.pack.specs.Meaning.{entryMeaning, packOf}
+use Rattle.pack.specs.declared.records.EntryView.{EntryView}
+use borrow.Author.Needs.{needs}
+use native.Mathlib.Omega.{arith}
+use Prim.Native.Nat.{ℕ, _-_, _≤_}
+use mathlib.Core.Path.{_≡_, refl, sym, _∙_}
+use mathlib.Core.Bool.{Bool, false, _&&_}
+use mathlib.Core.List.{List}
+use lib.ListN.{length, getD}
+use denote.Ref.{now}
+use Rattle.pack.specs.Notation.{_==_}
+use Rattle.pack.specs.Ready.{lookupIn}
+use Rattle.pack.specs.Value.{noEntry}
+use Rattle.walk.proofs.stops.entries_name_missing.Statement.{statement}
+use Rattle.walk.proofs.stops.entries_name_missing.Tie as tie
+
+-- whether entry e of lookup l is for the reading and names something missing
+abbrev hits : List ℕ → ℕ → ℕ → ℕ → Bool
+hits s l reading e = (getD (lookupIn (packOf s) l .entries) e noEntry .value == reading) && names-missing (packOf s) (getD (lookupIn (packOf s) l .entries) e noEntry)
+
+said : (s : List ℕ) (l reading e : ℕ) (v : EntryView) (r : Bool) → entryMeaning s v ≡ getD (lookupIn (packOf s) l .entries) e noEntry → r ≡ ((v .value == reading) && names-missing (packOf s) (entryMeaning s v)) → hits s l reading e ≡ r
+said s l reading e v r y h = sym (h ∙ (λ j. (y j .value == reading) && names-missing (packOf s) (y j)))
+
+abbrev Inv-loop : tie.InvT-loop
+Inv-loop s work index l p entries reading e₀ e = (e ≤ entries) × (anyBelow (hits s l reading) e ≡ false)
+
+abbrev μ-loop : tie.MeasureT-loop
+μ-loop s work index l p entries reading e₀ e = entries - e
+
+loop-holds : tie.Need-loop-holds Inv-loop μ-loop
+loop-holds c = (search needs, refl)
+
+entry-of-requires : tie.Need-entry-of-requires Inv-loop μ-loop
+entry-of-requires c κs = (c .before .before .before .before .pre .0, c .before .before .before .before .pre .1, omega (arith, c .before .before .before .before .pre .2, c .loop-test .taken))
+
+entry-names-missing-requires : tie.Need-entry-names-missing-requires Inv-loop μ-loop
+entry-names-missing-requires c κs = (c .before .before .before .before .before .pre .0 .ready, c .before .before .before .before .before .pre .3)
+
+returns : tie.Need-returns Inv-loop μ-loop
+unfolding entries-name-missing
+returns c =
+    let h = said (now (c .before .before .before .before .before .before .before .args .s)) (c .before .before .before .before .before .before .before .args .l) (c .before .before .before .before .before .before .before .args .reading) (c .before .before .before .before .loop .e) (c .before .before .entry-of .result) (c .before .entry-names-missing .result) (c .before .before .entry-of .ensures) (c .before .entry-names-missing .ensures) in
+    sym (any-hit (hits (now (c .before .before .before .before .before .before .before .args .s)) (c .before .before .before .before .before .before .before .args .l) (c .before .before .before .before .before .before .before .args .reading)) (length (lookupIn (packOf (now (c .before .before .before .before .before .before .before .args .s))) (c .before .before .before .before .before .before .before .args .l) .entries)) (c .before .before .before .before .loop .e) (omega (arith, c .before .before .before .before .before .before .before .pre .2, c .before .before .before .loop-test .taken)) (h ∙ c .if1 .taken))
+
+add-e : tie.Need-add-e Inv-loop μ-loop
+add-e c = search needs
+
+loop-less : tie.Need-loop-less Inv-loop μ-loop
+loop-less c = search needs
+
+loop-again : tie.Need-loop-again Inv-loop μ-loop
+loop-again c =
+    let h = said (now (c .before .before .before .before .before .before .before .args .s)) (c .before .before .before .before .before .before .before .args .l) (c .before .before .before .before .before .before .before .args .reading) (c .before .before .before .before .loop .e) (c .before .before .entry-of .result) (c .before .entry-names-missing .result) (c .before .before .entry-of .ensures) (c .before .entry-names-missing .ensures) in
+    (search needs, any-turn (hits (now (c .before .before .before .before .before .before .before .args .s)) (c .before .before .before .before .before .before .before .args .l) (c .before .before .before .before .before .before .before .args .reading)) (c .before .before .before .before .loop .e) ∙ (rw (c .before .before .before .before .loop .inv .1, h ∙ c .if1 .left)))
+
+returns-2 : tie.Need-returns-2 Inv-loop μ-loop
+unfolding entries-name-missing
+returns-2 c =
+    let q : length (lookupIn (packOf (now (c .before .before .before .before .args .s))) (c .before .before .before .before .args .l) .entries) ≡ c .before .loop .e = omega (arith, c .before .before .before .before .pre .2, c .before .loop .inv .0, c .loop-test .left) in
+    rw (q, c .before .loop .inv .1)
+
+pub entries-name-missing-spec : {M : Type 1} → statement M
+entries-name-missing-spec =
+    tie.close
+    (tie.spec
+    Inv-loop
+    μ-loop
+    loop-holds
+    entry-of-requires
+    entry-names-missing-requires
+    returns
+    add-e
+    loop-less
+    loop-again
+    returns-2)

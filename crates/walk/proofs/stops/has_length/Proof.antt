@@ -1,0 +1,76 @@
+use Rattle.walk.proofs.Parts.{gives}
+use Rattle.walk.specs.Layout.{layout, sets-hold}
+use Rattle.rules.specs.DynamicLength.{length-source}
+use Rattle.rules.specs.SearchLaws.{any-turn, any-hit}
+use Rattle.rules.specs.Search.{anyBelow}
+use Rattle.rules.proofs.Sizes.{fields-few}
+use native.Mathlib.Numerals.{add-one}
+use borrow.Author.Needs.{needs}
+use native.Mathlib.Omega.{arith}
+use Prim.Native.Nat.{ℕ, suc, _+_, _-_, _≤_}
+use mathlib.Core.Path.{_≡_, refl, sym, _∙_, ap}
+use mathlib.Core.Bool.{Bool, false, _&&_}
+use mathlib.Core.List.{List}
+use denote.Ref.{now}
+use Rattle.pack.specs.Ready.{pgnIn, fieldIn}
+use Rattle.pack.specs.Meaning.{packOf}
+use Rattle.walk.proofs.stops.has_length.Statement.{statement}
+use Rattle.walk.proofs.stops.has_length.Tie as tie
+
+abbrev found : List ℕ → ℕ → ℕ → ℕ → ℕ → Bool
+found s t i k = gives (packOf s) (pgnIn (packOf s) t i) (layout (pgnIn (packOf s) t i)) k
+
+said : (s : List ℕ) (t i k j own : ℕ) (r : Bool) → own ≡ k + 1
+    → r ≡ (length-source (packOf s .fieldtypes) (fieldIn (packOf s) t i j) && sets-hold (layout (pgnIn (packOf s) t i)) (suc j) own) → found s t i k j ≡ r
+said s t i k j own r o h = sym (h ∙ ap (λ (n : ℕ). length-source (packOf s .fieldtypes) (fieldIn (packOf s) t i j) && sets-hold (layout (pgnIn (packOf s) t i)) (suc j) n) (o ∙ add-one k))
+
+abbrev Inv-loop : tie.InvT-loop
+Inv-loop s work t i p sets k own j₀ j = (j ≤ k) × (anyBelow (found s t i k) j ≡ false)
+
+abbrev μ-loop : tie.MeasureT-loop
+μ-loop s work t i p sets k own j₀ j = k - j
+
+order-requires : tie.Need-order-requires Inv-loop μ-loop
+order-requires c κs = omega (arith, c .before .before .pre .2, fields-few (c .before .before .pre .0))
+
+loop-holds : tie.Need-loop-holds Inv-loop μ-loop
+loop-holds c = (search needs, refl)
+
+gives-length-requires : tie.Need-gives-length-requires Inv-loop μ-loop
+gives-length-requires c κs = (c .before .before .before .before .before .pre .0, c .before .before .before .before .before .pre .1, omega (arith, c .before .before .before .before .before .pre .2, c .loop-test .taken))
+
+returns : tie.Need-returns Inv-loop μ-loop
+returns c =
+    let h = said (now (c .before .before .before .before .before .before .before .args .s)) (c .before .before .before .before .before .before .before .args .t) (c .before .before .before .before .before .before .before .args .i) (c .before .before .before .before .before .before .before .args .k) (c .before .before .before .loop .j) (c .before .before .before .before .order .result .0) (c .before .gives-length .result) (c .before .before .before .before .order .ensures) (c .before .gives-length .ensures) in
+    sym (any-hit (found (now (c .before .before .before .before .before .before .before .args .s)) (c .before .before .before .before .before .before .before .args .t) (c .before .before .before .before .before .before .before .args .i) (c .before .before .before .before .before .before .before .args .k)) (c .before .before .before .before .before .before .before .args .k) (c .before .before .before .loop .j) (c .before .before .loop-test .taken) (h ∙ c .if1 .taken))
+
+add-j : tie.Need-add-j Inv-loop μ-loop
+add-j c = search needs
+
+loop-less : tie.Need-loop-less Inv-loop μ-loop
+loop-less c = search needs
+
+loop-again : tie.Need-loop-again Inv-loop μ-loop
+loop-again c =
+    let h = said (now (c .before .before .before .before .before .before .before .args .s)) (c .before .before .before .before .before .before .before .args .t) (c .before .before .before .before .before .before .before .args .i) (c .before .before .before .before .before .before .before .args .k) (c .before .before .before .loop .j) (c .before .before .before .before .order .result .0) (c .before .gives-length .result) (c .before .before .before .before .order .ensures) (c .before .gives-length .ensures) in
+    (search needs, any-turn (found (now (c .before .before .before .before .before .before .before .args .s)) (c .before .before .before .before .before .before .before .args .t) (c .before .before .before .before .before .before .before .args .i) (c .before .before .before .before .before .before .before .args .k)) (c .before .before .before .loop .j) ∙ (rw (c .before .before .before .loop .inv .1, h ∙ c .if1 .left)))
+
+returns-2 : tie.Need-returns-2 Inv-loop μ-loop
+returns-2 c =
+    let q : c .before .loop .j ≡ c .before .before .before .before .before .args .k = omega (arith, c .before .loop .inv .0, c .loop-test .left) in
+    sym (ap (anyBelow (found (now (c .before .before .before .before .before .args .s)) (c .before .before .before .before .before .args .t) (c .before .before .before .before .before .args .i) (c .before .before .before .before .before .args .k))) (sym q) ∙ c .before .loop .inv .1)
+
+pub has-length-spec : {M : Type 1} → statement M
+has-length-spec =
+    tie.close
+    (tie.spec
+    Inv-loop
+    μ-loop
+    order-requires
+    loop-holds
+    gives-length-requires
+    returns
+    add-j
+    loop-less
+    loop-again
+    returns-2)

@@ -1,0 +1,30 @@
+use Rattle.walk.specs.Stops.{is-missing, name-of, lookup-missing}
+use Rattle.pack.specs.declared.records.OptReference.{OptReference}
+use Rattle.pack.specs.Meaning.{optReference, packOf}
+use Rattle.pack.specs.Items.{bytesOf}
+use Prim.Native.Nat.{ℕ}
+use mathlib.Core.Path.{_≡_, refl, _∙_, ap}
+use mathlib.Core.Bool.{Bool, true, false}
+use mathlib.Core.List.{List}
+use denote.Ref.{now}
+use Rattle.pack.specs.Notation.{optional}
+use borrow.Author.Needs.{needs}
+use Rattle.walk.proofs.stops.lookup_missing.Statement.{statement}
+use Rattle.walk.proofs.stops.lookup_missing.Tie as tie
+
+name-is : (s : List ℕ) (r : OptReference) → optional (r .given) (bytesOf s (r .name)) ≡ name-of (optReference s r)
+name-is s r = go (r .given)
+  where
+    go : (g : Bool) → optional g (bytesOf s (r .name)) ≡ name-of (optional g (record { kind = r .kind; name = bytesOf s (r .name) }))
+    go true = refl
+    go false = refl
+
+is-missing-requires : tie.Need-is-missing-requires
+is-missing-requires c κs = search needs
+
+returns : tie.Need-returns
+unfolding lookup-missing
+returns c = c .is-missing .ensures ∙ ap (is-missing (packOf (now (c .before .before .before .before .before .args .s)))) (name-is (now (c .before .before .before .before .before .args .s)) (c .before .before .before .before .before .args .f .links .reference))
+
+pub lookup-missing-spec : {M : Type 1} → statement M
+lookup-missing-spec = tie.close (tie.spec is-missing-requires returns)

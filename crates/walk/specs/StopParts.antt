@@ -1,0 +1,42 @@
+-- The stops 3 to 9 in the parts that code asks for: by the field alone, by its reading, by what is current. Together they are `stop-at`
+-- (proofs/Parts.antt).
+use Prim.Native.Nat.{ℕ, zero, suc}
+use mathlib.Core.Path.{_≡_}
+use mathlib.Core.Bool.{Bool, true, false}
+use mathlib.Core.List.{List}
+use mathlib.Core.Option.{Option, none, some}
+use lib.ListN.{length}
+use Rattle.pack.specs.Notation.{if_then_else_}
+use Rattle.pack.specs.Value.{Reference, Field, Pgn, Pack}
+use Rattle.pack.specs.Meaning.{packOf}
+use Rattle.pack.specs.Ready.{LookupAt, lookupIn}
+use Rattle.rules.specs.Model.{field-at}
+use Rattle.walk.specs.Stops.{lookup-missing, match-unfit, entries-name-missing, reference-names-missing, lacks, lacks-length}
+use Rattle.walk.specs.declared.stops.FieldtypeLookup.{FieldtypeLookup}
+
+-- a stop as a number: 0 for none
+abbrev pub stop-number : ℕ → Option ℕ
+stop-number zero = none
+stop-number (suc n) = some (suc n)
+
+-- 3 and 4
+unfoldable pub field-stop : Pack → Field → Option ℕ
+field-stop P f = if lookup-missing P f then some 3 else if match-unfit P f then some 4 else none
+
+-- 5: the fieldtype lookup that a reference names is v, whose entries decide; where there is none no reading stops
+pub record Named (s w : List ℕ) (r : Option Reference) (v : FieldtypeLookup) : Type 0 where
+  pub place : v .given ≡ true → LookupAt s w (v .index) (v .place)
+  pub kind : v .given ≡ true → 3 ≡ lookupIn (packOf s) (v .index) .kind
+  pub entries : v .given ≡ true → v .entries ≡ length (lookupIn (packOf s) (v .index) .entries)
+  pub decide : v .given ≡ true → (reading : ℕ) → reference-names-missing (packOf s) r reading ≡ entries-name-missing (packOf s) (lookupIn (packOf s) (v .index) .entries) reading
+  pub none : v .given ≡ false → (reading : ℕ) → reference-names-missing (packOf s) r reading ≡ false
+
+-- 6 to 9
+unfoldable pub need-stop : Pack → Pgn → (ℕ → Bool) → ℕ → Option ℕ
+need-stop P p current i =
+    let f = field-at p i in
+    if lacks p current (f .bit-length-field) then some 6
+    else if lacks p current (f .continues) then some 7
+    else if lacks-length P p current i then some 8
+    else if lacks p current (f .trailing-zero) then some 9
+    else none

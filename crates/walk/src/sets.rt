@@ -1,0 +1,198 @@
+// The repeating sets of a PGN as values: "sets and countField use orders".
+ghost use mathlib.Core.Path.{_≡_};
+ghost use mathlib.Core.Bool.{true, not, _&&_, _||_};
+ghost use Prim.Native.Nat.{suc, _+_, _<_};
+ghost use Rattle.pack.specs.Meaning.{optRepeating, packOf};
+ghost use Rattle.pack.specs.Notation.{_<ᵇ_, _==_};
+ghost use Rattle.pack.specs.Ready.{PgnAt, PgnIs, pgnIn};
+ghost use Rattle.walk.specs.ByPlace.{placed};
+ghost use Rattle.walk.specs.Layout.{Layout, layout, set-or-empty, sets-hold, clash, stop-1};
+ghost use Rattle.walk.specs.SetsOf.{SetIs, SetsAre, has-orders, in-set, holds-both, sets-share, set-misplaced, in-first};
+use pack::cursor::OptNumber;
+use pack::protocol::FieldIndex;
+use pack::protocol::FieldOrder;
+use pack::records::OptRepeating;
+use pack::records::PgnView;
+use rules::bools::and_not;
+use rules::repeating::precedes;
+
+// The orders from `start` to before `end`, none in an empty set; and the order of its countField.
+pub struct Set {
+    pub start: FieldOrder,
+    pub end: FieldOrder,
+    pub counter: OptNumber,
+    pub nested: bool,
+}
+
+// The two sets of a PGN with so many fields.
+pub struct Sets {
+    pub fields: u32,
+    pub first: Set,
+    pub second: Set,
+}
+
+// An absent set is empty.
+fn set_of(o: OptRepeating) -> Set
+    requires { ⌜ (o .given ≡ true → o .set .start + o .set .count < 4294967296) ⌝ }
+    ensures { λ r. ⌜ SetIs (set-or-empty (optRepeating o)) r ⌝ }
+{
+    if o.given {
+        let set = o.set;
+        let counter = set.counter;
+        return Set {
+            start: FieldOrder(set.start),
+            end: FieldOrder(set.start + set.count),
+            counter,
+            nested: set.nested,
+        };
+    }
+    Set {
+        start: FieldOrder(0),
+        end: FieldOrder(0),
+        counter: OptNumber {
+            given: false,
+            value: 0,
+        },
+        nested: false,
+    }
+}
+
+// The sets of PGN i of tree t, which is at p and which is g.
+pub fn sets_of(s: &[u8], work: &[u32], t: u32, i: u32, p: usize, g: PgnView) -> Sets
+    requires { ⌜ PgnAt (now s) (now work) t i p × PgnIs (now s) (pgnIn (packOf (now s)) t i) g ⌝ }
+    ensures { λ r. ⌜ SetsAre (layout (pgnIn (packOf (now (s .entry))) t i)) r ⌝ }
+{
+    Sets {
+        fields: g.fields,
+        first: set_of(g.repeating1),
+        second: set_of(g.repeating2),
+    }
+}
+
+pub fn is_nonempty(set: Set) -> bool
+    ensures { λ r. ⌜ r ≡ has-orders set ⌝ }
+{
+    precedes(set.start, set.end)
+}
+
+// Whether a set holds an order.
+pub fn holds(set: Set, o: FieldOrder) -> bool
+    ensures { λ r. ⌜ r ≡ in-set set (o .0) ⌝ }
+{
+    if precedes(o, set.start) {
+        return false;
+    }
+    precedes(o, set.end)
+}
+
+// Whether a set that holds the order a holds the order b.
+fn holds_both(set: Set, a: FieldOrder, b: FieldOrder) -> bool
+    ensures { λ r. ⌜ r ≡ holds-both set (a .0) (b .0) ⌝ }
+{
+    if holds(set, a) {
+        return holds(set, b);
+    }
+    true
+}
+
+// Whether every set that holds the order a holds the order b.
+pub fn sets_hold(sets: Sets, a: FieldOrder, b: FieldOrder) -> bool
+    ensures { λ r. ⌜ ((L : Layout) → SetsAre L sets → r ≡ sets-hold L (a .0) (b .0)) ⌝ }
+{
+    if holds_both(sets.first, a, b) {
+        return holds_both(sets.second, a, b);
+    }
+    false
+}
+
+// Whether the field t comes before the order o, and every set that holds it holds o.
+pub fn placed(sets: Sets, o: FieldOrder, t: FieldIndex) -> bool
+    requires { ⌜ t .0 < 4294967295 ⌝ }
+    ensures { λ r. ⌜ ((L : Layout) → SetsAre L sets → r ≡ placed L (o .0) (t .0)) ⌝ }
+{
+    let own = t.order();
+    if precedes(own, o) {
+        return sets_hold(sets, own, o);
+    }
+    false
+}
+
+// Whether two sets have an order in common.
+fn overlap(a: Set, b: Set) -> bool
+    ensures { λ r. ⌜ r ≡ ((a .start .0 <ᵇ b .end .0) && (b .start .0 <ᵇ a .end .0)) ⌝ }
+{
+    if precedes(a.start, b.end) {
+        return precedes(b.start, a.end);
+    }
+    false
+}
+
+// Whether two nonempty sets share an order.
+fn share(a: Set, b: Set) -> bool
+    ensures { λ r. ⌜ r ≡ sets-share a b ⌝ }
+{
+    if !is_nonempty(a) {
+        return false;
+    }
+    if !is_nonempty(b) {
+        return false;
+    }
+    overlap(a, b)
+}
+
+// "set 2 is not nested and shares an order with set 1"
+pub fn clash(sets: Sets) -> bool
+    ensures { λ r. ⌜ ((L : Layout) → SetsAre L sets → r ≡ clash L 0 1) ⌝ }
+{
+    if sets.second.nested {
+        return false;
+    }
+    share(sets.first, sets.second)
+}
+
+// Whether a set has start 0 or runs past so many fields.
+fn out_of_range(set: Set, fields: u32) -> bool
+    ensures { λ r. ⌜ r ≡ ((set .start .0 == 0) || (suc fields <ᵇ set .end .0)) ⌝ }
+{
+    if set.start.0 == 0 {
+        return true;
+    }
+    fields as u64 + 1 < set.end.0 as u64
+}
+
+// "a nonempty set has start 0, runs past the fields, or is marked nested but is not set 2 .. ending within" set 1: whether it is inside
+// is given.
+fn misplaced(set: Set, fields: u32, inside: bool) -> bool
+    ensures { λ r. ⌜ r ≡ set-misplaced set fields inside ⌝ }
+{
+    if !is_nonempty(set) {
+        return false;
+    }
+    if out_of_range(set, fields) {
+        return true;
+    }
+    and_not(set.nested, inside)
+}
+
+// "set 2 starting after set 1's start and ending within it"
+fn inside_first(sets: Sets) -> bool
+    ensures { λ r. ⌜ r ≡ in-first sets ⌝ }
+{
+    if precedes(sets.first.start, sets.second.start) {
+        return !precedes(sets.first.end, sets.second.end);
+    }
+    false
+}
+
+// STOP 1, before any visit.
+pub fn stop_1(sets: Sets) -> bool
+    ensures { λ r. ⌜ ((L : Layout) → SetsAre L sets → r ≡ stop-1 L) ⌝ }
+{
+    if misplaced(sets.first, sets.fields, false) {
+        return true;
+    }
+    if misplaced(sets.second, sets.fields, inside_first(sets)) {
+        return true;
+    }
+    clash(sets)
+}

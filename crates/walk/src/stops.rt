@@ -1,0 +1,380 @@
+// The stops 3 to 9 at a due field: "At a field, in this order".
+ghost use mathlib.Core.Path.{_≡_};
+ghost use mathlib.Core.Bool.{true, false, not, _&&_};
+ghost use mathlib.Core.Option.{none};
+ghost use Prim.Native.Nat.{ℕ, suc, _+_, _<_};
+ghost use lib.ListN.{length};
+ghost use Rattle.pack.specs.Notation.{_==_};
+ghost use Rattle.pack.specs.Meaning.{optBytes, optReference, entryMeaning, fieldMeaning, packOf};
+ghost use Rattle.pack.specs.Ready.{Ready, LookupAt, PgnAt, lookupIn, pgnIn, fieldIn};
+ghost use Rattle.pack.proofs.Accepted.{IndexIs};
+ghost use Rattle.rules.specs.Search.{anyBelow};
+ghost use Rattle.rules.specs.DynamicLength.{length-source};
+ghost use Rattle.walk.specs.ByPlace.{placed};
+ghost use Rattle.walk.specs.Layout.{layout, sets-hold};
+ghost use Rattle.walk.specs.SetsOf.{SetsAre};
+ghost use Rattle.walk.specs.StopParts.{Named, stop-number, field-stop, need-stop};
+ghost use Rattle.walk.specs.Stops.{is-missing, lookup-missing, match-unfit, names-missing, entries-name-missing, reference-names-missing, lacks, lacks-length, stop-at};
+use crate::sets::Sets;
+use crate::sets::placed;
+use crate::sets::sets_hold;
+use pack::load::Index;
+use pack::of::entry_of;
+use pack::of::field_of;
+use pack::of::lookup_of;
+use pack::protocol::FieldIndex;
+use pack::protocol::FieldOrder;
+use pack::records::EntryView;
+use pack::records::FieldView;
+use pack::records::OptReference;
+use pack::text::OptText;
+use pack::text::text_is;
+use rules::dynamic_length::length_source;
+use rules::lookups::find_lookup;
+use rules::matches::resolve_match;
+use rules::model::root_of;
+use rules::nested_refs::is_fieldtype;
+use rules::targets::target;
+use rules::widths::exceeds;
+
+// Whether a lookup is named, and the pack has none of that name.
+fn is_missing(s: &[u8], work: &[u32], index: Index, name: OptText) -> bool
+    requires { ⌜ Ready (now s) (now work) × IndexIs (packOf (now s)) index ⌝ }
+    ensures { λ r. ⌜ r ≡ is-missing (packOf (now (s .entry))) (optBytes (now (s .entry)) name) ⌝ }
+{
+    if !name.given {
+        return false;
+    }
+    let found = find_lookup(s, work, index.lookups, name.text);
+    !found.given
+}
+
+// "3 lookup missing"
+fn lookup_missing(s: &[u8], work: &[u32], index: Index, f: FieldView) -> bool
+    requires { ⌜ Ready (now s) (now work) × IndexIs (packOf (now s)) index ⌝ }
+    ensures { λ r. ⌜ r ≡ lookup-missing (packOf (now (s .entry))) (fieldMeaning (now (s .entry)) f) ⌝ }
+{
+    let reference = f.links.reference;
+    let text = reference.name;
+    is_missing(
+        s,
+        work,
+        index,
+        OptText {
+            given: reference.given,
+            text,
+        },
+    )
+}
+
+// "4 match unresolved or, below 64 bits, above 2^bits − 1"
+fn match_unfit(s: &[u8], work: &[u32], index: Index, f: FieldView) -> bool
+    requires { ⌜ Ready (now s) (now work) × IndexIs (packOf (now s)) index ⌝ }
+    ensures { λ r. ⌜ r ≡ match-unfit (packOf (now (s .entry))) (fieldMeaning (now (s .entry)) f) ⌝ }
+{
+    if !f.authored.matched.given {
+        return false;
+    }
+    let v = resolve_match(s, work, index.lookups, f);
+    if !v.given {
+        return true;
+    }
+    exceeds(f.scaling.bits, v.value)
+}
+
+// The stops that go by the field alone: 3, 4, or 0.
+fn field_stop(s: &[u8], work: &[u32], index: Index, f: FieldView) -> u32
+    requires { ⌜ Ready (now s) (now work) × IndexIs (packOf (now s)) index ⌝ }
+    ensures { λ r. ⌜ stop-number r ≡ field-stop (packOf (now (s .entry))) (fieldMeaning (now (s .entry)) f) ⌝ }
+{
+    if lookup_missing(s, work, index, f) {
+        return 3;
+    }
+    if match_unfit(s, work, index, f) {
+        return 4;
+    }
+    0
+}
+
+// Whether an entry of a fieldtype lookup names a missing field type or nested lookup.
+fn names_missing(s: &[u8], work: &[u32], index: Index, e: EntryView) -> bool
+    requires { ⌜ Ready (now s) (now work) × IndexIs (packOf (now s)) index ⌝ }
+    ensures { λ r. ⌜ r ≡ names-missing (packOf (now (s .entry))) (entryMeaning (now (s .entry)) e) ⌝ }
+{
+    if !is_fieldtype(s, work, index.types.count, e.fieldtype) {
+        return true;
+    }
+    is_missing(s, work, index, e.nested)
+}
+
+// Whether an entry is for the reading and names something missing.
+fn entry_names_missing(s: &[u8], work: &[u32], index: Index, e: EntryView, reading: u64) -> bool
+    requires { ⌜ Ready (now s) (now work) × IndexIs (packOf (now s)) index ⌝ }
+    ensures { λ r. ⌜ r ≡ ((e .value == reading) && names-missing (packOf (now (s .entry))) (entryMeaning (now (s .entry)) e)) ⌝ }
+{
+    if e.value != reading {
+        return false;
+    }
+    names_missing(s, work, index, e)
+}
+
+// "5 an entry for the reading names a missing field type or nested lookup": of the entries of lookup l, which is at p and of kind 3.
+fn entries_name_missing(
+    s: &[u8],
+    work: &[u32],
+    index: Index,
+    l: u32,
+    p: usize,
+    entries: u32,
+    reading: u64,
+) -> bool
+    requires { ⌜ LookupAt (now s) (now work) l p × (3 ≡ lookupIn (packOf (now s)) l .kind) × (entries ≡ length (lookupIn (packOf (now s)) l .entries)) × IndexIs (packOf (now s)) index ⌝ }
+    ensures { λ r. ⌜ r ≡ entries-name-missing (packOf (now (s .entry))) (lookupIn (packOf (now (s .entry))) l .entries) reading ⌝ }
+{
+    let mut e: u32 = 0;
+    while e < entries {
+        let entry = entry_of(s, work, l, p, 3, e);
+        if entry_names_missing(s, work, index, entry, reading) {
+            return true;
+        }
+        e += 1;
+    }
+    false
+}
+
+// A fieldtype lookup, if there is one: its index, its work position and the number of its entries.
+pub struct FieldtypeLookup {
+    pub given: bool,
+    pub index: u32,
+    pub place: usize,
+    pub entries: u32,
+}
+
+// The fieldtype lookup that a reference names: only the entries of such a one name anything.
+pub fn fieldtype_lookup(s: &[u8], work: &[u32], index: Index, r: OptReference) -> FieldtypeLookup
+    requires { ⌜ Ready (now s) (now work) × IndexIs (packOf (now s)) index ⌝ }
+    ensures { λ v. ⌜ Named (now (s .entry)) (now (work .entry)) (optReference (now (s .entry)) r) v ⌝ }
+{
+    let no_lookup = FieldtypeLookup {
+        given: false,
+        index: 0,
+        place: 0,
+        entries: 0,
+    };
+    if !r.given {
+        return no_lookup;
+    }
+    let found = find_lookup(s, work, index.lookups, r.name);
+    if !found.given {
+        return no_lookup;
+    }
+    let l = lookup_of(s, work, found.index, found.place);
+    if l.kind != 3 {
+        return no_lookup;
+    }
+    FieldtypeLookup {
+        given: true,
+        index: found.index,
+        place: found.place,
+        entries: l.entries,
+    }
+}
+
+// Whether the reading of a field can stop the walk at all.
+pub fn reading_matters(s: &[u8], work: &[u32], index: Index, r: OptReference) -> bool
+    requires { ⌜ Ready (now s) (now work) × IndexIs (packOf (now s)) index ⌝ }
+    ensures { λ b. ⌜ (b ≡ false → (reading : ℕ) → reference-names-missing (packOf (now (s .entry))) (optReference (now (s .entry)) r) reading ≡ false) ⌝ }
+{
+    let l = fieldtype_lookup(s, work, index, r);
+    l.given
+}
+
+// 5, of a field's reference.
+fn reference_names_missing(
+    s: &[u8],
+    work: &[u32],
+    index: Index,
+    r: OptReference,
+    reading: u64,
+) -> bool
+    requires { ⌜ Ready (now s) (now work) × IndexIs (packOf (now s)) index ⌝ }
+    ensures { λ b. ⌜ b ≡ reference-names-missing (packOf (now (s .entry))) (optReference (now (s .entry)) r) reading ⌝ }
+{
+    let l = fieldtype_lookup(s, work, index, r);
+    if !l.given {
+        return false;
+    }
+    entries_name_missing(s, work, index, l.index, l.place, l.entries, reading)
+}
+
+// "6 bitLengthField target not current; 7 continued field not current", "9 trailing-zero target not current": at the order o of PGN i of
+// tree t, which is at p, the target is named and is not current.
+fn lacks(
+    s: &[u8],
+    work: &[u32],
+    t: u32,
+    i: u32,
+    p: usize,
+    sets: Sets,
+    o: FieldOrder,
+    id: OptText,
+) -> bool
+    requires { ⌜ PgnAt (now s) (now work) t i p × SetsAre (layout (pgnIn (packOf (now s)) t i)) sets ⌝ }
+    ensures { λ r. ⌜ r ≡ lacks (pgnIn (packOf (now (s .entry))) t i) (placed (layout (pgnIn (packOf (now (s .entry))) t i)) (o .0)) (optBytes (now (s .entry)) id) ⌝ }
+{
+    if !id.given {
+        return false;
+    }
+    let found = target(s, work, t, i, p, sets.fields, id.text);
+    if !found.given {
+        return true;
+    }
+    !placed(sets, o, FieldIndex(found.value))
+}
+
+// Whether field j is a length source.
+fn length_source_at(s: &[u8], work: &[u32], t: u32, i: u32, p: usize, j: u32) -> bool
+    requires { ⌜ PgnAt (now s) (now work) t i p × (j < length (pgnIn (packOf (now s)) t i .fields)) ⌝ }
+    ensures { λ r. ⌜ r ≡ length-source (packOf (now (s .entry)) .fieldtypes) (fieldIn (packOf (now (s .entry))) t i j) ⌝ }
+{
+    let f = field_of(s, work, t, i, p, j);
+    let root = root_of(s, work, f.ft);
+    length_source(s, f.flags.dynamic, root)
+}
+
+// Whether field j is a length source whose sets hold the order o.
+fn gives_length(
+    s: &[u8],
+    work: &[u32],
+    t: u32,
+    i: u32,
+    p: usize,
+    sets: Sets,
+    o: FieldOrder,
+    j: u32,
+) -> bool
+    requires { ⌜ PgnAt (now s) (now work) t i p × SetsAre (layout (pgnIn (packOf (now s)) t i)) sets × (j < length (pgnIn (packOf (now s)) t i .fields)) ⌝ }
+    ensures { λ r. ⌜ r ≡ (length-source (packOf (now (s .entry)) .fieldtypes) (fieldIn (packOf (now (s .entry))) t i j) && sets-hold (layout (pgnIn (packOf (now (s .entry))) t i)) (suc j) (o .0)) ⌝ }
+{
+    if sets_hold(sets, FieldIndex(j).order(), o) {
+        return length_source_at(s, work, t, i, p, j);
+    }
+    false
+}
+
+// Whether a field before field k gives it a length.
+fn has_length(s: &[u8], work: &[u32], t: u32, i: u32, p: usize, sets: Sets, k: u32) -> bool
+    requires { ⌜ PgnAt (now s) (now work) t i p × SetsAre (layout (pgnIn (packOf (now s)) t i)) sets × (k < length (pgnIn (packOf (now s)) t i .fields)) ⌝ }
+    ensures { λ r. ⌜ r ≡ anyBelow (λ j. length-source (packOf (now (s .entry)) .fieldtypes) (fieldIn (packOf (now (s .entry))) t i j) && sets-hold (layout (pgnIn (packOf (now (s .entry))) t i)) (suc j) (suc k)) k ⌝ }
+{
+    let own = FieldIndex(k).order();
+    let mut j: u32 = 0;
+    while j < k {
+        if gives_length(s, work, t, i, p, sets, own, j) {
+            return true;
+        }
+        j += 1;
+    }
+    false
+}
+
+// "8 root DYNAMIC_FIELD_VALUE and no lower-order dynamicFieldLength or DYNAMIC_FIELD_KEY field current": field k, which is f.
+pub fn lacks_length(
+    s: &[u8],
+    work: &[u32],
+    t: u32,
+    i: u32,
+    p: usize,
+    sets: Sets,
+    k: u32,
+    f: FieldView,
+) -> bool
+    requires { ⌜ PgnAt (now s) (now work) t i p × SetsAre (layout (pgnIn (packOf (now s)) t i)) sets × (k < length (pgnIn (packOf (now s)) t i .fields)) × (fieldMeaning (now s) f ≡ fieldIn (packOf (now s)) t i k) ⌝ }
+    ensures { λ r. ⌜ r ≡ lacks-length (packOf (now (s .entry))) (pgnIn (packOf (now (s .entry))) t i) (placed (layout (pgnIn (packOf (now (s .entry))) t i)) (suc k)) k ⌝ }
+{
+    let root = root_of(s, work, f.ft);
+    if text_is(s, root, b"DYNAMIC_FIELD_VALUE") {
+        return !has_length(s, work, t, i, p, sets, k);
+    }
+    false
+}
+
+// The stops that go by what is current: 6 to 9, or 0. Field k, which is f.
+fn need_stop(
+    s: &[u8],
+    work: &[u32],
+    t: u32,
+    i: u32,
+    p: usize,
+    sets: Sets,
+    k: u32,
+    f: FieldView,
+) -> u32
+    requires { ⌜ PgnAt (now s) (now work) t i p × SetsAre (layout (pgnIn (packOf (now s)) t i)) sets × (k < length (pgnIn (packOf (now s)) t i .fields)) × (fieldMeaning (now s) f ≡ fieldIn (packOf (now s)) t i k) ⌝ }
+    ensures { λ r. ⌜ stop-number r ≡ need-stop (packOf (now (s .entry))) (pgnIn (packOf (now (s .entry))) t i) (placed (layout (pgnIn (packOf (now (s .entry))) t i)) (suc k)) k ⌝ }
+{
+    let own = FieldIndex(k).order();
+    if lacks(s, work, t, i, p, sets, own, f.links.length) {
+        return 6;
+    }
+    if lacks(s, work, t, i, p, sets, own, f.authored.continues) {
+        return 7;
+    }
+    if lacks_length(s, work, t, i, p, sets, k, f) {
+        return 8;
+    }
+    if lacks(s, work, t, i, p, sets, own, f.links.trailing) {
+        return 9;
+    }
+    0
+}
+
+// The stop at field k of PGN i of tree t, which is at p, with this reading; 0 for none.
+pub fn stop_at(
+    s: &[u8],
+    work: &[u32],
+    index: Index,
+    t: u32,
+    i: u32,
+    p: usize,
+    sets: Sets,
+    k: u32,
+    reading: u64,
+) -> u32
+    requires { ⌜ PgnAt (now s) (now work) t i p × IndexIs (packOf (now s)) index × SetsAre (layout (pgnIn (packOf (now s)) t i)) sets × (k < length (pgnIn (packOf (now s)) t i .fields)) ⌝ }
+    ensures { λ r. ⌜ stop-number r ≡ stop-at (packOf (now (s .entry))) (pgnIn (packOf (now (s .entry))) t i) (placed (layout (pgnIn (packOf (now (s .entry))) t i)) (suc k)) k reading ⌝ }
+{
+    let f = field_of(s, work, t, i, p, k);
+    let by_field = field_stop(s, work, index, f);
+    if by_field != 0 {
+        return by_field;
+    }
+    if reference_names_missing(s, work, index, f.links.reference, reading) {
+        return 5;
+    }
+    need_stop(s, work, t, i, p, sets, k, f)
+}
+
+// Whether field k never stops the walk, whatever its reading.
+pub fn never_stops(
+    s: &[u8],
+    work: &[u32],
+    index: Index,
+    t: u32,
+    i: u32,
+    p: usize,
+    sets: Sets,
+    k: u32,
+) -> bool
+    requires { ⌜ PgnAt (now s) (now work) t i p × IndexIs (packOf (now s)) index × SetsAre (layout (pgnIn (packOf (now s)) t i)) sets × (k < length (pgnIn (packOf (now s)) t i .fields)) ⌝ }
+    ensures { λ r. ⌜ (r ≡ true → (reading : ℕ) → stop-at (packOf (now (s .entry))) (pgnIn (packOf (now (s .entry))) t i) (placed (layout (pgnIn (packOf (now (s .entry))) t i)) (suc k)) k reading ≡ none) ⌝ }
+{
+    let f = field_of(s, work, t, i, p, k);
+    if field_stop(s, work, index, f) != 0 {
+        return false;
+    }
+    if reading_matters(s, work, index, f.links.reference) {
+        return false;
+    }
+    need_stop(s, work, t, i, p, sets, k, f) == 0
+}
