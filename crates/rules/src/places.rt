@@ -26,7 +26,7 @@ pub struct FoundLoc {
 }
 
 // The work position of a PGN of tree t, which begins at `first`.
-fn pgn_position(s: &[u8], work: &[u32], t: u32, first: usize, item: u32) -> usize
+pub fn pgn_position(s: &[u8], work: &[u32], t: u32, first: usize, item: u32) -> usize
     requires { ⌜ Ready (now s) (now work) × (t < 3) × (first ≡ treePlace (packOf (now s)) t) × (item < length (pgns-of (packOf (now s)) t)) ⌝ }
     ensures { λ r. ⌜ PgnAt (now (s .entry)) (now (work .entry)) t item r ⌝ }
 {

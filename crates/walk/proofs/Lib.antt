@@ -3,6 +3,7 @@ pub mod Tests
 pub mod SetFacts
 -- the two sets as values
 pub mod TwoSets
+pub mod Spots
 -- the stops in parts
 pub mod Parts
 -- the law of position; the walk by place; the rounds
@@ -10,6 +11,9 @@ pub mod Invariants
 pub mod Position
 pub mod Agree
 pub mod Rounds
+-- the loop
+pub mod Walks
+pub mod WalkCalls
 -- the guarantee against stops
 pub mod Never
 pub mod HeldSets
@@ -18,3 +22,5 @@ pub mod CleanSets
 pub mod CleanFields
 pub mod NoStop
 pub mod Examples
+-- demand 3, over the two calls
+pub mod TwoCalls

@@ -11,3 +11,10 @@ pub mod ByPlace
 pub mod SetsOf
 -- the stops in parts
 pub mod StopParts
+-- what the values of the walk mean
+pub mod State
+pub mod Steps
+-- the calls
+pub mod WalkCall
+-- demand 3
+pub mod Demand3

@@ -1,3 +1,6 @@
+pub mod guaranteed;
 pub mod held;
+pub mod passes;
 pub mod sets;
 pub mod stops;
+pub mod walk;

@@ -1,0 +1,211 @@
+-- The walk's loop: what it has made of the walk by now, one step, and its ends.
+use Prim.Native.Nat.{ℕ, zero, suc, pred, _+_, _-_, _≤_, _<_}
+use native.Mathlib.Omega.{arith}
+use native.Mathlib.Numerals.{add-one}
+use mathlib.Core.Path.{_≡_, refl, sym, ap, subst, _∙_, fun-ext}
+use mathlib.Core.Bool.{Bool, true, false}
+use mathlib.Core.List.{List, [], _∷_, _++_}
+use mathlib.Core.Option.{Option, none, some}
+use lib.ListN.{length, getD, set, drop, drop-of-length-le}
+use lib.Seq.{drop-cons}
+use Rattle.pack.specs.Load.{over}
+use Rattle.pack.specs.Notation.{if_then_else_}
+use Rattle.pack.specs.Placing.{Stored}
+use Rattle.pack.specs.Value.{Pgn, Pack}
+use Rattle.pack.proofs.Stores.{stored-none, stored-one, sets-over}
+use Rattle.walk.specs.Layout.{Layout, layout, stop-1}
+use Rattle.walk.specs.Passes.{Rest, Place, first, goto}
+use Rattle.walk.specs.Visits.{Visits}
+use Rattle.walk.specs.Walk.{Stops, Settled, past, halted, due, settled, onward, stop, Answer, no-visit, visit-then, walk-on, walk-with, by-visits, walk}
+use Rattle.walk.specs.ByPlace.{placed, by-place}
+use Rattle.walk.specs.State.{two, settled-of}
+use Rattle.walk.specs.Steps.{ending, end-of, Stepped, ended, visited, one-step, used, Within}
+use Rattle.walk.specs.StopParts.{stop-number}
+use Rattle.walk.specs.Stops.{stop-at}
+use Rattle.walk.specs.WalkCall.{told}
+use Rattle.walk.specs.declared.passes.Settling.{Settling}
+use Rattle.walk.specs.declared.walk.End.{End as Ending}
+use Rattle.walk.specs.declared.walk.End.the-variants.{Whole, UsedUp, Stop}
+use Rattle.walk.specs.declared.walk.Walked.{Walked}
+use Rattle.walk.specs.declared.walk.Walked.the-variants.{Ended}
+use Rattle.walk.proofs.SetFacts.{Good, good}
+use Rattle.walk.proofs.Position.{due-order}
+use Rattle.walk.proofs.Agree.{Same, both-past, both-halted, both-due, next-same, first-same, agree}
+
+joined : (xs ys zs : List ℕ) → xs ++ (ys ++ zs) ≡ (xs ++ ys) ++ zs
+joined [] ys zs = refl
+joined (x ∷ xs) ys zs = ap (λ (l : List ℕ). x ∷ l) (joined xs ys zs)
+
+with-none : (xs : List ℕ) → xs ++ [] ≡ xs
+with-none [] = refl
+with-none (x ∷ xs) = ap (λ (l : List ℕ). x ∷ l) (with-none xs)
+
+-- ---- the code's values
+
+pub end-back : (e : Ending) → ending (end-of e) ≡ e
+end-back Whole = refl
+end-back UsedUp = refl
+end-back (Stop n) = refl
+
+pub stop-is : (n : ℕ) → (n ≡ 0 → ⊥) → stop-number n ≡ some n
+stop-is zero h = absurd (h refl)
+stop-is (suc n) h = refl
+
+module _ (L : Layout) (stops : Stops) (p : Place) (g : ℕ → ℕ) (r k : ℕ) (ek : k ≡ p .order - 1) (low : 1 ≤ p .order) (n : ℕ) (en : stop-number n ≡ stops (placed L (suc k)) k r) where
+  here : stop-number n ≡ stops (placed L (p .order)) (pred (p .order)) r
+  here = let a : suc k ≡ p .order = omega arith in let b : k ≡ pred (p .order) = omega arith in rw (← b, ← a) en
+
+  pub step-stops : (n ≡ 0 → ⊥) → ended (stop n) ≡ one-step L stops (due p g) r
+  unfolding one-step
+  step-stops z = rw (← here, stop-is n z, one-step)
+
+  pub step-visits : n ≡ 0 → (d : Settled (ℕ → ℕ)) → d ≡ onward L (by-place L) p g r → visited k d ≡ one-step L stops (due p g) r
+  unfolding one-step
+  step-visits z d e = let b : k ≡ pred (p .order) = omega arith in rw (← here, z, e, ← b, one-step)
+
+pub step-finished : (L : Layout) (stops : Stops) (v : Settling) (g : ℕ → ℕ) (r : ℕ) → v .due ≡ false → (e : Ending) → e ≡ (if v .halted then Stop 2 else Whole)
+    → ended (end-of e) ≡ one-step L stops (settled-of v g) r
+unfolding one-step
+step-finished L stops v g r d e h = go (v .halted) refl
+  where
+    go : (b : Bool) → v .halted ≡ b → ended (end-of e) ≡ one-step L stops (settled-of v g) r
+    go true x = rw (h, d, x, one-step)
+    go false x = rw (h, d, x, one-step)
+
+pub used-finished : (v : Settling) (g : ℕ → ℕ) → v .due ≡ false → (if v .halted then Stop 2 else Whole) ≡ ending (used (settled-of v g))
+used-finished v g d = go (v .halted) refl
+  where
+    go : (b : Bool) → v .halted ≡ b → (if v .halted then Stop 2 else Whole) ≡ ending (used (settled-of v g))
+    go true x = rw (d, x)
+    go false x = rw (d, x)
+
+pub due-within : (L : Layout) (v : Settling) (g : ℕ → ℕ) → v .due ≡ true → Within L (settled-of v g) → (1 ≤ v .spot .order .0) × (v .spot .order .0 ≤ length (L .fields))
+due-within L v g d w = rw d at w
+
+all-same : {A : Type 0} (x : A) → two x x x ≡ (λ k. x)
+all-same {A} x = fun-ext go
+  where
+    go : (k : ℕ) → two x x x k ≡ x
+    go zero = refl
+    go (suc zero) = refl
+    go (suc (suc k)) = refl
+
+pub begins-at : (L : Layout) (l : Option Rest) → l ≡ none → settled L (by-place L) (record { order = 1; left = two l l none }) (two 0 0 0) ≡ settled L (by-place L) first (by-place L .fresh)
+begins-at L l e = rw (e, all-same {A = Option Rest} none, all-same {A = ℕ} 0)
+
+pub goes-onward : (L : Layout) (p q : Place) (g h : ℕ → ℕ) (r : ℕ) → q ≡ goto p (p .order + 1) → h ≡ by-place L .visit g (p .order - 1) r → settled L (by-place L) q h ≡ onward L (by-place L) p g r
+unfolding onward
+goes-onward L p q g h r e f = let b : p .order - 1 ≡ pred (p .order) = omega arith in rw (e, f, b, add-one)
+
+-- ---- one step
+
+module _ (L : Layout) (stops : Stops) where
+  abbrev answer-of : List ℕ → Stepped → Answer
+  answer-of rs (ended e) = no-visit e
+  answer-of rs (visited k d) = visit-then k (walk-on L (by-place L) stops d rs)
+
+  step-law : (c : Settled (ℕ → ℕ)) (r : ℕ) (rs : List ℕ) → walk-on L (by-place L) stops c (r ∷ rs) ≡ answer-of rs (one-step L stops c r)
+  unfolding one-step walk-on
+  step-law past r rs = refl
+  step-law halted r rs = refl
+  step-law (due p g) r rs = go (stops (placed L (p .order)) (pred (p .order)) r) refl
+    where
+      go : (t : Option ℕ) → stops (placed L (p .order)) (pred (p .order)) r ≡ t → walk-on L (by-place L) stops (due p g) (r ∷ rs) ≡ answer-of rs (one-step L stops (due p g) r)
+      go (some n) e = rw (e, walk-on, one-step)
+      go none e = rw (e, walk-on, one-step)
+
+  abbrev Next : Stepped → Type 0
+  Next (ended e) = Unit {0}
+  Next (visited k d) = (y : Settled Visits) × Same L y d
+
+  next-law : Good L → (r : ℕ) (x : Settled Visits) (c : Settled (ℕ → ℕ)) → Same L x c → Next (one-step L stops c r)
+  unfolding one-step
+  next-law G r x c both-past = tt
+  next-law G r x c (both-halted g m e) = tt
+  next-law G r x c (both-due {p = p} {h = h} {g = g} m a) = go (stops (placed L (p .order)) (pred (p .order)) r) refl
+    where
+      go : (t : Option ℕ) → stops (placed L (p .order)) (pred (p .order)) r ≡ t → Next (one-step L stops (due p g) r)
+      go (some n) e = rw (e, one-step) tt
+      go none e = rw (e, one-step) (onward L (by-visits L) p h r, next-same L G p h g r m a)
+
+within-same : (L : Layout) → Good L → (x : Settled Visits) (c : Settled (ℕ → ℕ)) → Same L x c → Within L c
+within-same L G x c both-past = tt
+within-same L G x c (both-halted g m e) = tt
+within-same L G x c (both-due m a) = due-order L G m
+
+-- ---- the loop
+
+abbrev after : List ℕ → Answer → Answer
+after made a = record { ends = a .ends; visits = made ++ a .visits }
+
+-- Of the walk A the first n visits are made, from w to w′; the rest goes on from c.
+pub record Going (L : Layout) (stops : Stops) (A : Answer) (readings w w′ : List ℕ) (n : ℕ) (c : Settled (ℕ → ℕ)) : Type 0 where
+  pub made : List ℕ
+  pub stored : Stored w 0 made w′ n
+  pub rest : A ≡ after made (walk-on L (by-place L) stops c (drop n readings))
+  pub whence : Settled Visits
+  pub same : Same L whence c
+
+-- an answer, and the buffer after it
+pub record Told (A : Answer) (w w′ : List ℕ) (r : Walked) : Type 0 where
+  pub answer : r ≡ told A
+  pub out : w′ ≡ over (A .visits) w
+
+told-at : (A : Answer) (w w′ made : List ℕ) (n : ℕ) (e : Ending) → Stored w 0 made w′ n → A ≡ after made (no-visit (end-of e)) → n ≤ length w → Told A w w′ (Ended e n)
+told-at A w w′ made n e s a l =
+    let k : n ≡ length made = omega (arith, s .count) in
+    let b : A ≡ record { ends = end-of e; visits = made } = a ∙ ap (λ (v : List ℕ). record { ends = end-of e; visits = v }) (with-none made) in
+    rw b (record { answer = rw (end-back e, k); out = s .work ∙ sets-over w made (omega arith) })
+
+pub start-going : (P : Pack) (p : Pgn) (readings w : List ℕ) → stop-1 (layout p) ≡ false → (c : Settled (ℕ → ℕ)) → c ≡ settled (layout p) (by-place (layout p)) first (by-place (layout p) .fresh)
+    → Going (layout p) (stop-at P p) (walk P p readings) readings w w 0 c
+unfolding walk walk-with
+start-going P p readings w e c h = rw h (record {
+  made = [];
+  stored = stored-none w 0;
+  rest = agree (layout p) (stop-at P p) readings ∙ (rw (e, walk-with));
+  whence = settled (layout p) (by-visits (layout p)) first (by-visits (layout p) .fresh);
+  same = first-same (layout p) (good (layout p) e);
+})
+
+pub stopped-1 : (P : Pack) (p : Pgn) (readings w : List ℕ) → stop-1 (layout p) ≡ true → Told (walk P p readings) w w (Ended (Stop 1) 0)
+unfolding walk walk-with
+stopped-1 P p readings w e = rw (walk, walk-with, e) (record { answer = refl; out = refl })
+
+module _ (L : Layout) (laid : stop-1 L ≡ false) (stops : Stops) (A : Answer) (readings w w′ : List ℕ) (n : ℕ) (c : Settled (ℕ → ℕ)) (g : Going L stops A readings w w′ n c) where
+  pub going-within : Within L c
+  going-within = within-same L (good L laid) (g .whence) c (g .same)
+
+  pub going-used : length readings ≤ n → n ≤ length w → (e : Ending) → e ≡ ending (used c) → Told A w w′ (Ended e n)
+  unfolding walk-on
+  going-used l m e h = go c refl
+    where
+      nothing : drop n readings ≡ []
+      nothing = drop-of-length-le readings l
+
+      go : (d : Settled (ℕ → ℕ)) → c ≡ d → Told A w w′ (Ended e n)
+      go past q = told-at A w w′ (g .made) n e (g .stored) (g .rest ∙ (rw (nothing, h, q, walk-on))) m
+      go halted q = told-at A w w′ (g .made) n e (g .stored) (g .rest ∙ (rw (nothing, h, q, walk-on))) m
+      go (due p x) q = told-at A w w′ (g .made) n e (g .stored) (g .rest ∙ (rw (nothing, h, q, walk-on))) m
+
+  module _ (low : n < length readings) (r : Stepped) (er : r ≡ one-step L stops c (getD readings n 0)) where
+    rest-step : walk-on L (by-place L) stops c (drop n readings) ≡ answer-of L stops (drop (n + 1) readings) r
+    rest-step = rw (drop-cons readings n 0 low, er, add-one) (step-law L stops c (getD readings n 0) (drop (suc n) readings))
+
+    pub going-ended : (e : Ending) → r ≡ ended (end-of e) → n ≤ length w → Told A w w′ (Ended e n)
+    going-ended e h m = told-at A w w′ (g .made) n e (g .stored) (g .rest ∙ ap (after (g .made)) (rest-step ∙ ap (answer-of L stops (drop (n + 1) readings)) h)) m
+
+    pub going-on : (k : ℕ) (d : Settled (ℕ → ℕ)) → r ≡ visited k d → Going L stops A readings w (set w′ n k) (n + 1) d
+    going-on k d h =
+        let y : (y : Settled Visits) × Same L y d = subst (Next L stops) (sym er ∙ h) (next-law L stops (good L laid) (getD readings n 0) (g .whence) c (g .same)) in
+        record {
+          made = g .made ++ k ∷ [];
+          stored = stored-one (g .stored) k;
+          rest =
+              g .rest
+              ∙ ap (after (g .made)) (rest-step ∙ ap (answer-of L stops (drop (n + 1) readings)) h)
+              ∙ ap (λ (v : List ℕ). record { ends = walk-on L (by-place L) stops d (drop (n + 1) readings) .ends; visits = v })
+              (joined (g .made) (k ∷ []) (walk-on L (by-place L) stops d (drop (n + 1) readings) .visits));
+          whence = y .0;
+          same = y .1;
+        }

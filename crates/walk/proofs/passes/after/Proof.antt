@@ -1,0 +1,19 @@
+use Rattle.walk.proofs.Spots.{turn-more}
+use borrow.Author.Needs.{needs}
+use Rattle.walk.proofs.passes.after.Statement.{statement}
+use Rattle.walk.proofs.passes.after.Tie as tie
+
+returns : tie.Need-returns
+returns c = rw (c .if1 .taken)
+
+returns-2 : tie.Need-returns-2
+returns-2 c = search needs
+
+sub-more : tie.Need-sub-more
+sub-more c = search needs
+
+returns-3 : tie.Need-returns-3
+returns-3 c = rw (c .before .before .before .if1 .left) (turn-more (c .before .before .before .before .args .further .more) (c .before .if2 .left))
+
+pub after-spec : {M : Type 1} → statement M
+after-spec = tie.close (tie.spec returns returns-2 sub-more returns-3)

@@ -1,0 +1,58 @@
+-- One step of the walk, as the code makes it: with one reading it ends or visits a field.
+use Prim.Native.Nat.{ℕ, pred, _≤_}
+use mathlib.Core.Option.{Option, none, some}
+use lib.ListN.{length}
+use Rattle.walk.specs.Layout.{Layout}
+use Rattle.walk.specs.Passes.{Place}
+use Rattle.walk.specs.Walk.{Stops, Settled, past, halted, due, onward, End, whole, used-up, stop}
+use Rattle.walk.specs.ByPlace.{placed, by-place}
+use Rattle.walk.specs.State.{memory-of, settled-of}
+use Rattle.walk.specs.declared.walk.End.{End as Ending}
+use Rattle.walk.specs.declared.walk.End.the-variants.{Whole, UsedUp, Stop}
+use Rattle.walk.specs.declared.walk.State.{State}
+use Rattle.walk.specs.declared.walk.Stepping.{Stepping}
+use Rattle.walk.specs.declared.walk.Stepping.the-variants as stepping
+
+-- "the end": whole, used up, or a stop by its number
+abbrev pub ending : End → Ending
+ending whole = Whole
+ending used-up = UsedUp
+ending (stop n) = Stop n
+
+abbrev pub end-of : Ending → End
+end-of Whole = whole
+end-of UsedUp = used-up
+end-of (Stop n) = stop n
+
+pub data Stepped : Type 0 where
+  ended : End → Stepped
+  visited : ℕ → Settled (ℕ → ℕ) → Stepped
+
+unfoldable pub one-step : Layout → Stops → Settled (ℕ → ℕ) → (reading : ℕ) → Stepped
+one-step L stops past r = ended whole
+one-step L stops halted r = ended (stop 2)
+one-step L stops (due p g) r = elim (stops (placed L (p .order)) (pred (p .order)) r) [
+  | some n ↦ ended (stop n)
+  | none ↦ visited (pred (p .order)) (onward L (by-place L) p g r)
+]
+
+-- with no reading left
+abbrev pub used : Settled (ℕ → ℕ) → End
+used past = whole
+used halted = stop 2
+used (due p g) = used-up
+
+-- what the values mean
+
+abbrev pub state-of : State → Settled (ℕ → ℕ)
+state-of v = settled-of (v .settling) (memory-of (v .counts))
+
+abbrev pub step-of : Stepping → Stepped
+step-of (stepping.Ended e) = ended (end-of e)
+step-of (stepping.Visited k next) = visited k (state-of next)
+
+-- a due field is one of the PGN's
+abbrev pub Within : Layout → Settled (ℕ → ℕ) → Type 0
+Within L past = Unit {0}
+Within L halted = Unit {0}
+Within L (due p g) = (1 ≤ p .order) × (p .order ≤ length (L .fields))

@@ -1,0 +1,64 @@
+-- What the calls `walk` and `held` answer, and what they leave in the visit buffer.
+use Prim.Native.Nat.{ℕ}
+use mathlib.Core.Bool.{Bool, _&&_}
+use mathlib.Core.List.{List}
+use lib.ListN.{length}
+use Rattle.pack.specs.Notation.{_<ᵇ_, _≤ᵇ_, if_then_else_}
+use Rattle.pack.specs.Load.{loaded, over}
+use Rattle.pack.specs.Meaning.{packOf}
+use Rattle.pack.specs.Value.{Pack, pgns-of}
+use Rattle.pack.specs.declared.load.Loaded.{Loaded}
+use Rattle.pack.specs.declared.load.Loaded.the-variants as load
+use Rattle.pack.specs.declared.load.Refusal.the-variants.{Absent, Visits}
+use Rattle.rules.specs.Model.{pgn-at}
+use Rattle.walk.specs.Walk.{Answer, walk}
+use Rattle.walk.specs.Held.{held}
+use Rattle.walk.specs.Steps.{ending}
+use Rattle.walk.specs.declared.walk.Walked.{Walked}
+use Rattle.walk.specs.declared.walk.Walked.the-variants.{Refused, Ended}
+use Rattle.walk.specs.declared.walk.HeldAnswer.{HeldAnswer}
+use Rattle.walk.specs.declared.walk.HeldAnswer.the-variants as held-answer
+
+-- 23: "tree, PGN .. named is not in the pack"
+abbrev pub in-pack : Pack → (tree pgn : ℕ) → Bool
+in-pack P t i = (t <ᵇ 3) && (i <ᵇ length (pgns-of P t))
+
+-- "The answer is the end and the number of visits, one for each reading taken."
+abbrev pub told : Answer → Walked
+told a = Ended (ending (a .ends)) (length (a .visits))
+
+-- 25: "visit buffer shorter than the readings"; the detail is "the length needed". 23 comes before it. n readings, m numbers of visit buffer
+abbrev pub judged : Bool → (n m : ℕ) → Answer → Walked
+judged there n m a = if there then (if n ≤ᵇ m then told a else Refused (Visits n)) else Refused Absent
+
+-- "Input refusals come before these; then 21, 23, 25"
+abbrev pub after-load : Loaded → Walked → Walked
+after-load (load.Refused r) a = Refused r
+after-load (load.Accepted i) a = a
+
+abbrev pub walk-of : List ℕ → (tree pgn : ℕ) → List ℕ → Answer
+walk-of s t i readings = walk (packOf s) (pgn-at (packOf s) t i) readings
+
+-- `walk` of PGN i of tree t of the pack s, with a work buffer of m numbers and a visit buffer of n
+unfoldable pub walked : List ℕ → (m t i : ℕ) → List ℕ → (n : ℕ) → Walked
+walked s m t i readings n = after-load (loaded s m) (judged (in-pack (packOf s) t i) (length readings) n (walk-of s t i readings))
+
+-- "After 22 and higher numbers no other buffer has changed"; "each visit .. writes the index"; "Success writes only the entries it reports."
+abbrev pub visitsLeft : Walked → List ℕ → List ℕ → List ℕ
+visitsLeft (Refused r) front o = o
+visitsLeft (Ended e n) front o = over front o
+
+unfoldable pub visitsAfter : List ℕ → (m t i : ℕ) → List ℕ → List ℕ → List ℕ
+visitsAfter s m t i readings o = visitsLeft (walked s m t i readings (length o)) (walk-of s t i readings .visits) o
+
+-- ---- held
+
+abbrev pub held-judged : Bool → Bool → HeldAnswer
+held-judged there h = if there then held-answer.Held h else held-answer.Refused Absent
+
+abbrev pub held-after : Loaded → HeldAnswer → HeldAnswer
+held-after (load.Refused r) a = held-answer.Refused r
+held-after (load.Accepted i) a = a
+
+unfoldable pub held-told : List ℕ → (m t i : ℕ) → HeldAnswer
+held-told s m t i = held-after (loaded s m) (held-judged (in-pack (packOf s) t i) (held (packOf s) (pgn-at (packOf s) t i)))

@@ -1,0 +1,371 @@
+// The calls `walk` and `held`.
+ghost use mathlib.Core.Path.{_≡_};
+ghost use mathlib.Core.Bool.{true, false};
+ghost use Prim.Native.Nat.{_≤_, _<_};
+ghost use lib.ListN.{length};
+ghost use Rattle.pack.specs.Load.{over, workAfter};
+ghost use Rattle.pack.specs.Meaning.{packOf};
+ghost use Rattle.pack.specs.Notation.{if_then_else_};
+ghost use Rattle.pack.specs.Ready.{Ready, PgnAt, pgnIn};
+ghost use Rattle.pack.proofs.Accepted.{IndexIs};
+ghost use Rattle.rules.specs.Model.{pgn-at};
+ghost use Rattle.walk.specs.ByPlace.{by-place};
+ghost use Rattle.walk.specs.Held.{held};
+ghost use Rattle.walk.specs.Layout.{Layout, layout, stop-1};
+ghost use Rattle.walk.specs.Passes.{first};
+ghost use Rattle.walk.specs.SetsOf.{SetsAre};
+ghost use Rattle.walk.specs.State.{place-of, memory-of};
+ghost use Rattle.walk.specs.Steps.{ending, one-step, used, state-of, step-of, Within};
+ghost use Rattle.walk.specs.Stops.{stop-at};
+ghost use Rattle.walk.specs.Walk.{due, settled, onward, walk};
+ghost use Rattle.walk.specs.WalkCall.{in-pack, told, judged, walk-of, walked, visitsLeft, visitsAfter, held-judged, held-told};
+ghost use Rattle.walk.specs.declared.walk.End.the-variants.{Whole, Stop};
+use crate::held::held_at;
+use crate::passes::Counts;
+use crate::passes::Settling;
+use crate::passes::Spot;
+use crate::passes::gone;
+use crate::passes::moved;
+use crate::passes::settle;
+use crate::passes::visit;
+use crate::sets::Set;
+use crate::sets::Sets;
+use crate::sets::sets_of;
+use crate::sets::stop_1;
+use crate::stops::stop_at;
+use pack::cursor::OptNumber;
+use pack::load::Index;
+use pack::load::Loaded;
+use pack::load::Refusal;
+use pack::load::load;
+use pack::of::pgn_of;
+use pack::protocol::FieldOrder;
+use pack::protocol::Protocol;
+use rules::places::pgn_position;
+
+pub enum End {
+    Whole,
+    UsedUp,
+    Stop(u32),
+}
+
+pub enum Walked {
+    Refused(Refusal),
+    // how it ended, and how many visits were made
+    Ended { end: End, visits: usize },
+}
+
+pub enum HeldAnswer {
+    Refused(Refusal),
+    Held(bool),
+}
+
+// Where the walk is, and the latest readings of the countFields.
+pub struct State {
+    pub settling: Settling,
+    pub counts: Counts,
+}
+
+// With one reading: the walk ends, or a field is visited.
+pub enum Stepping {
+    Ended(End),
+    Visited { field: u32, next: State },
+}
+
+// A PGN of the pack: its work position, and its sets.
+pub struct FoundPgn {
+    pub given: bool,
+    pub place: usize,
+    pub sets: Sets,
+}
+
+// Not in the pack.
+fn absent() -> FoundPgn
+    ensures { λ r. ⌜ r .given ≡ false ⌝ }
+{
+    let set = Set {
+        start: FieldOrder(0),
+        end: FieldOrder(0),
+        counter: OptNumber {
+            given: false,
+            value: 0,
+        },
+        nested: false,
+    };
+    let sets = Sets {
+        fields: 0,
+        first: set,
+        second: set,
+    };
+    FoundPgn {
+        given: false,
+        place: 0,
+        sets,
+    }
+}
+
+// No field is due any more: stop 2, or the last order is passed.
+fn finished(halted: bool) -> End
+    ensures { λ r. ⌜ r ≡ (if halted then Stop 2 else Whole) ⌝ }
+{
+    if halted {
+        return End::Stop(2);
+    }
+    End::Whole
+}
+
+// Before the first visit.
+fn begin(sets: Sets) -> State
+    ensures { λ r. ⌜ ((L : Layout) → SetsAre L sets → state-of r ≡ settled L (by-place L) first (by-place L .fresh)) ⌝ }
+{
+    let counts = Counts {
+        first: 0,
+        second: 0,
+    };
+    let none = gone();
+    let spot = Spot {
+        order: FieldOrder(1),
+        first: none,
+        second: none,
+    };
+    let settling = settle(sets, counts, spot);
+    State { settling, counts }
+}
+
+// After a visit of the field that was due at the spot.
+fn onward(sets: Sets, counts: Counts, spot: Spot, reading: u64) -> State
+    requires { ⌜ (1 ≤ spot .order .0) × (spot .order .0 < 4294967295) ⌝ }
+    ensures { λ r. ⌜ ((L : Layout) → SetsAre L sets → state-of r ≡ onward L (by-place L) (place-of spot) (memory-of counts) reading) ⌝ }
+{
+    let order = spot.order.0;
+    let after = visit(sets, counts, order - 1, reading);
+    let next = moved(spot, FieldOrder(order + 1));
+    let settling = settle(sets, after, next);
+    State {
+        settling,
+        counts: after,
+    }
+}
+
+// At a due field, with its reading.
+fn step_at(
+    s: &[u8],
+    work: &[u32],
+    index: Index,
+    t: u32,
+    i: u32,
+    p: usize,
+    sets: Sets,
+    counts: Counts,
+    spot: Spot,
+    reading: u64,
+) -> Stepping
+    requires { ⌜ PgnAt (now s) (now work) t i p × IndexIs (packOf (now s)) index × SetsAre (layout (pgnIn (packOf (now s)) t i)) sets × (1 ≤ spot .order .0) × (spot .order .0 ≤ length (pgnIn (packOf (now s)) t i .fields)) ⌝ }
+    ensures { λ r. ⌜ step-of r ≡ one-step (layout (pgnIn (packOf (now (s .entry))) t i)) (stop-at (packOf (now (s .entry))) (pgnIn (packOf (now (s .entry))) t i)) (due (place-of spot) (memory-of counts)) reading ⌝ }
+{
+    let field = spot.order.0 - 1;
+    let stop = stop_at(s, work, index, t, i, p, sets, field, reading);
+    if stop != 0 {
+        return Stepping::Ended(End::Stop(stop));
+    }
+    let next = onward(sets, counts, spot, reading);
+    Stepping::Visited { field, next }
+}
+
+// One step of the walk over PGN i of tree t, which is at p.
+fn step(
+    s: &[u8],
+    work: &[u32],
+    index: Index,
+    t: u32,
+    i: u32,
+    p: usize,
+    sets: Sets,
+    state: State,
+    reading: u64,
+) -> Stepping
+    requires { ⌜ PgnAt (now s) (now work) t i p × IndexIs (packOf (now s)) index × SetsAre (layout (pgnIn (packOf (now s)) t i)) sets × Within (layout (pgnIn (packOf (now s)) t i)) (state-of state) ⌝ }
+    ensures { λ r. ⌜ step-of r ≡ one-step (layout (pgnIn (packOf (now (s .entry))) t i)) (stop-at (packOf (now (s .entry))) (pgnIn (packOf (now (s .entry))) t i)) (state-of state) reading ⌝ }
+{
+    let settling = state.settling;
+    if settling.due {
+        return step_at(
+            s,
+            work,
+            index,
+            t,
+            i,
+            p,
+            sets,
+            state.counts,
+            settling.spot,
+            reading,
+        );
+    }
+    Stepping::Ended(finished(settling.halted))
+}
+
+// With no reading left.
+fn used(state: State) -> End
+    ensures { λ r. ⌜ r ≡ ending (used (state-of state)) ⌝ }
+{
+    let settling = state.settling;
+    if settling.due {
+        return End::UsedUp;
+    }
+    finished(settling.halted)
+}
+
+// The walk past stop 1.
+fn walk_on(
+    s: &[u8],
+    work: &[u32],
+    index: Index,
+    t: u32,
+    i: u32,
+    p: usize,
+    sets: Sets,
+    readings: &[u64],
+    visits: &mut [u32],
+) -> Walked
+    requires { ⌜ PgnAt (now s) (now work) t i p × IndexIs (packOf (now s)) index × SetsAre (layout (pgnIn (packOf (now s)) t i)) sets × (stop-1 (layout (pgnIn (packOf (now s)) t i)) ≡ false) × (length (now readings) ≤ length (now visits)) ⌝ }
+    ensures { λ r. ⌜ r ≡ told (walk (packOf (now (s .entry))) (pgnIn (packOf (now (s .entry))) t i) (now (readings .entry))) ⌝ }
+    ensures { λ r. ⌜ now (visits .exit) ≡ over (walk (packOf (now (s .entry))) (pgnIn (packOf (now (s .entry))) t i) (now (readings .entry)) .visits) (now (visits .entry)) ⌝ }
+{
+    let mut state = begin(sets);
+    let mut n = 0;
+    while n < readings.len() {
+        match step(s, work, index, t, i, p, sets, state, readings[n]) {
+            Stepping::Ended(end) => return Walked::Ended { end, visits: n },
+            Stepping::Visited { field, next } => {
+                visits[n] = field;
+                state = next;
+            }
+        }
+        n += 1;
+    }
+    let end = used(state);
+    Walked::Ended { end, visits: n }
+}
+
+// The walk over PGN i of tree t, which is at p and has these sets.
+fn walk_at(
+    s: &[u8],
+    work: &[u32],
+    index: Index,
+    t: u32,
+    i: u32,
+    p: usize,
+    sets: Sets,
+    readings: &[u64],
+    visits: &mut [u32],
+) -> Walked
+    requires { ⌜ PgnAt (now s) (now work) t i p × IndexIs (packOf (now s)) index × SetsAre (layout (pgnIn (packOf (now s)) t i)) sets × (length (now readings) ≤ length (now visits)) ⌝ }
+    ensures { λ r. ⌜ r ≡ told (walk (packOf (now (s .entry))) (pgnIn (packOf (now (s .entry))) t i) (now (readings .entry))) ⌝ }
+    ensures { λ r. ⌜ now (visits .exit) ≡ over (walk (packOf (now (s .entry))) (pgnIn (packOf (now (s .entry))) t i) (now (readings .entry)) .visits) (now (visits .entry)) ⌝ }
+{
+    if stop_1(sets) {
+        return Walked::Ended {
+            end: End::Stop(1),
+            visits: 0,
+        };
+    }
+    walk_on(s, work, index, t, i, p, sets, readings, visits)
+}
+
+// The PGN that is named, and its sets, if it is in the pack.
+fn find_pgn(s: &[u8], work: &[u32], index: Index, tree: u32, pgn: u32) -> FoundPgn
+    requires { ⌜ Ready (now s) (now work) × IndexIs (packOf (now s)) index ⌝ }
+    ensures { λ r. ⌜ r .given ≡ in-pack (packOf (now (s .entry))) tree pgn ⌝ }
+    ensures { λ r. ⌜ (r .given ≡ true → PgnAt (now (s .entry)) (now (work .entry)) tree pgn (r .place) × SetsAre (layout (pgnIn (packOf (now (s .entry))) tree pgn)) (r .sets)) ⌝ }
+{
+    if Protocol::COUNT <= tree as usize {
+        return absent();
+    }
+    let section = Protocol::of_tree(tree).section(index);
+    if section.count <= pgn {
+        return absent();
+    }
+    let place = pgn_position(s, work, tree, section.place, pgn);
+    let g = pgn_of(s, work, tree, pgn, place);
+    let sets = sets_of(s, work, tree, pgn, place, g);
+    FoundPgn {
+        given: true,
+        place,
+        sets,
+    }
+}
+
+// "then 21, 23, 25"
+fn walk_named(
+    pack: &[u8],
+    work: &[u32],
+    index: Index,
+    tree: u32,
+    pgn: u32,
+    readings: &[u64],
+    visits: &mut [u32],
+) -> Walked
+    requires { ⌜ Ready (now pack) (now work) × IndexIs (packOf (now pack)) index ⌝ }
+    ensures { λ r. ⌜ r ≡ judged (in-pack (packOf (now (pack .entry))) tree pgn) (length (now (readings .entry))) (length (now (visits .entry))) (walk-of (now (pack .entry)) tree pgn (now (readings .entry))) ⌝ }
+    ensures { λ r. ⌜ now (visits .exit) ≡ visitsLeft (judged (in-pack (packOf (now (pack .entry))) tree pgn) (length (now (readings .entry))) (length (now (visits .entry))) (walk-of (now (pack .entry)) tree pgn (now (readings .entry)))) (walk-of (now (pack .entry)) tree pgn (now (readings .entry)) .visits) (now (visits .entry)) ⌝ }
+{
+    let found = find_pgn(pack, work, index, tree, pgn);
+    if !found.given {
+        return Walked::Refused(Refusal::Absent);
+    }
+    let needed = readings.len();
+    if visits.len() < needed {
+        return Walked::Refused(Refusal::Visits(needed));
+    }
+    walk_at(
+        pack,
+        work,
+        index,
+        tree,
+        pgn,
+        found.place,
+        found.sets,
+        readings,
+        visits,
+    )
+}
+
+pub fn walk(
+    pack: &[u8],
+    work: &mut [u32],
+    tree: u32,
+    pgn: u32,
+    readings: &[u64],
+    visits: &mut [u32],
+) -> Walked
+    ensures { λ r. ⌜ r ≡ walked (now (pack .entry)) (length (now (work .entry))) tree pgn (now (readings .entry)) (length (now (visits .entry))) ⌝ }
+    ensures { λ r. ⌜ now (work .exit) ≡ workAfter (now (pack .entry)) (now (work .entry)) ⌝ }
+    ensures { λ r. ⌜ now (visits .exit) ≡ visitsAfter (now (pack .entry)) (length (now (work .entry))) tree pgn (now (readings .entry)) (now (visits .entry)) ⌝ }
+{
+    match load(pack, work) {
+        Loaded::Refused(refusal) => Walked::Refused(refusal),
+        Loaded::Accepted(index) => { walk_named(pack, work, index, tree, pgn, readings, visits) }
+    }
+}
+
+fn held_named(pack: &[u8], work: &[u32], index: Index, tree: u32, pgn: u32) -> HeldAnswer
+    requires { ⌜ Ready (now pack) (now work) × IndexIs (packOf (now pack)) index ⌝ }
+    ensures { λ r. ⌜ r ≡ held-judged (in-pack (packOf (now (pack .entry))) tree pgn) (held (packOf (now (pack .entry))) (pgn-at (packOf (now (pack .entry))) tree pgn)) ⌝ }
+{
+    let found = find_pgn(pack, work, index, tree, pgn);
+    if !found.given {
+        return HeldAnswer::Refused(Refusal::Absent);
+    }
+    HeldAnswer::Held(held_at(pack, work, tree, pgn, found.place, found.sets))
+}
+
+pub fn held(pack: &[u8], work: &mut [u32], tree: u32, pgn: u32) -> HeldAnswer
+    ensures { λ r. ⌜ r ≡ held-told (now (pack .entry)) (length (now (work .entry))) tree pgn ⌝ }
+    ensures { λ r. ⌜ now (work .exit) ≡ workAfter (now (pack .entry)) (now (work .entry)) ⌝ }
+{
+    match load(pack, work) {
+        Loaded::Refused(refusal) => HeldAnswer::Refused(refusal),
+        Loaded::Accepted(index) => held_named(pack, work, index, tree, pgn),
+    }
+}
