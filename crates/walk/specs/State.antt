@@ -1,6 +1,6 @@
 -- What the values mean that the code of the walk keeps: of each of the two sets what is left, and its countField's latest reading. No history.
 use Prim.Native.Nat.{ℕ, zero, suc}
-use mathlib.Core.Option.{Option, none, some}
+use mathlib.Core.Option.{Option, none}
 use Rattle.pack.specs.Notation.{if_then_else_, optional}
 use Rattle.walk.specs.Layout.{Layout}
 use Rattle.walk.specs.Passes.{Rest, endless, more, Place, Stand, again, arrived, ready, beyond, Turn, goes-on, leaves, begins, stand}

@@ -1,9 +1,8 @@
 -- One step of the walk, as the code makes it: with one reading it ends or visits a field.
 use Prim.Native.Nat.{ℕ, pred, _≤_}
-use mathlib.Core.Option.{Option, none, some}
+use mathlib.Core.Option.{none, some}
 use lib.ListN.{length}
 use Rattle.walk.specs.Layout.{Layout}
-use Rattle.walk.specs.Passes.{Place}
 use Rattle.walk.specs.Walk.{Stops, Settled, past, halted, due, onward, End, whole, used-up, stop}
 use Rattle.walk.specs.ByPlace.{placed, by-place}
 use Rattle.walk.specs.State.{memory-of, settled-of}
