@@ -1,12 +1,13 @@
 //! A short run of each differential run, long enough that everything is reached.
 
-use harness::diff;
 use harness::encode::encode;
 use harness::finding::Finding;
 use harness::generate::{Generator, packs_of_sizes};
 use harness::reader::LIMIT;
 use harness::rules::check;
+use harness::value::{Lookup, Pack};
 use harness::words::words;
+use harness::{calls, diff, library};
 
 #[test]
 fn every_run_reaches_everything_and_finds_no_difference() {
@@ -32,5 +33,26 @@ fn packs_without_slips_are_without_error() {
         let pack = generator.pack_with(0, false);
         let error = check(&pack).into_iter().find(Finding::is_error);
         assert_eq!(error.map(|finding| words(&pack, &finding)), None);
+    }
+}
+
+/// The library holds up to 1024 findings before it looks for them again, and marks up to 4096 lookups.
+#[test]
+fn many_findings_and_many_lookups() {
+    for count in [1023, 1024, 1025, 4095, 4096, 4097] {
+        let lookup = |i: usize| Lookup { name: format!("L{i:04}").into_bytes(), ..Lookup::default() };
+        let pack = Pack { lookups: (0..count).map(lookup).collect(), ..Pack::default() };
+        let encoded = encode(&pack);
+        for lent in [8 * count, 8 * count - 1] {
+            let mut work = vec![7; encoded.records.len()];
+            let mut findings = vec![7; lent];
+            let (mut other_work, mut other_findings) = (work.clone(), findings.clone());
+            let answer = calls::check(&encoded.bytes, &mut work, &mut findings);
+            assert_eq!(answer.is_ok(), lent == 8 * count);
+            if let Some(theirs) = library::check(&encoded.bytes, &mut other_work, &mut other_findings) {
+                assert_eq!(theirs, library::as_numbers(answer), "{count} lookups");
+                assert_eq!((other_work, other_findings), (work, findings), "{count} lookups");
+            }
+        }
     }
 }
