@@ -6,6 +6,8 @@ pub mod TwoSets
 pub mod Spots
 -- the stops in parts
 pub mod Parts
+-- marks at the fields that stop at no reading
+pub mod Marks
 -- the law of position; the walk by place; the rounds
 pub mod Invariants
 pub mod Position

@@ -3,14 +3,17 @@ use Prim.Native.Nat.{ℕ, zero, suc, _+_, _-_, _^_, _<_}
 use native.Mathlib.Omega.{arith}
 use native.Mathlib.Numerals.{add-one}
 use mathlib.Core.Path.{_≡_, refl, sym, ap, _∙_}
-use mathlib.Core.Bool.{Bool, true, false, not, _&&_, _||_}
+use mathlib.Core.Bool.{Bool, true, false, not, _&&_, _||_, false≢true}
+use mathlib.Core.List.{List}
 use mathlib.Core.Option.{Option, none, some}
 use lib.ListN.{length}
 use lib.Dec.{ltb}
 use lib.Pow.{pow-pos}
 use borrow.Author.Tests.{ltb-true, ltb-false, lt-ltb, le-ltb, le-leb, lt-leb}
 use Rattle.pack.specs.Notation.{if_then_else_, optional, _<ᵇ_, _≤ᵇ_, _≐_}
-use Rattle.pack.specs.Value.{Bytes, Field, Pgn, Pack}
+use Rattle.pack.specs.Value.{Bytes, Reference, Field, Pgn, Pack}
+use Rattle.pack.specs.Meaning.{packOf}
+use Rattle.pack.specs.Ready.{lookupIn}
 use Rattle.rules.specs.Search.{or-else, anyBelow}
 use Rattle.rules.specs.SearchLaws.{first-is}
 use Rattle.rules.specs.Model.{field-at, root-of, lookup-ref, find-lookup, target, resolve-match}
@@ -19,8 +22,9 @@ use Rattle.rules.specs.Texts.{DYNAMIC-FIELD-VALUE}
 use Rattle.rules.proofs.Types.{given-is}
 use Rattle.walk.specs.Layout.{Layout, sets-hold}
 use Rattle.walk.specs.ByPlace.{placed}
-use Rattle.walk.specs.Stops.{is-missing, lookup-missing, unfit, match-unfit, reference-names-missing, is-dynamic-value, lacks, lacks-length, stop-at}
-use Rattle.walk.specs.StopParts.{stop-number, field-stop, need-stop}
+use Rattle.walk.specs.Stops.{is-missing, lookup-missing, unfit, match-unfit, entries-name-missing, reference-names-missing, is-dynamic-value, lacks, lacks-length, stop-at}
+use Rattle.walk.specs.StopParts.{Named, stop-number, field-stop, need-stop}
+use Rattle.walk.specs.declared.stops.FieldtypeLookup.{FieldtypeLookup}
 
 -- ---- the whole
 
@@ -51,6 +55,21 @@ module _ (P : Pack) (p : Pgn) (current : ℕ → Bool) (i reading : ℕ) where
 
       pub by-need : b ≡ false → (m : ℕ) → stop-number m ≡ need-stop P p current i → stop-number m ≡ stop-at P p current i reading
       by-need x m y = rw (parts, ← is, free, ← h, x) y
+
+-- 5, by the fieldtype lookup that the reference names
+pub named-reading : {s w : List ℕ} {r : Option Reference} {v : FieldtypeLookup} → Named s w r v → (reading : ℕ) (b : Bool)
+    → b ≡ (v .given && entries-name-missing (packOf s) (lookupIn (packOf s) (v .index) .entries) reading) → b ≡ reference-names-missing (packOf s) r reading
+named-reading {s} {w} {r} {v} N reading b e = go (v .given) refl
+  where
+    go : (g : Bool) → v .given ≡ g → b ≡ reference-names-missing (packOf s) r reading
+    go true g = e ∙ ap (λ (x : Bool). x && entries-name-missing (packOf s) (lookupIn (packOf s) (v .index) .entries) reading) g ∙ sym (N .decide g reading)
+    go false g = e ∙ ap (λ (x : Bool). x && entries-name-missing (packOf s) (lookupIn (packOf s) (v .index) .entries) reading) g ∙ sym (N .none g reading)
+
+-- harmless: no stop, and no fieldtype lookup
+pub and-not-parts : (a b : Bool) → (a && not b) ≡ true → (a ≡ true) × (b ≡ false)
+and-not-parts true false h = (refl, refl)
+and-not-parts true true h = absurd (false≢true h)
+and-not-parts false b h = absurd (false≢true h)
 
 -- ---- 3 and 4
 

@@ -5,13 +5,15 @@ use mathlib.Core.Path.{_≡_}
 use mathlib.Core.Bool.{Bool, true, false}
 use mathlib.Core.List.{List}
 use mathlib.Core.Option.{Option, none, some}
-use lib.ListN.{length}
+use lib.ListN.{length, getD}
 use Rattle.pack.specs.Notation.{if_then_else_}
 use Rattle.pack.specs.Value.{Reference, Field, Pgn, Pack}
 use Rattle.pack.specs.Meaning.{packOf}
 use Rattle.pack.specs.Ready.{LookupAt, lookupIn}
 use Rattle.rules.specs.Model.{field-at}
-use Rattle.walk.specs.Stops.{lookup-missing, match-unfit, entries-name-missing, reference-names-missing, lacks, lacks-length}
+use Rattle.walk.specs.ByPlace.{placed}
+use Rattle.walk.specs.Layout.{layout}
+use Rattle.walk.specs.Stops.{lookup-missing, match-unfit, entries-name-missing, reference-names-missing, lacks, lacks-length, stop-at}
 use Rattle.walk.specs.declared.stops.FieldtypeLookup.{FieldtypeLookup}
 
 -- a stop as a number: 0 for none
@@ -40,3 +42,7 @@ need-stop P p current i =
     else if lacks-length P p current i then some 8
     else if lacks p current (f .trailing-zero) then some 9
     else none
+
+-- each field that is marked stops the walk at no reading
+pub record Harmless (P : Pack) (p : Pgn) (marks : List Bool) : Type 0 where
+  pub never : (k : ℕ) → getD marks k false ≡ true → (reading : ℕ) → stop-at P p (placed (layout p) (suc k)) k reading ≡ none

@@ -1,4 +1,5 @@
 pub mod guaranteed;
+pub mod harmless;
 pub mod held;
 pub mod passes;
 pub mod sets;

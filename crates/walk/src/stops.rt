@@ -29,6 +29,7 @@ use pack::records::FieldView;
 use pack::records::OptReference;
 use pack::text::OptText;
 use pack::text::text_is;
+use rules::bools::and_not;
 use rules::dynamic_length::length_source;
 use rules::lookups::find_lookup;
 use rules::matches::resolve_match;
@@ -151,7 +152,7 @@ pub struct FieldtypeLookup {
 }
 
 // The fieldtype lookup that a reference names: only the entries of such a one name anything.
-pub fn fieldtype_lookup(s: &[u8], work: &[u32], index: Index, r: OptReference) -> FieldtypeLookup
+fn fieldtype_lookup(s: &[u8], work: &[u32], index: Index, r: OptReference) -> FieldtypeLookup
     requires { ⌜ Ready (now s) (now work) × IndexIs (packOf (now s)) index ⌝ }
     ensures { λ v. ⌜ Named (now (s .entry)) (now (work .entry)) (optReference (now (s .entry)) r) v ⌝ }
 {
@@ -180,27 +181,17 @@ pub fn fieldtype_lookup(s: &[u8], work: &[u32], index: Index, r: OptReference) -
     }
 }
 
-// Whether the reading of a field can stop the walk at all.
-pub fn reading_matters(s: &[u8], work: &[u32], index: Index, r: OptReference) -> bool
-    requires { ⌜ Ready (now s) (now work) × IndexIs (packOf (now s)) index ⌝ }
-    ensures { λ b. ⌜ (b ≡ false → (reading : ℕ) → reference-names-missing (packOf (now (s .entry))) (optReference (now (s .entry)) r) reading ≡ false) ⌝ }
-{
-    let l = fieldtype_lookup(s, work, index, r);
-    l.given
-}
-
-// 5, of a field's reference.
-fn reference_names_missing(
+// 5, of a fieldtype lookup that a field's reference names.
+fn lookup_names_missing(
     s: &[u8],
     work: &[u32],
     index: Index,
-    r: OptReference,
+    l: FieldtypeLookup,
     reading: u64,
 ) -> bool
-    requires { ⌜ Ready (now s) (now work) × IndexIs (packOf (now s)) index ⌝ }
-    ensures { λ b. ⌜ b ≡ reference-names-missing (packOf (now (s .entry))) (optReference (now (s .entry)) r) reading ⌝ }
+    requires { ⌜ IndexIs (packOf (now s)) index × (l .given ≡ true → LookupAt (now s) (now work) (l .index) (l .place)) × (l .given ≡ true → 3 ≡ lookupIn (packOf (now s)) (l .index) .kind) × (l .given ≡ true → l .entries ≡ length (lookupIn (packOf (now s)) (l .index) .entries)) ⌝ }
+    ensures { λ b. ⌜ b ≡ (l .given && entries-name-missing (packOf (now (s .entry))) (lookupIn (packOf (now (s .entry))) (l .index) .entries) reading) ⌝ }
 {
-    let l = fieldtype_lookup(s, work, index, r);
     if !l.given {
         return false;
     }
@@ -329,8 +320,14 @@ fn need_stop(
     0
 }
 
-// The stop at field k of PGN i of tree t, which is at p, with this reading; 0 for none.
-pub fn stop_at(
+// The stop at a field with its reading, 0 for none; and whether it is known to stop at no reading at all.
+pub struct Judged {
+    pub stop: u32,
+    pub harmless: bool,
+}
+
+// Field k of PGN i of tree t, which is at p.
+pub fn judge(
     s: &[u8],
     work: &[u32],
     index: Index,
@@ -340,41 +337,27 @@ pub fn stop_at(
     sets: Sets,
     k: u32,
     reading: u64,
-) -> u32
+) -> Judged
     requires { ⌜ PgnAt (now s) (now work) t i p × IndexIs (packOf (now s)) index × SetsAre (layout (pgnIn (packOf (now s)) t i)) sets × (k < length (pgnIn (packOf (now s)) t i .fields)) ⌝ }
-    ensures { λ r. ⌜ stop-number r ≡ stop-at (packOf (now (s .entry))) (pgnIn (packOf (now (s .entry))) t i) (placed (layout (pgnIn (packOf (now (s .entry))) t i)) (suc k)) k reading ⌝ }
+    ensures { λ r. ⌜ stop-number (r .stop) ≡ stop-at (packOf (now (s .entry))) (pgnIn (packOf (now (s .entry))) t i) (placed (layout (pgnIn (packOf (now (s .entry))) t i)) (suc k)) k reading ⌝ }
+    ensures { λ r. ⌜ (r .harmless ≡ true → (other : ℕ) → stop-at (packOf (now (s .entry))) (pgnIn (packOf (now (s .entry))) t i) (placed (layout (pgnIn (packOf (now (s .entry))) t i)) (suc k)) k other ≡ none) ⌝ }
 {
     let f = field_of(s, work, t, i, p, k);
     let by_field = field_stop(s, work, index, f);
     if by_field != 0 {
-        return by_field;
+        return Judged {
+            stop: by_field,
+            harmless: false,
+        };
     }
-    if reference_names_missing(s, work, index, f.links.reference, reading) {
-        return 5;
+    let l = fieldtype_lookup(s, work, index, f.links.reference);
+    if lookup_names_missing(s, work, index, l, reading) {
+        return Judged {
+            stop: 5,
+            harmless: false,
+        };
     }
-    need_stop(s, work, t, i, p, sets, k, f)
-}
-
-// Whether field k never stops the walk, whatever its reading.
-pub fn never_stops(
-    s: &[u8],
-    work: &[u32],
-    index: Index,
-    t: u32,
-    i: u32,
-    p: usize,
-    sets: Sets,
-    k: u32,
-) -> bool
-    requires { ⌜ PgnAt (now s) (now work) t i p × IndexIs (packOf (now s)) index × SetsAre (layout (pgnIn (packOf (now s)) t i)) sets × (k < length (pgnIn (packOf (now s)) t i .fields)) ⌝ }
-    ensures { λ r. ⌜ (r ≡ true → (reading : ℕ) → stop-at (packOf (now (s .entry))) (pgnIn (packOf (now (s .entry))) t i) (placed (layout (pgnIn (packOf (now (s .entry))) t i)) (suc k)) k reading ≡ none) ⌝ }
-{
-    let f = field_of(s, work, t, i, p, k);
-    if field_stop(s, work, index, f) != 0 {
-        return false;
-    }
-    if reading_matters(s, work, index, f.links.reference) {
-        return false;
-    }
-    need_stop(s, work, t, i, p, sets, k, f) == 0
+    let stop = need_stop(s, work, t, i, p, sets, k, f);
+    let harmless = and_not(stop == 0, l.given);
+    Judged { stop, harmless }
 }

@@ -16,10 +16,12 @@ ghost use Rattle.walk.specs.Passes.{first};
 ghost use Rattle.walk.specs.SetsOf.{SetsAre};
 ghost use Rattle.walk.specs.State.{place-of, memory-of};
 ghost use Rattle.walk.specs.Steps.{ending, one-step, used, state-of, step-of, Within};
+ghost use Rattle.walk.specs.StopParts.{Harmless};
 ghost use Rattle.walk.specs.Stops.{stop-at};
 ghost use Rattle.walk.specs.Walk.{due, settled, onward, walk};
 ghost use Rattle.walk.specs.WalkCall.{in-pack, told, judged, walk-of, walked, visitsLeft, visitsAfter, held-judged, held-told};
 ghost use Rattle.walk.specs.declared.walk.End.the-variants.{Whole, Stop};
+use crate::harmless::stop_at;
 use crate::held::held_at;
 use crate::passes::Counts;
 use crate::passes::Settling;
@@ -32,7 +34,6 @@ use crate::sets::Set;
 use crate::sets::Sets;
 use crate::sets::sets_of;
 use crate::sets::stop_1;
-use crate::stops::stop_at;
 use pack::cursor::OptNumber;
 use pack::load::Index;
 use pack::load::Loaded;
@@ -156,15 +157,17 @@ fn step_at(
     i: u32,
     p: usize,
     sets: Sets,
+    harmless: &mut [bool],
     counts: Counts,
     spot: Spot,
     reading: u64,
 ) -> Stepping
-    requires { ⌜ PgnAt (now s) (now work) t i p × IndexIs (packOf (now s)) index × SetsAre (layout (pgnIn (packOf (now s)) t i)) sets × (1 ≤ spot .order .0) × (spot .order .0 ≤ length (pgnIn (packOf (now s)) t i .fields)) ⌝ }
+    requires { ⌜ PgnAt (now s) (now work) t i p × IndexIs (packOf (now s)) index × SetsAre (layout (pgnIn (packOf (now s)) t i)) sets × Harmless (packOf (now s)) (pgnIn (packOf (now s)) t i) (now harmless) × (1 ≤ spot .order .0) × (spot .order .0 ≤ length (pgnIn (packOf (now s)) t i .fields)) ⌝ }
     ensures { λ r. ⌜ step-of r ≡ one-step (layout (pgnIn (packOf (now (s .entry))) t i)) (stop-at (packOf (now (s .entry))) (pgnIn (packOf (now (s .entry))) t i)) (due (place-of spot) (memory-of counts)) reading ⌝ }
+    ensures { λ r. ⌜ Harmless (packOf (now (s .entry))) (pgnIn (packOf (now (s .entry))) t i) (now (harmless .exit)) ⌝ }
 {
     let field = spot.order.0 - 1;
-    let stop = stop_at(s, work, index, t, i, p, sets, field, reading);
+    let stop = stop_at(s, work, index, t, i, p, sets, harmless, field, reading);
     if stop != 0 {
         return Stepping::Ended(End::Stop(stop));
     }
@@ -181,11 +184,13 @@ fn step(
     i: u32,
     p: usize,
     sets: Sets,
+    harmless: &mut [bool],
     state: State,
     reading: u64,
 ) -> Stepping
-    requires { ⌜ PgnAt (now s) (now work) t i p × IndexIs (packOf (now s)) index × SetsAre (layout (pgnIn (packOf (now s)) t i)) sets × Within (layout (pgnIn (packOf (now s)) t i)) (state-of state) ⌝ }
+    requires { ⌜ PgnAt (now s) (now work) t i p × IndexIs (packOf (now s)) index × SetsAre (layout (pgnIn (packOf (now s)) t i)) sets × Harmless (packOf (now s)) (pgnIn (packOf (now s)) t i) (now harmless) × Within (layout (pgnIn (packOf (now s)) t i)) (state-of state) ⌝ }
     ensures { λ r. ⌜ step-of r ≡ one-step (layout (pgnIn (packOf (now (s .entry))) t i)) (stop-at (packOf (now (s .entry))) (pgnIn (packOf (now (s .entry))) t i)) (state-of state) reading ⌝ }
+    ensures { λ r. ⌜ Harmless (packOf (now (s .entry))) (pgnIn (packOf (now (s .entry))) t i) (now (harmless .exit)) ⌝ }
 {
     let settling = state.settling;
     if settling.due {
@@ -197,6 +202,7 @@ fn step(
             i,
             p,
             sets,
+            harmless,
             state.counts,
             settling.spot,
             reading,
@@ -216,7 +222,7 @@ fn used(state: State) -> End
     finished(settling.halted)
 }
 
-// The walk past stop 1.
+// The walk past stop 1, with marks for fields that stop at no reading.
 fn walk_on(
     s: &[u8],
     work: &[u32],
@@ -225,17 +231,18 @@ fn walk_on(
     i: u32,
     p: usize,
     sets: Sets,
+    harmless: &mut [bool],
     readings: &[u64],
     visits: &mut [u32],
 ) -> Walked
-    requires { ⌜ PgnAt (now s) (now work) t i p × IndexIs (packOf (now s)) index × SetsAre (layout (pgnIn (packOf (now s)) t i)) sets × (stop-1 (layout (pgnIn (packOf (now s)) t i)) ≡ false) × (length (now readings) ≤ length (now visits)) ⌝ }
+    requires { ⌜ PgnAt (now s) (now work) t i p × IndexIs (packOf (now s)) index × SetsAre (layout (pgnIn (packOf (now s)) t i)) sets × Harmless (packOf (now s)) (pgnIn (packOf (now s)) t i) (now harmless) × (stop-1 (layout (pgnIn (packOf (now s)) t i)) ≡ false) × (length (now readings) ≤ length (now visits)) ⌝ }
     ensures { λ r. ⌜ r ≡ told (walk (packOf (now (s .entry))) (pgnIn (packOf (now (s .entry))) t i) (now (readings .entry))) ⌝ }
     ensures { λ r. ⌜ now (visits .exit) ≡ over (walk (packOf (now (s .entry))) (pgnIn (packOf (now (s .entry))) t i) (now (readings .entry)) .visits) (now (visits .entry)) ⌝ }
 {
     let mut state = begin(sets);
     let mut n = 0;
     while n < readings.len() {
-        match step(s, work, index, t, i, p, sets, state, readings[n]) {
+        match step(s, work, index, t, i, p, sets, harmless, state, readings[n]) {
             Stepping::Ended(end) => return Walked::Ended { end, visits: n },
             Stepping::Visited { field, next } => {
                 visits[n] = field;
@@ -270,7 +277,19 @@ fn walk_at(
             visits: 0,
         };
     }
-    walk_on(s, work, index, t, i, p, sets, readings, visits)
+    let mut harmless = [false; 256];
+    walk_on(
+        s,
+        work,
+        index,
+        t,
+        i,
+        p,
+        sets,
+        &mut harmless,
+        readings,
+        visits,
+    )
 }
 
 // The PGN that is named, and its sets, if it is in the pack.

@@ -1,18 +1,22 @@
-use Rattle.rules.proofs.Sizes.{fields-few}
-use Rattle.walk.specs.Stops.{stop-at}
-use Rattle.walk.specs.Layout.{layout}
-use Rattle.walk.specs.Steps.{state-of}
-use Rattle.walk.specs.State.{place-of, memory-of}
-use Rattle.walk.proofs.Walks.{step-stops, step-visits}
-use native.Mathlib.Omega.{arith}
-use Prim.Native.Nat.{_-_}
-use mathlib.Core.Path.{refl}
-use denote.Ref.{now}
-use Rattle.pack.specs.Ready.{pgnIn}
 use Rattle.pack.specs.Meaning.{packOf}
+use Rattle.pack.specs.Ready.{pgnIn}
+use denote.Ref.{now}
+use mathlib.Core.Path.{refl}
+use Prim.Native.Nat.{_-_}
+use native.Mathlib.Omega.{arith}
+use Rattle.walk.proofs.Walks.{step-stops, step-visits}
+use Rattle.walk.specs.State.{place-of, memory-of}
+use Rattle.walk.specs.Steps.{state-of}
+use Rattle.walk.specs.Layout.{layout}
+use Rattle.walk.specs.Stops.{stop-at}
+use Rattle.rules.proofs.Sizes.{fields-few}
 use borrow.Author.Needs.{needs}
 use Rattle.walk.proofs.walk.step_at.Statement.{statement}
 use Rattle.walk.proofs.walk.step_at.Tie as tie
+use Rattle.walk.proofs.walk.step_at.Reads as reads
+use Rattle.walk.proofs.walk.step_at.Lts as lts
+use Rattle.walk.proofs.harmless.stop_at.Reads as stop-at-reads
+use Rattle.walk.proofs.walk.onward.Reads as onward-reads
 
 sub-field : tie.Need-sub-field
 sub-field c = search needs
@@ -20,14 +24,29 @@ sub-field c = search needs
 stop-at-requires : tie.Need-stop-at-requires
 stop-at-requires c κs = search needs
 
+same-length : tie.Need-same-length
+same-length c = search needs
+
 returns : tie.Need-returns
-returns c = step-stops (layout (pgnIn (packOf (now (c .before .before .before .before .before .args .s))) (c .before .before .before .before .before .args .t) (c .before .before .before .before .before .args .i))) (stop-at (packOf (now (c .before .before .before .before .before .args .s))) (pgnIn (packOf (now (c .before .before .before .before .before .args .s))) (c .before .before .before .before .before .args .t) (c .before .before .before .before .before .args .i))) (place-of (c .before .before .before .before .before .args .spot)) (memory-of (c .before .before .before .before .before .args .counts)) (c .before .before .before .before .before .args .reading) (c .before .before .before .before .before .args .spot .order .0 - 1) refl (c .before .before .before .before .before .pre .3) (c .before .stop-at .result) (c .before .stop-at .ensures) (c .if1 .taken)
+returns c = (step-stops (layout (pgnIn (packOf (now (c .before .before .before .before .before .before .before .before .before .args .s))) (c .before .before .before .before .before .before .before .before .before .args .t) (c .before .before .before .before .before .before .before .before .before .args .i))) (stop-at (packOf (now (c .before .before .before .before .before .before .before .before .before .args .s))) (pgnIn (packOf (now (c .before .before .before .before .before .before .before .before .before .args .s))) (c .before .before .before .before .before .before .before .before .before .args .t) (c .before .before .before .before .before .before .before .before .before .args .i))) (place-of (c .before .before .before .before .before .before .before .before .before .args .spot)) (memory-of (c .before .before .before .before .before .before .before .before .before .args .counts)) (c .before .before .before .before .before .before .before .before .before .args .reading) (c .before .before .before .before .before .before .before .before .before .args .spot .order .0 - 1) refl (c .before .before .before .before .before .before .before .before .before .pre .4) (c .before .before .before .stop-at .result) (c .before .before .before .stop-at .ensures .0) (c .if1 .taken), c .before .before .before .stop-at .ensures .1)
 
 onward-requires : tie.Need-onward-requires
-onward-requires c κs = (c .before .before .before .before .before .pre .3, omega (arith, c .before .before .before .before .before .pre .4, fields-few (c .before .before .before .before .before .pre .0)))
+onward-requires c κs = (c .before .before .before .before .before .before .before .before .before .pre .4, omega (arith, c .before .before .before .before .before .before .before .before .before .pre .5, fields-few (c .before .before .before .before .before .before .before .before .before .pre .0)))
+
+same-length-2 : tie.Need-same-length-2
+same-length-2 c = search needs
 
 returns-2 : tie.Need-returns-2
-returns-2 c = step-visits (layout (pgnIn (packOf (now (c .before .before .before .before .before .before .args .s))) (c .before .before .before .before .before .before .args .t) (c .before .before .before .before .before .before .args .i))) (stop-at (packOf (now (c .before .before .before .before .before .before .args .s))) (pgnIn (packOf (now (c .before .before .before .before .before .before .args .s))) (c .before .before .before .before .before .before .args .t) (c .before .before .before .before .before .before .args .i))) (place-of (c .before .before .before .before .before .before .args .spot)) (memory-of (c .before .before .before .before .before .before .args .counts)) (c .before .before .before .before .before .before .args .reading) (c .before .before .before .before .before .before .args .spot .order .0 - 1) refl (c .before .before .before .before .before .before .pre .3) (c .before .before .stop-at .result) (c .before .before .stop-at .ensures) (c .before .if1 .left) (state-of (c .onward .result)) (c .onward .ensures (layout (pgnIn (packOf (now (c .before .before .before .before .before .before .args .s))) (c .before .before .before .before .before .before .args .t) (c .before .before .before .before .before .before .args .i))) (c .before .before .before .before .before .before .pre .2))
+returns-2 c = (step-visits (layout (pgnIn (packOf (now (c .before .before .before .before .before .before .before .before .before .before .args .s))) (c .before .before .before .before .before .before .before .before .before .before .args .t) (c .before .before .before .before .before .before .before .before .before .before .args .i))) (stop-at (packOf (now (c .before .before .before .before .before .before .before .before .before .before .args .s))) (pgnIn (packOf (now (c .before .before .before .before .before .before .before .before .before .before .args .s))) (c .before .before .before .before .before .before .before .before .before .before .args .t) (c .before .before .before .before .before .before .before .before .before .before .args .i))) (place-of (c .before .before .before .before .before .before .before .before .before .before .args .spot)) (memory-of (c .before .before .before .before .before .before .before .before .before .before .args .counts)) (c .before .before .before .before .before .before .before .before .before .before .args .reading) (c .before .before .before .before .before .before .before .before .before .before .args .spot .order .0 - 1) refl (c .before .before .before .before .before .before .before .before .before .before .pre .4) (c .before .before .before .before .stop-at .result) (c .before .before .before .before .stop-at .ensures .0) (c .before .if1 .left) (state-of (c .onward .result)) (c .onward .ensures (layout (pgnIn (packOf (now (c .before .before .before .before .before .before .before .before .before .before .args .s))) (c .before .before .before .before .before .before .before .before .before .before .args .t) (c .before .before .before .before .before .before .before .before .before .before .args .i))) (c .before .before .before .before .before .before .before .before .before .before .pre .2)), c .before .before .before .before .stop-at .ensures .1)
 
 pub step-at-spec : {M : Type 1} → statement M
-step-at-spec = tie.close (tie.spec sub-field stop-at-requires returns onward-requires returns-2)
+step-at-spec =
+    tie.close
+    (tie.spec
+    sub-field
+    stop-at-requires
+    same-length
+    returns
+    onward-requires
+    same-length-2
+    returns-2)

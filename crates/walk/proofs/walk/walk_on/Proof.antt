@@ -1,39 +1,45 @@
-use lib.ListN.{length-set, length}
-use Rattle.walk.specs.Walk.{walk}
-use Rattle.walk.specs.Stops.{stop-at}
-use Rattle.walk.specs.Layout.{layout}
-use Rattle.walk.specs.Steps.{state-of, step-of}
-use Rattle.walk.proofs.Walks.{Going, start-going, going-within, going-used, going-ended, going-on}
 use borrow.Author.Needs.{needs}
-use native.Mathlib.Omega.{arith}
-use Prim.Native.Nat.{_-_, _≤_}
-use mathlib.Core.Path.{_≡_, refl, _∙_, ap}
-use denote.Ref.{now}
-use Rattle.pack.specs.Ready.{pgnIn}
 use Rattle.pack.specs.Meaning.{packOf}
+use Rattle.pack.specs.Ready.{pgnIn}
+use denote.Ref.{now}
+use mathlib.Core.Path.{_≡_, refl, _∙_, ap}
+use Prim.Native.Nat.{_-_, _≤_}
+use native.Mathlib.Omega.{arith}
+use Rattle.walk.proofs.Walks.{Going, start-going, going-within, going-used, going-ended, going-on}
+use Rattle.walk.specs.Steps.{state-of, step-of}
+use Rattle.walk.specs.Layout.{layout}
+use Rattle.walk.specs.StopParts.{Harmless}
+use Rattle.walk.specs.Stops.{stop-at}
+use Rattle.walk.specs.Walk.{walk}
+use lib.ListN.{length-set, length}
 use Rattle.walk.proofs.walk.walk_on.Statement.{statement}
 use Rattle.walk.proofs.walk.walk_on.Tie as tie
+use Rattle.walk.proofs.walk.walk_on.Reads as reads
+use Rattle.walk.proofs.walk.walk_on.Lts as lts
+use Rattle.walk.proofs.walk.begin.Reads as begin-reads
+use Rattle.walk.proofs.walk.step.Reads as step-reads
+use Rattle.walk.proofs.walk.used.Reads as used-reads
 
 abbrev Inv-loop : tie.InvT-loop
-Inv-loop s work index t i p sets readings visits₀ state₀ n₀ visits state n = (n ≤ length readings) × (length visits ≡ length visits₀) × Going (layout (pgnIn (packOf s) t i)) (stop-at (packOf s) (pgnIn (packOf s) t i)) (walk (packOf s) (pgnIn (packOf s) t i) readings) readings visits₀ visits n (state-of state)
+Inv-loop s work index t i p sets harmless₀ readings visits₀ state₀ n₀ harmless visits state n = (n ≤ length readings) × (length visits ≡ length visits₀) × Going (layout (pgnIn (packOf s) t i)) (stop-at (packOf s) (pgnIn (packOf s) t i)) (walk (packOf s) (pgnIn (packOf s) t i) readings) readings visits₀ visits n (state-of state) × (length harmless ≡ length harmless₀) × Harmless (packOf s) (pgnIn (packOf s) t i) harmless
 
 abbrev μ-loop : tie.MeasureT-loop
-μ-loop s work index t i p sets readings visits₀ state₀ n₀ visits state n = length readings - n
+μ-loop s work index t i p sets harmless₀ readings visits₀ state₀ n₀ harmless visits state n = length readings - n
 
 begin-requires : tie.Need-begin-requires Inv-loop μ-loop
 begin-requires c κs = search needs
 
 loop-holds : tie.Need-loop-holds Inv-loop μ-loop
-loop-holds c = (omega arith, refl, start-going (packOf (now (c .before .before .before .before .before .args .s))) (pgnIn (packOf (now (c .before .before .before .before .before .args .s))) (c .before .before .before .before .before .args .t) (c .before .before .before .before .before .args .i)) (now (c .before .before .before .before .before .args .readings)) (now (c .before .before .before .before .before .args .visits)) (c .before .before .before .before .before .pre .3) (state-of (c .begin .result)) (c .begin .ensures (layout (pgnIn (packOf (now (c .before .before .before .before .before .args .s))) (c .before .before .before .before .before .args .t) (c .before .before .before .before .before .args .i))) (c .before .before .before .before .before .pre .2)))
+loop-holds c = (omega arith, refl, start-going (packOf (now (c .before .before .before .before .before .before .args .s))) (pgnIn (packOf (now (c .before .before .before .before .before .before .args .s))) (c .before .before .before .before .before .before .args .t) (c .before .before .before .before .before .before .args .i)) (now (c .before .before .before .before .before .before .args .readings)) (now (c .before .before .before .before .before .before .args .visits)) (c .before .before .before .before .before .before .pre .4) (state-of (c .begin .result)) (c .begin .ensures (layout (pgnIn (packOf (now (c .before .before .before .before .before .before .args .s))) (c .before .before .before .before .before .before .args .t) (c .before .before .before .before .before .before .args .i))) (c .before .before .before .before .before .before .pre .2)), refl, c .before .before .before .before .before .before .pre .3)
 
 mul-step : tie.Need-mul-step Inv-loop μ-loop
-mul-step c = omega (arith, c .loop-test .taken, c .before .before .before .before .before .before .before .good .1 .1 .1 .1 .1 .1 .1 .0)
+mul-step c = omega (arith, c .before .loop-test .taken, c .before .before .before .before .before .before .before .before .before .good .1 .1 .1 .1 .1 .1 .1 .1 .0)
 
 shared-slice-read-step : tie.Need-shared-slice-read-step Inv-loop μ-loop
 shared-slice-read-step c = search needs
 
 step-requires : tie.Need-step-requires Inv-loop μ-loop
-step-requires c κs = (c .before .before .before .before .before .before .before .before .pre .0, c .before .before .before .before .before .before .before .before .pre .1, c .before .before .before .before .before .before .before .before .pre .2, going-within (layout (pgnIn (packOf (now (c .before .before .before .before .before .before .before .before .args .s))) (c .before .before .before .before .before .before .before .before .args .t) (c .before .before .before .before .before .before .before .before .args .i))) (c .before .before .before .before .before .before .before .before .pre .3) _ _ _ _ _ _ (state-of (c .before .before .loop .state)) (c .before .before .loop .inv .2))
+step-requires c κs = (c .before .before .before .before .before .before .before .before .before .before .pre .0, c .before .before .before .before .before .before .before .before .before .before .pre .1, c .before .before .before .before .before .before .before .before .before .before .pre .2, c .before .before .before .loop .inv .4, going-within (layout (pgnIn (packOf (now (c .before .before .before .before .before .before .before .before .before .before .args .s))) (c .before .before .before .before .before .before .before .before .before .before .args .t) (c .before .before .before .before .before .before .before .before .before .before .args .i))) (c .before .before .before .before .before .before .before .before .before .before .pre .4) _ _ _ _ _ _ (state-of (c .before .before .before .loop .state)) (c .before .before .before .loop .inv .2))
 
 enum-known-end : tie.Need-enum-known-end Inv-loop μ-loop
 enum-known-end c = search needs
@@ -41,35 +47,41 @@ enum-known-end c = search needs
 same-length : tie.Need-same-length Inv-loop μ-loop
 same-length c = search needs
 
+same-length-2 : tie.Need-same-length-2 Inv-loop μ-loop
+same-length-2 c = search needs
+
 returns : tie.Need-returns Inv-loop μ-loop
-returns c = let a = going-ended (layout (pgnIn (packOf (now (c .before .before .before .before .before .before .before .before .before .before .before .before .args .s))) (c .before .before .before .before .before .before .before .before .before .before .before .before .args .t) (c .before .before .before .before .before .before .before .before .before .before .before .before .args .i))) (c .before .before .before .before .before .before .before .before .before .before .before .before .pre .3) _ _ _ _ _ _ (state-of (c .before .before .before .before .before .before .loop .state)) (c .before .before .before .before .before .before .loop .inv .2) (c .before .before .before .before .before .loop-test .taken) (step-of (c .before .before .before .step .result)) (c .before .before .before .step .ensures) (c .before .end .given .0 .0) (ap step-of (c .before .end .given .1)) (omega (arith, c .before .before .before .before .before .before .loop .inv .0, c .before .before .before .before .before .before .before .before .before .before .before .before .pre .4)) in (a .answer, a .out)
+returns c = let a = going-ended (layout (pgnIn (packOf (now (c .before .before .before .before .before .before .before .before .before .before .before .before .before .before .before .before .args .s))) (c .before .before .before .before .before .before .before .before .before .before .before .before .before .before .before .before .args .t) (c .before .before .before .before .before .before .before .before .before .before .before .before .before .before .before .before .args .i))) (c .before .before .before .before .before .before .before .before .before .before .before .before .before .before .before .before .pre .4) _ _ _ _ _ _ (state-of (c .before .before .before .before .before .before .before .before .before .loop .state)) (c .before .before .before .before .before .before .before .before .before .loop .inv .2) (c .before .before .before .before .before .before .before .before .loop-test .taken) (step-of (c .before .before .before .before .before .step .result)) (c .before .before .before .before .before .step .ensures .0) (c .before .end .given .0 .0) (ap step-of (c .before .end .given .1)) (omega (arith, c .before .before .before .before .before .before .before .before .before .loop .inv .0, c .before .before .before .before .before .before .before .before .before .before .before .before .before .before .before .before .pre .5)) in (a .answer, a .out)
 
 enum-known-field : tie.Need-enum-known-field Inv-loop μ-loop
 enum-known-field c = search needs
 
 mul-visits : tie.Need-mul-visits Inv-loop μ-loop
-mul-visits c = omega (arith, c .before .before .before .before .before .loop-test .taken, c .before .before .before .before .before .before .before .before .before .before .before .before .good .1 .1 .1 .1 .1 .1 .1 .0)
+mul-visits c = omega (arith, c .before .before .before .before .before .before .before .before .loop-test .taken, c .before .before .before .before .before .before .before .before .before .before .before .before .before .before .before .before .good .1 .1 .1 .1 .1 .1 .1 .1 .0)
 
 slice-write-visits : tie.Need-slice-write-visits Inv-loop μ-loop
-slice-write-visits c = search needs
+slice-write-visits c = omega (arith, c .before .before .before .before .before .before .before .before .loop-test .taken, c .before .before .before .before .before .before .before .before .before .loop .inv .1, c .before .before .before .before .before .before .before .before .before .before .before .before .before .before .before .before .pre .5)
 
 add-n : tie.Need-add-n Inv-loop μ-loop
-add-n c = omega (arith, c .before .before .before .before .before .loop-test .taken, c .before .before .before .before .before .before .before .before .before .before .before .before .good .1 .1 .1 .1 .1 .1 .1 .0)
+add-n c = omega (arith, c .before .before .before .before .before .before .before .before .loop-test .taken, c .before .before .before .before .before .before .before .before .before .before .before .before .before .before .before .before .good .1 .1 .1 .1 .1 .1 .1 .1 .0)
 
 loop-less : tie.Need-loop-less Inv-loop μ-loop
 loop-less c = search needs
 
 loop-again : tie.Need-loop-again Inv-loop μ-loop
-loop-again c = (omega (arith, c .before .before .before .before .before .loop-test .taken), length-set (c .before .before .before .before .before .before .loop .visits) (c .before .before .before .before .before .before .loop .n) (c .before .field .given .0 .0) ∙ c .before .before .before .before .before .before .loop .inv .1, going-on (layout (pgnIn (packOf (now (c .before .before .before .before .before .before .before .before .before .before .before .before .args .s))) (c .before .before .before .before .before .before .before .before .before .before .before .before .args .t) (c .before .before .before .before .before .before .before .before .before .before .before .before .args .i))) (c .before .before .before .before .before .before .before .before .before .before .before .before .pre .3) _ _ _ _ _ _ (state-of (c .before .before .before .before .before .before .loop .state)) (c .before .before .before .before .before .before .loop .inv .2) (c .before .before .before .before .before .loop-test .taken) (step-of (c .before .before .before .step .result)) (c .before .before .before .step .ensures) (c .before .field .given .0 .0) (state-of (c .before .field .given .0 .1 .0)) (ap step-of (c .before .field .given .1)))
+loop-again c = (omega (arith, c .before .before .before .before .before .before .before .before .loop-test .taken), length-set (c .before .before .before .before .before .before .before .before .before .loop .visits) (c .before .before .before .before .before .before .before .before .before .loop .n) (c .before .field .given .0 .0) ∙ c .before .before .before .before .before .before .before .before .before .loop .inv .1, going-on (layout (pgnIn (packOf (now (c .before .before .before .before .before .before .before .before .before .before .before .before .before .before .before .before .args .s))) (c .before .before .before .before .before .before .before .before .before .before .before .before .before .before .before .before .args .t) (c .before .before .before .before .before .before .before .before .before .before .before .before .before .before .before .before .args .i))) (c .before .before .before .before .before .before .before .before .before .before .before .before .before .before .before .before .pre .4) _ _ _ _ _ _ (state-of (c .before .before .before .before .before .before .before .before .before .loop .state)) (c .before .before .before .before .before .before .before .before .before .loop .inv .2) (c .before .before .before .before .before .before .before .before .loop-test .taken) (step-of (c .before .before .before .before .before .step .result)) (c .before .before .before .before .before .step .ensures .0) (c .before .field .given .0 .0) (state-of (c .before .field .given .0 .1 .0)) (ap step-of (c .before .field .given .1)), c .before .before .before .before .before .step .kept .1 .1 .1 .1 .1 .1 .1 .0 ∙ c .before .before .before .before .before .before .before .before .before .loop .inv .3, c .before .before .before .before .before .step .ensures .1)
 
 used-requires : tie.Need-used-requires Inv-loop μ-loop
 used-requires c κs = search needs
 
-same-length-2 : tie.Need-same-length-2 Inv-loop μ-loop
-same-length-2 c = search needs
+same-length-3 : tie.Need-same-length-3 Inv-loop μ-loop
+same-length-3 c = search needs
+
+same-length-4 : tie.Need-same-length-4 Inv-loop μ-loop
+same-length-4 c = search needs
 
 returns-2 : tie.Need-returns-2 Inv-loop μ-loop
-returns-2 c = let a = going-used (layout (pgnIn (packOf (now (c .before .before .before .before .before .before .before .before .args .s))) (c .before .before .before .before .before .before .before .before .args .t) (c .before .before .before .before .before .before .before .before .args .i))) (c .before .before .before .before .before .before .before .before .pre .3) _ _ _ _ _ _ (state-of (c .before .before .loop .state)) (c .before .before .loop .inv .2) (c .before .loop-test .left) (omega (arith, c .before .before .loop .inv .0, c .before .before .before .before .before .before .before .before .pre .4)) (c .used .result) (c .used .ensures) in (a .answer, a .out)
+returns-2 c = let a = going-used (layout (pgnIn (packOf (now (c .before .before .before .before .before .before .before .before .before .args .s))) (c .before .before .before .before .before .before .before .before .before .args .t) (c .before .before .before .before .before .before .before .before .before .args .i))) (c .before .before .before .before .before .before .before .before .before .pre .4) _ _ _ _ _ _ (state-of (c .before .before .loop .state)) (c .before .before .loop .inv .2) (c .before .loop-test .left) (omega (arith, c .before .before .loop .inv .0, c .before .before .before .before .before .before .before .before .before .pre .5)) (c .used .result) (c .used .ensures) in (a .answer, a .out)
 
 pub walk-on-spec : {M : Type 1} → statement M
 walk-on-spec =
@@ -84,6 +96,7 @@ walk-on-spec =
     step-requires
     enum-known-end
     same-length
+    same-length-2
     returns
     enum-known-field
     mul-visits
@@ -92,5 +105,6 @@ walk-on-spec =
     loop-less
     loop-again
     used-requires
-    same-length-2
+    same-length-3
+    same-length-4
     returns-2)

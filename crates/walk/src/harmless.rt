@@ -1,0 +1,73 @@
+// The stops with a memory: a field that stops at no reading is read once, however many passes visit it. By the law of position only stop 5
+// goes by more than the field.
+ghost use mathlib.Core.Path.{_≡_};
+ghost use mathlib.Core.Bool.{false, true, _||_};
+ghost use Prim.Native.Nat.{suc, _<_};
+ghost use lib.ListN.{length, getD, set};
+ghost use Rattle.pack.specs.Meaning.{packOf};
+ghost use Rattle.pack.specs.Notation.{if_then_else_};
+ghost use Rattle.pack.specs.Ready.{PgnAt, pgnIn};
+ghost use Rattle.pack.proofs.Accepted.{IndexIs};
+ghost use Rattle.walk.specs.ByPlace.{placed};
+ghost use Rattle.walk.specs.Layout.{layout};
+ghost use Rattle.walk.specs.SetsOf.{SetsAre};
+ghost use Rattle.walk.specs.StopParts.{Harmless, stop-number};
+ghost use Rattle.walk.specs.Stops.{stop-at};
+use crate::sets::Sets;
+use crate::stops::judge;
+use pack::load::Index;
+
+// Whether field k is marked; those that the marks have no room for are not.
+fn is_marked(harmless: &[bool], k: u32) -> bool
+    ensures { λ r. ⌜ r ≡ getD (now (harmless .entry)) k false ⌝ }
+{
+    let at = k as usize;
+    if harmless.len() <= at {
+        return false;
+    }
+    harmless[at]
+}
+
+// A mark at field k, if there is room.
+fn mark(harmless: &mut [bool], k: u32)
+    ensures { λ r. ⌜ now (harmless .exit) ≡ set (now (harmless .entry)) k true ⌝ }
+{
+    let at = k as usize;
+    if at < harmless.len() {
+        harmless[at] = true;
+    }
+}
+
+// A mark at field k on a hit.
+fn mark_if(harmless: &mut [bool], k: u32, hit: bool)
+    ensures { λ r. ⌜ now (harmless .exit) ≡ (if hit then set (now (harmless .entry)) k true else now (harmless .entry)) ⌝ }
+{
+    if hit {
+        mark(harmless, k);
+    }
+}
+
+// The stop at field k of PGN i of tree t, which is at p, with this reading; 0 for none.
+pub fn stop_at(
+    s: &[u8],
+    work: &[u32],
+    index: Index,
+    t: u32,
+    i: u32,
+    p: usize,
+    sets: Sets,
+    harmless: &mut [bool],
+    k: u32,
+    reading: u64,
+) -> u32
+    requires { ⌜ PgnAt (now s) (now work) t i p × IndexIs (packOf (now s)) index × SetsAre (layout (pgnIn (packOf (now s)) t i)) sets × Harmless (packOf (now s)) (pgnIn (packOf (now s)) t i) (now harmless) × (k < length (pgnIn (packOf (now s)) t i .fields)) ⌝ }
+    ensures { λ r. ⌜ stop-number r ≡ stop-at (packOf (now (s .entry))) (pgnIn (packOf (now (s .entry))) t i) (placed (layout (pgnIn (packOf (now (s .entry))) t i)) (suc k)) k reading ⌝ }
+    ensures { λ r. ⌜ Harmless (packOf (now (s .entry))) (pgnIn (packOf (now (s .entry))) t i) (now (harmless .exit)) ⌝ }
+{
+    if is_marked(harmless, k) {
+        return 0;
+    }
+    let judged = judge(s, work, index, t, i, p, sets, k, reading);
+    mark_if(harmless, k, judged.harmless);
+    judged.stop
+}
