@@ -15,6 +15,8 @@ pub mod Agree
 pub mod Rounds
 -- the loop
 pub mod Walks
+-- visits between which only the order changes
+pub mod Plain
 pub mod WalkCalls
 -- the guarantee against stops
 pub mod Never

@@ -19,7 +19,7 @@ use Rattle.walk.specs.Visits.{Visits}
 use Rattle.walk.specs.Walk.{Stops, Settled, past, halted, due, settled, onward, stop, Answer, no-visit, visit-then, walk-on, walk-with, by-visits, walk}
 use Rattle.walk.specs.ByPlace.{placed, by-place}
 use Rattle.walk.specs.State.{two, settled-of}
-use Rattle.walk.specs.Steps.{ending, end-of, Stepped, ended, visited, one-step, used, Within}
+use Rattle.walk.specs.Steps.{ending, end-of, Stepped, ended, visited, one-step, Run, no-step, then-step, used, Within}
 use Rattle.walk.specs.StopParts.{stop-number}
 use Rattle.walk.specs.Stops.{stop-at}
 use Rattle.walk.specs.WalkCall.{told}
@@ -209,3 +209,9 @@ module _ (L : Layout) (laid : stop-1 L ≡ false) (stops : Stops) (A : Answer) (
           whence = y .0;
           same = y .1;
         }
+
+-- after a run
+pub going-run : (L : Layout) → stop-1 L ≡ false → (stops : Stops) (A : Answer) (readings w : List ℕ) {v v′ : List ℕ} {n n′ : ℕ} {c c′ : Settled (ℕ → ℕ)}
+    → Run L stops readings v n c v′ n′ c′ → Going L stops A readings w v n c → Going L stops A readings w v′ n′ c′
+going-run L laid stops A readings w no-step g = g
+going-run L laid stops A readings w (then-step {v′} {n′} {c′} R low k d e) g = going-on L laid stops A readings w v′ n′ c′ (going-run L laid stops A readings w R g) low (visited k d) e k d refl

@@ -1,7 +1,9 @@
 -- One step of the walk, as the code makes it: with one reading it ends or visits a field.
-use Prim.Native.Nat.{ℕ, pred, _≤_}
+use Prim.Native.Nat.{ℕ, pred, _+_, _≤_, _<_}
+use mathlib.Core.Path.{_≡_}
+use mathlib.Core.List.{List}
 use mathlib.Core.Option.{none, some}
-use lib.ListN.{length}
+use lib.ListN.{length, getD, set}
 use Rattle.walk.specs.Layout.{Layout}
 use Rattle.walk.specs.Walk.{Stops, Settled, past, halted, due, onward, End, whole, used-up, stop}
 use Rattle.walk.specs.ByPlace.{placed, by-place}
@@ -34,6 +36,12 @@ one-step L stops (due p g) r = elim (stops (placed L (p .order)) (pred (p .order
   | some n ↦ ended (stop n)
   | none ↦ visited (pred (p .order)) (onward L (by-place L) p g r)
 ]
+
+-- Steps one after the other, each writing its visit: from the buffer v with n visits made at c, to v′ with n′ at c′.
+pub data Run (L : Layout) (stops : Stops) (readings v : List ℕ) (n : ℕ) (c : Settled (ℕ → ℕ)) : List ℕ → ℕ → Settled (ℕ → ℕ) → Type 0 where
+  no-step : Run L stops readings v n c v n c
+  then-step : {v′ : List ℕ} {n′ : ℕ} {c′ : Settled (ℕ → ℕ)} → Run L stops readings v n c v′ n′ c′ → n′ < length readings → (k : ℕ) (d : Settled (ℕ → ℕ))
+      → visited k d ≡ one-step L stops c′ (getD readings n′ 0) → Run L stops readings v n c (set v′ n′ k) (n′ + 1) d
 
 -- with no reading left
 abbrev pub used : Settled (ℕ → ℕ) → End

@@ -18,7 +18,7 @@ use crate::stops::judge;
 use pack::load::Index;
 
 // Whether field k is marked; those that the marks have no room for are not.
-fn is_marked(harmless: &[bool], k: u32) -> bool
+pub fn is_marked(harmless: &[bool], k: u32) -> bool
     ensures { λ r. ⌜ r ≡ getD (now (harmless .entry)) k false ⌝ }
 {
     let at = k as usize;

@@ -268,7 +268,7 @@ fn arrive(sets: Sets, o: FieldOrder, counter: OptNumber, count: u64) -> Arriving
 }
 
 // A field is due there.
-fn due(spot: Spot) -> Settling
+pub fn due(spot: Spot) -> Settling
     ensures { λ r. ⌜ ((g : ℕ → ℕ) → settled-of r g ≡ due (place-of spot) g) ⌝ }
 {
     Settling {
@@ -347,7 +347,7 @@ pub fn settle(sets: Sets, counts: Counts, spot: Spot) -> Settling
 }
 
 // Whether the field k is the countField.
-fn is_counter(counter: OptNumber, k: u32) -> bool
+pub fn is_counter(counter: OptNumber, k: u32) -> bool
     requires { ⌜ k < 4294967295 ⌝ }
     ensures { λ r. ⌜ r ≡ counts (optNumber counter) k ⌝ }
 {

@@ -1,24 +1,25 @@
 // The calls `walk` and `held`.
 ghost use mathlib.Core.Path.{_≡_};
 ghost use mathlib.Core.Bool.{true, false};
-ghost use Prim.Native.Nat.{_≤_, _<_};
-ghost use lib.ListN.{length};
+ghost use mathlib.Core.Option.{none};
+ghost use Prim.Native.Nat.{ℕ, suc, _≤_, _<_};
+ghost use lib.ListN.{length, getD};
 ghost use Rattle.pack.specs.Load.{over, workAfter};
 ghost use Rattle.pack.specs.Meaning.{packOf};
 ghost use Rattle.pack.specs.Notation.{if_then_else_};
 ghost use Rattle.pack.specs.Ready.{Ready, PgnAt, pgnIn};
 ghost use Rattle.pack.proofs.Accepted.{IndexIs};
 ghost use Rattle.rules.specs.Model.{pgn-at};
-ghost use Rattle.walk.specs.ByPlace.{by-place};
+ghost use Rattle.walk.specs.ByPlace.{by-place, placed};
 ghost use Rattle.walk.specs.Held.{held};
 ghost use Rattle.walk.specs.Layout.{Layout, layout, stop-1};
 ghost use Rattle.walk.specs.Passes.{first};
 ghost use Rattle.walk.specs.SetsOf.{SetsAre};
 ghost use Rattle.walk.specs.State.{place-of, memory-of};
-ghost use Rattle.walk.specs.Steps.{ending, one-step, used, state-of, step-of, Within};
+ghost use Rattle.walk.specs.Steps.{ending, Run, one-step, used, state-of, step-of, Within};
 ghost use Rattle.walk.specs.StopParts.{Harmless};
 ghost use Rattle.walk.specs.Stops.{stop-at};
-ghost use Rattle.walk.specs.Walk.{due, settled, onward, walk};
+ghost use Rattle.walk.specs.Walk.{Stops, due, settled, onward, walk};
 ghost use Rattle.walk.specs.WalkCall.{in-pack, told, judged, walk-of, walked, visitsLeft, visitsAfter, held-judged, held-told};
 ghost use Rattle.walk.specs.declared.walk.End.the-variants.{Whole, Stop};
 use crate::harmless::stop_at;
@@ -26,10 +27,12 @@ use crate::held::held_at;
 use crate::passes::Counts;
 use crate::passes::Settling;
 use crate::passes::Spot;
+use crate::passes::due;
 use crate::passes::gone;
 use crate::passes::moved;
 use crate::passes::settle;
 use crate::passes::visit;
+use crate::runs::run;
 use crate::sets::Set;
 use crate::sets::Sets;
 use crate::sets::sets_of;
@@ -71,6 +74,12 @@ pub struct State {
 pub enum Stepping {
     Ended(End),
     Visited { field: u32, next: State },
+}
+
+// The walk after a run, and how many visits are made by then.
+pub struct Ran {
+    pub state: State,
+    pub visits: usize,
 }
 
 // A PGN of the pack: its work position, and its sets.
@@ -222,6 +231,36 @@ fn used(state: State) -> End
     finished(settling.halted)
 }
 
+// A run from where the walk is, with n visits made.
+fn run_on(
+    sets: Sets,
+    harmless: &[bool],
+    state: State,
+    readings: &[u64],
+    visits: &mut [u32],
+    n: usize,
+) -> Ran
+    requires { ⌜ (state .settling .due ≡ true → (1 ≤ state .settling .spot .order .0) × (state .settling .spot .order .0 ≤ sets .fields)) × (n ≤ length (now readings)) × (length (now readings) ≤ length (now visits)) ⌝ }
+    ensures { λ r. ⌜ (n ≤ r .visits) × (r .visits ≤ length (now (readings .entry))) ⌝ }
+    ensures { λ r. ⌜ ((L : Layout) → SetsAre L sets → (stops : Stops) → ((k : ℕ) → getD (now (harmless .entry)) k false ≡ true → (reading : ℕ) → stops (placed L (suc k)) k reading ≡ none) → Run L stops (now (readings .entry)) (now (visits .entry)) n (state-of state) (now (visits .exit)) (r .visits) (state-of (r .state))) ⌝ }
+{
+    let settling = state.settling;
+    if !settling.due {
+        return Ran { state, visits: n };
+    }
+    let spot = settling.spot;
+    let end = run(sets, harmless, spot.order, readings, visits, n);
+    let next = due(moved(spot, end.order));
+    let counts = state.counts;
+    Ran {
+        state: State {
+            settling: next,
+            counts,
+        },
+        visits: end.visits,
+    }
+}
+
 // The walk past stop 1, with marks for fields that stop at no reading.
 fn walk_on(
     s: &[u8],
@@ -246,10 +285,11 @@ fn walk_on(
             Stepping::Ended(end) => return Walked::Ended { end, visits: n },
             Stepping::Visited { field, next } => {
                 visits[n] = field;
-                state = next;
+                let ran = run_on(sets, harmless, next, readings, visits, n + 1);
+                state = ran.state;
+                n = ran.visits;
             }
         }
-        n += 1;
     }
     let end = used(state);
     Walked::Ended { end, visits: n }

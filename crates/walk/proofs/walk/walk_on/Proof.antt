@@ -5,20 +5,16 @@ use denote.Ref.{now}
 use mathlib.Core.Path.{_≡_, refl, _∙_, ap}
 use Prim.Native.Nat.{_-_, _≤_}
 use native.Mathlib.Omega.{arith}
-use Rattle.walk.proofs.Walks.{Going, start-going, going-within, going-used, going-ended, going-on}
+use Rattle.walk.proofs.Walks.{Going, start-going, due-within, going-within, going-used, going-ended, going-on, going-run}
 use Rattle.walk.specs.Steps.{state-of, step-of}
 use Rattle.walk.specs.Layout.{layout}
 use Rattle.walk.specs.StopParts.{Harmless}
 use Rattle.walk.specs.Stops.{stop-at}
 use Rattle.walk.specs.Walk.{walk}
+use Rattle.walk.specs.State.{memory-of}
 use lib.ListN.{length-set, length}
 use Rattle.walk.proofs.walk.walk_on.Statement.{statement}
 use Rattle.walk.proofs.walk.walk_on.Tie as tie
-use Rattle.walk.proofs.walk.walk_on.Reads as reads
-use Rattle.walk.proofs.walk.walk_on.Lts as lts
-use Rattle.walk.proofs.walk.begin.Reads as begin-reads
-use Rattle.walk.proofs.walk.step.Reads as step-reads
-use Rattle.walk.proofs.walk.used.Reads as used-reads
 
 abbrev Inv-loop : tie.InvT-loop
 Inv-loop s work index t i p sets harmless₀ readings visits₀ state₀ n₀ harmless visits state n = (n ≤ length readings) × (length visits ≡ length visits₀) × Going (layout (pgnIn (packOf s) t i)) (stop-at (packOf s) (pgnIn (packOf s) t i)) (walk (packOf s) (pgnIn (packOf s) t i) readings) readings visits₀ visits n (state-of state) × (length harmless ≡ length harmless₀) × Harmless (packOf s) (pgnIn (packOf s) t i) harmless
@@ -62,14 +58,17 @@ mul-visits c = omega (arith, c .before .before .before .before .before .before .
 slice-write-visits : tie.Need-slice-write-visits Inv-loop μ-loop
 slice-write-visits c = omega (arith, c .before .before .before .before .before .before .before .before .loop-test .taken, c .before .before .before .before .before .before .before .before .before .loop .inv .1, c .before .before .before .before .before .before .before .before .before .before .before .before .before .before .before .before .pre .5)
 
-add-n : tie.Need-add-n Inv-loop μ-loop
-add-n c = omega (arith, c .before .before .before .before .before .before .before .before .loop-test .taken, c .before .before .before .before .before .before .before .before .before .before .before .before .before .before .before .before .good .1 .1 .1 .1 .1 .1 .1 .1 .0)
+add-run-on : tie.Need-add-run-on Inv-loop μ-loop
+add-run-on c = omega (arith, c .before .before .before .before .before .before .before .before .before .before .loop-test .taken, c .before .before .before .before .before .before .before .before .before .before .before .before .before .before .before .before .before .before .good .1 .1 .1 .1 .1 .1 .1 .1 .0)
+
+run-on-requires : tie.Need-run-on-requires Inv-loop μ-loop
+run-on-requires c κs = let g = going-on (layout (pgnIn (packOf (now (c .before .before .before .before .before .before .before .before .before .before .before .before .before .before .before .before .before .before .args .s))) (c .before .before .before .before .before .before .before .before .before .before .before .before .before .before .before .before .before .before .args .t) (c .before .before .before .before .before .before .before .before .before .before .before .before .before .before .before .before .before .before .args .i))) (c .before .before .before .before .before .before .before .before .before .before .before .before .before .before .before .before .before .before .pre .4) _ _ _ _ _ _ (state-of (c .before .before .before .before .before .before .before .before .before .before .before .loop .state)) (c .before .before .before .before .before .before .before .before .before .before .before .loop .inv .2) (c .before .before .before .before .before .before .before .before .before .before .loop-test .taken) (step-of (c .before .before .before .before .before .before .before .step .result)) (c .before .before .before .before .before .before .before .step .ensures .0) (c .before .before .before .field .given .0 .0) (state-of (c .before .before .before .field .given .0 .1 .0)) (ap step-of (c .before .before .before .field .given .1)) in let w = going-within (layout (pgnIn (packOf (now (c .before .before .before .before .before .before .before .before .before .before .before .before .before .before .before .before .before .before .args .s))) (c .before .before .before .before .before .before .before .before .before .before .before .before .before .before .before .before .before .before .args .t) (c .before .before .before .before .before .before .before .before .before .before .before .before .before .before .before .before .before .before .args .i))) (c .before .before .before .before .before .before .before .before .before .before .before .before .before .before .before .before .before .before .pre .4) _ _ _ _ _ _ (state-of (c .before .before .before .field .given .0 .1 .0)) g in (λ d. let b = due-within (layout (pgnIn (packOf (now (c .before .before .before .before .before .before .before .before .before .before .before .before .before .before .before .before .before .before .args .s))) (c .before .before .before .before .before .before .before .before .before .before .before .before .before .before .before .before .before .before .args .t) (c .before .before .before .before .before .before .before .before .before .before .before .before .before .before .before .before .before .before .args .i))) (c .before .before .before .field .given .0 .1 .0 .settling) (memory-of (c .before .before .before .field .given .0 .1 .0 .counts)) d w in (b .0, omega (arith, b .1, c .before .before .before .before .before .before .before .before .before .before .before .before .before .before .before .before .before .before .pre .2 .fields)), omega (arith, c .before .before .before .before .before .before .before .before .before .before .loop-test .taken), omega (arith, length-set (c .before .before .before .before .before .before .before .before .before .before .before .loop .visits) (c .before .before .before .before .before .before .before .before .before .before .before .loop .n) (c .before .before .before .field .given .0 .0), c .before .before .before .before .before .before .before .before .before .before .before .loop .inv .1, c .before .before .before .before .before .before .before .before .before .before .before .before .before .before .before .before .before .before .pre .5))
 
 loop-less : tie.Need-loop-less Inv-loop μ-loop
-loop-less c = search needs
+loop-less c = omega (arith, c .before .before .before .run-on .ensures .0 .0, c .before .before .before .before .before .before .before .before .before .before .before .before .before .before .loop-test .taken, c .before .before .before .run-on .ensures .0 .1)
 
 loop-again : tie.Need-loop-again Inv-loop μ-loop
-loop-again c = (omega (arith, c .before .before .before .before .before .before .before .before .loop-test .taken), length-set (c .before .before .before .before .before .before .before .before .before .loop .visits) (c .before .before .before .before .before .before .before .before .before .loop .n) (c .before .field .given .0 .0) ∙ c .before .before .before .before .before .before .before .before .before .loop .inv .1, going-on (layout (pgnIn (packOf (now (c .before .before .before .before .before .before .before .before .before .before .before .before .before .before .before .before .args .s))) (c .before .before .before .before .before .before .before .before .before .before .before .before .before .before .before .before .args .t) (c .before .before .before .before .before .before .before .before .before .before .before .before .before .before .before .before .args .i))) (c .before .before .before .before .before .before .before .before .before .before .before .before .before .before .before .before .pre .4) _ _ _ _ _ _ (state-of (c .before .before .before .before .before .before .before .before .before .loop .state)) (c .before .before .before .before .before .before .before .before .before .loop .inv .2) (c .before .before .before .before .before .before .before .before .loop-test .taken) (step-of (c .before .before .before .before .before .step .result)) (c .before .before .before .before .before .step .ensures .0) (c .before .field .given .0 .0) (state-of (c .before .field .given .0 .1 .0)) (ap step-of (c .before .field .given .1)), c .before .before .before .before .before .step .kept .1 .1 .1 .1 .1 .1 .1 .0 ∙ c .before .before .before .before .before .before .before .before .before .loop .inv .3, c .before .before .before .before .before .step .ensures .1)
+loop-again c = (c .before .before .before .run-on .ensures .0 .1, c .before .before .before .run-on .kept .1 .1 .1 .1 .0 ∙ length-set (c .before .before .before .before .before .before .before .before .before .before .before .before .before .before .before .loop .visits) (c .before .before .before .before .before .before .before .before .before .before .before .before .before .before .before .loop .n) (c .before .before .before .before .before .before .before .field .given .0 .0) ∙ c .before .before .before .before .before .before .before .before .before .before .before .before .before .before .before .loop .inv .1, going-run (layout (pgnIn (packOf (now (c .before .before .before .before .before .before .before .before .before .before .before .before .before .before .before .before .before .before .before .before .before .before .args .s))) (c .before .before .before .before .before .before .before .before .before .before .before .before .before .before .before .before .before .before .before .before .before .before .args .t) (c .before .before .before .before .before .before .before .before .before .before .before .before .before .before .before .before .before .before .before .before .before .before .args .i))) (c .before .before .before .before .before .before .before .before .before .before .before .before .before .before .before .before .before .before .before .before .before .before .pre .4) (stop-at (packOf (now (c .before .before .before .before .before .before .before .before .before .before .before .before .before .before .before .before .before .before .before .before .before .before .args .s))) (pgnIn (packOf (now (c .before .before .before .before .before .before .before .before .before .before .before .before .before .before .before .before .before .before .before .before .before .before .args .s))) (c .before .before .before .before .before .before .before .before .before .before .before .before .before .before .before .before .before .before .before .before .before .before .args .t) (c .before .before .before .before .before .before .before .before .before .before .before .before .before .before .before .before .before .before .before .before .before .before .args .i))) (walk (packOf (now (c .before .before .before .before .before .before .before .before .before .before .before .before .before .before .before .before .before .before .before .before .before .before .args .s))) (pgnIn (packOf (now (c .before .before .before .before .before .before .before .before .before .before .before .before .before .before .before .before .before .before .before .before .before .before .args .s))) (c .before .before .before .before .before .before .before .before .before .before .before .before .before .before .before .before .before .before .before .before .before .before .args .t) (c .before .before .before .before .before .before .before .before .before .before .before .before .before .before .before .before .before .before .before .before .before .before .args .i)) (now (c .before .before .before .before .before .before .before .before .before .before .before .before .before .before .before .before .before .before .before .before .before .before .args .readings))) (now (c .before .before .before .before .before .before .before .before .before .before .before .before .before .before .before .before .before .before .before .before .before .before .args .readings)) (now (c .before .before .before .before .before .before .before .before .before .before .before .before .before .before .before .before .before .before .before .before .before .before .args .visits)) (c .before .before .before .run-on .ensures .1 (layout (pgnIn (packOf (now (c .before .before .before .before .before .before .before .before .before .before .before .before .before .before .before .before .before .before .before .before .before .before .args .s))) (c .before .before .before .before .before .before .before .before .before .before .before .before .before .before .before .before .before .before .before .before .before .before .args .t) (c .before .before .before .before .before .before .before .before .before .before .before .before .before .before .before .before .before .before .before .before .before .before .args .i))) (c .before .before .before .before .before .before .before .before .before .before .before .before .before .before .before .before .before .before .before .before .before .before .pre .2) (stop-at (packOf (now (c .before .before .before .before .before .before .before .before .before .before .before .before .before .before .before .before .before .before .before .before .before .before .args .s))) (pgnIn (packOf (now (c .before .before .before .before .before .before .before .before .before .before .before .before .before .before .before .before .before .before .before .before .before .before .args .s))) (c .before .before .before .before .before .before .before .before .before .before .before .before .before .before .before .before .before .before .before .before .before .before .args .t) (c .before .before .before .before .before .before .before .before .before .before .before .before .before .before .before .before .before .before .before .before .before .before .args .i))) (c .before .before .before .before .before .before .before .before .before .before .before .step .ensures .1 .never)) (going-on (layout (pgnIn (packOf (now (c .before .before .before .before .before .before .before .before .before .before .before .before .before .before .before .before .before .before .before .before .before .before .args .s))) (c .before .before .before .before .before .before .before .before .before .before .before .before .before .before .before .before .before .before .before .before .before .before .args .t) (c .before .before .before .before .before .before .before .before .before .before .before .before .before .before .before .before .before .before .before .before .before .before .args .i))) (c .before .before .before .before .before .before .before .before .before .before .before .before .before .before .before .before .before .before .before .before .before .before .pre .4) _ _ _ _ _ _ (state-of (c .before .before .before .before .before .before .before .before .before .before .before .before .before .before .before .loop .state)) (c .before .before .before .before .before .before .before .before .before .before .before .before .before .before .before .loop .inv .2) (c .before .before .before .before .before .before .before .before .before .before .before .before .before .before .loop-test .taken) (step-of (c .before .before .before .before .before .before .before .before .before .before .before .step .result)) (c .before .before .before .before .before .before .before .before .before .before .before .step .ensures .0) (c .before .before .before .before .before .before .before .field .given .0 .0) (state-of (c .before .before .before .before .before .before .before .field .given .0 .1 .0)) (ap step-of (c .before .before .before .before .before .before .before .field .given .1))), c .before .before .before .before .before .before .before .before .before .before .before .step .kept .1 .1 .1 .1 .1 .1 .1 .0 ∙ c .before .before .before .before .before .before .before .before .before .before .before .before .before .before .before .loop .inv .3, c .before .before .before .before .before .before .before .before .before .before .before .step .ensures .1)
 
 used-requires : tie.Need-used-requires Inv-loop μ-loop
 used-requires c κs = search needs
@@ -101,7 +100,8 @@ walk-on-spec =
     enum-known-field
     mul-visits
     slice-write-visits
-    add-n
+    add-run-on
+    run-on-requires
     loop-less
     loop-again
     used-requires
