@@ -11,7 +11,7 @@ use borrow.Author.Tests.{eq-eqb, ne-eqb}
 use Rattle.walk.specs.Layout.{Layout, set-at, stop-1}
 use Rattle.walk.specs.Passes.{Place, first, Stand, again, arrived, ready, beyond}
 use Rattle.walk.specs.Visits.{Visits, latest, is-current}
-use Rattle.walk.specs.Walk.{Arrival, refused, over, enter, arrive, Settled, past, halted, due, visit-then, settle, settled, onward, walk-on, walk-with, by-visits, Stops}
+use Rattle.walk.specs.Walk.{Arrival, not-current, over, enter, arrive, Settled, past, halted, due, visit-then, settle, settled, onward, walk-on, walk-with, by-visits, Stops}
 use Rattle.walk.specs.ByPlace.{placed, by-place}
 use Rattle.walk.proofs.SetFacts.{Good, good}
 use Rattle.walk.proofs.Position.{standing, visiting, Comes, at-first, another, no-start, entered, passed-over, after-visit, at-field, on-arriving}
@@ -31,7 +31,7 @@ readings-visit L h g a i r k t e = go (ℕ-discrete i t)
 -- the two settle alike
 pub data Same (L : Layout) : Settled Visits → Settled (ℕ → ℕ) → Type 0 where
   both-past : Same L past past
-  both-halted : {k : ℕ} {p : Place} {h : Visits} (g : ℕ → ℕ) → Comes L (standing (arrived k p)) h → arrive L (by-place L) p g k (set-at L k .count-field) ≡ refused → Same L halted halted
+  both-halted : {k : ℕ} {p : Place} {h : Visits} (g : ℕ → ℕ) → Comes L (standing (arrived k p)) h → arrive L (by-place L) p g k (set-at L k .count-field) ≡ not-current → Same L halted halted
   both-due : {p : Place} {h : Visits} {g : ℕ → ℕ} → Comes L (visiting p) h → Readings L h g → Same L (due p h) (due p g)
 
 module _ (L : Layout) (G : Good L) where
@@ -56,7 +56,7 @@ module _ (L : Layout) (G : Good L) where
       go : (x : Arrival) → arrive L (by-place L) p g k (set-at L k .count-field) ≡ x
           → ((c : Stand) → Comes L (standing c) h → Same L (settle L (by-visits L) n c h) (settle L (by-place L) n c g))
           → Same L (settle L (by-visits L) (suc n) (arrived k p) h) (settle L (by-place L) (suc n) (arrived k p) g)
-      go refused x rec = rw (same, x, settle) (both-halted g s x)
+      go not-current x rec = rw (same, x, settle) (both-halted g s x)
       go over x rec = rw (same, x, settle) (rec _ (passed-over s))
       go (enter y) x rec = rw (same, x, settle) (both-due (entered y s) a)
 

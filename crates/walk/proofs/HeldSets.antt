@@ -7,7 +7,7 @@ use mathlib.Core.Option.{Option, none, some}
 use lib.ListN.{length}
 use borrow.Author.Tests.{ltb-true, not-true, lt-ltb, le-ltb, ne-eqb}
 use Rattle.walk.specs.Layout.{Layout, set-at, start, end, nonempty, holds, everyBelow, nested-in, inside-previous, misplaced, clash, stop-1}
-use Rattle.walk.specs.Held.{shares-held, count-field-held, count-fields-held}
+use Rattle.walk.specs.Held.{shares-held, count-field-held, count-fields-held, nonempty-count-fields-held}
 use Rattle.walk.proofs.Tests.{or-i, and-not, imp-e, imp-i, every-e, every-i, none-below}
 use Rattle.walk.proofs.SetFacts.{Holds, holds-i, short, placed-i, nested-e}
 use Rattle.walk.proofs.Never.{Count-placed}
@@ -18,10 +18,6 @@ pub record Fits (L : Layout) (k : ℕ) : Type 0 where
   pub high : end L k ≤ suc (length (L .fields))
   pub count : (c : ℕ) → set-at L k .count-field ≡ some c → (1 ≤ c) × (c < start L k)
   pub nests : set-at L k .nested ≡ true → inside-previous L k ≡ true
-
--- Of the countFields only those of nonempty sets are needed. `held` asks it of every set's, as document 01 has it to the letter.
-unfoldable pub nonempty-count-fields-held : Layout → Bool
-nonempty-count-fields-held L = everyBelow (λ k. not (nonempty L k) || count-field-held L k (set-at L k .count-field)) (length (L .sets))
 
 pub counts-weaker : (L : Layout) → count-fields-held L ≡ true → nonempty-count-fields-held L ≡ true
 unfolding count-fields-held nonempty-count-fields-held

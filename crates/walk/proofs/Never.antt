@@ -10,7 +10,7 @@ use Rattle.pack.specs.Value.{noField}
 use Rattle.walk.specs.Layout.{Layout, set-at, start, stop-1}
 use Rattle.walk.specs.Passes.{passes, Place}
 use Rattle.walk.specs.Visits.{Visits}
-use Rattle.walk.specs.Walk.{Memory, counted, refused, arrive, Settled, past, halted, due, End, whole, used-up, stop, Answer, onward, walk-on, walk-with, by-visits, Stops}
+use Rattle.walk.specs.Walk.{Memory, counted, not-current, arrive, Settled, past, halted, due, End, whole, used-up, stop, Answer, onward, walk-on, walk-with, by-visits, Stops}
 use Rattle.walk.specs.ByPlace.{placed, by-place}
 use Rattle.walk.proofs.SetFacts.{Holds, Good, good}
 use Rattle.walk.proofs.Position.{due-order, arriving-at}
@@ -67,13 +67,13 @@ module _ (L : Layout) (stops : Stops) (S : Sound L stops) where
   at-order : (i o r : ℕ) → suc i ≡ o → o ≤ length (L .fields) → stops (placed L o) i r ≡ none
   at-order i o r q l = rw (← q) (S .fields i r (omega arith))
 
-  answers : (p : Place) (g : ℕ → ℕ) (k : ℕ) (c : Option ℕ) → Count-placed L (p .order) c → arrive L (by-place L) p g k c ≡ refused → ⊥
+  answers : (p : Place) (g : ℕ → ℕ) (k : ℕ) (c : Option ℕ) → Count-placed L (p .order) c → arrive L (by-place L) p g k c ≡ not-current → ⊥
   unfolding arrive
   answers p g k none e f = let z : _≡_ {A = ℕ} 0 1 = cc in omega arith
   answers p g k (some zero) e f = e
   answers p g k (some (suc t)) e f = go (passes (getD (L .fields) t noField) (g k)) (rw e at f)
     where
-      go : (n : ℕ) → counted true n ≡ refused → ⊥
+      go : (n : ℕ) → counted true n ≡ not-current → ⊥
       go zero f = let z : _≡_ {A = ℕ} 0 1 = cc in omega arith
       go (suc n) f = let z : _≡_ {A = ℕ} 0 1 = cc in omega arith
 

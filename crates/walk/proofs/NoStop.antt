@@ -24,24 +24,16 @@ use Rattle.walk.specs.Layout.{layout, everyBelow, sets-hold, stop-1}
 use Rattle.walk.specs.Stops.{is-dynamic-value, lacks-length, stop-at}
 use Rattle.walk.specs.Walk.{End, whole, used-up, stop, Answer, by-visits, walk}
 use Rattle.walk.specs.ByPlace.{placed}
-use Rattle.walk.specs.Held.{shares-held, count-fields-held, bit-length-held, dynamic-value-held, held}
+use Rattle.walk.specs.Held.{shares-held, count-fields-held, bit-length-held, dynamic-value-held, held, nonempty-count-fields-held, held-nonempty}
 use Rattle.walk.specs.Guarantee.{Unstopped, ends-whole, ends-used-up, Guarantee, Quiet}
 use Rattle.walk.proofs.Tests.{and-l, and-r, and-i, and-not, imp-e, every-e, any-e, and-4}
 use Rattle.walk.proofs.SetFacts.{Holds, good}
-use Rattle.walk.proofs.HeldSets.{Fits, nonempty-count-fields-held, counts-weaker, past-stop-1, counts-placed}
+use Rattle.walk.proofs.HeldSets.{Fits, counts-weaker, past-stop-1, counts-placed}
 use Rattle.walk.proofs.Never.{Counted, walk-counted, Runs, Sound, never}
 use Rattle.walk.proofs.CleanSets.{sets-fit}
 use Rattle.walk.proofs.CleanFields.{no-stop-3, no-stop-4, no-stop-5, no-stop-6, no-stop-7, no-stop-9}
 
--- `held`, but of the countFields only those of nonempty sets: the guarantee is proved under this weaker test, and so holds under either
--- reading of "a countField".
-unfoldable pub held-nonempty : Pack → Pgn → Bool
-held-nonempty P p =
-    shares-held (layout p)
-    && nonempty-count-fields-held (layout p)
-    && everyBelow (λ k. bit-length-held p k) (length (p .fields))
-    && everyBelow (λ k. dynamic-value-held P p k) (length (p .fields))
-
+-- held under either reading of "a countField"
 pub weaker : (P : Pack) (p : Pgn) → held P p ≡ true → held-nonempty P p ≡ true
 unfolding held held-nonempty
 weaker P p e = let h = and-4 (shares-held (layout p)) (count-fields-held (layout p)) _ _ e in rw (h .0, counts-weaker (layout p) (h .1), h .2, h .3)

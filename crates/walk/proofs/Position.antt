@@ -11,7 +11,7 @@ use borrow.Author.Tests.{ltb-true, lt-ltb}
 use Rattle.walk.specs.Layout.{Layout, set-at, start, end, holds, sets-hold, stop-1}
 use Rattle.walk.specs.Passes.{Rest, present, Place, first, goto, goto-with, Stand, again, arrived, ready, beyond, stand}
 use Rattle.walk.specs.Visits.{Visits, visited, is-current}
-use Rattle.walk.specs.Walk.{by-visits, Arrival, refused, over, enter, arrive, Settled, past, halted, due, settle, settled, onward}
+use Rattle.walk.specs.Walk.{by-visits, Arrival, not-current, over, enter, arrive, Settled, past, halted, due, settle, settled, onward}
 use Rattle.walk.specs.ByPlace.{placed}
 use Rattle.walk.proofs.Tests.{and-l, and-r, and-i, bool-eq}
 use Rattle.walk.proofs.SetFacts.{Holds, holds-e, holds-i, each-e, each-i, Good, good}
@@ -105,7 +105,7 @@ module _ (L : Layout) where
     where
       go : (x : Arrival) → arrive L (by-visits L) p h k (set-at L k .count-field) ≡ x → ((c : Stand) → Comes L (standing c) h → Due-comes L (settle L (by-visits L) n c h))
           → Due-comes L (settle L (by-visits L) (suc n) (arrived k p) h)
-      go refused e rec = rw (e, settle) tt
+      go not-current e rec = rw (e, settle) tt
       go over e rec = rw (e, settle) (rec _ (passed-over s))
       go (enter x) e rec = rw (e, settle) (entered x s)
 

@@ -9,7 +9,7 @@ use lib.Dec.{ltb, eqb}
 use borrow.Author.Tests.{ltb-false}
 use Rattle.walk.specs.Layout.{Layout, set-at, end}
 use Rattle.walk.specs.Passes.{Place, goto, arrives, Stand, again, arrived, ready, beyond, look, Turn, goes-on, leaves, begins, turn, close, stand}
-use Rattle.walk.specs.Walk.{Memory, Arrival, refused, over, enter, arrive, settle, settled}
+use Rattle.walk.specs.Walk.{Memory, Arrival, not-current, over, enter, arrive, settle, settled}
 use Rattle.walk.proofs.Invariants.{arrives-e}
 
 -- a set that is arrived at, at the order o, ends behind it
@@ -57,7 +57,7 @@ module _ (L : Layout) {M : Type 0} (m : Memory M) (h : M) where
       go : (x : Arrival) → arrive L m p h k (set-at L k .count-field) ≡ x
           → ((c : Stand) → Ahead L (end L k) c → suc (length (L .fields)) ≤ f + end L k → settle L m (suc f) c h ≡ settle L m (suc (suc f)) c h)
           → settle L m (suc (suc f)) (arrived k p) h ≡ settle L m (suc (suc (suc f))) (arrived k p) h
-      go refused x rec = rw (x, settle)
+      go not-current x rec = rw (x, settle)
       go over x rec = rw (x, settle) (rec (stand L (goto p (end L k))) (close-ahead L (length (L .sets)) (goto p (end L k))) (omega arith))
       go (enter y) x rec = rw (x, settle)
 

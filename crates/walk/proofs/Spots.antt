@@ -11,7 +11,7 @@ use Rattle.pack.specs.Notation.{if_then_else_, optional, _==_}
 use Rattle.pack.specs.Meaning.{optNumber}
 use Rattle.walk.specs.Layout.{Layout, no-set, set-at, end}
 use Rattle.walk.specs.Passes.{Rest, endless, more, Place, present, put, goto, goto-with, arrives, Stand, again, arrived, ready, beyond, look, Turn, goes-on, leaves, begins, turn, close, stand}
-use Rattle.walk.specs.Walk.{Arrival, refused, over, enter, counted, arrive, Settled, past, halted, due, settle, settled}
+use Rattle.walk.specs.Walk.{Arrival, not-current, over, enter, counted, arrive, Settled, past, halted, due, settle, settled}
 use Rattle.walk.specs.ByPlace.{placed, counts, by-place}
 use Rattle.walk.specs.SetsOf.{SetsAre, has-orders}
 use Rattle.walk.specs.State.{two, place-of, settled-of, round-of}
@@ -64,9 +64,9 @@ unfolding arrive
 arrive-at L p o po g k count gc m zero e z b h = absurd (z refl)
 arrive-at L p o po g k count gc m (suc t) e z b h = let d : suc t - 1 ≡ t = omega arith in rw (e, po, gc, h, d, arrive)
 
-pub arrive-refused : (L : Layout) (p : Place) (g : ℕ → ℕ) (k : ℕ) (m : Option ℕ) → m ≡ some 0 → refused ≡ arrive L (by-place L) p g k m
+pub arrive-not-current : (L : Layout) (p : Place) (g : ℕ → ℕ) (k : ℕ) (m : Option ℕ) → m ≡ some 0 → not-current ≡ arrive L (by-place L) p g k m
 unfolding arrive
-arrive-refused L p g k m e = rw (e, arrive)
+arrive-not-current L p g k m e = rw (e, arrive)
 
 pub arrive-endless : (L : Layout) (p : Place) (g : ℕ → ℕ) (k : ℕ) (m : Option ℕ) → m ≡ none → enter endless ≡ arrive L (by-place L) p g k m
 unfolding arrive
@@ -74,9 +74,9 @@ arrive-endless L p g k m e = rw (e, arrive)
 
 -- one round, on arriving at set k
 module _ (L : Layout) (p : Place) (g : ℕ → ℕ) (k : ℕ) (x : Arrival) (c : Option ℕ) (ec : c ≡ set-at L k .count-field) (ex : x ≡ arrive L (by-place L) p g k c) (n : ℕ) where
-  pub round-refused : x ≡ refused → halted ≡ settle L (by-place L) (suc n) (arrived k p) g
+  pub round-not-current : x ≡ not-current → halted ≡ settle L (by-place L) (suc n) (arrived k p) g
   unfolding settle
-  round-refused e = rw (← ec, ← ex, e, settle)
+  round-not-current e = rw (← ec, ← ex, e, settle)
 
   pub round-over : x ≡ over → (q : Place) → q ≡ goto p (end L k) → settle L (by-place L) n (stand L q) g ≡ settle L (by-place L) (suc n) (arrived k p) g
   unfolding settle

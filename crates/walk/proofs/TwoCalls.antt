@@ -6,30 +6,24 @@ use mathlib.Core.Bool.{Bool, true, false, false≢true}
 use mathlib.Core.List.{List, [], _∷_}
 use lib.ListN.{length}
 use lib.Dec.{ltb, leb, eqb}
-use borrow.Author.Tests.{ltb-true, eqb-true}
+use borrow.Author.Tests.{ltb-true, leb-false, eqb-true}
 use Rattle.pack.specs.Load.{Verdict, refused, accepted, verdict, indexOf, loaded}
 use Rattle.pack.specs.Meaning.{packOf}
-use Rattle.pack.specs.Value.{pgns-of}
+use Rattle.pack.specs.Value.{Pgn, Pack, pgns-of}
 use Rattle.rules.specs.declared.Finding.{Finding}
 use Rattle.rules.specs.Check.{check}
+use Rattle.rules.specs.Clean.{errors-clean}
 use Rattle.rules.specs.Checked.{checked}
+use Rattle.rules.specs.Model.{pgn-at}
 use Rattle.rules.specs.Findings.{errors, without-error}
 use Rattle.rules.specs.declared.check.Checked.{Checked}
 use Rattle.walk.specs.Demand3.{clean, Kept, work-short, visits-short, walked-whole, walked-used-up, Demand3}
 use Rattle.walk.specs.Guarantee.{Unstopped, ends-whole, ends-used-up}
-use Rattle.walk.specs.Held.{held}
+use Rattle.walk.specs.Held.{held, held-nonempty}
 use Rattle.walk.specs.WalkCall.{in-pack, walk-of, walked, visitsAfter}
 use Rattle.walk.specs.declared.walk.Walked.{Walked}
 use Rattle.walk.proofs.Tests.{and-l, and-r}
-use Rattle.walk.proofs.NoStop.{guarantee}
-
-no-errors : (fs : List Finding) → errors fs ≡ 0 → without-error fs ≡ true
-no-errors [] e = refl
-no-errors (f ∷ fs) e = go (eqb (f .severity) 1) refl (no-errors fs)
-  where
-    go : (b : Bool) → eqb (f .severity) 1 ≡ b → (errors fs ≡ 0 → without-error fs ≡ true) → without-error (f ∷ fs) ≡ true
-    go true x rec = absurd (let h : errors fs + 1 ≡ 0 = rw x at e in omega arith)
-    go false x rec = rw x (rec (rw x at e))
+use Rattle.walk.proofs.NoStop.{weaker, guarantee-nonempty}
 
 -- a clean check was made of an accepted pack
 pub record Clean (s : List ℕ) : Type 0 where
@@ -44,25 +38,33 @@ clean-means s m n h = go (verdict s) refl (leb (indexOf s .records) m) refl (leb
     go (refused r) ev a ea b eb = absurd (false≢true (rw (checked, loaded, ev) at h))
     go accepted ev false ea b eb = absurd (false≢true (rw (checked, loaded, ev, ea) at h))
     go accepted ev true ea false eb = absurd (false≢true (rw (checked, loaded, ev, ea, eb) at h))
-    go accepted ev true ea true eb = record { taken = ev; quiet = no-errors (check (packOf s)) (eqb-true (errors (check (packOf s))) 0 (rw (checked, loaded, ev, ea, eb) at h)) }
+    go accepted ev true ea true eb = record { taken = ev; quiet = errors-clean (check (packOf s)) (eqb-true (errors (check (packOf s))) 0 (rw (checked, loaded, ev, ea, eb) at h)) }
 
 kept : (s : List ℕ) (m t i : ℕ) (readings w : List ℕ) → verdict s ≡ accepted → in-pack (packOf s) t i ≡ true → Unstopped (walk-of s t i readings) (length readings)
-    → Kept (walk-of s t i readings) (length readings) w (visitsAfter s m t i readings w) (walked s m t i readings (length w))
+    → Kept (walk-of s t i readings) (length readings) m w (visitsAfter s m t i readings w) (walked s m t i readings (length w))
 unfolding walked visitsAfter loaded
 kept s m t i readings w ev there u = go (leb (indexOf s .records) m) refl (leb (length readings) (length w)) refl u
   where
     go : (a : Bool) → leb (indexOf s .records) m ≡ a → (b : Bool) → leb (length readings) (length w) ≡ b → Unstopped (walk-of s t i readings) (length readings)
-        → Kept (walk-of s t i readings) (length readings) w (visitsAfter s m t i readings w) (walked s m t i readings (length w))
-    go false ea b eb u = work-short (indexOf s .records) (rw (ev, ea)) (rw (ev, ea))
-    go true ea false eb u = visits-short (rw (ev, ea, there, eb)) (rw (ev, ea, there, eb))
+        → Kept (walk-of s t i readings) (length readings) m w (visitsAfter s m t i readings w) (walked s m t i readings (length w))
+    go false ea b eb u = work-short (indexOf s .records) (leb-false _ _ ea) (rw (ev, ea)) (rw (ev, ea))
+    go true ea false eb u = visits-short (leb-false _ _ eb) (rw (ev, ea, there, eb)) (rw (ev, ea, there, eb))
     go true ea true eb (ends-whole q l) = walked-whole (rw (ev, ea, there, eb, q)) q l (rw (ev, ea, there, eb))
     go true ea true eb (ends-used-up q l) = walked-used-up (rw (ev, ea, there, eb, q)) q l (rw (ev, ea, there, eb))
 
--- the two calls' answers, by their contracts
+-- the two calls' answers, by their contracts, where being held is enough for `held-nonempty`
+module _ (is-held : Pack → Pgn → Bool) (enough : (P : Pack) (p : Pgn) → is-held P p ≡ true → held-nonempty P p ≡ true) where
+  pub demand-3-by : (s : List ℕ) (t i : ℕ) (readings w : List ℕ) (k m n : ℕ) (c : Checked) (r : Walked) (w′ : List ℕ)
+      → c ≡ checked s k n → r ≡ walked s m t i readings (length w) → w′ ≡ visitsAfter s m t i readings w → Demand3 is-held s t i readings m w w′ c r
+  demand-3-by s t i readings w k m n c r w′ ec er ew h there is =
+      let a = clean-means s k n (rw ec at h) in
+      rw (er, ew)
+      (kept s m t i readings w (a .taken) there
+      (guarantee-nonempty (packOf s) t i (ltb-true _ _ (and-l (ltb t 3) (ltb i (length (pgns-of (packOf s) t))) there)) (ltb-true _ _ (and-r (ltb t 3) (ltb i (length (pgns-of (packOf s) t))) there)) (a .quiet)
+      (enough (packOf s) (pgn-at (packOf s) t i) is) readings))
+
+-- under either reading
 pub demand-3 : (s : List ℕ) (t i : ℕ) (readings w : List ℕ) (k m n : ℕ) (c : Checked) (r : Walked) (w′ : List ℕ)
-    → c ≡ checked s k n → r ≡ walked s m t i readings (length w) → w′ ≡ visitsAfter s m t i readings w → Demand3 s t i readings w w′ c r
-demand-3 s t i readings w k m n c r w′ ec er ew h there held =
-    let a = clean-means s k n (rw ec at h) in
-    rw (er, ew)
-    (kept s m t i readings w (a .taken) there
-    (guarantee (packOf s) t i (ltb-true _ _ (and-l (ltb t 3) (ltb i (length (pgns-of (packOf s) t))) there)) (ltb-true _ _ (and-r (ltb t 3) (ltb i (length (pgns-of (packOf s) t))) there)) (a .quiet) held readings))
+    → c ≡ checked s k n → r ≡ walked s m t i readings (length w) → w′ ≡ visitsAfter s m t i readings w
+    → Demand3 held s t i readings m w w′ c r × Demand3 held-nonempty s t i readings m w w′ c r
+demand-3 s t i readings w k m n c r w′ ec er ew = (demand-3-by held weaker s t i readings w k m n c r w′ ec er ew, demand-3-by held-nonempty (λ P p h. h) s t i readings w k m n c r w′ ec er ew)

@@ -1,5 +1,4 @@
 -- The ends of the calls `walk` and `held`: answer and visit buffer.
--- of a walk A over n readings, of a PGN that may be in the pack
 use Prim.Native.Nat.{ℕ, _≤_, _<_}
 use mathlib.Core.Path.{_≡_, refl}
 use mathlib.Core.Bool.{Bool, true, false}
@@ -22,6 +21,7 @@ use Rattle.walk.proofs.Walks.{Told}
 use Rattle.pack.specs.declared.load.Loaded.the-variants as load
 use Rattle.walk.specs.declared.walk.HeldAnswer.the-variants as held-answer
 
+-- of a walk A over n readings, of a PGN that may be in the pack
 pub record Judges (there : Bool) (n : ℕ) (A : Answer) (w : List ℕ) (r : Walked) (w′ : List ℕ) : Type 0 where
   pub answer : r ≡ judged there n (length w) A
   pub out : w′ ≡ visitsLeft (judged there n (length w) A) (A .visits) w

@@ -19,10 +19,10 @@ use Rattle.walk.specs.Visits.{Visits}
 use Rattle.walk.specs.Walk.{Stops, Settled, past, halted, due, settled, onward, stop, Answer, no-visit, visit-then, walk-on, walk-with, by-visits, walk}
 use Rattle.walk.specs.ByPlace.{placed, by-place}
 use Rattle.walk.specs.State.{two, settled-of}
-use Rattle.walk.specs.Steps.{ending, end-of, Stepped, ended, visited, one-step, Run, no-step, then-step, used, Within}
+use Rattle.walk.specs.Steps.{end-of, Stepped, ended, visited, one-step, Run, no-step, then-step, used, Within}
 use Rattle.walk.specs.StopParts.{stop-number}
 use Rattle.walk.specs.Stops.{stop-at}
-use Rattle.walk.specs.WalkCall.{told}
+use Rattle.walk.specs.WalkCall.{ending, told}
 use Rattle.walk.specs.declared.passes.Settling.{Settling}
 use Rattle.walk.specs.declared.walk.End.{End as Ending}
 use Rattle.walk.specs.declared.walk.End.the-variants.{Whole, UsedUp, Stop}

@@ -1,5 +1,5 @@
 -- DEMAND 3, over two calls on the same pack bytes: check, without one error, then walk, of a held PGN of that pack over any readings.
-use Prim.Native.Nat.{ℕ, _≤_}
+use Prim.Native.Nat.{ℕ, _≤_, _<_}
 use mathlib.Core.Path.{_≡_}
 use mathlib.Core.Bool.{Bool, true, false}
 use mathlib.Core.List.{List}
@@ -7,33 +7,36 @@ use lib.ListN.{length}
 use Rattle.pack.specs.Notation.{_==_}
 use Rattle.pack.specs.Load.{over}
 use Rattle.pack.specs.Meaning.{packOf}
+use Rattle.pack.specs.Value.{Pgn, Pack}
 use Rattle.pack.specs.declared.load.Refusal.the-variants.{Work, Visits}
 use Rattle.rules.specs.Model.{pgn-at}
 use Rattle.rules.specs.declared.check.Checked.{Checked}
 use Rattle.rules.specs.declared.check.Checked.the-variants as check
 use Rattle.walk.specs.Walk.{whole, used-up, Answer}
-use Rattle.walk.specs.Held.{held}
 use Rattle.walk.specs.WalkCall.{in-pack, walk-of}
 use Rattle.walk.specs.declared.walk.End.the-variants.{Whole, UsedUp}
 use Rattle.walk.specs.declared.walk.Walked.{Walked}
 use Rattle.walk.specs.declared.walk.Walked.the-variants.{Refused, Ended}
 
--- check's answer: ""without one error" means it was not refused and no finding it reports has severity 1"
+-- check's answer: ""without one error" means it was not refused and no finding it reports has severity 1". `errors` counts those of
+-- severity 1 (Findings.errors, in Checked.checked).
 abbrev pub clean : Checked → Bool
 clean (check.Refused r) = false
 clean (check.Reported findings errors) = errors == 0
 
--- walk's answer r, and its visit buffer, w before and w′ after, where the definition over n readings answers A:
-pub data Kept (A : Answer) (n : ℕ) (w w′ : List ℕ) (r : Walked) : Type 0 where
-  -- "A walk call that is refused (only 21 and 25 can occur) has made no walk;"
-  work-short : (k : ℕ) → r ≡ Refused (Work k) → w′ ≡ w → Kept A n w w′ r
-  visits-short : r ≡ Refused (Visits n) → w′ ≡ w → Kept A n w w′ r
+-- walk's answer r, with a work buffer of m numbers and a visit buffer that was w before and is w′ after, where the definition over n
+-- readings answers A:
+pub data Kept (A : Answer) (n m : ℕ) (w w′ : List ℕ) (r : Walked) : Type 0 where
+  -- "A walk call that is refused (only 21 and 25 can occur) has made no walk;": a buffer was too short
+  work-short : (k : ℕ) → m < k → r ≡ Refused (Work k) → w′ ≡ w → Kept A n m w w′ r
+  visits-short : length w < n → r ≡ Refused (Visits n) → w′ ≡ w → Kept A n m w w′ r
   -- "every other one answers the end and the number of visits that the definition above gives, and the visit buffer begins with the field
   -- indexes of those visits, in order": no stop; no more visits than readings, and as many where they are used up
-  walked-whole : r ≡ Ended Whole (length (A .visits)) → A .ends ≡ whole → length (A .visits) ≤ n → w′ ≡ over (A .visits) w → Kept A n w w′ r
-  walked-used-up : r ≡ Ended UsedUp (length (A .visits)) → A .ends ≡ used-up → length (A .visits) ≡ n → w′ ≡ over (A .visits) w → Kept A n w w′ r
+  walked-whole : r ≡ Ended Whole (length (A .visits)) → A .ends ≡ whole → length (A .visits) ≤ n → w′ ≡ over (A .visits) w → Kept A n m w w′ r
+  walked-used-up : r ≡ Ended UsedUp (length (A .visits)) → A .ends ≡ used-up → length (A .visits) ≡ n → w′ ≡ over (A .visits) w → Kept A n m w w′ r
 
--- c is check's answer on the pack s, r walk's on PGN i of tree t over the readings
-abbrev pub Demand3 : (s : List ℕ) (t i : ℕ) (readings w w′ : List ℕ) → Checked → Walked → Type 0
-Demand3 s t i readings w w′ c r =
-    clean c ≡ true → in-pack (packOf s) t i ≡ true → held (packOf s) (pgn-at (packOf s) t i) ≡ true → Kept (walk-of s t i readings) (length readings) w w′ r
+-- c is check's answer on the pack s, r walk's on PGN i of tree t over the readings. What "held" means is a parameter, since 01 can be read
+-- in two ways: `held`, and `held-nonempty`, which holds of more PGNs.
+abbrev pub Demand3 : (Pack → Pgn → Bool) → (s : List ℕ) (t i : ℕ) (readings : List ℕ) (m : ℕ) (w w′ : List ℕ) → Checked → Walked → Type 0
+Demand3 is-held s t i readings m w w′ c r =
+    clean c ≡ true → in-pack (packOf s) t i ≡ true → is-held (packOf s) (pgn-at (packOf s) t i) ≡ true → Kept (walk-of s t i readings) (length readings) m w w′ r

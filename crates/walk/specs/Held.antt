@@ -7,14 +7,14 @@ use Rattle.pack.specs.Value.{Pgn, Pack}
 use Rattle.rules.specs.Search.{anyBelow}
 use Rattle.rules.specs.Model.{field-at, target}
 use Rattle.rules.specs.DynamicLength.{length-source}
-use Rattle.walk.specs.Layout.{Layout, layout, set-at, holds, everyBelow, sets-hold, nested-in, clash}
+use Rattle.walk.specs.Layout.{Layout, layout, set-at, nonempty, holds, everyBelow, sets-hold, nested-in, clash}
 use Rattle.walk.specs.Stops.{is-dynamic-value}
 
 -- "nonempty sets share no order unless set 2 is nested"
 unfoldable pub shares-held : Layout → Bool
 shares-held L = everyBelow (λ k. everyBelow (λ j. not (clash L j k)) k) (length (L .sets))
 
--- "a countField lies in no nonempty set, or in set 1 for a nested set 2": the countField of set k, empty or not
+-- "a countField lies in no nonempty set, or in set 1 for a nested set 2", and then in set 1 only: the countField of set k, empty or not
 unfoldable pub count-field-held : Layout → ℕ → Option ℕ → Bool
 count-field-held L k none = true
 count-field-held L k (some c) = everyBelow (λ j. not (holds L j c) || nested-in L j k) (length (L .sets))
@@ -40,5 +40,16 @@ unfoldable pub held : Pack → Pgn → Bool
 held P p =
     shares-held (layout p)
     && count-fields-held (layout p)
+    && everyBelow (λ i. bit-length-held p i) (length (p .fields))
+    && everyBelow (λ i. dynamic-value-held P p i) (length (p .fields))
+
+-- The other reading of "a countField": of nonempty sets only. More PGNs are held so, and demand 3 is shown for both.
+unfoldable pub nonempty-count-fields-held : Layout → Bool
+nonempty-count-fields-held L = everyBelow (λ k. not (nonempty L k) || count-field-held L k (set-at L k .count-field)) (length (L .sets))
+
+unfoldable pub held-nonempty : Pack → Pgn → Bool
+held-nonempty P p =
+    shares-held (layout p)
+    && nonempty-count-fields-held (layout p)
     && everyBelow (λ i. bit-length-held p i) (length (p .fields))
     && everyBelow (λ i. dynamic-value-held P p i) (length (p .fields))

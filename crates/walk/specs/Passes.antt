@@ -7,7 +7,7 @@ use Rattle.pack.specs.Notation.{if_then_else_, _<ᵇ_, _==_}
 use Rattle.pack.specs.Value.{Field}
 use Rattle.walk.specs.Layout.{Layout, start, end, nonempty}
 
--- the passes that the reading of a countField gives: "its reading as it is"
+-- the passes that the reading of a countField gives: "its reading as it is", whatever the field
 abbrev pub passes : Field → ℕ → ℕ
 passes f reading = reading
 
@@ -43,7 +43,7 @@ goto-with p o k x = record { order = o; left = put (p .left) k x }
 pub data Stand : Type 0 where
   again : ℕ → Place → Stand  -- at the start of set k, of which another pass begins
   arrived : ℕ → Place → Stand  -- on arriving at set k
-  ready : Place → Stand  -- at a field, and at no set's start
+  ready : Place → Stand  -- at a field, and at no start of a nonempty set
   beyond : Stand  -- past the last order
 
 -- "An empty set is never arrived at."

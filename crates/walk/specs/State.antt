@@ -4,7 +4,7 @@ use mathlib.Core.Option.{Option, none}
 use Rattle.pack.specs.Notation.{if_then_else_, optional}
 use Rattle.walk.specs.Layout.{Layout}
 use Rattle.walk.specs.Passes.{Rest, endless, more, Place, Stand, again, arrived, ready, beyond, Turn, goes-on, leaves, begins, stand}
-use Rattle.walk.specs.Walk.{Arrival, refused, over, enter, Settled, past, halted, due, settle}
+use Rattle.walk.specs.Walk.{Arrival, not-current, over, enter, Settled, past, halted, due, settle}
 use Rattle.walk.specs.ByPlace.{by-place}
 use Rattle.walk.specs.declared.passes.Further.{Further}
 use Rattle.walk.specs.declared.passes.Left.{Left}
@@ -53,7 +53,7 @@ stand-of (standing.Ready v) = ready (place-of v)
 stand-of standing.Beyond = beyond
 
 abbrev pub arrival-of : Arriving → Arrival
-arrival-of arriving.Refused = refused
+arrival-of arriving.NotCurrent = not-current
 arrival-of arriving.Over = over
 arrival-of (arriving.Enter x) = enter (rest-of x)
 

@@ -14,12 +14,7 @@ use Rattle.walk.specs.declared.walk.State.{State}
 use Rattle.walk.specs.declared.walk.Stepping.{Stepping}
 use Rattle.walk.specs.declared.walk.Stepping.the-variants as stepping
 
--- "the end": whole, used up, or a stop by its number
-abbrev pub ending : End → Ending
-ending whole = Whole
-ending used-up = UsedUp
-ending (stop n) = Stop n
-
+-- the end that the code answers
 abbrev pub end-of : Ending → End
 end-of Whole = whole
 end-of UsedUp = used-up

@@ -35,15 +35,15 @@ pub record Memory (M : Type 0) : Type 0 where
   pub current : Place → M → ℕ → Bool  -- is the field t current?
   pub reading : M → ℕ → ℕ → ℕ  -- the latest reading of the field t, which is the countField of set k
 
--- On arriving at a set: it is refused (stop 2), passed over, or entered.
+-- On arriving at a set: its countField is not current (stop 2), it is passed over, or entered.
 pub data Arrival : Type 0 where
-  refused : Arrival
+  not-current : Arrival
   over : Arrival
   enter : Rest → Arrival
 
 -- whether the countField is current, and the passes that it gives
 abbrev pub counted : Bool → ℕ → Arrival
-counted false n = refused
+counted false n = not-current
 counted true zero = over
 counted true (suc n) = enter (more n)
 
@@ -61,7 +61,7 @@ module _ (L : Layout) {M : Type 0} (m : Memory M) where
   -- "On arriving at a nonempty set, a countField gives the passes: its reading as it is; stop 2 if not current."
   unfoldable pub arrive : Place → M → ℕ → Option ℕ → Arrival
   arrive p h k none = enter endless
-  arrive p h k (some zero) = refused
+  arrive p h k (some zero) = not-current
   arrive p h k (some (suc t)) = counted (m .current p h t) (passes (getD (L .fields) t noField) (m .reading h k t))
 
   -- Until a field is due. Each set that is passed over takes the order up, so that 1 + fields rounds are enough (`enough`).
@@ -72,7 +72,7 @@ module _ (L : Layout) {M : Type 0} (m : Memory M) where
     | ready p ↦ due p h
     | beyond ↦ past
     | arrived k p ↦ elim (arrive p h k (set-at L k .count-field)) [
-      | refused ↦ halted
+      | not-current ↦ halted
       | over ↦ settle rounds (stand L (goto p (end L k))) h
       | enter x ↦ due (goto-with p (p .order) k (some x)) (m .begin h k)
     ]

@@ -11,9 +11,10 @@ use Rattle.pack.specs.declared.load.Loaded.{Loaded}
 use Rattle.pack.specs.declared.load.Loaded.the-variants as load
 use Rattle.pack.specs.declared.load.Refusal.the-variants.{Absent, Visits}
 use Rattle.rules.specs.Model.{pgn-at}
-use Rattle.walk.specs.Walk.{Answer, walk}
+use Rattle.walk.specs.Walk.{End, whole, used-up, stop, Answer, walk}
 use Rattle.walk.specs.Held.{held}
-use Rattle.walk.specs.Steps.{ending}
+use Rattle.walk.specs.declared.walk.End.{End as Ending}
+use Rattle.walk.specs.declared.walk.End.the-variants.{Whole, UsedUp, Stop}
 use Rattle.walk.specs.declared.walk.Walked.{Walked}
 use Rattle.walk.specs.declared.walk.Walked.the-variants.{Refused, Ended}
 use Rattle.walk.specs.declared.walk.HeldAnswer.{HeldAnswer}
@@ -23,13 +24,19 @@ use Rattle.walk.specs.declared.walk.HeldAnswer.the-variants as held-answ
 abbrev pub in-pack : Pack → (tree pgn : ℕ) → Bool
 in-pack P t i = (t <ᵇ 3) && (i <ᵇ length (pgns-of P t))
 
+-- "the end": whole, used up, or a stop by its number
+abbrev pub ending : End → Ending
+ending whole = Whole
+ending used-up = UsedUp
+ending (stop n) = Stop n
+
 -- "The answer is the end and the number of visits, one for each reading taken."
 abbrev pub told : Answer → Walked
 told a = Ended (ending (a .ends)) (length (a .visits))
 
--- 25: "visit buffer shorter than the readings"; the detail is "the length needed". 23 comes before it. n readings, m numbers of visit buffer
-abbrev pub judged : Bool → (n m : ℕ) → Answer → Walked
-judged there n m a = if there then (if n ≤ᵇ m then told a else Refused (Visits n)) else Refused Absent
+-- 25: "visit buffer shorter than the readings"; the detail is "the length needed". 23 comes before it. So many readings, and room for so many visits
+abbrev pub judged : Bool → (readings room : ℕ) → Answer → Walked
+judged there readings room a = if there then (if readings ≤ᵇ room then told a else Refused (Visits readings)) else Refused Absent
 
 -- "Input refusals come before these; then 21, 23, 25"
 abbrev pub after-load : Loaded → Walked → Walked

@@ -4,6 +4,7 @@ ghost use lib.ListN.{length};
 ghost use Rattle.pack.specs.Load.{workAfter};
 ghost use Rattle.rules.specs.Checked.{checked, findingsAfter};
 ghost use Rattle.walk.specs.Demand3.{Demand3};
+ghost use Rattle.walk.specs.Held.{held, held-nonempty};
 ghost use Rattle.walk.specs.WalkCall.{walked, visitsAfter};
 use crate::walk::Walked;
 use crate::walk::walk;
@@ -16,8 +17,8 @@ pub struct TwoAnswers {
     pub walked: Walked,
 }
 
-// Check, then walk: only the pack bytes are common to both; `scratch` is the work buffer of walk. The claim is demand 3; the rest determines the answers and the buffers, so that
-// no answer meets the claim emptily.
+// Check, then walk: only the pack bytes are common to both; `scratch` is the work buffer of walk. The claim is demand 3, under either
+// reading of "a countField" in what is held; the rest determines the answers and the buffers, so that no answer meets the claim emptily.
 pub fn check_then_walk(
     pack: &[u8],
     work: &mut [u32],
@@ -28,7 +29,8 @@ pub fn check_then_walk(
     readings: &[u64],
     visits: &mut [u32],
 ) -> TwoAnswers
-    ensures claim { λ r. ⌜ Demand3 (now (pack .entry)) tree pgn (now (readings .entry)) (now (visits .entry)) (now (visits .exit)) (r .checked) (r .walked) ⌝ }
+    ensures claim { λ r. ⌜ Demand3 held (now (pack .entry)) tree pgn (now (readings .entry)) (length (now (scratch .entry))) (now (visits .entry)) (now (visits .exit)) (r .checked) (r .walked) ⌝ }
+    ensures claim_nonempty { λ r. ⌜ Demand3 held-nonempty (now (pack .entry)) tree pgn (now (readings .entry)) (length (now (scratch .entry))) (now (visits .entry)) (now (visits .exit)) (r .checked) (r .walked) ⌝ }
     ensures checked { λ r. ⌜ r .checked ≡ checked (now (pack .entry)) (length (now (work .entry))) (length (now (findings .entry))) ⌝ }
     ensures work { λ r. ⌜ now (work .exit) ≡ workAfter (now (pack .entry)) (now (work .entry)) ⌝ }
     ensures findings { λ r. ⌜ now (findings .exit) ≡ findingsAfter (now (pack .entry)) (length (now (work .entry))) (now (findings .entry)) ⌝ }

@@ -1,8 +1,8 @@
 pub mod guaranteed;
-pub mod harmless;
-pub mod held;
-pub mod passes;
-pub mod runs;
-pub mod sets;
-pub mod stops;
+mod harmless;
+mod held;
+mod passes;
+mod runs;
+mod sets;
+mod stops;
 pub mod walk;

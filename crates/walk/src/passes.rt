@@ -63,7 +63,7 @@ pub enum Standing {
 
 // On arriving at a set: stop 2, passed over, or entered.
 pub enum Arriving {
-    Refused,
+    NotCurrent,
     Over,
     Enter(Further),
 }
@@ -259,12 +259,12 @@ fn arrive(sets: Sets, o: FieldOrder, counter: OptNumber, count: u64) -> Arriving
         });
     }
     if counter.value == 0 {
-        return Arriving::Refused;
+        return Arriving::NotCurrent;
     }
     if placed(sets, o, FieldIndex(counter.value - 1)) {
         return passes(count);
     }
-    Arriving::Refused
+    Arriving::NotCurrent
 }
 
 // A field is due there.
@@ -295,7 +295,7 @@ fn at_first(sets: Sets, counts: Counts, spot: Spot) -> Round
 {
     let set = sets.first;
     match arrive(sets, spot.order, set.counter, counts.first) {
-        Arriving::Refused => Round::Settled(not_due(true, spot)),
+        Arriving::NotCurrent => Round::Settled(not_due(true, spot)),
         Arriving::Over => Round::Over(moved(spot, set.end)),
         Arriving::Enter(further) => {
             Round::Settled(due(with_first(spot, spot.order, pass(further))))
@@ -309,7 +309,7 @@ fn at_second(sets: Sets, counts: Counts, spot: Spot) -> Round
 {
     let set = sets.second;
     match arrive(sets, spot.order, set.counter, counts.second) {
-        Arriving::Refused => Round::Settled(not_due(true, spot)),
+        Arriving::NotCurrent => Round::Settled(not_due(true, spot)),
         Arriving::Over => Round::Over(moved(spot, set.end)),
         Arriving::Enter(further) => {
             Round::Settled(due(with_second(spot, spot.order, pass(further))))

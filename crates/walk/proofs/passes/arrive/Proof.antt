@@ -1,5 +1,5 @@
 use borrow.Author.Tests.{not-true, not-false}
-use Rattle.walk.proofs.Spots.{arrive-at, arrive-refused, arrive-endless}
+use Rattle.walk.proofs.Spots.{arrive-at, arrive-not-current, arrive-endless}
 use mathlib.Core.Path.{_∙_}
 use Rattle.pack.specs.Meaning.{optNumber}
 use borrow.Author.Needs.{needs}
@@ -10,7 +10,7 @@ returns : tie.Need-returns
 returns c = λ L a p po g k gk. arrive-endless L p g k (optNumber (c .before .before .args .counter)) (rw (not-true (c .before .before .args .counter .given) (c .if1 .taken)))
 
 returns-2 : tie.Need-returns-2
-returns-2 c = λ L a p po g k gk. arrive-refused L p g k (optNumber (c .before .before .before .before .args .counter)) (rw (not-false (c .before .before .before .before .args .counter .given) (c .before .before .if1 .left), c .if2 .taken))
+returns-2 c = λ L a p po g k gk. arrive-not-current L p g k (optNumber (c .before .before .before .before .args .counter)) (rw (not-false (c .before .before .before .before .args .counter .given) (c .before .before .if1 .left), c .if2 .taken))
 
 sub-t8 : tie.Need-sub-t8
 sub-t8 c = search needs

@@ -1,5 +1,5 @@
 use Rattle.walk.specs.State.{left-of, rest-of, place-of, memory-of, arrival-of}
-use Rattle.walk.proofs.Spots.{put-as, round-refused, round-over, round-enter}
+use Rattle.walk.proofs.Spots.{put-as, round-not-current, round-over, round-enter}
 use mathlib.Core.Path.{refl, _∙_, ap}
 use mathlib.Core.Option.{some}
 use Rattle.pack.specs.Meaning.{optNumber}
@@ -35,7 +35,7 @@ due-requires : tie.Need-due-requires
 due-requires c κs = search needs
 
 returns : tie.Need-returns
-returns c = λ L a n. (c .not-due .ensures (memory-of (c .before .before .before .before .before .args .counts)) ∙ round-refused L (place-of (c .before .before .before .before .before .args .spot)) (memory-of (c .before .before .before .before .before .args .counts)) 0 (arrival-of (c .before .before .before .arrive .result)) (optNumber (c .before .before .before .before .before .args .sets .first .counter)) (a .first .counter) (c .before .before .before .arrive .ensures L a (place-of (c .before .before .before .before .before .args .spot)) refl (memory-of (c .before .before .before .before .before .args .counts)) 0 refl) n (ap arrival-of (c .before .enum-told .given .1)))
+returns c = λ L a n. (c .not-due .ensures (memory-of (c .before .before .before .before .before .args .counts)) ∙ round-not-current L (place-of (c .before .before .before .before .before .args .spot)) (memory-of (c .before .before .before .before .before .args .counts)) 0 (arrival-of (c .before .before .before .arrive .result)) (optNumber (c .before .before .before .before .before .args .sets .first .counter)) (a .first .counter) (c .before .before .before .arrive .ensures L a (place-of (c .before .before .before .before .before .args .spot)) refl (memory-of (c .before .before .before .before .before .args .counts)) 0 refl) n (ap arrival-of (c .before .enum-told .given .1)))
 
 returns-2 : tie.Need-returns-2
 returns-2 c = λ L a n. round-over L (place-of (c .before .before .before .before .before .args .spot)) (memory-of (c .before .before .before .before .before .args .counts)) 0 (arrival-of (c .before .before .before .arrive .result)) (optNumber (c .before .before .before .before .before .args .sets .first .counter)) (a .first .counter) (c .before .before .before .arrive .ensures L a (place-of (c .before .before .before .before .before .args .spot)) refl (memory-of (c .before .before .before .before .before .args .counts)) 0 refl) n (ap arrival-of (c .before .enum-told2 .given .1)) (place-of (c .moved .result)) (rw (a .first .end) at (c .moved .ensures))
