@@ -62,7 +62,7 @@ add-run-on : tie.Need-add-run-on Inv-loop μ-loop
 add-run-on c = omega (arith, c .before .before .before .before .before .before .before .before .before .before .loop-test .taken, c .before .before .before .before .before .before .before .before .before .before .before .before .before .before .before .before .before .before .good .1 .1 .1 .1 .1 .1 .1 .1 .0)
 
 run-on-requires : tie.Need-run-on-requires Inv-loop μ-loop
-run-on-requires c κs = let g = going-on (layout (pgnIn (packOf (now (c .before .before .before .before .before .before .before .before .before .before .before .before .before .before .before .before .before .before .args .s))) (c .before .before .before .before .before .before .before .before .before .before .before .before .before .before .before .before .before .before .args .t) (c .before .before .before .before .before .before .before .before .before .before .before .before .before .before .before .before .before .before .args .i))) (c .before .before .before .before .before .before .before .before .before .before .before .before .before .before .before .before .before .before .pre .4) _ _ _ _ _ _ (state-of (c .before .before .before .before .before .before .before .before .before .before .before .loop .state)) (c .before .before .before .before .before .before .before .before .before .before .before .loop .inv .2) (c .before .before .before .before .before .before .before .before .before .before .loop-test .taken) (step-of (c .before .before .before .before .before .before .before .step .result)) (c .before .before .before .before .before .before .before .step .ensures .0) (c .before .before .before .field .given .0 .0) (state-of (c .before .before .before .field .given .0 .1 .0)) (ap step-of (c .before .before .before .field .given .1)) in let w = going-within (layout (pgnIn (packOf (now (c .before .before .before .before .before .before .before .before .before .before .before .before .before .before .before .before .before .before .args .s))) (c .before .before .before .before .before .before .before .before .before .before .before .before .before .before .before .before .before .before .args .t) (c .before .before .before .before .before .before .before .before .before .before .before .before .before .before .before .before .before .before .args .i))) (c .before .before .before .before .before .before .before .before .before .before .before .before .before .before .before .before .before .before .pre .4) _ _ _ _ _ _ (state-of (c .before .before .before .field .given .0 .1 .0)) g in (λ d. let b = due-within (layout (pgnIn (packOf (now (c .before .before .before .before .before .before .before .before .before .before .before .before .before .before .before .before .before .before .args .s))) (c .before .before .before .before .before .before .before .before .before .before .before .before .before .before .before .before .before .before .args .t) (c .before .before .before .before .before .before .before .before .before .before .before .before .before .before .before .before .before .before .args .i))) (c .before .before .before .field .given .0 .1 .0 .settling) (memory-of (c .before .before .before .field .given .0 .1 .0 .counts)) d w in (b .0, omega (arith, b .1, c .before .before .before .before .before .before .before .before .before .before .before .before .before .before .before .before .before .before .pre .2 .fields)), omega (arith, c .before .before .before .before .before .before .before .before .before .before .loop-test .taken), omega (arith, length-set (c .before .before .before .before .before .before .before .before .before .before .before .loop .visits) (c .before .before .before .before .before .before .before .before .before .before .before .loop .n) (c .before .before .before .field .given .0 .0), c .before .before .before .before .before .before .before .before .before .before .before .loop .inv .1, c .before .before .before .before .before .before .before .before .before .before .before .before .before .before .before .before .before .before .pre .5))
+run-on-requires c κs = let g = going-on (layout (pgnIn (packOf (now (c .before .before .before .before .before .before .before .before .before .before .before .before .before .before .before .before .before .before .args .s))) (c .before .before .before .before .before .before .before .before .before .before .before .before .before .before .before .before .before .before .args .t) (c .before .before .before .before .before .before .before .before .before .before .before .before .before .before .before .before .before .before .args .i))) (c .before .before .before .before .before .before .before .before .before .before .before .before .before .before .before .before .before .before .pre .4) _ _ _ _ _ _ (state-of (c .before .before .before .before .before .before .before .before .before .before .before .loop .state)) (c .before .before .before .before .before .before .before .before .before .before .before .loop .inv .2) (c .before .before .before .before .before .before .before .before .before .before .loop-test .taken) (step-of (c .before .before .before .before .before .before .before .step .result)) (c .before .before .before .before .before .before .before .step .ensures .0) (c .before .before .before .field .given .0 .0) (state-of (c .before .before .before .field .given .0 .1 .0)) (ap step-of (c .before .before .before .field .given .1)) in let w = going-within (layout (pgnIn (packOf (now (c .before .before .before .before .before .before .before .before .before .before .before .before .before .before .before .before .before .before .args .s))) (c .before .before .before .before .before .before .before .before .before .before .before .before .before .before .before .before .before .before .args .t) (c .before .before .before .before .before .before .before .before .before .before .before .before .before .before .before .before .before .before .args .i))) (c .before .before .before .before .before .before .before .before .before .before .before .before .before .before .before .before .before .before .pre .4) _ _ _ _ _ _ (state-of (c .before .before .before .field .given .0 .1 .0)) g in (λ d. let b = due-within (layout (pgnIn (packOf (now (c .before .before .before .before .before .before .before .before .before .before .before .before .before .before .before .before .before .before .args .s))) (c .before .before .before .before .before .before .before .before .before .before .before .before .before .before .before .before .before .before .args .t) (c .before .before .before .before .before .before .before .before .before .before .before .before .before .before .before .before .before .before .args .i))) (c .before .before .before .field .given .0 .1 .0 .settling) (memory-of (c .before .before .before .field .given .0 .1 .0 .counts)) d w in (b .0, omega (arith, b .1, c .before .before .before .before .before .before .before .before .before .before .before .before .before .before .before .before .before .before .pre .2 .fields)), omega (arith, c .before .before .before .before .before .before .before .before .before .before .loop-test .taken), rw (length-set) (omega (arith, c .before .before .before .before .before .before .before .before .before .before .before .loop .inv .1, c .before .before .before .before .before .before .before .before .before .before .before .before .before .before .before .before .before .before .pre .5)))
 
 loop-less : tie.Need-loop-less Inv-loop μ-loop
 loop-less c = omega (arith, c .before .before .before .run-on .ensures .0 .0, c .before .before .before .before .before .before .before .before .before .before .before .before .before .before .loop-test .taken, c .before .before .before .run-on .ensures .0 .1)

@@ -1,0 +1,11 @@
+use Rattle.walk.proofs.walk.finished.Statement.{statement}
+use Rattle.walk.proofs.walk.finished.Tie as tie
+
+returns : tie.Need-returns
+returns c = rw (c .if1 .taken)
+
+returns-2 : tie.Need-returns-2
+returns-2 c = rw (c .if1 .left)
+
+pub finished-spec : {M : Type 1} → statement M
+finished-spec = tie.close (tie.spec returns returns-2)
