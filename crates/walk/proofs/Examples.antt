@@ -18,6 +18,7 @@ use Rattle.rules.specs.Computed.{computed}
 use Rattle.rules.specs.Findings.{pgn-error, without-error}
 use Rattle.rules.specs.Repeating.{set-bounds, set-count-field, set-nesting, check-set, check-repeating}
 use Rattle.rules.specs.BitLengthField.{variable-binary, bit-length-target-at, bit-length-field-at, check-bit-length-field}
+use Rattle.rules.specs.Floats.{ONE}
 use Rattle.rules.specs.Texts.{bytes, BINARY, NUMBER, DYNAMIC-FIELD-KEY, DYNAMIC-FIELD-VALUE}
 use Rattle.walk.specs.Layout.{Layout, sets-hold, share, nested-in, inside-previous, misplaced, clash, stop-1}
 use Rattle.walk.specs.Stops.{is-missing, lookup-missing, unfit, match-unfit, names-missing, entries-name-missing, lookup-names-missing, reference-names-missing, lacks, lacks-length, stop-at}
@@ -334,13 +335,17 @@ ahead-stops : run ahead (1 ∷ []) ≡ answer (stop 6) []
 unfolding run
 ahead-stops = refl
 
--- R05 is silent of sets that share an order, so that it must be held: stop 1
+-- NO RULE FINDS AN ERROR, but the PGN is not held, and the walk stops: each condition of `held` is needed.
+abbrev alone : Pgn → Pack
+alone p = record { fieldtypes = P .fieldtypes; lookups = []; pgns = p ∷ []; pgns-j1939 = []; pgns-quick = [] }
+
+-- the sets share an order: stop 1
 abbrev sharing : Pgn
 sharing = pgn (set 1 2 none false) (set 2 1 none false) (a ∷ b ∷ [])
 
-sharing-unfound : check-repeating 0 0 sharing ≡ []
-unfolding check-repeating check-set set-bounds set-count-field
-sharing-unfound = refl
+sharing-clean : without-error (check (alone sharing)) ≡ true
+unfolding computed
+sharing-clean = refl
 
 sharing-not-held : is-held sharing ≡ false
 unfolding is-held
@@ -349,6 +354,83 @@ sharing-not-held = refl
 sharing-stops : run sharing [] ≡ answer (stop 1) []
 unfolding run
 sharing-stops = refl
+
+-- the countField lies in a set that has been left: stop 2
+abbrev counted-before : Pgn
+counted-before = pgn (set 2 1 (some 1) false) (set 3 1 (some 2) false) (a ∷ b ∷ c ∷ [])
+
+counted-before-clean : without-error (check (alone counted-before)) ≡ true
+unfolding computed
+counted-before-clean = refl
+
+counted-before-not-held : is-held counted-before ≡ false
+unfolding is-held
+counted-before-not-held = refl
+
+counted-before-stops : run counted-before (1 ∷ 1 ∷ []) ≡ answer (stop 2) (0 ∷ 1 ∷ [])
+unfolding run
+counted-before-stops = refl
+
+-- the bitLengthField target lies in a set that has been left: stop 6
+-- a counts bits: its resolution is 1
+abbrev a-bits : Field
+a-bits = record {
+  id = a .id;
+  name = a .name;
+  type = a .type;
+  ft = a .ft;
+  bits-given = a .bits-given;
+  unit-given = a .unit-given;
+  proprietary = a .proprietary;
+  allow-lookup-width-mismatch = a .allow-lookup-width-mismatch;
+  dynamic-field-length = a .dynamic-field-length;
+  overhead = a .overhead;
+  res-bits = a .res-bits;
+  res-resolution = ONE;
+  res-offset = a .res-offset;
+  res-unit = a .res-unit;
+  resolution = a .resolution;
+  offset = a .offset;
+  spn = a .spn;
+  continues = a .continues;
+  match = a .match;
+  reference = a .reference;
+  special-values = a .special-values;
+  bit-length-field = a .bit-length-field;
+  trailing-zero = a .trailing-zero;
+  continuation = a .continuation;
+}
+
+abbrev as-long-as-before : Pgn
+as-long-as-before = pgn (set 2 1 (some 1) false) none (b ∷ a-bits ∷ z-binary ∷ [])
+
+as-long-as-before-clean : without-error (check (alone as-long-as-before)) ≡ true
+unfolding computed
+as-long-as-before-clean = refl
+
+as-long-as-before-not-held : is-held as-long-as-before ≡ false
+unfolding is-held
+as-long-as-before-not-held = refl
+
+as-long-as-before-stops : run as-long-as-before (1 ∷ 1 ∷ 1 ∷ []) ≡ answer (stop 6) (0 ∷ 1 ∷ [])
+unfolding run
+as-long-as-before-stops = refl
+
+-- the DYNAMIC_FIELD_KEY lies in a set that has been left: stop 8
+abbrev keyed-before : Pgn
+keyed-before = pgn (set 2 1 (some 1) false) none (a ∷ key ∷ value ∷ [])
+
+keyed-before-clean : without-error (check (alone keyed-before)) ≡ true
+unfolding computed
+keyed-before-clean = refl
+
+keyed-before-not-held : is-held keyed-before ≡ false
+unfolding is-held
+keyed-before-not-held = refl
+
+keyed-before-stops : run keyed-before (1 ∷ 1 ∷ 1 ∷ []) ≡ answer (stop 8) (0 ∷ 1 ∷ [])
+unfolding run
+keyed-before-stops = refl
 
 -- THE GUARANTEE at work: the pack with a nested set is checked without one error, and its PGN is held
 nested-clean : without-error (check Q) ≡ true
