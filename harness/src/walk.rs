@@ -2,12 +2,44 @@
 //! asked of it as the paper words it.
 
 use crate::value::*;
+use std::fmt;
 
 #[derive(Clone, Copy, PartialEq, Eq, Debug)]
 pub enum End {
     Whole,
     UsedUp,
     Stop(u32),
+}
+
+impl End {
+    /// Every end, in the order of their numbers.
+    pub fn all() -> impl Iterator<Item = End> {
+        [End::Whole].into_iter().chain((1..=9).map(End::Stop)).chain([End::UsedUp])
+    }
+
+    /// The number that the exported call gives it.
+    pub fn number(self) -> u64 {
+        match self {
+            End::Whole => 0,
+            End::Stop(stop) => stop.into(),
+            End::UsedUp => 10,
+        }
+    }
+
+    /// The end of a number that `number` gives.
+    pub fn of_number(number: u64) -> End {
+        End::all().find(|end| end.number() == number).expect("the number of an end")
+    }
+}
+
+impl fmt::Display for End {
+    fn fmt(&self, f: &mut fmt::Formatter) -> fmt::Result {
+        match self {
+            End::Whole => write!(f, "whole"),
+            End::UsedUp => write!(f, "used up"),
+            End::Stop(stop) => write!(f, "stop {stop}"),
+        }
+    }
 }
 
 #[derive(Clone, PartialEq, Eq, Debug)]
