@@ -1,9 +1,12 @@
 // Answers as numbers.
 ghost use mathlib.Core.Path.{_≡_};
-ghost use Rattle.exports.specs.Answers.{loadNumber, loadAnswer, checkNumber, checkAnswer, placeNumber, placeAnswer};
+ghost use Rattle.exports.specs.Answers.{loadNumber, loadAnswer, checkNumber, checkAnswer, placeNumber, placeAnswer, endNumber, walkNumber, walkAnswer, heldNumber, yesNumber, heldAnswer};
 use pack::load::Loaded;
 use rules::check::Checked;
 use rules::place_text::Placed;
+use walk::walk::End;
+use walk::walk::HeldAnswer;
+use walk::walk::Walked;
 
 pub fn load_number(l: Loaded) -> u32
     ensures { λ n. ⌜ n ≡ loadNumber l ⌝ }
@@ -71,5 +74,57 @@ pub fn place_answer(p: Placed) -> [u64; 1]
     match p {
         Placed::Refused(r) => [r.detail() as u64],
         Placed::Written(n) => [n as u64],
+    }
+}
+
+fn end_number(e: End) -> u64
+    ensures { λ n. ⌜ n ≡ endNumber e ⌝ }
+{
+    match e {
+        End::Whole => 0,
+        End::Stop(stop) => stop as u64,
+        End::UsedUp => 10,
+    }
+}
+
+pub fn walk_number(w: Walked) -> u32
+    ensures { λ n. ⌜ n ≡ walkNumber w ⌝ }
+{
+    match w {
+        Walked::Refused(r) => r.number(),
+        Walked::Ended { end: _, visits: _ } => 0,
+    }
+}
+
+pub fn walk_answer(w: Walked) -> [u64; 2]
+    ensures { λ a. ⌜ a ≡ walkAnswer w ⌝ }
+{
+    match w {
+        Walked::Refused(r) => [r.detail() as u64, 0],
+        Walked::Ended { end, visits } => [end_number(end), visits as u64],
+    }
+}
+
+pub fn held_number(h: HeldAnswer) -> u32
+    ensures { λ n. ⌜ n ≡ heldNumber h ⌝ }
+{
+    match h {
+        HeldAnswer::Refused(r) => r.number(),
+        HeldAnswer::Held(_) => 0,
+    }
+}
+
+fn yes_or_no(b: bool) -> u64
+    ensures { λ n. ⌜ n ≡ yesNumber b ⌝ }
+{
+    if b { 1 } else { 0 }
+}
+
+pub fn held_answer(h: HeldAnswer) -> [u64; 1]
+    ensures { λ a. ⌜ a ≡ heldAnswer h ⌝ }
+{
+    match h {
+        HeldAnswer::Refused(r) => [r.detail() as u64],
+        HeldAnswer::Held(b) => [yes_or_no(b)],
     }
 }

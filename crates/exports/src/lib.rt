@@ -2,18 +2,25 @@
 ghost use mathlib.Core.Path.{_≡_};
 ghost use lib.ListN.{length};
 ghost use Rattle.pack.specs.Load.{loaded, workAfter};
-ghost use Rattle.exports.specs.Answers.{loadNumber, loadAnswer, checkNumber, checkAnswer, placeNumber, placeAnswer};
+ghost use Rattle.exports.specs.Answers.{loadNumber, loadAnswer, checkNumber, checkAnswer, placeNumber, placeAnswer, walkNumber, walkAnswer, heldNumber, heldAnswer};
 ghost use Rattle.rules.specs.Checked.{checked, findingsAfter};
 ghost use Rattle.rules.specs.PlaceCall.{placed, textAfter};
+ghost use Rattle.walk.specs.WalkCall.{walked, visitsAfter, held-told};
 use crate::answers::check_answer;
 use crate::answers::check_number;
+use crate::answers::held_answer;
+use crate::answers::held_number;
 use crate::answers::load_answer;
 use crate::answers::load_number;
 use crate::answers::place_answer;
 use crate::answers::place_number;
+use crate::answers::walk_answer;
+use crate::answers::walk_number;
 use pack::load::load;
 use rules::check::check;
 use rules::place_text::place_text;
+use walk::walk::held;
+use walk::walk::walk;
 
 mod answers;
 
@@ -67,4 +74,44 @@ pub extern "C" fn sarwymp_place_text(
     let p = place_text(pack, work, place, tree, item, text);
     *answer = place_answer(p);
     place_number(p)
+}
+
+// The two numbers are the detail and 0 where the call is refused; else the end (0 whole, 1 to 9 the stop, 10 used up) and the number of
+// visits, with which the visit buffer begins.
+#[no_mangle]
+pub extern "C" fn sarwymp_walk(
+    pack: &[u8],
+    work: &mut [u32],
+    tree: u32,
+    pgn: u32,
+    readings: &[u64],
+    visits: &mut [u32],
+    answer: &mut [u64; 2],
+) -> u32
+    ensures number { λ r. ⌜ r ≡ walkNumber (walked (now (pack .entry)) (length (now (work .entry))) tree pgn (now (readings .entry)) (length (now (visits .entry)))) ⌝ }
+    ensures numbers { λ r. ⌜ now (answer .exit) ≡ walkAnswer (walked (now (pack .entry)) (length (now (work .entry))) tree pgn (now (readings .entry)) (length (now (visits .entry)))) ⌝ }
+    ensures work { λ r. ⌜ now (work .exit) ≡ workAfter (now (pack .entry)) (now (work .entry)) ⌝ }
+    ensures visits { λ r. ⌜ now (visits .exit) ≡ visitsAfter (now (pack .entry)) (length (now (work .entry))) tree pgn (now (readings .entry)) (now (visits .entry)) ⌝ }
+{
+    let w = walk(pack, work, tree, pgn, readings, visits);
+    *answer = walk_answer(w);
+    walk_number(w)
+}
+
+// The number is the detail where the call is refused; else 1 where the PGN is held, 0 where it is not.
+#[no_mangle]
+pub extern "C" fn sarwymp_held(
+    pack: &[u8],
+    work: &mut [u32],
+    tree: u32,
+    pgn: u32,
+    answer: &mut [u64; 1],
+) -> u32
+    ensures number { λ r. ⌜ r ≡ heldNumber (held-told (now (pack .entry)) (length (now (work .entry))) tree pgn) ⌝ }
+    ensures numbers { λ r. ⌜ now (answer .exit) ≡ heldAnswer (held-told (now (pack .entry)) (length (now (work .entry))) tree pgn) ⌝ }
+    ensures work { λ r. ⌜ now (work .exit) ≡ workAfter (now (pack .entry)) (now (work .entry)) ⌝ }
+{
+    let h = held(pack, work, tree, pgn);
+    *answer = held_answer(h);
+    held_number(h)
 }
