@@ -78,4 +78,10 @@ impl Lengths {
         self.table.hit(LENGTHS.len() * buffer + kind);
         length
     }
+
+    /// The length that is needed.
+    pub fn exact(&mut self, buffer: usize, needed: usize) -> usize {
+        self.table.hit(LENGTHS.len() * buffer);
+        needed
+    }
 }

@@ -18,6 +18,10 @@ const LISTS: usize = 3;
 /// A long list has at least so many readings.
 const LONG: usize = 1000;
 
+/// The library remembers 256 fields that stop at no reading: so many fields, each in so many packs.
+const MANY_FIELDS: [usize; 5] = [64, 255, 256, 257, 600];
+const MANY: usize = 40;
+
 /// `calls::walk_pgn` and `calls::held_pgn` against what 01 says of the buffers, and against the library where it is linked.
 /// No list brings a stop on a held PGN of a pack without error.
 pub fn walk(seed: u64, count: usize) -> Run {
@@ -28,16 +32,20 @@ pub fn walk(seed: u64, count: usize) -> Run {
     for pack in packs_of_sizes(seed) {
         run.few(&pack)?;
     }
-    let mut packs = 0;
+    for fields in MANY_FIELDS {
+        for _ in 0..MANY {
+            let pack = run.generator.pack_of_fields(fields);
+            run.pack_and_damaged(&pack).map_err(|failure| format!("{fields} fields: {failure}"))?;
+        }
+    }
     while run.triples < count {
         let pack = run.some_pack();
-        run.pack_and_damaged(&pack).map_err(|failure| format!("pack {packs}: {failure}"))?;
-        packs += 1;
+        run.pack_and_damaged(&pack).map_err(|failure| format!("pack {}: {failure}", run.packs))?;
     }
     println!(
-        "walk: {} triples (pack, PGN, list of readings) of {packs} packs, and {} refused calls, seed {seed}: no \
-         difference, and no stop on a held PGN of a pack without error",
-        run.triples, run.refused
+        "walk: {} triples (pack, PGN, list of readings) of {} packs, and {} refused calls, seed {seed}: no difference, \
+         and no stop on a held PGN of a pack without error",
+        run.triples, run.packs, run.refused
     );
     finish(&[&run.ends, &run.pgns, &run.lists, &run.walks.table, &run.helds.table, &run.lengths.table])
 }
@@ -47,6 +55,7 @@ const BUFFERS: [&str; 2] = ["work", "visits"];
 
 struct WalkRun {
     generator: Generator,
+    packs: usize,
     /// calls that walked, and calls that were refused
     triples: usize,
     refused: usize,
@@ -70,15 +79,17 @@ struct Named {
 impl WalkRun {
     fn new(seed: u64) -> Self {
         let kinds = ["clean held", "clean only", "held only", "neither", "set", "counted", "nested", "empty"];
-        let lists = ["empty", "short", "long", "again", "nested again", "stop at 0", "stop later", "long, safe"];
+        let lists = ["empty", "short", "long", "long, safe", "again", "nested again"];
+        let stops = ["stop at 0", "stop later", "stop again", "past 256", "stop past 256"];
         let harmful = HARMFUL.map(|kind| format!("{kind}, safe"));
         WalkRun {
             generator: Generator::new(seed),
+            packs: 0,
             triples: 0,
             refused: 0,
             ends: Table::new("ends of walks", End::all().map(|end| end.to_string())),
             pgns: Table::new("PGNs", kinds.map(String::from)),
-            lists: Table::new("lists walked", lists.map(String::from).into_iter().chain(harmful)),
+            lists: Table::new("lists walked", lists.into_iter().chain(stops).map(String::from).chain(harmful)),
             walks: Answers::new("answers of walk", "walked", &[21, 23, 25]),
             helds: Answers::new("answers of held", "told", &[21, 23]),
             lengths: Lengths::new(&BUFFERS),
@@ -87,12 +98,22 @@ impl WalkRun {
 
     fn some_pack(&mut self) -> Pack {
         let rng = &mut self.generator.rng;
-        let (aimed, bytes) = (rng.chance(1, 2), rng.chance(1, 4));
-        if aimed { self.generator.pack_with_stops() } else { self.generator.pack(bytes) }
+        match rng.below(512) {
+            0 => {
+                let fields = rng.between(200, 300);
+                self.generator.pack_of_fields(fields)
+            }
+            kind if kind % 2 == 0 => self.generator.pack_with_stops(),
+            _ => {
+                let bytes = rng.chance(1, 4);
+                self.generator.pack(bytes)
+            }
+        }
     }
 
     /// A long pack: some of its PGNs, one list each.
     fn few(&mut self, pack: &Pack) -> Run {
+        self.packs += 1;
         let encoded = encode(pack);
         let case = Case::new(&encoded.bytes);
         for (tree, pgns) in pack.trees.iter().enumerate() {
@@ -106,6 +127,7 @@ impl WalkRun {
 
     /// Every PGN of a pack, others that are not there, and some of a damaged copy.
     fn pack_and_damaged(&mut self, pack: &Pack) -> Run {
+        self.packs += 1;
         let encoded = encode(pack);
         let case = Case::new(&encoded.bytes);
         let clean = !case.list.iter().any(Finding::is_error);
@@ -160,12 +182,14 @@ impl WalkRun {
 
     /// Some readings, or a list that is meant to do harm; on a PGN that no list may stop, it is a long one now and then.
     fn readings(&mut self, pgn: &Pgn, safe: bool) -> Vec<u64> {
+        let most = 40 + 2 * pgn.fields.len();
         let rng = &mut self.generator.rng;
         if rng.chance(1, 2) {
-            return self.generator.readings(40);
+            return self.generator.readings(most);
         }
         let long = safe && rng.chance(1, 32);
-        let (kind, length) = (rng.below(HARMFUL.len()), if long { rng.between(LONG, 5 * LONG) } else { rng.below(65) });
+        let (kind, length) =
+            (rng.below(HARMFUL.len()), if long { rng.between(LONG, 5 * LONG) } else { rng.below(most) });
         if safe {
             self.lists.reached(&format!("{}, safe", HARMFUL[kind]));
         }
@@ -175,7 +199,7 @@ impl WalkRun {
     /// The length needed, and now and then some other.
     fn length(&mut self, buffer: usize, needed: usize) -> usize {
         let rng = &mut self.generator.rng;
-        if rng.chance(3, 4) { needed } else { self.lengths.pick(rng, buffer, needed) }
+        if rng.chance(3, 4) { self.lengths.exact(buffer, needed) } else { self.lengths.pick(rng, buffer, needed) }
     }
 
     /// A call of walk and one of held.
@@ -215,14 +239,18 @@ impl WalkRun {
         let (length, count) = (call.readings.len(), count as usize);
         let visits = &visits[..count];
         let stops = matches!(end, End::Stop(_));
+        let again = visits.windows(2).any(|pair| pair[1] <= pair[0]);
         let is = [
             ("empty", length == 0),
             ("short", length > 0 && length < LONG),
             ("long", length >= LONG),
-            ("again", visits.windows(2).any(|pair| pair[1] <= pair[0])),
+            ("again", again),
             ("nested again", call.pgn().is_some_and(|pgn| passes_of_nested(pgn, visits) > 1)),
             ("stop at 0", stops && count == 0),
             ("stop later", stops && count > 0),
+            ("stop again", stops && again),
+            ("past 256", visits.iter().any(|visit| *visit > 256)),
+            ("stop past 256", stops && visits.iter().any(|visit| *visit > 256)),
             ("long, safe", call.named.safe && count >= LONG),
         ];
         is.iter().filter(|(_, is)| *is).for_each(|(row, _)| self.lists.reached(row));

@@ -10,16 +10,32 @@ impl Generator {
     /// A pack without error, but for what may stop the walk in some of its PGNs; every stop is aimed at as often.
     pub fn pack_with_stops(&mut self) -> Pack {
         let mut pack = self.pack_with(0, false);
+        self.aim_at_stops(&mut pack);
+        pack
+    }
+
+    /// The same with a single PGN of so many fields.
+    pub fn pack_of_fields(&mut self, fields: usize) -> Pack {
+        self.bytes = false;
+        self.slip = 0;
+        self.begin();
+        let mut pack =
+            Pack { fieldtypes: self.types.clone(), lookups: self.lookups.clone(), trees: Default::default() };
+        self.add_pgn(0, fields, &mut pack.trees[0]);
+        self.aim_at_stops(&mut pack);
+        pack
+    }
+
+    fn aim_at_stops(&mut self, pack: &mut Pack) {
         for tree in 0..3 {
             for item in 0..pack.trees[tree].len() {
                 let mut pgn = std::mem::take(&mut pack.trees[tree][item]);
                 if !pgn.fields.is_empty() && self.coin() {
-                    self.aim_at_stop(&mut pack, &mut pgn);
+                    self.aim_at_stop(pack, &mut pgn);
                 }
                 pack.trees[tree][item] = pgn;
             }
         }
-        pack
     }
 
     fn aim_at_stop(&mut self, pack: &mut Pack, pgn: &mut Pgn) {
@@ -42,7 +58,7 @@ impl Generator {
                 }
             }
             stop => {
-                let target = self.rng.below(count + 1);
+                let (at, target) = self.user_and_target(pgn);
                 let id = Some(pgn.fields.get(target).map_or(text("missing"), |field| field.id.clone()));
                 let field = &mut pgn.fields[at];
                 match stop {
@@ -52,6 +68,21 @@ impl Generator {
                 }
             }
         }
+    }
+
+    /// Two indexes, the second maybe one past the fields; often a user in the inner set, which the first pass of the outer
+    /// may skip, and a target that comes after it in the outer.
+    fn user_and_target(&mut self, pgn: &Pgn) -> (usize, usize) {
+        let count = pgn.fields.len();
+        let any = (self.rng.below(count), self.rng.below(count + 1));
+        let [Some(outer), Some(inner)] = &pgn.sets else { return any };
+        let orders = [inner.start, inner.start + inner.count, outer.start + outer.count].map(|order| order as usize);
+        let [start, after, end] = orders;
+        let late = inner.nested && inner.count > 0 && after < end && end <= count + 1;
+        if !late || !self.coin() {
+            return any;
+        }
+        (self.rng.between(start, after - 1) - 1, self.rng.between(after, end - 1) - 1)
     }
 
     /// Some nonempty set, a new one where there is none, takes its passes from any order.
