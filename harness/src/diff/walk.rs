@@ -18,7 +18,7 @@ const LISTS: usize = 3;
 /// A long list has at least so many readings.
 const LONG: usize = 1000;
 
-/// The library remembers 256 fields that stop at no reading: so many fields, each in so many packs.
+/// Fields about as many as a walk can remember in a table of 256, and more: so many, each in so many packs.
 const MANY_FIELDS: [usize; 5] = [64, 255, 256, 257, 600];
 const MANY: usize = 40;
 
@@ -100,7 +100,7 @@ impl WalkRun {
         let rng = &mut self.generator.rng;
         match rng.below(512) {
             0 => {
-                let fields = rng.between(200, 300);
+                let fields = rng.between(200, 600);
                 self.generator.pack_of_fields(fields)
             }
             kind if kind % 2 == 0 => self.generator.pack_with_stops(),
