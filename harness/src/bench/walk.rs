@@ -83,6 +83,8 @@ fn rates(shape: &Shape, bytes: &[u8], length: usize) -> Result<[Option<f64>; 3],
             keep(library::walk(black_box(bytes), &mut work, tree_number, item_number, &readings, &mut visits));
         }))
     });
+    // nothing of the library's may stand in for what this walk does not write
+    visits.fill(u32::MAX);
     let rust = rate(time(&mut || {
         let loaded = read(black_box(bytes)).expect("a good pack");
         keep(quick_walk(&loaded.pack, &loaded.pack.trees[tree][item], &readings, &mut visits));
