@@ -4,7 +4,7 @@
 use crate::finding::Finding;
 use crate::reader::{Loaded, Refusal, read};
 use crate::value::Pgn;
-use crate::walk::{End, held, walk};
+use crate::walk::{held, walk};
 use crate::{rules, words};
 
 type Answer<T> = Result<T, Refusal>;
@@ -13,14 +13,7 @@ fn refused<T>(number: u32, needed: usize) -> Answer<T> {
     Err(Refusal { number, detail: needed as u64 })
 }
 
-/// Reads the pack and fills the work buffer: 1 to 9, then 21.
-fn open(pack: &[u8], work: &mut [u32]) -> Answer<Loaded> {
-    let loaded = read(pack)?;
-    fill(&loaded, work)?;
-    Ok(loaded)
-}
-
-/// As `open`, of a pack that has been read.
+/// Fills the work buffer from a pack that has been read: 1 to 9, then 21.
 fn open_as_read<'a>(read: &'a Answer<Loaded>, work: &mut [u32]) -> Answer<&'a Loaded> {
     let loaded = read.as_ref().map_err(|refusal| *refusal)?;
     fill(loaded, work)?;
@@ -119,7 +112,7 @@ fn named(loaded: &Loaded, tree: u32, item: u32) -> Answer<&Pgn> {
     pgn.ok_or(Refusal { number: 23, detail: 0 })
 }
 
-/// The end and the number of visits.
+/// The number of the end and the number of visits.
 pub fn walk_pgn(
     pack: &[u8],
     work: &mut [u32],
@@ -127,18 +120,37 @@ pub fn walk_pgn(
     item: u32,
     readings: &[u64],
     visits: &mut [u32],
-) -> Answer<(End, usize)> {
-    let loaded = open(pack, work)?;
-    let pgn = named(&loaded, tree, item)?;
+) -> Answer<[u64; 2]> {
+    walk_pgn_as_read(&read(pack), work, tree, item, readings, visits)
+}
+
+/// As `walk_pgn`, of a pack that has been read.
+pub fn walk_pgn_as_read(
+    read: &Answer<Loaded>,
+    work: &mut [u32],
+    tree: u32,
+    item: u32,
+    readings: &[u64],
+    visits: &mut [u32],
+) -> Answer<[u64; 2]> {
+    let loaded = open_as_read(read, work)?;
+    let pgn = named(loaded, tree, item)?;
     if visits.len() < readings.len() {
         return refused(25, readings.len());
     }
     let walked = walk(&loaded.pack, pgn, readings);
     visits[..walked.visits.len()].copy_from_slice(&walked.visits);
-    Ok((walked.end, walked.visits.len()))
+    Ok([walked.end.number(), walked.visits.len() as u64])
 }
 
-pub fn held_pgn(pack: &[u8], work: &mut [u32], tree: u32, item: u32) -> Answer<bool> {
-    let loaded = open(pack, work)?;
-    Ok(held(&loaded.pack, named(&loaded, tree, item)?))
+/// 1 where the PGN is held, else 0.
+pub fn held_pgn(pack: &[u8], work: &mut [u32], tree: u32, item: u32) -> Answer<[u64; 1]> {
+    held_pgn_as_read(&read(pack), work, tree, item)
+}
+
+/// As `held_pgn`, of a pack that has been read.
+pub fn held_pgn_as_read(read: &Answer<Loaded>, work: &mut [u32], tree: u32, item: u32) -> Answer<[u64; 1]> {
+    let loaded = open_as_read(read, work)?;
+    let pgn = named(loaded, tree, item)?;
+    Ok([held(&loaded.pack, pgn).into()])
 }

@@ -10,6 +10,7 @@ pub mod finding;
 pub mod rules;
 pub mod words;
 
+pub mod quick_walk;
 pub mod walk;
 
 pub mod calls;

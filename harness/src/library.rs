@@ -37,6 +37,30 @@ unsafe extern "C" {
         text_len: usize,
         answer: *mut [u64; 1],
     ) -> u32;
+
+    fn sarwymp_walk(
+        pack: *const u8,
+        pack_len: usize,
+        work: *mut u32,
+        work_len: usize,
+        tree: u32,
+        pgn: u32,
+        readings: *const u64,
+        readings_len: usize,
+        visits: *mut u32,
+        visits_len: usize,
+        answer: *mut [u64; 2],
+    ) -> u32;
+
+    fn sarwymp_held(
+        pack: *const u8,
+        pack_len: usize,
+        work: *mut u32,
+        work_len: usize,
+        tree: u32,
+        pgn: u32,
+        answer: *mut [u64; 1],
+    ) -> u32;
 }
 
 #[cfg(sarwymp)]
@@ -95,6 +119,46 @@ pub fn place_text(
     Some((number, answer))
 }
 
+/// The answer is the number of the end and of the visits, or the detail and 0. `pgn` is the index of the PGN in its tree.
+#[cfg(sarwymp)]
+pub fn walk(
+    pack: &[u8],
+    work: &mut [u32],
+    tree: u32,
+    pgn: u32,
+    readings: &[u64],
+    visits: &mut [u32],
+) -> Option<(u32, [u64; 2])> {
+    let mut answer = [UNWRITTEN; 2];
+    // SAFETY: as for load; the two lent buffers are apart, and the readings are only read.
+    let number = unsafe {
+        sarwymp_walk(
+            pack.as_ptr(),
+            pack.len(),
+            work.as_mut_ptr(),
+            work.len(),
+            tree,
+            pgn,
+            readings.as_ptr(),
+            readings.len(),
+            visits.as_mut_ptr(),
+            visits.len(),
+            &mut answer,
+        )
+    };
+    Some((number, answer))
+}
+
+/// The answer is 1 where the PGN is held and else 0, or the detail.
+#[cfg(sarwymp)]
+pub fn held(pack: &[u8], work: &mut [u32], tree: u32, pgn: u32) -> Option<(u32, [u64; 1])> {
+    let mut answer = [UNWRITTEN; 1];
+    // SAFETY: as for load.
+    let number =
+        unsafe { sarwymp_held(pack.as_ptr(), pack.len(), work.as_mut_ptr(), work.len(), tree, pgn, &mut answer) };
+    Some((number, answer))
+}
+
 #[cfg(not(sarwymp))]
 pub fn load(_: &[u8], _: &mut [u32]) -> Option<(u32, [u64; 11])> {
     None
@@ -107,6 +171,16 @@ pub fn check(_: &[u8], _: &mut [u32], _: &mut [u32]) -> Option<(u32, [u64; 2])> 
 
 #[cfg(not(sarwymp))]
 pub fn place_text(_: &[u8], _: &mut [u32], _: u32, _: u32, _: u32, _: &mut [u8]) -> Option<(u32, [u64; 1])> {
+    None
+}
+
+#[cfg(not(sarwymp))]
+pub fn walk(_: &[u8], _: &mut [u32], _: u32, _: u32, _: &[u64], _: &mut [u32]) -> Option<(u32, [u64; 2])> {
+    None
+}
+
+#[cfg(not(sarwymp))]
+pub fn held(_: &[u8], _: &mut [u32], _: u32, _: u32) -> Option<(u32, [u64; 1])> {
     None
 }
 

@@ -1,6 +1,9 @@
 //! Records a fixed list of cases with their answers, for a program that is proved to replay them: what stands on its
 //! standard input, and what it must write. README.txt says how; the answers are those of `calls`.
 
+mod walk;
+
+use self::walk::walks;
 use crate::calls;
 use crate::damage::damage;
 use crate::encode::encode;
@@ -8,11 +11,9 @@ use crate::finding::{CAUSES, FIELDTYPES, Finding, GROUP, LOOKUP, PGN};
 use crate::generate::{Generator, pack_of_digits};
 use crate::reader::{LIMIT, Refusal, read};
 use crate::report::worked_example;
-use crate::walk::{End, held};
 use crate::{text, words};
 use std::collections::HashMap;
 use std::fs;
-use std::io::Write;
 use std::path::Path;
 
 const SEED: u64 = 2000;
@@ -25,8 +26,9 @@ a refusal, a rule's cause, a place, an end of the walk.
 
 Each folder has `stdin`, the number of cases and then the cases, and `stdout`, the lines that a program must write for
 them. In `stdin` a number has 4 bytes, lowest first, a reading 8; a pack is its length and its bytes, but one of more
-than 65536 bytes is zeros, and only its length stands there. Before the call a work buffer of load holds 165 everywhere,
-a text buffer of place holds 46, a full stop. In check and place no work or findings buffer has more than 2048 numbers.
+than 65536 bytes is zeros, and only its length stands there. Before the call a work buffer of load and walk holds 165
+everywhere, a text buffer of place 46, a full stop, a visit buffer 170. In check and place no work or findings buffer has
+more than 2048 numbers.
 
 load    a case: length of the work buffer, pack
         lines:  refused NUMBER DETAIL
@@ -41,14 +43,18 @@ place   a case: pack, length of the work buffer, place, tree, item, length of th
                 text BYTES (the whole buffer after the call, refused or not)
         Texts of every place and tree, refusals 1 to 8, 21, 23 and 24. All bytes of a text are printable ASCII.
 walk    a case: pack, length of the work buffer, tree, index of the PGN, length of the visit buffer, number of readings,
-                the readings
-        lines:  refused NUMBER DETAIL
-           or   the end (whole, used up, or stop NUMBER), `held` or `not held`, then: visits INDEX ..
+                the readings; then a call of walk, and one of held with a work buffer of the same length
+        lines:  whole N, used up N or stop NUMBER N (N visits), or refused NUMBER DETAIL
+                held or not held, or refused NUMBER DETAIL
+                visits NUMBER .. (the whole visit buffer after the call of walk, refused or not)
+        At most 32768 bytes of pack, 1024 numbers of work, 64 readings and a visit buffer of 80. Every end, several passes
+        of nested sets, PGNs held and not held, refusals 1 to 8, 21, 23 and 25.
 ";
 /// A longer pack is recorded by its length alone.
 const SPELT: usize = 65_536;
-/// What load's work buffer holds before the call.
+/// What the work buffer of load and walk holds before the call, and the visit buffer.
 const UNTOUCHED: u32 = 165;
+const UNVISITED: u32 = 170;
 
 pub fn record(folder: &Path) -> Result<(), String> {
     let write = |name: &str, bytes: &[u8]| {
@@ -60,7 +66,7 @@ pub fn record(folder: &Path) -> Result<(), String> {
         ("load", load(), numbers((1..=9).chain([21]))),
         ("check", check(), numbers((1..=9).chain([21, 22])).into_iter().chain(causes()).chain(places()).collect()),
         ("place", place(), numbers((1..=8).chain([21, 23, 24])).into_iter().chain(places()).collect()),
-        ("walk", walks(), numbers([23, 25]).into_iter().chain(ends()).collect()),
+        ("walk", walks(), numbers((1..=8).chain([21, 23, 25])).into_iter().chain(walk::all()).collect()),
     ] {
         if let Some(missing) = all.iter().find(|key| !recording.reached.contains_key(*key)) {
             return Err(format!("{name}: no case for {missing}"));
@@ -91,10 +97,6 @@ fn places() -> impl Iterator<Item = String> {
 
 fn place_key(place: u32, tree: u32) -> String {
     format!("place {place} tree {tree}")
-}
-
-fn ends() -> impl Iterator<Item = String> {
-    (1..=9).map(End::Stop).chain([End::Whole, End::UsedUp]).map(|end| format!("{end:?}"))
 }
 
 #[derive(Default)]
@@ -326,55 +328,4 @@ fn one_place(out: &mut Recording, bytes: &[u8], at: [u32; 3], less: [usize; 2], 
         out.refused(refusal);
     }
     out.line(&[b"text ", &text[..]].concat());
-}
-
-fn walks() -> Recording {
-    let mut out = Recording::default();
-    let mut generator = Generator::new(SEED);
-    for case in 0..40_000 {
-        let pack = generator.pack(false);
-        let bytes = encode(&pack).bytes;
-        // what no short pack has reached a longer one may
-        let longest = if case < 20_000 { LONGEST } else { 2 * LONGEST };
-        let (tree, item) = (generator.rng.below(3), generator.rng.below(3));
-        let readings = generator.readings(24);
-        let short = usize::from(generator.rng.chance(1, 8));
-        let visits_lent = readings.len().saturating_sub(short);
-        let work_lent = encode(&pack).records.len();
-        let mut visits = vec![0; visits_lent];
-        let answer = calls::walk_pgn(&bytes, &mut vec![0; work_lent], tree as u32, item as u32, &readings, &mut visits);
-        let keys = match &answer {
-            Err(refusal) => vec![refusal.number.to_string()],
-            Ok((end, count)) => {
-                let pgn = &pack.trees[tree][item];
-                let again = visits[..*count].windows(2).any(|pair| pair[1] <= pair[0]);
-                let sets = pgn.sets.iter().flatten().count();
-                vec![format!("{end:?}"), format!("{end:?} {} {again} {sets}", held(&pack, pgn))]
-            }
-        };
-        if bytes.len() > longest || !out.wants(2, &keys) {
-            continue;
-        }
-        out.pack(&bytes);
-        for number in [work_lent, tree, item, visits_lent, readings.len()] {
-            out.number(number);
-        }
-        for reading in &readings {
-            out.stdin.extend(reading.to_le_bytes());
-        }
-        match answer {
-            Err(refusal) => out.refused(refusal),
-            Ok((end, count)) => {
-                let end = match end {
-                    End::Whole => "whole".into(),
-                    End::UsedUp => "used up".into(),
-                    End::Stop(stop) => format!("stop {stop}"),
-                };
-                let held = if held(&pack, &pack.trees[tree][item]) { "held" } else { "not held" };
-                let visits = spaced(&visits[..count]);
-                writeln!(out.stdout, "{end} {held} visits{visits}").expect("written to memory");
-            }
-        }
-    }
-    out
 }

@@ -2,12 +2,44 @@
 //! asked of it as the paper words it.
 
 use crate::value::*;
+use std::fmt;
 
 #[derive(Clone, Copy, PartialEq, Eq, Debug)]
 pub enum End {
     Whole,
     UsedUp,
     Stop(u32),
+}
+
+impl End {
+    /// Every end, in the order of their numbers.
+    pub fn all() -> impl Iterator<Item = End> {
+        [End::Whole].into_iter().chain((1..=9).map(End::Stop)).chain([End::UsedUp])
+    }
+
+    /// The number that the exported call gives it.
+    pub fn number(self) -> u64 {
+        match self {
+            End::Whole => 0,
+            End::Stop(stop) => stop.into(),
+            End::UsedUp => 10,
+        }
+    }
+
+    /// The end of a number that `number` gives.
+    pub fn of_number(number: u64) -> End {
+        End::all().find(|end| end.number() == number).expect("the number of an end")
+    }
+}
+
+impl fmt::Display for End {
+    fn fmt(&self, f: &mut fmt::Formatter) -> fmt::Result {
+        match self {
+            End::Whole => write!(f, "whole"),
+            End::UsedUp => write!(f, "used up"),
+            End::Stop(stop) => write!(f, "stop {stop}"),
+        }
+    }
 }
 
 #[derive(Clone, PartialEq, Eq, Debug)]
@@ -206,6 +238,13 @@ impl Walk<'_> {
     fn length_source(&self, index: usize) -> bool {
         (0..index).any(|lower| is_length_source(self.pack, &self.pgn.fields[lower]) && self.is_current(lower))
     }
+}
+
+/// In how many passes of set 1 a nested set 2 has several.
+pub fn passes_of_nested(pgn: &Pgn, visits: &[u32]) -> usize {
+    let [Some(outer), Some(Repeating { count: 1.., start, nested: true, .. })] = &pgn.sets else { return 0 };
+    let passes = visits.split(|visit| visit + 1 == outer.start).skip(1);
+    passes.filter(|pass| pass.iter().filter(|visit| *visit + 1 == *start).count() > 1).count()
 }
 
 fn is_length_source(pack: &Pack, field: &Field) -> bool {

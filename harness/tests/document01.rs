@@ -187,7 +187,7 @@ fn state_refusals_and_buffers() {
         |tree, item, visits: usize| calls::walk_pgn(&bytes, &mut [0; 3], tree, item, &[1, 2], &mut vec![0; visits]);
     assert_eq!(walk(0, 1, 0), refused(23, 0));
     assert_eq!(walk(0, 0, 1), refused(25, 2));
-    assert_eq!(walk(0, 0, 2), Ok((harness::walk::End::Stop(1), 0)));
+    assert_eq!(walk(0, 0, 2), Ok([1, 0]));
 }
 
 #[test]

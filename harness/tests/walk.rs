@@ -1,5 +1,6 @@
 //! The walk and `held` by hand: passes, nesting, what is current, each stop.
 
+use harness::quick_walk::quick_walk;
 use harness::text::to_pack;
 use harness::value::*;
 use harness::walk::{End, Walked, held, walk};
@@ -29,8 +30,14 @@ fn fields(count: usize) -> String {
     (1..=count).map(|i| format!("field f{i} F{i} NUMBER bits 8\n")).collect()
 }
 
+/// By both walks.
 fn walked(pack: &Pack, readings: &[u64]) -> (End, Vec<u32>) {
-    let Walked { end, visits } = walk(pack, &pack.trees[0][0], readings);
+    let pgn = &pack.trees[0][0];
+    let Walked { end, visits } = walk(pack, pgn, readings);
+    let mut quick = vec![7; readings.len()];
+    assert_eq!(quick_walk(pack, pgn, readings, &mut quick), (end, visits.len()));
+    assert_eq!(quick[..visits.len()], visits);
+    assert!(quick[visits.len()..].iter().all(|visit| *visit == 7));
     (end, visits)
 }
 
