@@ -1,7 +1,6 @@
 -- `read_readings` is safe and ends: each turn leaves one reading fewer.
 use Prim.Native.Nat.{_-_}
-use mathlib.Core.Path.{_≡_, refl, _∙_}
-use native.Mathlib.Omega.{arith}
+use mathlib.Core.Path.{_≡_, refl}
 use lib.ListN.{length, length-set}
 use borrow.Author.Needs.{needs}
 use Rattle.replay.proofs.walk.read_readings.Statement.{statement}
