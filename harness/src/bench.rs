@@ -1,5 +1,7 @@
 //! Times of the same inputs on each side, and how they grow with the pack: 1 KiB to 1 MiB.
 
+mod walk;
+
 use crate::encode::{Encoded, encode};
 use crate::generate::{Generator, sample_of_size};
 use crate::reader::read;
@@ -56,15 +58,18 @@ type Make = fn(usize) -> Result<Pack, String>;
 
 const SIZES: [usize; 6] = [1, 4, 16, 64, 256, 1024];
 
-pub fn bench() -> Result<(), String> {
+/// Prints the times of one call.
+pub type Part = fn() -> Result<(), String>;
+
+/// The parts by name.
+pub const PARTS: [(&str, Part); 3] = [("load", bench_loads), ("check", bench_checks), ("walk", walk::bench)];
+
+/// What holds for every part.
+pub fn introduce() {
     println!(
-        "Microseconds for one pack, the best of many runs (seed {SEED}); in brackets the growth from the size before, \
-         which is"
+        "The best of many runs (seed {SEED}). All are built for release; the buffers lent are long enough, made outside"
     );
-    println!(
-        "4 where the time grows as the size; ratio: the first side's time to this side's. All are built for release;"
-    );
-    println!("the buffers lent are long enough, made outside the clock, and not cleared between runs.");
+    println!("the clock, and not cleared between runs.");
     if !library::PRESENT {
         println!(
             "No library is linked (SARWYMP_LIB names its folder), so its side is missing, and the first side is another."
@@ -75,12 +80,24 @@ pub fn bench() -> Result<(), String> {
             "The oracle's files were not there at build time (KEEL_SRC names their folder), so its side is missing."
         );
     }
-    println!("\nload: the library's call, and the harness's own reader. Packs without error.");
+}
+
+/// What is said of load and of check.
+const PACKS: &str =
+    "Microseconds for one pack; in brackets the growth from the size before, which is 4 where the time grows as
+the size; ratio: the first side's time to this side's.";
+
+fn bench_loads() -> Result<(), String> {
+    println!("\nload: the library's call, and the harness's own reader. Packs without error.\n{PACKS}");
     let mut before = Vec::new();
     for kib in SIZES {
         let encoded = encode(&exactly(1024 * kib, 0)?);
         bench_load(kib, &encoded, &mut before);
     }
+    Ok(())
+}
+
+fn bench_checks() -> Result<(), String> {
     println!("\ncheck, from the pack's bytes to the findings:");
     println!("  library  the library's call: reads the pack and writes the findings as numbers");
     println!(
@@ -90,7 +107,7 @@ pub fn bench() -> Result<(), String> {
         "           its `Database` is made from such values outside the clock, as a Rust reader would make it at once"
     );
     println!("  whole    the same with that conversion in the clock: read, convert, keel's check");
-    println!("  harness  the harness's own reader and rules, findings as numbers");
+    println!("  harness  the harness's own reader and rules, findings as numbers\n{PACKS}");
     let kinds: [(&str, Make); 3] = [
         ("packs without error", |size| exactly(size, 0)),
         ("packs with many findings", |size| exactly(size, 200)),

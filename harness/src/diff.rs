@@ -1,12 +1,15 @@
 //! The differential runs: random packs, the same question to two sides, a table of what was reached.
 
+mod case;
 mod check;
 mod lent;
 mod rust;
+mod walk;
 
 use self::check::check;
 use self::lent::Lent;
 use self::rust::rust;
+use self::walk::walk;
 use crate::calls;
 use crate::damage::damage;
 use crate::encode::encode;
@@ -14,7 +17,6 @@ use crate::generate::{Generator, packs_of_sizes};
 use crate::reader::{LIMIT, Loaded, Refusal, read};
 use crate::table::{RuleTable, Table};
 use crate::value::Pack;
-use crate::walk::{End, held, walk};
 use crate::words::{Words, words};
 use crate::{library, oracle, rules};
 
@@ -23,12 +25,12 @@ pub type Failure = String;
 
 type Run = Result<(), Failure>;
 
-/// A run over so many packs from a seed.
+/// A run from a seed over so many packs, for the walk over so many triples of pack, PGN and readings.
 pub type RunOver = fn(u64, usize) -> Run;
 
 /// The runs by name.
 pub const RUNS: [(&str, RunOver); 5] =
-    [("oracle", oracle), ("load", load), ("check", check), ("rust", rust), ("walk", walks)];
+    [("oracle", oracle), ("load", load), ("check", check), ("rust", rust), ("walk", walk)];
 
 /// The oracle against `rules`, through the words.
 pub fn oracle(seed: u64, count: usize) -> Run {
@@ -182,76 +184,6 @@ fn one_load(generator: &mut Generator, bytes: &[u8], read: &Result<Loaded, Refus
     {
         let work = work.unlike(&other);
         return Err(format!("work of {lent}: {answer:?}, the library {theirs:?}; work {work}\n{}", keep(bytes)));
-    }
-    Ok(())
-}
-
-/// The walk: on a held PGN of a pack without error no readings bring a stop.
-pub fn walks(seed: u64, count: usize) -> Run {
-    println!("walk: the library exports no walk yet, so only the model of the calls is tried");
-    let mut generator = Generator::new(seed);
-    let stops = (1..=9).map(|stop| format!("stop {stop}"));
-    let mut ends = Table::new("ends of walks", ["whole", "used up"].map(String::from).into_iter().chain(stops));
-    let mut pgns = Table::new(
-        "PGNs walked",
-        ["clean held", "clean only", "held only", "neither", "with pass 2", "stop at 0", "stop later"]
-            .map(String::from),
-    );
-    let mut refusals = Table::new("refusals of walk", ["21", "23", "25"].map(String::from));
-    for case in 0..count {
-        let bytes = generator.rng.chance(1, 4);
-        let pack = generator.pack(bytes);
-        let clean = !rules::check(&pack).iter().any(|finding| finding.is_error());
-        for pgn in pack.trees.iter().flatten() {
-            let held = held(&pack, pgn);
-            pgns.reached(match (clean, held) {
-                (true, true) => "clean held",
-                (true, false) => "clean only",
-                (false, true) => "held only",
-                (false, false) => "neither",
-            });
-            for _ in 0..3 {
-                let readings = generator.readings(40);
-                let walked = walk(&pack, pgn, &readings);
-                ends.reached(&match walked.end {
-                    End::Whole => "whole".into(),
-                    End::UsedUp => "used up".into(),
-                    End::Stop(stop) => format!("stop {stop}"),
-                });
-                if walked.visits.windows(2).any(|pair| pair[1] <= pair[0]) {
-                    pgns.reached("with pass 2");
-                }
-                if let End::Stop(_) = walked.end {
-                    pgns.reached(if walked.visits.is_empty() { "stop at 0" } else { "stop later" });
-                    if clean && held {
-                        return Err(format!("case {case}: {walked:?} over {readings:?}\n{pgn:#?}\n{pack:#?}"));
-                    }
-                }
-                if walked.end == End::UsedUp && walked.visits.len() != readings.len() {
-                    return Err(format!("case {case}: used up with readings left"));
-                }
-            }
-        }
-        walk_refusals(&mut generator, &pack, &mut refusals)?;
-    }
-    println!("walk: {count} packs, seed {seed}: no stop on a held PGN of a pack without error");
-    finish(&[&ends, &pgns, &refusals])
-}
-
-/// One call with some buffer too short or a PGN that is not there.
-fn walk_refusals(generator: &mut Generator, pack: &Pack, table: &mut Table) -> Run {
-    let encoded = encode(pack);
-    let (tree, item) = (generator.rng.below(4) as u32, generator.rng.below(3) as u32);
-    let readings = generator.readings(6);
-    let mut work = Lent::numbers(encoded.records.len() - usize::from(generator.rng.chance(1, 8)));
-    let visits_lent = readings.len().saturating_sub(generator.rng.below(2));
-    let mut visits = Lent::numbers(visits_lent);
-    let answer = calls::walk_pgn(&encoded.bytes, work.part(), tree, item, &readings, visits.part());
-    if let Err(refusal) = answer {
-        table.reached(&refusal.number.to_string());
-        if visits != Lent::numbers(visits_lent) {
-            return Err(format!("a visit was written with {refusal:?}"));
-        }
     }
     Ok(())
 }

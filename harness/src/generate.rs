@@ -5,9 +5,11 @@ mod change;
 mod fields;
 mod pools;
 mod sample;
+mod walks;
 
 use self::pools::*;
 pub use self::sample::sample_of_size;
+pub use self::walks::HARMFUL;
 use crate::encode::{encode, number};
 use crate::reader::LIMIT;
 use crate::rng::Rng;

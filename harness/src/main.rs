@@ -8,7 +8,8 @@ const USAGE: &str = "usage:
   harness diff [--seed N] [--count N] [--what oracle|load|check|rust|walk|all]
                         compare over random packs; what is never reached is a failure
   harness record DIR    write a fixed list of packs with their answers
-  harness bench         time the same inputs on each side, 1 KiB to 1 MiB
+  harness bench [--what load|check|walk|all]
+                        time the same inputs on each side
   harness pack FILE     turn the readable form into a pack on standard output
   harness show          list the pack on standard input in words
   harness report        print what the report program prints for the pack on standard input";
@@ -19,7 +20,8 @@ fn main() -> ExitCode {
     let result = match words[..] {
         ["diff", ref options @ ..] => run_diff(options),
         ["record", folder] => record::record(folder.as_ref()),
-        ["bench"] => bench::bench(),
+        ["bench"] => run_bench("all"),
+        ["bench", "--what", what] => run_bench(what),
         ["pack", file] => pack(file),
         ["show"] => answer(|bytes| show::show(bytes).into_bytes()),
         ["report"] => answer(report::report),
@@ -49,6 +51,15 @@ fn run_diff(options: &[&str]) -> Result<(), String> {
         return Err(USAGE.into());
     }
     runs.into_iter().try_for_each(|(name, run)| run(seed, count).map_err(|failure| format!("{name}: {failure}")))
+}
+
+fn run_bench(what: &str) -> Result<(), String> {
+    let parts: Vec<_> = bench::PARTS.iter().filter(|(name, _)| what == "all" || what == *name).collect();
+    if parts.is_empty() {
+        return Err(USAGE.into());
+    }
+    bench::introduce();
+    parts.into_iter().try_for_each(|(_, part)| part())
 }
 
 fn pack(file: &str) -> Result<(), String> {

@@ -240,6 +240,13 @@ impl Walk<'_> {
     }
 }
 
+/// In how many passes of set 1 a nested set 2 has several.
+pub fn passes_of_nested(pgn: &Pgn, visits: &[u32]) -> usize {
+    let [Some(outer), Some(Repeating { count: 1.., start, nested: true, .. })] = &pgn.sets else { return 0 };
+    let passes = visits.split(|visit| visit + 1 == outer.start).skip(1);
+    passes.filter(|pass| pass.iter().filter(|visit| *visit + 1 == *start).count() > 1).count()
+}
+
 fn is_length_source(pack: &Pack, field: &Field) -> bool {
     field.dynamic_field_length || pack.root_name(field) == b"DYNAMIC_FIELD_KEY"
 }

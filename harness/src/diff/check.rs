@@ -1,12 +1,12 @@
 //! The check and place text calls, with buffers of many lengths: what the model answers and leaves in the buffers, and
 //! the library beside it.
 
+use super::case::{Answers, Case, Lengths};
 use super::{Lent, Run, finish, keep, short_inputs};
 use crate::damage::damage;
 use crate::encode::encode;
-use crate::finding::{FIELDTYPES, Finding, GROUP, LOOKUP, PGN};
+use crate::finding::{FIELDTYPES, GROUP, LOOKUP, PGN};
 use crate::generate::{Generator, pack_of_digits, packs_of_sizes};
-use crate::reader::{Loaded, Refusal, read};
 use crate::table::{RuleTable, Table};
 use crate::value::Pack;
 use crate::{calls, library, words};
@@ -32,74 +32,32 @@ pub fn check(seed: u64, count: usize) -> Run {
         run.pack_and_damaged(&pack, 2).map_err(|failure| format!("case {case}: {failure}"))?;
     }
     println!("check: {count} packs with 2 damaged copies each, seed {seed}, and every short input: no difference");
-    finish(&[&run.rules.table, &run.checks, &run.texts, &run.places, &run.lengths])
+    finish(&[&run.rules.table, &run.checks.table, &run.texts.table, &run.places, &run.lengths.table])
 }
 
-/// An input with what the model makes of it.
-struct Case<'a> {
-    bytes: &'a [u8],
-    read: Result<Loaded, Refusal>,
-    list: Vec<Finding>,
-}
-
-impl<'a> Case<'a> {
-    fn new(bytes: &'a [u8]) -> Self {
-        let read = read(bytes);
-        let list = calls::found(&read);
-        Case { bytes, read, list }
-    }
-
-    fn records(&self) -> &[u32] {
-        self.read.as_ref().map_or(&[], |loaded| &loaded.records)
-    }
-
-    /// The work buffer after a call: unchanged with 1 to 9 and 21, else the records and its rest unchanged.
-    fn work_after(&self, lent: usize, number: u32) -> Lent<u32> {
-        let before = Lent::numbers(lent);
-        if matches!(number, 1..=9 | 21) { before } else { before.with(self.records()) }
-    }
-}
-
-/// The buffers whose lengths are varied, and the lengths beside the one needed.
+/// The buffers whose lengths are varied.
 const BUFFERS: [&str; 3] = ["work", "findings", "text"];
-const LENGTHS: [&str; 5] = ["exact", "1 less", "shorter", "longer", "none"];
 
 struct CheckRun {
     generator: Generator,
     rules: RuleTable,
-    checks: Table,
-    texts: Table,
+    checks: Answers,
+    texts: Answers,
     places: Table,
-    lengths: Table,
+    lengths: Lengths,
 }
-
-/// The row of an answer: 0 where there is no refusal, 1 to 9 for those of the input, then the others as they stand.
-fn row(number: u32, others: &[u32]) -> usize {
-    match others.iter().position(|other| *other == number) {
-        Some(place) => 10 + place,
-        None => number as usize,
-    }
-}
-
-const CHECK_REFUSALS: [u32; 2] = [21, 22];
-const TEXT_REFUSALS: [u32; 3] = [21, 23, 24];
 
 impl CheckRun {
     fn new(seed: u64) -> Self {
-        let answers = |title, good: &str, others: &[u32]| {
-            let refusals = (1..=9).chain(others.iter().copied()).map(|number| number.to_string());
-            Table::new(title, [good.to_string()].into_iter().chain(refusals))
-        };
         let places = (0..4).flat_map(|place| (0..3).map(move |tree| (place, tree)));
         let places = places.filter(|(place, tree)| *tree == 0 || matches!(*place, PGN | GROUP));
-        let lengths = BUFFERS.into_iter().flat_map(|buffer| LENGTHS.map(|length| format!("{buffer} {length}")));
         CheckRun {
             generator: Generator::new(seed),
             rules: RuleTable::new(),
-            checks: answers("answers of check", "findings", &CHECK_REFUSALS),
-            texts: answers("answers of place text", "text", &TEXT_REFUSALS),
+            checks: Answers::new("answers of check", "findings", &[21, 22]),
+            texts: Answers::new("answers of place text", "text", &[21, 23, 24]),
             places: Table::new("place texts", places.map(|(place, tree)| place_row(place, tree))),
-            lengths: Table::new("lengths of buffers", lengths),
+            lengths: Lengths::new(&BUFFERS),
         }
     }
 
@@ -178,16 +136,7 @@ impl CheckRun {
 
     /// The length that is needed or some other, for a buffer of `BUFFERS`.
     fn length(&mut self, buffer: usize, needed: usize) -> usize {
-        let rng = &mut self.generator.rng;
-        let (kind, length) = match rng.below(16) {
-            0 if needed > 0 => (1, needed - 1),
-            1 if needed > 0 => (2, rng.below(needed)),
-            2..=4 => (3, needed + rng.between(1, 20)),
-            5 => (4, 0),
-            _ => (0, needed),
-        };
-        self.lengths.hit(LENGTHS.len() * buffer + kind);
-        length
+        self.lengths.pick(&mut self.generator.rng, buffer, needed)
     }
 
     fn check(&mut self, case: &Case) -> Run {
@@ -200,7 +149,7 @@ impl CheckRun {
         let (mut work, mut findings) = (Lent::numbers(work_lent), Lent::numbers(findings_lent));
         let answer = calls::check_as_read(&case.read, &case.list, work.part(), findings.part());
         let number = answer.err().map_or(0, |refusal| refusal.number);
-        self.checks.hit(row(number, &CHECK_REFUSALS));
+        self.checks.hit(number);
         let mut findings_after = Lent::numbers(findings_lent);
         if number == 0 {
             let numbers: Vec<u32> = case.list.iter().flat_map(|finding| finding.numbers()).collect();
@@ -232,7 +181,7 @@ impl CheckRun {
         let (mut work, mut text) = (Lent::numbers(work_lent), Lent::bytes(text_lent));
         let answer = calls::place_text_as_read(&case.read, work.part(), place, tree, item, text.part());
         let number = answer.err().map_or(0, |refusal| refusal.number);
-        self.texts.hit(row(number, &TEXT_REFUSALS));
+        self.texts.hit(number);
         let mut text_after = Lent::bytes(text_lent);
         if number == 0 {
             self.places.reached(&place_row(place, tree));

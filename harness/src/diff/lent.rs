@@ -28,6 +28,11 @@ impl<T: Copy + PartialEq> Lent<T> {
         &mut self.whole[EDGE..end]
     }
 
+    /// What the call got.
+    pub fn lent(&self) -> &[T] {
+        &self.whole[EDGE..self.whole.len() - EDGE]
+    }
+
     /// The buffer after a call that writes `begin` at the beginning of its part and nothing else.
     pub fn with(mut self, begin: &[T]) -> Self {
         self.part()[..begin.len()].copy_from_slice(begin);

@@ -7,8 +7,8 @@ use crate::encode::encode;
 use crate::generate::Generator;
 use crate::reader::{Loaded, Refusal, read};
 use crate::text::to_bytes;
-use crate::value::{Pgn, Repeating};
-use crate::walk::{End, Walked, held, walk};
+use crate::value::Pgn;
+use crate::walk::{End, Walked, held, passes_of_nested, walk};
 
 /// The buffers of the program that replays: no case has more.
 const BYTES: usize = 32_768;
@@ -146,21 +146,13 @@ fn reaches(
     let end = walked.end.to_string();
     let mut reaches = vec![format!("{end} {held} {again} {sets}"), end, held.to_string()];
     let more = [
-        (passes_of_nested(pgn, &walked) > 1, NESTED_PASSES),
+        (passes_of_nested(pgn, &walked.visits) > 1, NESTED_PASSES),
         (walked.end == End::UsedUp && within_a_set(pgn, &walked), WITHIN_A_SET),
         (lent > walked.visits.len(), LONGER),
         (readings.is_empty() && lent == 0, NO_VISIT_BUFFER),
     ];
     reaches.extend(more.into_iter().filter(|(is, _)| *is).map(|(_, name)| name.to_string()));
     reaches
-}
-
-/// How many passes of set 1 have several of a nested set 2.
-fn passes_of_nested(pgn: &Pgn, walked: &Walked) -> usize {
-    let [Some(outer), Some(Repeating { count: 1.., start, nested: true, .. })] = &pgn.sets else { return 0 };
-    let begins = |order: u32| move |visit: &u32| *visit + 1 == order;
-    let passes = walked.visits.split(begins(outer.start)).skip(1);
-    passes.filter(|pass| pass.iter().copied().filter(|visit| begins(*start)(visit)).count() > 1).count()
 }
 
 /// Whether the latest visit was of a field in a set, and not of its last one.
