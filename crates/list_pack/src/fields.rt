@@ -1,6 +1,6 @@
 // The fields of a PGN.
-use crate::say;
-use crate::work;
+use listing::say;
+use listing::work;
 use pack::protocol::FieldIndex;
 use pack::protocol::FieldOrder;
 use pack::records::AuthoredView;

@@ -1,6 +1,6 @@
 // The lookups, each with its entries.
-use crate::say;
-use crate::work;
+use listing::say;
+use listing::work;
 use pack::load::Section;
 
 fn list_entry(s: &[u8], at: usize, kind: u32) {

@@ -3,10 +3,10 @@ mod fields;
 mod lookups;
 mod pgns;
 mod refusal;
-mod say;
 mod types;
-mod work;
 
+use listing::input::read_pack;
+use listing::say;
 use pack::load::Index;
 use pack::load::Loaded;
 use pack::load::load;
@@ -40,11 +40,9 @@ fn list_pack(s: &[u8]) {
 
 fn main() {
     let mut buf = io::large_buffer();
-    let n = io::read_full(0, &mut buf);
-    let mut more = [0u8; 1];
-    if n == 65536 && io::read_full(0, &mut more) == 1 {
-        say::words(b"too long\n");
-        return;
+    let input = read_pack(&mut buf);
+    if input.whole {
+        let n = input.len;
+        list_pack(&buf[..n]);
     }
-    list_pack(&buf[..n]);
 }

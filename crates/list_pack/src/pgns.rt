@@ -1,7 +1,7 @@
 // The PGNs of a tree, each with its sets and fields.
 use crate::fields;
-use crate::say;
-use crate::work;
+use listing::say;
+use listing::work;
 use pack::load::Section;
 use pack::records::OptRepeating;
 use pack::records::PgnFlags;

@@ -1,5 +1,5 @@
 // A refusal in words.
-use crate::say;
+use listing::say;
 use pack::load::Refusal;
 
 // 1 to 8, the refusals that have a place in the pack.

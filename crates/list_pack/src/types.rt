@@ -1,6 +1,6 @@
 // The field types.
-use crate::say;
-use crate::work;
+use listing::say;
+use listing::work;
 use pack::load::Section;
 
 fn list_type(s: &[u8], at: usize, i: u32) {

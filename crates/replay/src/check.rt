@@ -2,7 +2,6 @@
 ghost use Prim.Native.Nat.{_≤_};
 ghost use lib.ListN.{length};
 use crate::cases::count;
-use crate::cases::number;
 use crate::cases::print_numbers;
 use crate::cases::print_refused;
 use crate::cases::read_pack;
@@ -98,19 +97,10 @@ fn lend(
     one_case(pack, work, findings, text);
 }
 
-fn next_case() {
+pub fn next_case() {
     let mut pack = [0u8; 1_048_577];
     let mut work = [0u32; 1024];
     let mut findings = [0u32; 1024];
     let mut text = [0u8; 32_768];
     lend(&mut pack, &mut work, &mut findings, &mut text);
-}
-
-pub fn replay_all() {
-    let n = number();
-    let mut i = 0;
-    while i < n {
-        next_case();
-        i += 1;
-    }
 }

@@ -1,6 +1,5 @@
 // A case: length of the work buffer, pack. The work buffer holds 165 everywhere before the call.
 use crate::cases::count;
-use crate::cases::number;
 use crate::cases::print_numbers;
 use crate::cases::print_refused;
 use crate::cases::read_pack;
@@ -47,17 +46,8 @@ fn lend(pack: &mut [u8; 1_048_577], work: &mut [u32; 1024]) {
     one_case(pack, work);
 }
 
-fn next_case() {
+pub fn next_case() {
     let mut pack = [0u8; 1_048_577];
     let mut work = [165u32; 1024];
     lend(&mut pack, &mut work);
-}
-
-pub fn replay_all() {
-    let n = number();
-    let mut i = 0;
-    while i < n {
-        next_case();
-        i += 1;
-    }
 }

@@ -38,18 +38,9 @@ fn lend(pack: &mut [u8; 32_768], work: &mut [u32; 1024], text: &mut [u8; 4096]) 
     one_case(pack, work, text);
 }
 
-fn next_case() {
+pub fn next_case() {
     let mut pack = [0u8; 32_768];
     let mut work = [0u32; 1024];
     let mut text = [46u8; 4096];
     lend(&mut pack, &mut work, &mut text);
-}
-
-pub fn replay_all() {
-    let n = number();
-    let mut i = 0;
-    while i < n {
-        next_case();
-        i += 1;
-    }
 }

@@ -2,30 +2,25 @@
 ghost use Prim.Native.Nat.{_*_, _≤_};
 ghost use lib.ListN.{length};
 
-mod say;
+mod line;
 
-use pack::load::Refusal;
+use listing::input::read_pack;
+use listing::say;
 use rules::check::Checked;
 use rules::check::check;
 use rules::place_text::Placed;
 use rules::place_text::place_text;
 
-fn refused(r: Refusal) {
-    say::number(b"refused ", r.number() as u64);
-    say::number(b" ", r.detail() as u64);
-    say::words(b"\n");
-}
-
 // Rule, severity, place text, cause, part, other.
 fn print_line(f: &[u32], place: &[u8])
     requires { ⌜ 8 ≤ length (now f) ⌝ }
 {
-    say::rule(f[0]);
-    say::severity(f[1]);
+    line::rule(f[0]);
+    line::severity(f[1]);
     say::words(place);
-    say::spaced(f[2]);
-    say::spaced(f[6]);
-    say::spaced(f[7]);
+    line::spaced(f[2]);
+    line::spaced(f[6]);
+    line::spaced(f[7]);
     say::words(b"\n");
 }
 
@@ -35,7 +30,7 @@ fn print_finding(pack: &[u8], work: &mut [u32], text: &mut [u8], f: &[u32]) -> b
 {
     match place_text(pack, work, f[3], f[4], f[5], text) {
         Placed::Refused(r) => {
-            refused(r);
+            say::refused(r);
             false
         }
         Placed::Written(n) => {
@@ -71,7 +66,7 @@ fn print_findings(
 
 fn report(pack: &[u8], work: &mut [u32], findings: &mut [u32], text: &mut [u8]) {
     match check(pack, work, findings) {
-        Checked::Refused(r) => refused(r),
+        Checked::Refused(r) => say::refused(r),
         Checked::Reported {
             findings: count,
             errors,
@@ -91,12 +86,11 @@ fn lend(
 
 fn main() {
     let mut buf = io::large_buffer();
-    let n = io::read_full(0, &mut buf);
-    let mut more = [0u8; 1];
-    if n == 65536 && io::read_full(0, &mut more) == 1 {
-        say::words(b"too long\n");
+    let input = read_pack(&mut buf);
+    if !input.whole {
         return;
     }
+    let n = input.len;
     let mut work = [0u32; 16_384];
     let mut findings = [0u32; 16_384];
     let mut text = [0u8; 65_536];

@@ -37,7 +37,7 @@ use pack::text::Text;
 use pack::text::text_is;
 
 // The set holds the order.
-fn holds_order(set: OptRepeating, order: FieldOrder) -> bool
+pub fn holds_order(set: OptRepeating, order: FieldOrder) -> bool
     ensures { λ r. ⌜ r ≡ holds-order (optRepeating set) (order .0) ⌝ }
 {
     if !set.given {

@@ -1,14 +1,6 @@
-// Words and numbers on standard output.
-use libc::STDOUT_FILENO;
-
-pub fn words(w: &[u8]) {
-    io::write_all(STDOUT_FILENO, w);
-}
-
-pub fn number(w: &[u8], n: u64) {
-    words(w);
-    io::print_decimal(STDOUT_FILENO, n);
-}
+// The parts of a finding's line.
+use listing::say::number;
+use listing::say::words;
 
 pub fn spaced(n: u32) {
     number(b" ", n as u64);

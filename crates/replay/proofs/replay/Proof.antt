@@ -1,14 +1,14 @@
--- `replay_all` is safe and ends: each turn leaves one case fewer.
+-- `replay` is safe and ends: each turn leaves one case fewer.
 use Prim.Native.Nat.{_≤_, _-_}
 use borrow.Author.Needs.{needs}
-use Rattle.replay.proofs.load.replay_all.Statement.{statement}
-use Rattle.replay.proofs.load.replay_all.Tie as tie
+use Rattle.replay.proofs.replay.Statement.{statement}
+use Rattle.replay.proofs.replay.Tie as tie
 
 abbrev Inv-loop : tie.InvT-loop
-Inv-loop n i₀ i = i ≤ n
+Inv-loop call n i₀ i = i ≤ n
 
 abbrev μ-loop : tie.MeasureT-loop
-μ-loop n i₀ i = n - i
+μ-loop call n i₀ i = n - i
 
 number-requires : tie.Need-number-requires Inv-loop μ-loop
 number-requires c κs = search needs
@@ -31,8 +31,8 @@ loop-again c = search needs
 returns : tie.Need-returns Inv-loop μ-loop
 returns c = search needs
 
-pub replay-all-spec : {M : Type 1} → statement M
-replay-all-spec =
+pub replay-spec : {M : Type 1} → statement M
+replay-spec =
     tie.close
     (tie.spec
     Inv-loop

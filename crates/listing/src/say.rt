@@ -2,6 +2,7 @@
 use libc::STDOUT_FILENO;
 use pack::cursor::OptFloat;
 use pack::cursor::OptNumber;
+use pack::load::Refusal;
 use pack::text::OptText;
 use pack::text::Text;
 use pack::text::part;
@@ -59,4 +60,11 @@ pub fn kind(w: &[u8], k: u32) {
         2 => words(b"bit"),
         _ => words(b"fieldtype"),
     }
+}
+
+// Number and detail.
+pub fn refused(r: Refusal) {
+    number(b"refused ", r.number() as u64);
+    number(b" ", r.detail() as u64);
+    words(b"\n");
 }
