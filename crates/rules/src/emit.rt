@@ -4,7 +4,7 @@ ghost use mathlib.Core.List.{[], _∷_};
 ghost use Prim.Native.Nat.{_+_, _*_, _≤_};
 ghost use lib.ListN.{length};
 ghost use lib.Seq.{sets};
-ghost use Rattle.rules.specs.Findings.{report-if, fieldtype-error, pgn-error, pgn-warning, group-error};
+ghost use Rattle.rules.specs.Findings.{report-if, fieldtype-error, pgn-error, pgn-warning, lookup-error, lookup-warning, group-error};
 ghost use Rattle.rules.specs.Emit.{numbers, Emitted, Fits};
 use crate::Finding;
 
@@ -89,6 +89,38 @@ pub fn pgn_warning(rule: u32, cause: u32, tree: u32, item: u32, part: u32, other
         cause,
         place: 1,
         tree,
+        item,
+        part,
+        other,
+    }
+}
+
+// An error at a lookup.
+pub fn lookup_error(rule: u32, cause: u32, item: u32, part: u32, other: u32) -> Finding
+    ensures { λ r. ⌜ r ≡ lookup-error rule cause item part other ⌝ }
+{
+    Finding {
+        rule,
+        severity: 1,
+        cause,
+        place: 2,
+        tree: 0,
+        item,
+        part,
+        other,
+    }
+}
+
+// A warning at a lookup.
+pub fn lookup_warning(rule: u32, cause: u32, item: u32, part: u32, other: u32) -> Finding
+    ensures { λ r. ⌜ r ≡ lookup-warning rule cause item part other ⌝ }
+{
+    Finding {
+        rule,
+        severity: 0,
+        cause,
+        place: 2,
+        tree: 0,
         item,
         part,
         other,

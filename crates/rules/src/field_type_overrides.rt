@@ -10,14 +10,12 @@ ghost use Rattle.rules.specs.Model.{fieldtype-of};
 use crate::bools::and_not;
 use crate::emit::pgn_error;
 use crate::emit::put_if;
+use crate::floats::ZERO;
 use crate::floats::float_eq;
 use pack::of::field_of;
 use pack::of::type_of;
 use pack::records::FieldView;
 use pack::records::PgnView;
-
-// The pattern of 0.0.
-const ZERO: u64 = 0;
 
 fn overrides_at(
     out: &mut [u32],

@@ -9,8 +9,8 @@ ghost use Rattle.pack.specs.Ready.{Ready, LookupAt, LookupIs, lookupPlace, look
 ghost use Rattle.rules.specs.Emit.{Emitted, Fits};
 ghost use Rattle.rules.specs.Search.{latestBelow};
 ghost use Rattle.rules.specs.LookupNames.{same-name, same-name-as, lookup-names-of};
+use crate::emit::lookup_error;
 use crate::emit::put;
-use crate::lookups::lookup_error;
 use crate::searches::latest;
 use pack::cursor::OptNumber;
 use pack::load::Section;

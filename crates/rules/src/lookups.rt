@@ -6,9 +6,7 @@ ghost use Rattle.pack.specs.Notation.{optional};
 ghost use Rattle.pack.specs.Items.{bytesOf};
 ghost use Rattle.pack.specs.Meaning.{packOf};
 ghost use Rattle.pack.specs.Ready.{Ready, LookupAt, lookupPlace};
-ghost use Rattle.rules.specs.Findings.{lookup-error, lookup-warning};
 ghost use Rattle.rules.specs.Model.{find-lookup};
-use crate::Finding;
 use pack::load::Section;
 use pack::of::lookup_of;
 use pack::text::Text;
@@ -46,37 +44,5 @@ pub fn find_lookup(s: &[u8], work: &[u32], lookups: Section, name: Text) -> Foun
         given: false,
         index: 0,
         place: 0,
-    }
-}
-
-// An error at a lookup.
-pub fn lookup_error(rule: u32, cause: u32, item: u32, part: u32, other: u32) -> Finding
-    ensures { λ r. ⌜ r ≡ lookup-error rule cause item part other ⌝ }
-{
-    Finding {
-        rule,
-        severity: 1,
-        cause,
-        place: 2,
-        tree: 0,
-        item,
-        part,
-        other,
-    }
-}
-
-// A warning at a lookup.
-pub fn lookup_warning(rule: u32, cause: u32, item: u32, part: u32, other: u32) -> Finding
-    ensures { λ r. ⌜ r ≡ lookup-warning rule cause item part other ⌝ }
-{
-    Finding {
-        rule,
-        severity: 0,
-        cause,
-        place: 2,
-        tree: 0,
-        item,
-        part,
-        other,
     }
 }

@@ -8,9 +8,9 @@ ghost use Rattle.pack.specs.Ready.{Ready, LookupAt, LookupIs, lookupIn, lookupP
 ghost use Rattle.pack.proofs.Accepted.{IndexIs};
 ghost use Rattle.rules.specs.Emit.{Emitted, Fits};
 ghost use Rattle.rules.specs.LookupWiring.{is-fieldtype, nested-lookup-at, fieldtype-entry-at, check-nested-refs};
+use crate::emit::lookup_error;
 use crate::emit::put_if;
 use crate::lookups::find_lookup;
-use crate::lookups::lookup_error;
 use pack::load::Index;
 use pack::load::Section;
 use pack::of::entry_of;
