@@ -10,6 +10,16 @@ use listing::say;
 use pack::load::Index;
 use pack::load::Loaded;
 use pack::load::load;
+use pack::protocol::Protocol;
+
+fn list_trees(s: &[u8], work: &[u32], index: Index) {
+    let mut t = 0;
+    while t < Protocol::COUNT {
+        let protocol = Protocol::ALL[t];
+        pgns::list(s, work, protocol, protocol.section(index));
+        t += 1;
+    }
+}
 
 fn list(s: &[u8], work: &[u32], index: Index) {
     say::number(b"pack of ", s.len() as u64);
@@ -18,9 +28,7 @@ fn list(s: &[u8], work: &[u32], index: Index) {
     say::words(b" records\n");
     types::list(s, work, index.types);
     lookups::list(s, work, index.lookups);
-    pgns::list(s, work, b"tree 0 NMEA 2000", index.nmea2000);
-    pgns::list(s, work, b"tree 1 J1939", index.j1939);
-    pgns::list(s, work, b"tree 2 Quick", index.quick);
+    list_trees(s, work, index);
 }
 
 fn show(s: &[u8], work: &[u32], loaded: Loaded) {

@@ -5,16 +5,16 @@ use Rattle.list_pack.proofs.pgns.list.Statement.{statement}
 use Rattle.list_pack.proofs.pgns.list.Tie as tie
 
 abbrev Inv-loop : tie.InvT-loop
-Inv-loop s work tree n p₀ i₀ p i = Unit {0}
+Inv-loop s work n p₀ i₀ p i = Unit {0}
 
 abbrev μ-loop : tie.MeasureT-loop
-μ-loop s work tree n p₀ i₀ p i = n - i
-
-words-requires : tie.Need-words-requires Inv-loop μ-loop
-words-requires c κs = search needs
+μ-loop s work n p₀ i₀ p i = n - i
 
 slice-aggregate-number : tie.Need-slice-aggregate-number Inv-loop μ-loop
 slice-aggregate-number c = search needs
+
+tree-requires : tie.Need-tree-requires Inv-loop μ-loop
+tree-requires c κs = search needs
 
 cast-number : tie.Need-cast-number Inv-loop μ-loop
 cast-number c = search needs
@@ -22,11 +22,23 @@ cast-number c = search needs
 number-requires : tie.Need-number-requires Inv-loop μ-loop
 number-requires c κs = search needs
 
+say-protocol-requires : tie.Need-say-protocol-requires Inv-loop μ-loop
+say-protocol-requires c κs = search needs
+
+slice-aggregate-number-2 : tie.Need-slice-aggregate-number-2 Inv-loop μ-loop
+slice-aggregate-number-2 c = search needs
+
+cast-number-2 : tie.Need-cast-number-2 Inv-loop μ-loop
+cast-number-2 c = search needs
+
+number-requires-2 : tie.Need-number-requires-2 Inv-loop μ-loop
+number-requires-2 c κs = search needs
+
 slice-aggregate-words : tie.Need-slice-aggregate-words Inv-loop μ-loop
 slice-aggregate-words c = search needs
 
-words-requires-2 : tie.Need-words-requires-2 Inv-loop μ-loop
-words-requires-2 c κs = search needs
+words-requires : tie.Need-words-requires Inv-loop μ-loop
+words-requires c κs = search needs
 
 loop-holds : tie.Need-loop-holds Inv-loop μ-loop
 loop-holds c = search needs
@@ -52,12 +64,16 @@ list-spec =
     (tie.spec
     Inv-loop
     μ-loop
-    words-requires
     slice-aggregate-number
+    tree-requires
     cast-number
     number-requires
+    say-protocol-requires
+    slice-aggregate-number-2
+    cast-number-2
+    number-requires-2
     slice-aggregate-words
-    words-requires-2
+    words-requires
     loop-holds
     list-pgn-requires
     add-i
