@@ -9,18 +9,13 @@ use lib.ListN.{length}
 use Rattle.pack.specs.Value.{Bytes, FieldType, Entry, Reference, Repeating, Field, Pgn, Pack}
 use Rattle.rules.specs.Model.{find-lookup, target, fieldtypes, resolve-match, resolve-text, resolve-name, parse-u64, parse-digits}
 use Rattle.rules.specs.DynamicLength.{length-source}
-use Rattle.rules.specs.LookupWiring.{is-fieldtype, lookup-ref-at, check-lookup-refs}
-use Rattle.rules.specs.MatchValues.{match-value-at, check-match-values}
-use Rattle.rules.specs.Continues.{continues-at, check-continues}
-use Rattle.rules.specs.TrailingZero.{trailing-zero-at, check-trailing-zero-is-digit}
+use Rattle.rules.specs.LookupWiring.{is-fieldtype}
 use Rattle.rules.specs.Check.{check}
 use Rattle.rules.specs.Computed.{computed}
 use Rattle.rules.specs.Findings.{pgn-error, without-error}
-use Rattle.rules.specs.Repeating.{set-bounds, set-count-field, set-nesting, check-set, check-repeating}
-use Rattle.rules.specs.BitLengthField.{variable-binary, bit-length-target-at, bit-length-field-at, check-bit-length-field}
 use Rattle.rules.specs.Floats.{ONE}
 use Rattle.rules.specs.Texts.{bytes, BINARY, NUMBER, DYNAMIC-FIELD-KEY, DYNAMIC-FIELD-VALUE}
-use Rattle.walk.specs.Layout.{Layout, sets-hold, share, nested-in, inside-previous, misplaced, clash, stop-1}
+use Rattle.walk.specs.Layout.{Layout, sets-hold, share, nested-in, inside-previous, misplaced, clash, stop-1, layout, everyBelow}
 use Rattle.walk.specs.Stops.{is-missing, lookup-missing, unfit, match-unfit, names-missing, entries-name-missing, lookup-names-missing, reference-names-missing, lacks, lacks-length, stop-at}
 use Rattle.walk.specs.Passes.{put, arrives, look, close, stand}
 use Rattle.walk.specs.Visits.{visited, latest, is-current}
@@ -303,43 +298,73 @@ not-held-empty : is-held (pgn (set 1 1 none false) (set 0 0 (some 1) false) (a �
 unfolding is-held
 not-held-empty = refl
 
--- WHAT IS NEEDED. Held, and only R05's cause 3: stop 2
-abbrev late : Pgn
-late = pgn (set 2 1 (some 3) false) none (a ∷ b ∷ c ∷ [])
-
-late-found : check-repeating 0 0 late ≡ pgn-error 5 3 0 0 1 0 ∷ []
-unfolding check-repeating check-set set-bounds set-count-field
-late-found = refl
-
-late-held : is-held late ≡ true
-unfolding is-held
-late-held = refl
-
-late-stops : run late (1 ∷ []) ≡ answer (stop 2) (0 ∷ [])
-unfolding run
-late-stops = refl
-
--- held, and only R15's cause 4: stop 6
-abbrev ahead : Pgn
-ahead = pgn none none (z-binary ∷ a ∷ [])
-
-ahead-found : check-bit-length-field 0 0 ahead ≡ pgn-error 15 4 0 0 0 1 ∷ []
-unfolding check-bit-length-field bit-length-field-at variable-binary bit-length-target-at target
-ahead-found = refl
-
-ahead-held : is-held ahead ≡ true
-unfolding is-held
-ahead-held = refl
-
-ahead-stops : run ahead (1 ∷ []) ≡ answer (stop 6) []
-unfolding run
-ahead-stops = refl
-
--- NO RULE FINDS AN ERROR, but the PGN is not held, and the walk stops: each condition of `held` is needed.
+-- WHAT IS NEEDED. Packs of one PGN: what check reports of them, which of the four conditions of `held` hold, and the stop that the walk
+-- meets.
 abbrev alone : Pgn → Pack
 alone p = record { fieldtypes = P .fieldtypes; lookups = []; pgns = p ∷ []; pgns-j1939 = []; pgns-quick = [] }
 
--- the sets share an order: stop 1
+unfoldable conditions : Pgn → List Bool
+unfolding held shares-held clash share nested-in count-fields-held count-field-held bit-length-held dynamic-value-held sets-hold target length-source
+conditions p =
+    shares-held (layout p)
+    ∷ count-fields-held (layout p)
+    ∷ everyBelow (λ i. bit-length-held p i) (length (p .fields))
+    ∷ everyBelow (λ i. dynamic-value-held (alone p) p i) (length (p .fields))
+    ∷ []
+
+unfoldable walk-alone : Pgn → List ℕ → Answer
+unfolding walk walk-with walk-on onward settled settle arrive stand close look arrives put visited latest is-current stop-1 misplaced clash share nested-in inside-previous stop-at lookup-missing is-missing match-unfit unfit reference-names-missing lookup-names-missing entries-name-missing names-missing lacks lacks-length find-lookup target fieldtypes is-fieldtype length-source resolve-match resolve-text resolve-name parse-u64 parse-digits
+walk-alone p readings = walk (alone p) p readings
+
+-- held, and R05's cause 3 is all that is found: stop 2
+abbrev late : Pgn
+late = pgn (set 2 1 (some 3) false) none (a ∷ b ∷ c ∷ [])
+
+late-found : check (alone late) ≡ pgn-error 5 3 0 0 1 0 ∷ []
+unfolding computed
+late-found = refl
+
+late-conditions : conditions late ≡ true ∷ true ∷ true ∷ true ∷ []
+unfolding conditions
+late-conditions = refl
+
+late-stops : walk-alone late (1 ∷ []) ≡ answer (stop 2) (0 ∷ [])
+unfolding walk-alone
+late-stops = refl
+
+-- held, and R15's cause 4 is all that is found: stop 6
+abbrev ahead : Pgn
+ahead = pgn none none (z-binary ∷ a ∷ [])
+
+ahead-found : check (alone ahead) ≡ pgn-error 15 4 0 0 0 1 ∷ []
+unfolding computed
+ahead-found = refl
+
+ahead-conditions : conditions ahead ≡ true ∷ true ∷ true ∷ true ∷ []
+unfolding conditions
+ahead-conditions = refl
+
+ahead-stops : walk-alone ahead (1 ∷ []) ≡ answer (stop 6) []
+unfolding walk-alone
+ahead-stops = refl
+
+-- held, and R43's cause 1 is all that is found: stop 7
+abbrev continued-ahead : Pgn
+continued-ahead = pgn none none (z-continues (bytes "a") ∷ a ∷ [])
+
+continued-ahead-found : check (alone continued-ahead) ≡ pgn-error 43 1 0 0 0 0 ∷ []
+unfolding computed
+continued-ahead-found = refl
+
+continued-ahead-conditions : conditions continued-ahead ≡ true ∷ true ∷ true ∷ true ∷ []
+unfolding conditions
+continued-ahead-conditions = refl
+
+continued-ahead-stops : walk-alone continued-ahead (1 ∷ []) ≡ answer (stop 7) []
+unfolding walk-alone
+continued-ahead-stops = refl
+
+-- no error, but the sets share an order: stop 1
 abbrev sharing : Pgn
 sharing = pgn (set 1 2 none false) (set 2 1 none false) (a ∷ b ∷ [])
 
@@ -347,15 +372,15 @@ sharing-clean : without-error (check (alone sharing)) ≡ true
 unfolding computed
 sharing-clean = refl
 
-sharing-not-held : is-held sharing ≡ false
-unfolding is-held
-sharing-not-held = refl
+sharing-conditions : conditions sharing ≡ false ∷ true ∷ true ∷ true ∷ []
+unfolding conditions
+sharing-conditions = refl
 
-sharing-stops : run sharing [] ≡ answer (stop 1) []
-unfolding run
+sharing-stops : walk-alone sharing ([]) ≡ answer (stop 1) []
+unfolding walk-alone
 sharing-stops = refl
 
--- the countField lies in a set that has been left: stop 2
+-- no error, but the countField lies in a set that has been left: stop 2
 abbrev counted-before : Pgn
 counted-before = pgn (set 2 1 (some 1) false) (set 3 1 (some 2) false) (a ∷ b ∷ c ∷ [])
 
@@ -363,15 +388,15 @@ counted-before-clean : without-error (check (alone counted-before)) ≡ true
 unfolding computed
 counted-before-clean = refl
 
-counted-before-not-held : is-held counted-before ≡ false
-unfolding is-held
-counted-before-not-held = refl
+counted-before-conditions : conditions counted-before ≡ true ∷ false ∷ true ∷ true ∷ []
+unfolding conditions
+counted-before-conditions = refl
 
-counted-before-stops : run counted-before (1 ∷ 1 ∷ []) ≡ answer (stop 2) (0 ∷ 1 ∷ [])
-unfolding run
+counted-before-stops : walk-alone counted-before (1 ∷ 1 ∷ []) ≡ answer (stop 2) (0 ∷ 1 ∷ [])
+unfolding walk-alone
 counted-before-stops = refl
 
--- the bitLengthField target lies in a set that has been left: stop 6
+-- no error, but the bitLengthField target lies in a set that has been left: stop 6
 -- a counts bits: its resolution is 1
 abbrev a-bits : Field
 a-bits = record {
@@ -408,15 +433,15 @@ as-long-as-before-clean : without-error (check (alone as-long-as-before)) ≡ tr
 unfolding computed
 as-long-as-before-clean = refl
 
-as-long-as-before-not-held : is-held as-long-as-before ≡ false
-unfolding is-held
-as-long-as-before-not-held = refl
+as-long-as-before-conditions : conditions as-long-as-before ≡ true ∷ true ∷ false ∷ true ∷ []
+unfolding conditions
+as-long-as-before-conditions = refl
 
-as-long-as-before-stops : run as-long-as-before (1 ∷ 1 ∷ 1 ∷ []) ≡ answer (stop 6) (0 ∷ 1 ∷ [])
-unfolding run
+as-long-as-before-stops : walk-alone as-long-as-before (1 ∷ 1 ∷ 1 ∷ []) ≡ answer (stop 6) (0 ∷ 1 ∷ [])
+unfolding walk-alone
 as-long-as-before-stops = refl
 
--- the DYNAMIC_FIELD_KEY lies in a set that has been left: stop 8
+-- no error, but the DYNAMIC_FIELD_KEY lies in a set that has been left: stop 8
 abbrev keyed-before : Pgn
 keyed-before = pgn (set 2 1 (some 1) false) none (a ∷ key ∷ value ∷ [])
 
@@ -424,12 +449,12 @@ keyed-before-clean : without-error (check (alone keyed-before)) ≡ true
 unfolding computed
 keyed-before-clean = refl
 
-keyed-before-not-held : is-held keyed-before ≡ false
-unfolding is-held
-keyed-before-not-held = refl
+keyed-before-conditions : conditions keyed-before ≡ true ∷ true ∷ true ∷ false ∷ []
+unfolding conditions
+keyed-before-conditions = refl
 
-keyed-before-stops : run keyed-before (1 ∷ 1 ∷ 1 ∷ []) ≡ answer (stop 8) (0 ∷ 1 ∷ [])
-unfolding run
+keyed-before-stops : walk-alone keyed-before (1 ∷ 1 ∷ 1 ∷ []) ≡ answer (stop 8) (0 ∷ 1 ∷ [])
+unfolding walk-alone
 keyed-before-stops = refl
 
 -- THE GUARANTEE at work: the pack with a nested set is checked without one error, and its PGN is held

@@ -2,7 +2,7 @@
 ghost use mathlib.Core.Path.{_≡_};
 ghost use mathlib.Core.Bool.{true, not, _&&_};
 ghost use mathlib.Core.Option.{none, some};
-ghost use Prim.Native.Nat.{ℕ, suc, _<_};
+ghost use Prim.Native.Nat.{ℕ, suc, _-_, _≤_};
 ghost use Rattle.pack.specs.Meaning.{optNumber};
 ghost use Rattle.pack.specs.Notation.{_==_, if_then_else_};
 ghost use Rattle.walk.specs.ByPlace.{by-place, counts};
@@ -346,34 +346,34 @@ pub fn settle(sets: Sets, counts: Counts, spot: Spot) -> Settling
     not_due(false, spot)
 }
 
-// Whether the field k is the countField.
-pub fn is_counter(counter: OptNumber, k: u32) -> bool
-    requires { ⌜ k < 4294967295 ⌝ }
-    ensures { λ r. ⌜ r ≡ counts (optNumber counter) k ⌝ }
+// Whether the field of the order o is the countField.
+pub fn is_counter(counter: OptNumber, o: FieldOrder) -> bool
+    requires { ⌜ 1 ≤ o .0 ⌝ }
+    ensures { λ r. ⌜ r ≡ counts (optNumber counter) (o .0 - 1) ⌝ }
 {
     if counter.given {
-        return counter.value == k + 1;
+        return counter.value == o.0;
     }
     false
 }
 
-// The latest reading of a countField, after a visit of the field k.
-fn count(counter: OptNumber, before: u64, k: u32, reading: u64) -> u64
-    requires { ⌜ k < 4294967295 ⌝ }
-    ensures { λ r. ⌜ r ≡ (if counts (optNumber counter) k then reading else before) ⌝ }
+// The latest reading of a countField, after a visit at the order o.
+fn count(counter: OptNumber, before: u64, o: FieldOrder, reading: u64) -> u64
+    requires { ⌜ 1 ≤ o .0 ⌝ }
+    ensures { λ r. ⌜ r ≡ (if counts (optNumber counter) (o .0 - 1) then reading else before) ⌝ }
 {
-    if is_counter(counter, k) {
+    if is_counter(counter, o) {
         return reading;
     }
     before
 }
 
-// The field k is visited, with this reading.
-pub fn visit(sets: Sets, counts: Counts, k: u32, reading: u64) -> Counts
-    requires { ⌜ k < 4294967295 ⌝ }
-    ensures { λ r. ⌜ ((L : Layout) → SetsAre L sets → memory-of r ≡ by-place L .visit (memory-of counts) k reading) ⌝ }
+// The field of the order o is visited, with this reading.
+pub fn visit(sets: Sets, counts: Counts, o: FieldOrder, reading: u64) -> Counts
+    requires { ⌜ 1 ≤ o .0 ⌝ }
+    ensures { λ r. ⌜ ((L : Layout) → SetsAre L sets → memory-of r ≡ by-place L .visit (memory-of counts) (o .0 - 1) reading) ⌝ }
 {
-    let first = count(sets.first.counter, counts.first, k, reading);
-    let second = count(sets.second.counter, counts.second, k, reading);
+    let first = count(sets.first.counter, counts.first, o, reading);
+    let second = count(sets.second.counter, counts.second, o, reading);
     Counts { first, second }
 }

@@ -49,10 +49,10 @@ fn is_plain(sets: Sets, o: FieldOrder) -> bool
     if is_edge(sets.second, next) {
         return false;
     }
-    if is_counter(sets.first.counter, o.0 - 1) {
+    if is_counter(sets.first.counter, o) {
         return false;
     }
-    !is_counter(sets.second.counter, o.0 - 1)
+    !is_counter(sets.second.counter, o)
 }
 
 // Whether the field of the order o is visited in a run: it stops at no reading, and the next order follows.

@@ -6,7 +6,7 @@ ghost use Rattle.pack.specs.Meaning.{optRepeating, packOf};
 ghost use Rattle.pack.specs.Notation.{_<ᵇ_, _==_};
 ghost use Rattle.pack.specs.Ready.{PgnAt, PgnIs, pgnIn};
 ghost use Rattle.walk.specs.ByPlace.{placed};
-ghost use Rattle.walk.specs.Layout.{Layout, layout, set-or-empty, sets-hold, clash, stop-1};
+ghost use Rattle.walk.specs.Layout.{Layout, layout, no-set, set-or-empty, sets-hold, clash, stop-1};
 ghost use Rattle.walk.specs.SetsOf.{SetIs, SetsAre, has-orders, in-set, holds-both, sets-share, set-misplaced, in-first};
 use pack::cursor::OptNumber;
 use pack::protocol::FieldIndex;
@@ -31,6 +31,21 @@ pub struct Sets {
     pub second: Set,
 }
 
+// An empty set.
+pub fn no_set() -> Set
+    ensures { λ r. ⌜ SetIs no-set r ⌝ }
+{
+    Set {
+        start: FieldOrder(0),
+        end: FieldOrder(0),
+        counter: OptNumber {
+            given: false,
+            value: 0,
+        },
+        nested: false,
+    }
+}
+
 // An absent set is empty.
 fn set_of(o: OptRepeating) -> Set
     requires { ⌜ (o .given ≡ true → o .set .start + o .set .count < 4294967296) ⌝ }
@@ -46,15 +61,7 @@ fn set_of(o: OptRepeating) -> Set
             nested: set.nested,
         };
     }
-    Set {
-        start: FieldOrder(0),
-        end: FieldOrder(0),
-        counter: OptNumber {
-            given: false,
-            value: 0,
-        },
-        nested: false,
-    }
+    no_set()
 }
 
 // The sets of PGN i of tree t, which is at p and which is g.

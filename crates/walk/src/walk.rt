@@ -33,11 +33,10 @@ use crate::passes::moved;
 use crate::passes::settle;
 use crate::passes::visit;
 use crate::runs::run;
-use crate::sets::Set;
 use crate::sets::Sets;
+use crate::sets::no_set;
 use crate::sets::sets_of;
 use crate::sets::stop_1;
-use pack::cursor::OptNumber;
 use pack::load::Index;
 use pack::load::Loaded;
 use pack::load::Refusal;
@@ -77,13 +76,13 @@ pub enum Stepping {
 }
 
 // The walk after a run, and how many visits are made by then.
-pub struct Ran {
+struct Ran {
     pub state: State,
     pub visits: usize,
 }
 
 // A PGN of the pack: its work position, and its sets.
-pub struct FoundPgn {
+struct FoundPgn {
     pub given: bool,
     pub place: usize,
     pub sets: Sets,
@@ -93,15 +92,7 @@ pub struct FoundPgn {
 fn absent() -> FoundPgn
     ensures { λ r. ⌜ r .given ≡ false ⌝ }
 {
-    let set = Set {
-        start: FieldOrder(0),
-        end: FieldOrder(0),
-        counter: OptNumber {
-            given: false,
-            value: 0,
-        },
-        nested: false,
-    };
+    let set = no_set();
     let sets = Sets {
         fields: 0,
         first: set,
@@ -147,9 +138,9 @@ fn onward(sets: Sets, counts: Counts, spot: Spot, reading: u64) -> State
     requires { ⌜ (1 ≤ spot .order .0) × (spot .order .0 < 4294967295) ⌝ }
     ensures { λ r. ⌜ ((L : Layout) → SetsAre L sets → state-of r ≡ onward L (by-place L) (place-of spot) (memory-of counts) reading) ⌝ }
 {
-    let order = spot.order.0;
-    let after = visit(sets, counts, order - 1, reading);
-    let next = moved(spot, FieldOrder(order + 1));
+    let order = spot.order;
+    let after = visit(sets, counts, order, reading);
+    let next = moved(spot, FieldOrder(order.0 + 1));
     let settling = settle(sets, after, next);
     State {
         settling,

@@ -1,16 +1,15 @@
-use native.Mathlib.Numerals.{add-one}
+use mathlib.Core.Path.{_≡_}
+use Prim.Native.Nat.{suc, _-_}
+use native.Mathlib.Omega.{arith}
 use borrow.Author.Needs.{needs}
 use Rattle.walk.proofs.passes.is_counter.Statement.{statement}
 use Rattle.walk.proofs.passes.is_counter.Tie as tie
 
-add-result : tie.Need-add-result
-add-result c = search needs
-
 returns : tie.Need-returns
-returns c = rw (c .before .if1 .taken, add-one)
+returns c = let e : suc (c .before .before .before .args .o .0 - 1) ≡ c .before .before .before .args .o .0 = omega (arith, c .before .before .before .pre) in rw (c .before .before .if1 .taken, e)
 
 returns-2 : tie.Need-returns-2
 returns-2 c = search needs
 
 pub is-counter-spec : {M : Type 1} → statement M
-is-counter-spec = tie.close (tie.spec add-result returns returns-2)
+is-counter-spec = tie.close (tie.spec returns returns-2)

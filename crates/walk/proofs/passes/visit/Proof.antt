@@ -1,3 +1,4 @@
+use Prim.Native.Nat.{_-_}
 use Rattle.walk.proofs.Spots.{visited-two}
 use borrow.Author.Needs.{needs}
 use Rattle.walk.proofs.passes.visit.Statement.{statement}
@@ -10,7 +11,7 @@ count-requires-2 : tie.Need-count-requires-2
 count-requires-2 c κs = search needs
 
 returns : tie.Need-returns
-returns c = λ L a. visited-two a (c .before .before .args .counts .first) (c .before .before .args .counts .second) (c .before .before .args .k) (c .before .before .args .reading) (c .before .count .result) (c .count2 .result) (c .before .count .ensures) (c .count2 .ensures)
+returns c = λ L a. visited-two a (c .before .before .args .counts .first) (c .before .before .args .counts .second) (c .before .before .args .o .0 - 1) (c .before .before .args .reading) (c .before .count .result) (c .count2 .result) (c .before .count .ensures) (c .count2 .ensures)
 
 pub visit-spec : {M : Type 1} → statement M
 visit-spec = tie.close (tie.spec count-requires count-requires-2 returns)

@@ -1,5 +1,6 @@
-use native.Mathlib.Omega.{arith}
 use mathlib.Core.Path.{refl}
+use native.Mathlib.Omega.{arith}
+use borrow.Author.Needs.{needs}
 use Rattle.walk.proofs.sets.set_of.Statement.{statement}
 use Rattle.walk.proofs.sets.set_of.Tie as tie
 
@@ -9,8 +10,11 @@ add-t6 c = omega (arith, c .before .before .before .before .pre (c .before .befo
 returns : tie.Need-returns
 returns c = rw (c .before .before .before .if1 .taken) (record { start = refl; end = refl; counter = refl; nested = refl })
 
+no-set-requires : tie.Need-no-set-requires
+no-set-requires c κs = search needs
+
 returns-2 : tie.Need-returns-2
-returns-2 c = rw (c .if1 .left) (record { start = refl; end = refl; counter = refl; nested = refl })
+returns-2 c = rw (c .before .if1 .left) (c .no-set .ensures)
 
 pub set-of-spec : {M : Type 1} → statement M
-set-of-spec = tie.close (tie.spec add-t6 returns returns-2)
+set-of-spec = tie.close (tie.spec add-t6 returns no-set-requires returns-2)

@@ -1,12 +1,9 @@
+use mathlib.Core.Path.{_∙_}
 use Rattle.walk.specs.State.{place-of, memory-of}
 use Rattle.walk.proofs.Walks.{goes-onward}
-use mathlib.Core.Path.{_∙_}
 use borrow.Author.Needs.{needs}
 use Rattle.walk.proofs.walk.onward.Statement.{statement}
 use Rattle.walk.proofs.walk.onward.Tie as tie
-
-sub-visit : tie.Need-sub-visit
-sub-visit c = search needs
 
 visit-requires : tie.Need-visit-requires
 visit-requires c κs = search needs
@@ -21,8 +18,7 @@ settle-requires : tie.Need-settle-requires
 settle-requires c κs = search needs
 
 returns : tie.Need-returns
-returns c = λ L a. (c .settle .ensures L a ∙ goes-onward L (place-of (c .before .before .before .args .spot)) (place-of (c .before .moved .result)) (memory-of (c .before .before .before .args .counts)) (memory-of (c .before .before .visit .result)) (c .before .before .before .args .reading) (c .before .moved .ensures) (c .before .before .visit .ensures L a))
+returns c = λ L a. (c .settle .ensures L a ∙ goes-onward L (place-of (c .before .before .before .before .before .args .spot)) (place-of (c .before .moved .result)) (memory-of (c .before .before .before .before .before .args .counts)) (memory-of (c .before .before .before .visit .result)) (c .before .before .before .before .before .args .reading) (c .before .moved .ensures) (c .before .before .before .visit .ensures L a))
 
 pub onward-spec : {M : Type 1} → statement M
-onward-spec =
-    tie.close (tie.spec sub-visit visit-requires add-t9 moved-requires settle-requires returns)
+onward-spec = tie.close (tie.spec visit-requires add-t9 moved-requires settle-requires returns)
