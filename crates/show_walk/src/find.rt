@@ -14,7 +14,7 @@ pub struct Found {
     pub place: usize,
 }
 
-// By its number, or by its id where the name is none.
+// By its number where one is given, otherwise by its id.
 fn is_named(s: &[u8], g: PgnView, name: &[u8], number: OptWide) -> bool {
     if number.given {
         return g.pgn as u64 == number.value;
@@ -22,9 +22,8 @@ fn is_named(s: &[u8], g: PgnView, name: &[u8], number: OptWide) -> bool {
     text_is(s, g.id, name)
 }
 
-// The first of that name in the tree.
-pub fn find(s: &[u8], work: &[u32], tree: Section, name: &[u8]) -> Found {
-    let number = parse_u64(name);
+// The first so named in the tree.
+fn first(s: &[u8], work: &[u32], tree: Section, name: &[u8], number: OptWide) -> Found {
     let n = tree.count;
     let mut p = tree.place;
     let mut i: u32 = 0;
@@ -45,4 +44,24 @@ pub fn find(s: &[u8], work: &[u32], tree: Section, name: &[u8]) -> Found {
         pgn: 0,
         place: 0,
     }
+}
+
+fn by_id(s: &[u8], work: &[u32], tree: Section, name: &[u8]) -> Found {
+    let none = OptWide {
+        given: false,
+        value: 0,
+    };
+    first(s, work, tree, name, none)
+}
+
+// By its number, or by its id where no PGN of the tree has that number.
+pub fn find(s: &[u8], work: &[u32], tree: Section, name: &[u8]) -> Found {
+    let number = parse_u64(name);
+    if number.given {
+        let found = first(s, work, tree, name, number);
+        if found.given {
+            return found;
+        }
+    }
+    by_id(s, work, tree, name)
 }

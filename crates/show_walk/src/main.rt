@@ -10,14 +10,19 @@ use listing::say;
 fn usage() {
     say::words(b"use: show_walk TREE PGN READING .. < PACK\n");
     say::words(b"TREE is 0 (NMEA 2000), 1 (J1939) or 2 (Quick); ");
-    say::words(b"PGN a number, for the first PGN of that number in the tree, or an id; ");
+    say::words(b"PGN a number, for the first PGN of that number in the tree, ");
+    say::words(b"or, where there is none, an id; ");
     say::words(b"there are at most 256 readings, numbers of 64 bits.\n");
 }
 
-// The PGN that the second argument names.
+// The PGN that the second argument names. An argument longer than the buffer is read as an empty one, which names none.
 fn show_named(pack: &[u8], work: &mut [u32], tree: u32, readings: &[u64], visits: &mut [u32]) {
     let mut name = io::buffer();
     let n = os::arg(2, &mut name);
+    if n == 0 {
+        usage();
+        return;
+    }
     show::show(pack, work, tree, &name[..n], readings, visits);
 }
 

@@ -32,11 +32,9 @@ fn show_held(s: &[u8], work: &mut [u32], tree: u32, pgn: u32) {
         HeldAnswer::Refused(r) => say::refused(r),
         HeldAnswer::Held(yes) => {
             if yes {
-                say::words(b"held\n");
+                say::words(b"held: no stop where the report shows no error\n");
             } else {
-                say::words(
-                    b"not held: the report's guarantee against stops does not cover this PGN\n",
-                );
+                say::words(b"not held: a walk may stop even where the report shows no error\n");
             }
         }
     }
@@ -108,7 +106,8 @@ fn reason(stop: u32) {
 
 fn after(n: usize) {
     say::number(b" after ", n as u64);
-    say::words(b" visits");
+    say::words(b" visit");
+    say::flag(b"s", n != 1);
 }
 
 fn show_end(end: End, n: usize) {

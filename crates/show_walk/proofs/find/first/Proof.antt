@@ -1,18 +1,15 @@
 use native.Mathlib.Omega.{arith}
--- `find` is safe and ends: each turn leaves one PGN fewer.
+-- `first` is safe and ends: each turn leaves one PGN fewer.
 use Prim.Native.Nat.{_-_}
 use borrow.Author.Needs.{needs}
-use Rattle.show_walk.proofs.find.find.Statement.{statement}
-use Rattle.show_walk.proofs.find.find.Tie as tie
+use Rattle.show_walk.proofs.find.first.Statement.{statement}
+use Rattle.show_walk.proofs.find.first.Tie as tie
 
 abbrev Inv-loop : tie.InvT-loop
 Inv-loop s work name number n p₀ i₀ p i = Unit {0}
 
 abbrev μ-loop : tie.MeasureT-loop
 μ-loop s work name number n p₀ i₀ p i = n - i
-
-parse-u64-requires : tie.Need-parse-u64-requires Inv-loop μ-loop
-parse-u64-requires c κs = search needs
 
 loop-holds : tie.Need-loop-holds Inv-loop μ-loop
 loop-holds c = search needs
@@ -33,7 +30,7 @@ behind-requires : tie.Need-behind-requires Inv-loop μ-loop
 behind-requires c κs = search needs
 
 add-i : tie.Need-add-i Inv-loop μ-loop
-add-i c = omega (arith, c .before .before .before .before .before .loop-test .taken, c .before .before .before .before .before .before .before .before .before .before .before .good .1 .1 .0)
+add-i c = omega (arith, c .before .before .before .before .before .loop-test .taken, c .before .before .before .before .before .before .before .before .before .before .good .1 .1 .0)
 
 loop-less : tie.Need-loop-less Inv-loop μ-loop
 loop-less c = search needs
@@ -44,13 +41,12 @@ loop-again c = search needs
 returns-2 : tie.Need-returns-2 Inv-loop μ-loop
 returns-2 c = search needs
 
-pub find-spec : {M : Type 1} → statement M
-find-spec =
+pub first-spec : {M : Type 1} → statement M
+first-spec =
     tie.close
     (tie.spec
     Inv-loop
     μ-loop
-    parse-u64-requires
     loop-holds
     offset-requires
     pgn-at-requires
