@@ -2,7 +2,7 @@
  *
  * Each call answers the number of the refusal, 0 where there is none, and writes the whole of `answer`, refused or not: first
  * the refusal's detail, then zeros, or what is said at the call. A length counts what its pointer points to: bytes of a pack
- * or a text, numbers of the rest. What the pointers point to must lie apart, and none may be NULL, of length 0 neither.
+ * or a text, numbers of the rest. What the pointers point to must lie apart, and none may be NULL, not even one of length 0.
  * A call ends for any bytes, keeps nothing for the next one (each reads the pack anew) and takes no memory but its stack.
  *
  *   refused for the input; the detail is the byte offset of the offending item, for 9 it is 0
@@ -43,12 +43,14 @@ extern "C" {
  * first. Refused by 1 to 9 and 21. */
 uint32_t sarwymp_load(const uint8_t *pack, size_t pack_len, uint32_t *work, size_t work_len, uint64_t answer[11]);
 
-/* The number of findings and of errors among them. A finding is eight numbers: rule, severity (1 error, 0 warning), cause,
- * place (0 field types, 1 PGN, 2 lookup, 3 PGN group), tree, item, part, other. Refused by 1 to 9, 21 and 22. */
+/* The number of findings and of errors among them; `findings` begins with the findings. A finding is eight numbers: rule,
+ * severity (1 error, 0 warning), cause, place (0 field types, 1 PGN, 2 lookup, 3 PGN group), tree, item, part, other.
+ * Refused by 1 to 9, 21 and 22. */
 uint32_t sarwymp_check(const uint8_t *pack, size_t pack_len, uint32_t *work, size_t work_len, uint32_t *findings,
                        size_t findings_len, uint64_t answer[2]);
 
-/* The length of the place text of a finding, which is named by its place, tree and item. Refused by 1 to 9, 21, 23 and 24. */
+/* The length of the place text of a finding, which is named by its place, tree and item; `text` begins with it. Refused by
+ * 1 to 9, 21, 23 and 24. */
 uint32_t sarwymp_place_text(const uint8_t *pack, size_t pack_len, uint32_t *work, size_t work_len, uint32_t place,
                             uint32_t tree, uint32_t item, uint8_t *text, size_t text_len, uint64_t answer[1]);
 
@@ -73,9 +75,10 @@ uint32_t sarwymp_walk(const uint8_t *pack, size_t pack_len, uint32_t *work, size
                       const uint64_t *readings, size_t readings_len, uint32_t *visits, size_t visits_len,
                       uint64_t answer[2]);
 
-/* 1 where the PGN is held, else 0: nonempty sets share no order unless set 2 is nested; a countField lies in no nonempty set,
- * or in set 1 for a nested set 2; a bitLengthField target's nonempty sets hold its user; and each DYNAMIC_FIELD_VALUE has a
- * lower-order dynamicFieldLength or DYNAMIC_FIELD_KEY field whose nonempty sets hold it. Refused by 1 to 9, 21 and 23. */
+/* 1 where the PGN is held, else 0: nonempty sets share no order unless set 2 is nested; a countField, of an empty set too,
+ * lies in no nonempty set, or in set 1 only for a nested set 2; a bitLengthField target's nonempty sets hold its user; and
+ * each DYNAMIC_FIELD_VALUE has a lower-order dynamicFieldLength or DYNAMIC_FIELD_KEY field whose nonempty sets hold it.
+ * Refused by 1 to 9, 21 and 23. */
 uint32_t sarwymp_held(const uint8_t *pack, size_t pack_len, uint32_t *work, size_t work_len, uint32_t tree, uint32_t pgn,
                       uint64_t answer[1]);
 

@@ -186,28 +186,6 @@ impl Pack {
         };
         lookup.entries.iter().find(|entry| searched && entry.name == *text).map(|entry| entry.value)
     }
-
-    /// Each text of the pack, for the question whether all are UTF-8.
-    pub fn is_utf8(&self) -> bool {
-        let ok = |text: &Text| std::str::from_utf8(text).is_ok();
-        let okay = |text: &Option<Text>| text.as_ref().is_none_or(ok);
-        self.fieldtypes.iter().all(|ft| ok(&ft.name) && ok(&ft.root_name))
-            && self.lookups.iter().all(|lookup| {
-                ok(&lookup.name) && lookup.entries.iter().all(|e| ok(&e.name) && ok(&e.fieldtype) && okay(&e.nested))
-            })
-            && self.trees.iter().flatten().all(|pgn| {
-                ok(&pgn.id)
-                    && pgn.fields.iter().all(|f| {
-                        ok(&f.id)
-                            && ok(&f.name)
-                            && ok(&f.type_)
-                            && f.reference.as_ref().is_none_or(|(_, name)| ok(name))
-                            && [&f.res_unit, &f.continues, &f.match_, &f.bit_length_field, &f.trailing_zero]
-                                .into_iter()
-                                .all(okay)
-                    })
-            })
-    }
 }
 
 /// Decimal digits with at most one leading `+`, at least one digit, below 2^64.
