@@ -36,20 +36,20 @@ dynamic-value-held P p i =
     not (is-dynamic-value P (field-at p i))
     || anyBelow (λ j. length-source (P .fieldtypes) (field-at p j) && sets-hold (layout p) (suc j) (suc i)) i
 
-unfoldable pub held : Pack → Pgn → Bool
-held P p =
+-- the four conditions, the second as it is given
+abbrev pub held-by : (Layout → Bool) → Pack → Pgn → Bool
+held-by counts P p =
     shares-held (layout p)
-    && count-fields-held (layout p)
+    && counts (layout p)
     && everyBelow (λ i. bit-length-held p i) (length (p .fields))
     && everyBelow (λ i. dynamic-value-held P p i) (length (p .fields))
+
+unfoldable pub held : Pack → Pgn → Bool
+held P p = held-by count-fields-held P p
 
 -- The other reading of "a countField": of nonempty sets only. More PGNs are held so, and demand 3 is shown for both.
 unfoldable pub nonempty-count-fields-held : Layout → Bool
 nonempty-count-fields-held L = everyBelow (λ k. not (nonempty L k) || count-field-held L k (set-at L k .count-field)) (length (L .sets))
 
 unfoldable pub held-nonempty : Pack → Pgn → Bool
-held-nonempty P p =
-    shares-held (layout p)
-    && nonempty-count-fields-held (layout p)
-    && everyBelow (λ i. bit-length-held p i) (length (p .fields))
-    && everyBelow (λ i. dynamic-value-held P p i) (length (p .fields))
+held-nonempty P p = held-by nonempty-count-fields-held P p

@@ -10,9 +10,9 @@ use Rattle.walk.specs.ByPlace.{placed, by-place}
 use Rattle.walk.specs.State.{memory-of, settled-of}
 use Rattle.walk.specs.declared.walk.End.{End as Ending}
 use Rattle.walk.specs.declared.walk.End.the-variants.{Whole, UsedUp, Stop}
-use Rattle.walk.specs.declared.walk.State.{State}
-use Rattle.walk.specs.declared.walk.Stepping.{Stepping}
-use Rattle.walk.specs.declared.walk.Stepping.the-variants as stepping
+use Rattle.walk.specs.declared.steps.State.{State}
+use Rattle.walk.specs.declared.steps.Stepping.{Stepping}
+use Rattle.walk.specs.declared.steps.Stepping.the-variants as stepping
 
 -- the end that the code answers
 abbrev pub end-of : Ending → End

@@ -4,5 +4,6 @@ mod held;
 mod passes;
 mod runs;
 mod sets;
+mod steps;
 mod stops;
 pub mod walk;

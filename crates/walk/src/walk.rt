@@ -1,48 +1,34 @@
 // The calls `walk` and `held`.
 ghost use mathlib.Core.Path.{_≡_};
 ghost use mathlib.Core.Bool.{true, false};
-ghost use mathlib.Core.Option.{none};
-ghost use Prim.Native.Nat.{ℕ, suc, _≤_, _<_};
-ghost use lib.ListN.{length, getD};
+ghost use Prim.Native.Nat.{_≤_};
+ghost use lib.ListN.{length};
 ghost use Rattle.pack.specs.Load.{over, workAfter};
 ghost use Rattle.pack.specs.Meaning.{packOf};
-ghost use Rattle.pack.specs.Notation.{if_then_else_};
 ghost use Rattle.pack.specs.Ready.{Ready, PgnAt, pgnIn};
 ghost use Rattle.pack.proofs.Accepted.{IndexIs};
 ghost use Rattle.rules.specs.Model.{pgn-at};
-ghost use Rattle.walk.specs.ByPlace.{by-place, placed};
 ghost use Rattle.walk.specs.Held.{held};
-ghost use Rattle.walk.specs.Layout.{Layout, layout, stop-1};
-ghost use Rattle.walk.specs.Passes.{first};
+ghost use Rattle.walk.specs.Layout.{layout, stop-1};
 ghost use Rattle.walk.specs.SetsOf.{SetsAre};
-ghost use Rattle.walk.specs.State.{place-of, memory-of};
-ghost use Rattle.walk.specs.Steps.{Run, one-step, used, state-of, step-of, Within};
 ghost use Rattle.walk.specs.StopParts.{Harmless};
-ghost use Rattle.walk.specs.Stops.{stop-at};
-ghost use Rattle.walk.specs.Walk.{Stops, due, settled, onward, walk};
-ghost use Rattle.walk.specs.WalkCall.{ending, in-pack, told, judged, walk-of, walked, visitsLeft, visitsAfter, held-judged, held-told};
-ghost use Rattle.walk.specs.declared.walk.End.the-variants.{Whole, Stop};
-use crate::harmless::stop_at;
+ghost use Rattle.walk.specs.Walk.{walk};
+ghost use Rattle.walk.specs.WalkCall.{in-pack, told, judged, walk-of, walked, visitsLeft, visitsAfter, held-judged, held-told};
 use crate::held::held_at;
-use crate::passes::Counts;
-use crate::passes::Settling;
-use crate::passes::Spot;
-use crate::passes::due;
-use crate::passes::gone;
-use crate::passes::moved;
-use crate::passes::settle;
-use crate::passes::visit;
-use crate::runs::run;
 use crate::sets::Sets;
 use crate::sets::no_set;
 use crate::sets::sets_of;
 use crate::sets::stop_1;
+use crate::steps::Stepping;
+use crate::steps::begin;
+use crate::steps::run_on;
+use crate::steps::step;
+use crate::steps::used;
 use pack::load::Index;
 use pack::load::Loaded;
 use pack::load::Refusal;
 use pack::load::load;
 use pack::of::pgn_of;
-use pack::protocol::FieldOrder;
 use pack::protocol::Protocol;
 use rules::places::pgn_position;
 
@@ -61,24 +47,6 @@ pub enum Walked {
 pub enum HeldAnswer {
     Refused(Refusal),
     Held(bool),
-}
-
-// Where the walk is, and the latest readings of the countFields.
-pub struct State {
-    pub settling: Settling,
-    pub counts: Counts,
-}
-
-// With one reading: the walk ends, or a field is visited.
-pub enum Stepping {
-    Ended(End),
-    Visited { field: u32, next: State },
-}
-
-// The walk after a run, and how many visits are made by then.
-struct Ran {
-    pub state: State,
-    pub visits: usize,
 }
 
 // A PGN of the pack: its work position, and its sets.
@@ -102,153 +70,6 @@ fn absent() -> FoundPgn
         given: false,
         place: 0,
         sets,
-    }
-}
-
-// No field is due any more: stop 2, or the last order is passed.
-fn finished(halted: bool) -> End
-    ensures { λ r. ⌜ r ≡ (if halted then Stop 2 else Whole) ⌝ }
-{
-    if halted {
-        return End::Stop(2);
-    }
-    End::Whole
-}
-
-// Before the first visit.
-fn begin(sets: Sets) -> State
-    ensures { λ r. ⌜ ((L : Layout) → SetsAre L sets → state-of r ≡ settled L (by-place L) first (by-place L .fresh)) ⌝ }
-{
-    let counts = Counts {
-        first: 0,
-        second: 0,
-    };
-    let none = gone();
-    let spot = Spot {
-        order: FieldOrder(1),
-        first: none,
-        second: none,
-    };
-    let settling = settle(sets, counts, spot);
-    State { settling, counts }
-}
-
-// After a visit of the field that was due at the spot.
-fn onward(sets: Sets, counts: Counts, spot: Spot, reading: u64) -> State
-    requires { ⌜ (1 ≤ spot .order .0) × (spot .order .0 < 4294967295) ⌝ }
-    ensures { λ r. ⌜ ((L : Layout) → SetsAre L sets → state-of r ≡ onward L (by-place L) (place-of spot) (memory-of counts) reading) ⌝ }
-{
-    let order = spot.order;
-    let after = visit(sets, counts, order, reading);
-    let next = moved(spot, FieldOrder(order.0 + 1));
-    let settling = settle(sets, after, next);
-    State {
-        settling,
-        counts: after,
-    }
-}
-
-// At a due field, with its reading.
-fn step_at(
-    s: &[u8],
-    work: &[u32],
-    index: Index,
-    t: u32,
-    i: u32,
-    p: usize,
-    sets: Sets,
-    harmless: &mut [bool],
-    counts: Counts,
-    spot: Spot,
-    reading: u64,
-) -> Stepping
-    requires { ⌜ PgnAt (now s) (now work) t i p × IndexIs (packOf (now s)) index × SetsAre (layout (pgnIn (packOf (now s)) t i)) sets × Harmless (packOf (now s)) (pgnIn (packOf (now s)) t i) (now harmless) × (1 ≤ spot .order .0) × (spot .order .0 ≤ length (pgnIn (packOf (now s)) t i .fields)) ⌝ }
-    ensures { λ r. ⌜ step-of r ≡ one-step (layout (pgnIn (packOf (now (s .entry))) t i)) (stop-at (packOf (now (s .entry))) (pgnIn (packOf (now (s .entry))) t i)) (due (place-of spot) (memory-of counts)) reading ⌝ }
-    ensures { λ r. ⌜ Harmless (packOf (now (s .entry))) (pgnIn (packOf (now (s .entry))) t i) (now (harmless .exit)) ⌝ }
-{
-    let field = spot.order.0 - 1;
-    let stop = stop_at(s, work, index, t, i, p, sets, harmless, field, reading);
-    if stop != 0 {
-        return Stepping::Ended(End::Stop(stop));
-    }
-    let next = onward(sets, counts, spot, reading);
-    Stepping::Visited { field, next }
-}
-
-// One step of the walk over PGN i of tree t, which is at p.
-fn step(
-    s: &[u8],
-    work: &[u32],
-    index: Index,
-    t: u32,
-    i: u32,
-    p: usize,
-    sets: Sets,
-    harmless: &mut [bool],
-    state: State,
-    reading: u64,
-) -> Stepping
-    requires { ⌜ PgnAt (now s) (now work) t i p × IndexIs (packOf (now s)) index × SetsAre (layout (pgnIn (packOf (now s)) t i)) sets × Harmless (packOf (now s)) (pgnIn (packOf (now s)) t i) (now harmless) × Within (layout (pgnIn (packOf (now s)) t i)) (state-of state) ⌝ }
-    ensures { λ r. ⌜ step-of r ≡ one-step (layout (pgnIn (packOf (now (s .entry))) t i)) (stop-at (packOf (now (s .entry))) (pgnIn (packOf (now (s .entry))) t i)) (state-of state) reading ⌝ }
-    ensures { λ r. ⌜ Harmless (packOf (now (s .entry))) (pgnIn (packOf (now (s .entry))) t i) (now (harmless .exit)) ⌝ }
-{
-    let settling = state.settling;
-    if settling.due {
-        return step_at(
-            s,
-            work,
-            index,
-            t,
-            i,
-            p,
-            sets,
-            harmless,
-            state.counts,
-            settling.spot,
-            reading,
-        );
-    }
-    Stepping::Ended(finished(settling.halted))
-}
-
-// With no reading left.
-fn used(state: State) -> End
-    ensures { λ r. ⌜ r ≡ ending (used (state-of state)) ⌝ }
-{
-    let settling = state.settling;
-    if settling.due {
-        return End::UsedUp;
-    }
-    finished(settling.halted)
-}
-
-// A run from where the walk is, with n visits made.
-fn run_on(
-    sets: Sets,
-    harmless: &[bool],
-    state: State,
-    readings: &[u64],
-    visits: &mut [u32],
-    n: usize,
-) -> Ran
-    requires { ⌜ (state .settling .due ≡ true → (1 ≤ state .settling .spot .order .0) × (state .settling .spot .order .0 ≤ sets .fields)) × (n ≤ length (now readings)) × (length (now readings) ≤ length (now visits)) ⌝ }
-    ensures { λ r. ⌜ (n ≤ r .visits) × (r .visits ≤ length (now (readings .entry))) ⌝ }
-    ensures { λ r. ⌜ ((L : Layout) → SetsAre L sets → (stops : Stops) → ((k : ℕ) → getD (now (harmless .entry)) k false ≡ true → (reading : ℕ) → stops (placed L (suc k)) k reading ≡ none) → Run L stops (now (readings .entry)) (now (visits .entry)) n (state-of state) (now (visits .exit)) (r .visits) (state-of (r .state))) ⌝ }
-{
-    let settling = state.settling;
-    if !settling.due {
-        return Ran { state, visits: n };
-    }
-    let spot = settling.spot;
-    let end = run(sets, harmless, spot.order, readings, visits, n);
-    let next = due(moved(spot, end.order));
-    let counts = state.counts;
-    Ran {
-        state: State {
-            settling: next,
-            counts,
-        },
-        visits: end.visits,
     }
 }
 

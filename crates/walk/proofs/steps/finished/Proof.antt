@@ -1,5 +1,5 @@
-use Rattle.walk.proofs.walk.finished.Statement.{statement}
-use Rattle.walk.proofs.walk.finished.Tie as tie
+use Rattle.walk.proofs.steps.finished.Statement.{statement}
+use Rattle.walk.proofs.steps.finished.Tie as tie
 
 returns : tie.Need-returns
 returns c = rw (c .if1 .taken)

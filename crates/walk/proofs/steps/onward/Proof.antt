@@ -2,8 +2,8 @@ use mathlib.Core.Path.{_∙_}
 use Rattle.walk.specs.State.{place-of, memory-of}
 use Rattle.walk.proofs.Walks.{goes-onward}
 use borrow.Author.Needs.{needs}
-use Rattle.walk.proofs.walk.onward.Statement.{statement}
-use Rattle.walk.proofs.walk.onward.Tie as tie
+use Rattle.walk.proofs.steps.onward.Statement.{statement}
+use Rattle.walk.proofs.steps.onward.Tie as tie
 
 visit-requires : tie.Need-visit-requires
 visit-requires c κs = search needs

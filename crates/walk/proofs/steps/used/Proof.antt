@@ -2,8 +2,8 @@ use Rattle.walk.specs.State.{memory-of}
 use Rattle.walk.proofs.Walks.{used-finished}
 use mathlib.Core.Path.{_∙_}
 use borrow.Author.Needs.{needs}
-use Rattle.walk.proofs.walk.used.Statement.{statement}
-use Rattle.walk.proofs.walk.used.Tie as tie
+use Rattle.walk.proofs.steps.used.Statement.{statement}
+use Rattle.walk.proofs.steps.used.Tie as tie
 
 returns : tie.Need-returns
 returns c = search needs

@@ -6,12 +6,12 @@ use Rattle.walk.specs.State.{memory-of}
 use Rattle.walk.specs.Layout.{layout}
 use Rattle.walk.specs.Stops.{stop-at}
 use borrow.Author.Needs.{needs}
-use Rattle.walk.proofs.walk.step.Statement.{statement}
-use Rattle.walk.proofs.walk.step.Tie as tie
-use Rattle.walk.proofs.walk.step.Reads as reads
-use Rattle.walk.proofs.walk.step.Lts as lts
-use Rattle.walk.proofs.walk.finished.Reads as finished-reads
-use Rattle.walk.proofs.walk.step_at.Reads as step-at-reads
+use Rattle.walk.proofs.steps.step.Statement.{statement}
+use Rattle.walk.proofs.steps.step.Tie as tie
+use Rattle.walk.proofs.steps.step.Reads as reads
+use Rattle.walk.proofs.steps.step.Lts as lts
+use Rattle.walk.proofs.steps.finished.Reads as finished-reads
+use Rattle.walk.proofs.steps.step_at.Reads as step-at-reads
 
 step-at-requires : tie.Need-step-at-requires
 step-at-requires c κs = let d = due-within (layout (pgnIn (packOf (now (c .before .before .before .before .before .before .args .s))) (c .before .before .before .before .before .before .args .t) (c .before .before .before .before .before .before .args .i))) (c .before .before .before .before .before .before .args .state .settling) (memory-of (c .before .before .before .before .before .before .args .state .counts)) (c .before .if1 .taken) (c .before .before .before .before .before .before .pre .4) in (c .before .before .before .before .before .before .pre .0, c .before .before .before .before .before .before .pre .1, c .before .before .before .before .before .before .pre .2, c .before .before .before .before .before .before .pre .3, d .0, d .1)

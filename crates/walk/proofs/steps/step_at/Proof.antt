@@ -11,12 +11,12 @@ use Rattle.walk.specs.Layout.{layout}
 use Rattle.walk.specs.Stops.{stop-at}
 use Rattle.rules.proofs.Sizes.{fields-few}
 use borrow.Author.Needs.{needs}
-use Rattle.walk.proofs.walk.step_at.Statement.{statement}
-use Rattle.walk.proofs.walk.step_at.Tie as tie
-use Rattle.walk.proofs.walk.step_at.Reads as reads
-use Rattle.walk.proofs.walk.step_at.Lts as lts
+use Rattle.walk.proofs.steps.step_at.Statement.{statement}
+use Rattle.walk.proofs.steps.step_at.Tie as tie
+use Rattle.walk.proofs.steps.step_at.Reads as reads
+use Rattle.walk.proofs.steps.step_at.Lts as lts
 use Rattle.walk.proofs.harmless.stop_at.Reads as stop-at-reads
-use Rattle.walk.proofs.walk.onward.Reads as onward-reads
+use Rattle.walk.proofs.steps.onward.Reads as onward-reads
 
 sub-field : tie.Need-sub-field
 sub-field c = search needs

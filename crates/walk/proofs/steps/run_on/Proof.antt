@@ -7,8 +7,8 @@ use Rattle.walk.specs.State.{place-of, memory-of}
 use Rattle.walk.specs.Passes.{Place, goto}
 use Rattle.walk.proofs.Plain.{run-told}
 use borrow.Author.Needs.{needs}
-use Rattle.walk.proofs.walk.run_on.Statement.{statement}
-use Rattle.walk.proofs.walk.run_on.Tie as tie
+use Rattle.walk.proofs.steps.run_on.Statement.{statement}
+use Rattle.walk.proofs.steps.run_on.Tie as tie
 
 returns : tie.Need-returns
 returns c = ((omega arith, c .before .before .before .before .before .before .pre .1), λ L a stops harm. no-step)

@@ -2,8 +2,8 @@ use Rattle.walk.specs.State.{left-of}
 use Rattle.walk.proofs.Walks.{begins-at}
 use mathlib.Core.Path.{_∙_}
 use borrow.Author.Needs.{needs}
-use Rattle.walk.proofs.walk.begin.Statement.{statement}
-use Rattle.walk.proofs.walk.begin.Tie as tie
+use Rattle.walk.proofs.steps.begin.Statement.{statement}
+use Rattle.walk.proofs.steps.begin.Tie as tie
 
 gone-requires : tie.Need-gone-requires
 gone-requires c κs = search needs
