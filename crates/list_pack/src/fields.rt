@@ -1,13 +1,13 @@
 // The fields of a PGN.
 use listing::say;
 use listing::work;
+use pack::field::AuthoredView;
+use pack::field::FieldFlags;
+use pack::field::LinksView;
+use pack::field::OptReference;
+use pack::field::ScalingView;
 use pack::protocol::FieldIndex;
 use pack::protocol::FieldOrder;
-use pack::records::AuthoredView;
-use pack::records::FieldFlags;
-use pack::records::LinksView;
-use pack::records::OptReference;
-use pack::records::ScalingView;
 
 fn scaling(s: &[u8], v: ScalingView, f: FieldFlags) {
     say::number(b", ", v.bits as u64);

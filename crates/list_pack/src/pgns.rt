@@ -3,9 +3,9 @@ use crate::fields;
 use listing::say;
 use listing::work;
 use pack::load::Section;
+use pack::pgn::OptRepeating;
+use pack::pgn::PgnFlags;
 use pack::protocol::Protocol;
-use pack::records::OptRepeating;
-use pack::records::PgnFlags;
 
 fn message_type(k: u32) {
     match k {

@@ -1,8 +1,8 @@
 // Words, numbers, texts and float patterns on standard output, each behind the words that introduce it.
 use libc::STDOUT_FILENO;
-use pack::cursor::OptFloat;
-use pack::cursor::OptNumber;
 use pack::load::Refusal;
+use pack::optional::OptFloat;
+use pack::optional::OptNumber;
 use pack::text::OptText;
 use pack::text::Text;
 use pack::text::part;

@@ -11,21 +11,13 @@ use Rattle.pack.specs.Value.{Pack, pgns-of}
 use Rattle.pack.specs.Format.{types, lookups, typeList, offsets}
 use Rattle.pack.specs.Load.{Verdict, refused, accepted, verdict, indexOf, loaded, workAfter}
 use Rattle.pack.specs.Meaning.{packOf, Reading, refused-by, holds, read}
-use Rattle.pack.specs.Ready.{Ready, lookupPlace, treePlace}
+use Rattle.pack.specs.Ready.{Ready, IndexIs, treePlace}
 use Rattle.pack.specs.Trees.{protocolOf, sectionOf}
 use Rattle.pack.specs.declared.load.Index.{Index}
 use Rattle.pack.specs.declared.load.Refusal.the-variants.{Work}
 use Rattle.pack.specs.declared.load.Loaded.{Loaded}
 use Rattle.pack.specs.declared.load.Loaded.the-variants.{Refused, Accepted}
 use Rattle.pack.proofs.Values.{types-are, lookups-are, pgns-are, length-types, tree-place}
-
--- the index says the value's counts and places
-pub record IndexIs (P : Pack) (i : Index) : Type 0 where
-  pub types : i .types .count ≡ length (P .fieldtypes)
-  pub lookups : i .lookups .count ≡ length (P .lookups)
-  pub lookups-place : i .lookups .place ≡ lookupPlace P 0
-  pub trees : (t : ℕ) → t < 3 → sectionOf (protocolOf t) i .count ≡ length (pgns-of P t)
-  pub trees-place : (t : ℕ) → t < 3 → sectionOf (protocolOf t) i .place ≡ treePlace P t
 
 pub index-law : (s : List ℕ) → IndexIs (packOf s) (indexOf s)
 unfolding indexOf

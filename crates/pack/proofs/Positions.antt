@@ -7,15 +7,15 @@ use mathlib.Core.List.{List}
 use lib.ListN.{length, getD, take, length-append, length-take, List·getD-append}
 use lib.Seq.{getD-append-add, getD-take}
 use Rattle.pack.specs.Notation.{_==_, concatBelow}
-use Rattle.pack.specs.Value.{Lookup, Field, Pgn, Pack, noFieldType, noEntry}
+use Rattle.pack.specs.Value.{Lookup, Field, Pgn, Pack, noFieldType, noEntry, pgn-at, field-at, lookup-at}
 use Rattle.pack.specs.Items.{fresh, bytesOf, numberAt, textAt, nameAt, indexAt, codeAt}
 use Rattle.pack.specs.Records.{typeAt, entryAt, lookupAt, namesAt, scalingAt, authoredAt, pgnAt, fieldAt}
 use Rattle.pack.specs.Format.{types, typeOffsets, entries, entryOffsets, lookupRecords, lookupOffsets, noText, FieldState, fieldNext, fields, fieldOffsets, pgnRecords, pgnOffsets, typeList, lookupList, treeList, typePart, lookupPart, treePart, before, offsets, typeStart, lookupStart, pgnStart, packEnd}
 use Rattle.pack.specs.Load.{accepted}
 use Rattle.pack.specs.Meaning.{typeMeaning, entryMeaning, fieldMeaning, typeOf, lookupOf, pgnOf, packOf}
-use Rattle.pack.specs.Ready.{Ready, lookupIn, pgnIn, fieldIn, lookupPlace, pgnPlace, LookupAt, PgnAt, LookupIs, PgnIs}
+use Rattle.pack.specs.Ready.{Ready, lookupPlace, pgnPlace, LookupAt, PgnAt, LookupIs, PgnIs}
 use Rattle.pack.specs.declared.cursor.Cursor.{Cursor}
-use Rattle.pack.specs.declared.records.FieldItem.{FieldItem}
+use Rattle.pack.specs.declared.field.FieldItem.{FieldItem}
 use Rattle.pack.specs.declared.cursor.TextItem.{TextItem}
 use Rattle.pack.proofs.Tables.{length-concatBelow, getD-concatBelow, getD-tab}
 use Rattle.pack.proofs.Reading.{if-all, number-fits, back, code-reader, scaling-reader, authored-reader, links-reader}
@@ -122,27 +122,27 @@ module _ {s w : List ℕ} {i p : ℕ} (a : LookupAt s w i p) where
   lookup-view : lookupAt noText s (fresh (getD w p 0)) ≡ lookupHead s i
   lookup-view = rw lookup-cursor (sym (lookup-free s (lookupStart s i .next) (lookupStart s i .before) lookup-head-clean))
 
-  pub lookup-room : p + 1 + length (lookupIn (packOf s) i .entries) ≤ length w
+  pub lookup-room : p + 1 + length (lookup-at (packOf s .lookups) i .entries) ≤ length w
   lookup-room =
       let l = length-lookup s (lookupStart s i) in
       omega (arith, a .place, entries-are s i listed, lookup-offset s i 0 listed (omega arith) .1, records-fit s w (a .ready))
 
-  pub lookup-law : LookupIs s (lookupIn (packOf s) i) (lookupAt noText s (fresh (getD w p 0)) .value)
+  pub lookup-law : LookupIs s (lookup-at (packOf s .lookups) i) (lookupAt noText s (fresh (getD w p 0)) .value)
   unfolding lookupOf
   lookup-law = rw lookup-view (record { means = (rw (lookup-is s i listed)); entries = sym (entries-are s i listed) })
 
-  pub lookup-name-law : bytesOf s (textAt s (fresh (getD w p 0)) .value) ≡ lookupIn (packOf s) i .name
+  pub lookup-name-law : bytesOf s (textAt s (fresh (getD w p 0)) .value) ≡ lookup-at (packOf s .lookups) i .name
   unfolding lookupAt
   lookup-name-law =
-      let e : bytesOf s (lookupAt noText s (fresh (getD w p 0)) .value .name) ≡ lookupIn (packOf s) i .name = ap (λ (L : Lookup). L .name) (lookup-law .means) in
+      let e : bytesOf s (lookupAt noText s (fresh (getD w p 0)) .value .name) ≡ lookup-at (packOf s .lookups) i .name = ap (λ (L : Lookup). L .name) (lookup-law .means) in
       rw (← name-first s (fresh (getD w p 0))) e
 
-  kind-is : lookupIn (packOf s) i .kind ≡ lookupHead s i .value .kind
+  kind-is : lookup-at (packOf s .lookups) i .kind ≡ lookupHead s i .value .kind
   unfolding lookupOf
   kind-is = rw (lookup-is s i listed)
 
-  pub entry-law : (j : ℕ) → j < length (lookupIn (packOf s) i .entries)
-      → entryMeaning s (entryAt (lookupIn (packOf s) i .kind) s (fresh (getD w (p + 1 + j) 0)) .value) ≡ getD (lookupIn (packOf s) i .entries) j noEntry
+  pub entry-law : (j : ℕ) → j < length (lookup-at (packOf s .lookups) i .entries)
+      → entryMeaning s (entryAt (lookup-at (packOf s .lookups) i .kind) s (fresh (getD w (p + 1 + j) 0)) .value) ≡ getD (lookup-at (packOf s .lookups) i .entries) j noEntry
   unfolding lookupRecords entryOffsets
   entry-law j h =
       let m : j < lookupHead s i .value .entries = omega (arith, entries-are s i listed) in
@@ -176,21 +176,21 @@ module _ {s w : List ℕ} {t i p : ℕ} (a : PgnAt s w t i p) where
       let y : fresh (getD w p 0) ≡ pgnStart s t i = ap fresh x ∙ sym (fresh-at (pgnStart s t i) (pgn-clean s (clean-end s w (a .ready)) t i (a .tree) (omega (arith, counted-pgn)))) in
       rw y
 
-  pub pgn-room : p + 1 + length (pgnIn (packOf s) t i .fields) ≤ length w
+  pub pgn-room : p + 1 + length (pgn-at (packOf s) t i .fields) ≤ length w
   pgn-room =
       let l = length-pgn s (typeList s .value) (pgnStart s t i) in
       omega (arith, a .place, fields-are s t i (a .tree) counted-pgn, pgn-offset s t i 0 (a .tree) counted-pgn (omega arith) .1, records-fit s w (a .ready))
 
-  pub pgn-law : PgnIs s (pgnIn (packOf s) t i) (pgnAt s (fresh (getD w p 0)) .value)
+  pub pgn-law : PgnIs s (pgn-at (packOf s) t i) (pgnAt s (fresh (getD w p 0)) .value)
   unfolding pgnOf
   pgn-law = rw pgn-view (record { means = (rw (pgn-is s t i (a .tree) counted-pgn)); fields = sym (fields-are s t i (a .tree) counted-pgn) })
 
-  pub pgn-number-law : numberAt s (fresh (getD w p 0)) .value ≡ pgnIn (packOf s) t i .pgn
+  pub pgn-number-law : numberAt s (fresh (getD w p 0)) .value ≡ pgn-at (packOf s) t i .pgn
   unfolding pgnAt
   pgn-number-law = ap (λ (G : Pgn). G .pgn) (pgn-law .means)
 
-  pub field-law : (j : ℕ) → j < length (pgnIn (packOf s) t i .fields)
-      → fieldMeaning s (fieldAt 4294967296 0 s (fresh (getD w (p + 1 + j) 0)) .value) ≡ fieldIn (packOf s) t i j
+  pub field-law : (j : ℕ) → j < length (pgn-at (packOf s) t i .fields)
+      → fieldMeaning s (fieldAt 4294967296 0 s (fresh (getD w (p + 1 + j) 0)) .value) ≡ field-at (pgn-at (packOf s) t i) j
   unfolding pgnRecords fieldOffsets
   field-law j h =
       let k = typeList s .value in
@@ -204,12 +204,12 @@ module _ {s w : List ℕ} {t i p : ℕ} (a : PgnAt s w t i p) where
       let z : fieldNext k s st .next .refused ≡ 0 = rw (← fields-turn s (pgnHead s t i .next) k j) (field-clean s (clean-end s w (a .ready)) t i (j + 1) (a .tree) counted-pgn (omega arith)) in
       rw y (ap (λ (f : FieldItem). fieldMeaning s (f .value)) (sym (field-free s (st .next) k (st .total) (omega (arith, types-fit s)) (step-clean s k st z))) ∙ sym (field-is s t i j (a .tree) counted-pgn m))
 
-  pub field-id-law : (j : ℕ) → j < length (pgnIn (packOf s) t i .fields) → bytesOf s (textAt s (fresh (getD w (p + 1 + j) 0)) .value) ≡ fieldIn (packOf s) t i j .id
+  pub field-id-law : (j : ℕ) → j < length (pgn-at (packOf s) t i .fields) → bytesOf s (textAt s (fresh (getD w (p + 1 + j) 0)) .value) ≡ field-at (pgn-at (packOf s) t i) j .id
   unfolding fieldAt namesAt
   field-id-law j h = ap (λ (f : Field). f .id) (field-law j h)
 
-  pub field-name-law : (j : ℕ) → j < length (pgnIn (packOf s) t i .fields)
-      → bytesOf s (textAt s (textAt s (fresh (getD w (p + 1 + j) 0)) .next) .value) ≡ fieldIn (packOf s) t i j .name
+  pub field-name-law : (j : ℕ) → j < length (pgn-at (packOf s) t i .fields)
+      → bytesOf s (textAt s (textAt s (fresh (getD w (p + 1 + j) 0)) .next) .value) ≡ field-at (pgn-at (packOf s) t i) j .name
   unfolding fieldAt namesAt
   field-name-law j h = ap (λ (f : Field). f .name) (field-law j h)
 
@@ -225,19 +225,19 @@ module _ (s : List ℕ) where
       index-below s n k (back (code-reader s 63) _ (back (scaling-reader s total) _ a))
 
 module _ {s w : List ℕ} {t i p : ℕ} (a : PgnAt s w t i p) where
-  pub field-ft-law : (j : ℕ) → j < length (pgnIn (packOf s) t i .fields) → fieldIn (packOf s) t i j .ft < length (packOf s .fieldtypes)
+  pub field-ft-law : (j : ℕ) → j < length (pgn-at (packOf s) t i .fields) → field-at (pgn-at (packOf s) t i) j .ft < length (packOf s .fieldtypes)
   field-ft-law j h =
       let k = typeList s .value in
       let m : j < pgnHead s t i .value .fields = omega (arith, fields-are s t i (a .tree) (counted-pgn a)) in
       let st = fields k s (pgnHead s t i .next) j in
       let z : fieldNext k s st .next .refused ≡ 0 = rw (← fields-turn s (pgnHead s t i .next) k j) (field-clean s (clean-end s w (a .ready)) t i (j + 1) (a .tree) (counted-pgn a) (omega arith)) in
       let b = field-type-below s k (st .total) (st .next) (step-clean s k st z) in
-      let e : fieldIn (packOf s) t i j .ft ≡ fieldAt k (st .total) s (st .next) .value .ft = ap (λ (f : Field). f .ft) (field-is s t i j (a .tree) (counted-pgn a) m) in
+      let e : field-at (pgn-at (packOf s) t i) j .ft ≡ fieldAt k (st .total) s (st .next) .value .ft = ap (λ (f : Field). f .ft) (field-is s t i j (a .tree) (counted-pgn a) m) in
       omega (arith, b, e, types-are s)
 
 -- the next record of its kind
-pub lookup-place-next : (P : Pack) (i : ℕ) → lookupPlace P (i + 1) ≡ lookupPlace P i + 1 + length (lookupIn P i .entries)
+pub lookup-place-next : (P : Pack) (i : ℕ) → lookupPlace P (i + 1) ≡ lookupPlace P i + 1 + length (lookup-at (P .lookups) i .entries)
 lookup-place-next P i = rw (add-one i)
 
-pub pgn-place-next : (P : Pack) (t i : ℕ) → pgnPlace P t (i + 1) ≡ pgnPlace P t i + 1 + length (pgnIn P t i .fields)
+pub pgn-place-next : (P : Pack) (t i : ℕ) → pgnPlace P t (i + 1) ≡ pgnPlace P t i + 1 + length (pgn-at P t i .fields)
 pgn-place-next P t i = rw (add-one i) (omega arith)

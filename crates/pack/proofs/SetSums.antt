@@ -5,12 +5,12 @@ use mathlib.Core.Path.{_≡_, refl}
 use mathlib.Core.List.{List}
 use mathlib.Core.Bool.{Bool, true, false}
 use mathlib.Core.Option.{Option, none, some}
-use Rattle.pack.specs.Value.{Repeating}
+use Rattle.pack.specs.Value.{Repeating, pgn-at}
 use Rattle.pack.specs.Items.{largest32, numberAt, markAt}
 use Rattle.pack.specs.Records.{repeatingAt, optRepeatingAt, pgnAt}
 use Rattle.pack.specs.Format.{fields, treeList, pgnStart}
 use Rattle.pack.specs.Meaning.{repeatingMeaning, optRepeating, pgnOf, packOf}
-use Rattle.pack.specs.Ready.{pgnIn, PgnAt}
+use Rattle.pack.specs.Ready.{PgnAt}
 use Rattle.pack.specs.declared.cursor.Cursor.{Cursor}
 use Rattle.pack.proofs.Reading.{back, number-reader, opt-number-reader, mark-reader, opt-repeating-reader}
 use Rattle.pack.proofs.Free.{sum-fits}
@@ -48,7 +48,7 @@ module _ (s : List ℕ) where
       (opt-set-fits _ (back (opt-repeating-reader s) _ b), opt-set-fits _ b)
 
 module _ {s w : List ℕ} {t i p : ℕ} (a : PgnAt s w t i p) where
-  pub pgn-sets-law : SetFits (pgnIn (packOf s) t i .repeating1) × SetFits (pgnIn (packOf s) t i .repeating2)
+  pub pgn-sets-law : SetFits (pgn-at (packOf s) t i .repeating1) × SetFits (pgn-at (packOf s) t i .repeating2)
   unfolding fields pgnOf
   pgn-sets-law =
       let l : i < treeList s t .value = omega (arith, pgns-are s t (a .tree), a .pgn) in

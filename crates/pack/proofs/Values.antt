@@ -4,15 +4,15 @@ use native.Mathlib.Omega.{arith}
 use mathlib.Core.Path.{_≡_, refl, ap}
 use mathlib.Core.List.{List}
 use lib.ListN.{length, getD, length-append}
-use Rattle.pack.specs.Value.{pgns-of, noFieldType, noEntry, noLookup, noField, noPgn}
+use Rattle.pack.specs.Value.{pgns-of, noFieldType, noEntry, noLookup, noField, noPgn, pgn-at, field-at, lookup-at}
 use Rattle.pack.specs.Records.{entryAt, lookupAt, pgnAt, fieldAt}
 use Rattle.pack.specs.Format.{types, typeOffsets, entries, entryOffsets, LookupState, lookups, lookupRecords, lookupOffsets, fields, fieldOffsets, pgnRecords, pgnOffsets, typeList, lookupList, treeList, typePart, lookupPart, treePart, before, lookupStart, pgnStart}
 use Rattle.pack.specs.Meaning.{typeOf, lookupOf, pgnOf, treeOf, packOf, entryMeaning, fieldMeaning}
-use Rattle.pack.specs.Ready.{lookupIn, pgnIn, fieldIn, lookupPlace, pgnRecordsBelow, treePlace}
+use Rattle.pack.specs.Ready.{lookupPlace, pgnRecordsBelow, treePlace}
 use Rattle.pack.proofs.Tables.{length-tab, getD-tab}
 use Rattle.pack.specs.declared.cursor.Cursor.{Cursor}
-use Rattle.pack.specs.declared.records.LookupItem.{LookupItem}
-use Rattle.pack.specs.declared.records.PgnItem.{PgnItem}
+use Rattle.pack.specs.declared.lookup.LookupItem.{LookupItem}
+use Rattle.pack.specs.declared.pgn.PgnItem.{PgnItem}
 
 module _ (s : List ℕ) where
   pub types-are : length (packOf s .fieldtypes) ≡ typeList s .value
@@ -27,7 +27,7 @@ module _ (s : List ℕ) where
   unfolding packOf
   lookups-are = length-tab (lookupOf s) (lookupList s .value)
 
-  pub lookup-is : (i : ℕ) → i < lookupList s .value → lookupIn (packOf s) i ≡ lookupOf s i
+  pub lookup-is : (i : ℕ) → i < lookupList s .value → lookup-at (packOf s .lookups) i ≡ lookupOf s i
   unfolding packOf
   lookup-is i h = getD-tab (lookupOf s) noLookup (lookupList s .value) i h
 
@@ -42,7 +42,7 @@ module _ (s : List ℕ) where
   unfolding treeOf
   pgns-are t h = rw (tree-is t h) (length-tab (pgnOf s t) (treeList s t .value))
 
-  pub pgn-is : (t i : ℕ) → t < 3 → i < treeList s t .value → pgnIn (packOf s) t i ≡ pgnOf s t i
+  pub pgn-is : (t i : ℕ) → t < 3 → i < treeList s t .value → pgn-at (packOf s) t i ≡ pgnOf s t i
   unfolding treeOf
   pgn-is t i h l = rw (tree-is t h) (getD-tab (pgnOf s t) noPgn (treeList s t .value) i l)
 
@@ -53,21 +53,21 @@ module _ (s : List ℕ) where
   abbrev pub pgnHead : ℕ → ℕ → PgnItem
   pgnHead t i = pgnAt s (pgnStart s t i)
 
-  pub entries-are : (i : ℕ) → i < lookupList s .value → length (lookupIn (packOf s) i .entries) ≡ lookupHead i .value .entries
+  pub entries-are : (i : ℕ) → i < lookupList s .value → length (lookup-at (packOf s .lookups) i .entries) ≡ lookupHead i .value .entries
   unfolding lookupOf
   entries-are i h = rw (lookup-is i h) (length-tab _ (lookupHead i .value .entries))
 
   pub entry-is : (i j : ℕ) → i < lookupList s .value → j < lookupHead i .value .entries
-      → getD (lookupIn (packOf s) i .entries) j noEntry ≡ entryMeaning s (entryAt (lookupHead i .value .kind) s (entries (lookupHead i .value .kind) s (lookupHead i .next) j) .value)
+      → getD (lookup-at (packOf s .lookups) i .entries) j noEntry ≡ entryMeaning s (entryAt (lookupHead i .value .kind) s (entries (lookupHead i .value .kind) s (lookupHead i .next) j) .value)
   unfolding lookupOf
   entry-is i j h l = rw (lookup-is i h) (getD-tab _ noEntry (lookupHead i .value .entries) j l)
 
-  pub fields-are : (t i : ℕ) → t < 3 → i < treeList s t .value → length (pgnIn (packOf s) t i .fields) ≡ pgnHead t i .value .fields
+  pub fields-are : (t i : ℕ) → t < 3 → i < treeList s t .value → length (pgn-at (packOf s) t i .fields) ≡ pgnHead t i .value .fields
   unfolding pgnOf
   fields-are t i h l = rw (pgn-is t i h l) (length-tab _ (pgnHead t i .value .fields))
 
   pub field-is : (t i j : ℕ) → t < 3 → i < treeList s t .value → j < pgnHead t i .value .fields
-      → fieldIn (packOf s) t i j ≡ (let a = fields (typeList s .value) s (pgnHead t i .next) j in fieldMeaning s (fieldAt (typeList s .value) (a .total) s (a .next) .value))
+      → field-at (pgn-at (packOf s) t i) j ≡ (let a = fields (typeList s .value) s (pgnHead t i .next) j in fieldMeaning s (fieldAt (typeList s .value) (a .total) s (a .next) .value))
   unfolding pgnOf
   field-is t i j h l m = rw (pgn-is t i h l) (getD-tab _ noField (pgnHead t i .value .fields) j m)
 

@@ -14,9 +14,9 @@ use Rattle.pack.specs.declared.cursor.WideItem.{WideItem}
 use Rattle.pack.specs.declared.cursor.NumberItem.{NumberItem}
 use Rattle.pack.specs.declared.cursor.MarkItem.{MarkItem}
 use Rattle.pack.specs.declared.cursor.TextItem.{TextItem}
-use Rattle.pack.specs.declared.cursor.OptTextItem.{OptTextItem}
-use Rattle.pack.specs.declared.cursor.OptNumberItem.{OptNumberItem}
-use Rattle.pack.specs.declared.cursor.OptFloatItem.{OptFloatItem}
+use Rattle.pack.specs.declared.optional.OptTextItem.{OptTextItem}
+use Rattle.pack.specs.declared.optional.OptNumberItem.{OptNumberItem}
+use Rattle.pack.specs.declared.optional.OptFloatItem.{OptFloatItem}
 
 infix 50 _≺_
 -- ---- the cursor

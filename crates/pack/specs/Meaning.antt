@@ -9,17 +9,17 @@ use Rattle.pack.specs.Records.{typeAt, entryAt, lookupAt, pgnAt, fieldAt
 use Rattle.pack.specs.Format.{entries, fields, typeList, lookupList, treeList, typeStart, lookupStart, pgnStart, offsets}
 use Rattle.pack.specs.Load.{Verdict, refused, accepted, verdict}
 use Rattle.pack.specs.declared.text.OptText.{OptText}
-use Rattle.pack.specs.declared.cursor.OptNumber.{OptNumber}
-use Rattle.pack.specs.declared.cursor.OptFloat.{OptFloat}
+use Rattle.pack.specs.declared.optional.OptNumber.{OptNumber}
+use Rattle.pack.specs.declared.optional.OptFloat.{OptFloat}
 use Rattle.pack.specs.declared.load.Refusal.{Refusal}
-use Rattle.pack.specs.declared.records.FieldTypeView.{FieldTypeView}
-use Rattle.pack.specs.declared.records.EntryView.{EntryView}
-use Rattle.pack.specs.declared.records.LookupView.{LookupView}
-use Rattle.pack.specs.declared.records.RepeatingView.{RepeatingView}
-use Rattle.pack.specs.declared.records.OptRepeating.{OptRepeating}
-use Rattle.pack.specs.declared.records.PgnView.{PgnView}
-use Rattle.pack.specs.declared.records.OptReference.{OptReference}
-use Rattle.pack.specs.declared.records.FieldView.{FieldView}
+use Rattle.pack.specs.declared.field_type.FieldTypeView.{FieldTypeView}
+use Rattle.pack.specs.declared.entry.EntryView.{EntryView}
+use Rattle.pack.specs.declared.lookup.LookupView.{LookupView}
+use Rattle.pack.specs.declared.pgn.RepeatingView.{RepeatingView}
+use Rattle.pack.specs.declared.pgn.OptRepeating.{OptRepeating}
+use Rattle.pack.specs.declared.pgn.PgnView.{PgnView}
+use Rattle.pack.specs.declared.field.OptReference.{OptReference}
+use Rattle.pack.specs.declared.field.FieldView.{FieldView}
 
 -- ---- what a view means
 

@@ -3,35 +3,26 @@ use Prim.Native.Nat.{ℕ, zero, suc, _+_, _<_}
 use mathlib.Core.Path.{_≡_}
 use mathlib.Core.List.{List}
 use lib.ListN.{length, getD, take}
-use Rattle.pack.specs.Value.{Lookup, Field, Pgn, Pack, pgns-of, noLookup, noField, noPgn}
+use Rattle.pack.specs.Value.{Lookup, Pgn, Pack, pgns-of, noPgn, lookup-at}
 use Rattle.pack.specs.Format.{offsets}
 use Rattle.pack.specs.Load.{accepted, verdict}
 use Rattle.pack.specs.Meaning.{lookupMeaning, pgnMeaning, packOf}
-use Rattle.pack.specs.declared.records.LookupView.{LookupView}
-use Rattle.pack.specs.declared.records.PgnView.{PgnView}
+use Rattle.pack.specs.Trees.{protocolOf, sectionOf}
+use Rattle.pack.specs.declared.load.Index.{Index}
+use Rattle.pack.specs.declared.lookup.LookupView.{LookupView}
+use Rattle.pack.specs.declared.pgn.PgnView.{PgnView}
 
 -- accepted, and the work list begins with the record offsets
 pub record Ready (s w : List ℕ) : Type 0 where
   pub accepted : verdict s ≡ accepted
   pub begins : take (length (offsets s)) w ≡ offsets s
 
--- ---- records by index
-
-abbrev pub lookupIn : Pack → ℕ → Lookup
-lookupIn P i = getD (P .lookups) i noLookup
-
-abbrev pub pgnIn : Pack → ℕ → ℕ → Pgn
-pgnIn P t i = getD (pgns-of P t) i noPgn
-
-abbrev pub fieldIn : Pack → ℕ → ℕ → ℕ → Field
-fieldIn P t i j = getD (pgnIn P t i .fields) j noField
-
 -- ---- work positions
 
 -- field type i is at i; the lookups follow, each with its entries behind it
 abbrev pub lookupPlace : Pack → ℕ → ℕ
 lookupPlace P zero = length (P .fieldtypes)
-lookupPlace P (suc i) = lookupPlace P i + 1 + length (lookupIn P i .entries)
+lookupPlace P (suc i) = lookupPlace P i + 1 + length (lookup-at (P .lookups) i .entries)
 
 -- the records of the first i PGNs
 abbrev pub pgnRecordsBelow : List Pgn → ℕ → ℕ
@@ -45,6 +36,14 @@ treePlace P (suc t) = treePlace P t + pgnRecordsBelow (pgns-of P t) (length (pgn
 
 abbrev pub pgnPlace : Pack → ℕ → ℕ → ℕ
 pgnPlace P t i = treePlace P t + pgnRecordsBelow (pgns-of P t) i
+
+-- the index of a pack: the counts and places of its lists
+pub record IndexIs (P : Pack) (i : Index) : Type 0 where
+  pub types : i .types .count ≡ length (P .fieldtypes)
+  pub lookups : i .lookups .count ≡ length (P .lookups)
+  pub lookups-place : i .lookups .place ≡ lookupPlace P 0
+  pub trees : (t : ℕ) → t < 3 → sectionOf (protocolOf t) i .count ≡ length (pgns-of P t)
+  pub trees-place : (t : ℕ) → t < 3 → sectionOf (protocolOf t) i .place ≡ treePlace P t
 
 -- p is the work position of lookup i
 pub record LookupAt (s w : List ℕ) (i p : ℕ) : Type 0 where

@@ -7,20 +7,20 @@ use Rattle.pack.specs.Items.{largest64, wideAt, numberAt, codeAt, indexA
 use Rattle.pack.specs.declared.text.OptText.{OptText}
 use Rattle.pack.specs.declared.cursor.Cursor.{Cursor}
 use Rattle.pack.specs.declared.cursor.WideItem.{WideItem}
-use Rattle.pack.specs.declared.records.FieldTypeItem.{FieldTypeItem}
-use Rattle.pack.specs.declared.records.EntryItem.{EntryItem}
-use Rattle.pack.specs.declared.records.KindPartItem.{KindPartItem}
-use Rattle.pack.specs.declared.records.LookupItem.{LookupItem}
-use Rattle.pack.specs.declared.records.RepeatingItem.{RepeatingItem}
-use Rattle.pack.specs.declared.records.OptRepeatingItem.{OptRepeatingItem}
-use Rattle.pack.specs.declared.records.PgnItem.{PgnItem}
-use Rattle.pack.specs.declared.records.NamesItem.{NamesItem}
-use Rattle.pack.specs.declared.records.FieldFlags.{FieldFlags}
-use Rattle.pack.specs.declared.records.ScalingItem.{ScalingItem}
-use Rattle.pack.specs.declared.records.AuthoredItem.{AuthoredItem}
-use Rattle.pack.specs.declared.records.OptReferenceItem.{OptReferenceItem}
-use Rattle.pack.specs.declared.records.LinksItem.{LinksItem}
-use Rattle.pack.specs.declared.records.FieldItem.{FieldItem}
+use Rattle.pack.specs.declared.field_type.FieldTypeItem.{FieldTypeItem}
+use Rattle.pack.specs.declared.entry.EntryItem.{EntryItem}
+use Rattle.pack.specs.declared.entry.KindPartItem.{KindPartItem}
+use Rattle.pack.specs.declared.lookup.LookupItem.{LookupItem}
+use Rattle.pack.specs.declared.pgn.RepeatingItem.{RepeatingItem}
+use Rattle.pack.specs.declared.pgn.OptRepeatingItem.{OptRepeatingItem}
+use Rattle.pack.specs.declared.pgn.PgnItem.{PgnItem}
+use Rattle.pack.specs.declared.field.NamesItem.{NamesItem}
+use Rattle.pack.specs.declared.field.FieldFlags.{FieldFlags}
+use Rattle.pack.specs.declared.field.ScalingItem.{ScalingItem}
+use Rattle.pack.specs.declared.field.AuthoredItem.{AuthoredItem}
+use Rattle.pack.specs.declared.field.OptReferenceItem.{OptReferenceItem}
+use Rattle.pack.specs.declared.field.LinksItem.{LinksItem}
+use Rattle.pack.specs.declared.field.FieldItem.{FieldItem}
 
 -- "Field type: name, flags (1 base, 2 print function, 4 signed), `size`, `resolution` float, `root_name`."
 unfoldable pub typeAt : List ℕ → Cursor → FieldTypeItem

@@ -4,6 +4,7 @@ use Prim.Native.Nat.{ℕ, zero, suc}
 use mathlib.Core.Bool.{Bool, false}
 use mathlib.Core.List.{List, []}
 use mathlib.Core.Option.{Option, none}
+use lib.ListN.{getD}
 
 abbrev pub Bytes : Type 0
 Bytes = List ℕ
@@ -159,3 +160,17 @@ noPgn =
       repeating2 = none;
       fields = [];
     }
+
+-- ---- records by their index
+
+abbrev pub lookup-at : List Lookup → ℕ → Lookup
+lookup-at ls l = getD ls l noLookup
+
+abbrev pub entry-at : List Entry → ℕ → Entry
+entry-at es e = getD es e noEntry
+
+abbrev pub pgn-at : Pack → (tree i : ℕ) → Pgn
+pgn-at P t i = getD (pgns-of P t) i noPgn
+
+abbrev pub field-at : Pgn → ℕ → Field
+field-at p k = getD (p .fields) k noField

@@ -4,11 +4,11 @@ ghost use Rattle.pack.specs.Items.{fresh, numberAt, textAt};
 ghost use Rattle.pack.specs.Records.{typeAt, entryAt, lookupAt, pgnAt, fieldAt};
 ghost use Rattle.pack.specs.Format.{noText};
 use crate::cursor::Cursor;
-use crate::records::EntryView;
-use crate::records::FieldTypeView;
-use crate::records::FieldView;
-use crate::records::LookupView;
-use crate::records::PgnView;
+use crate::entry::EntryView;
+use crate::field::FieldView;
+use crate::field_type::FieldTypeView;
+use crate::lookup::LookupView;
+use crate::pgn::PgnView;
 use crate::text::OptText;
 use crate::text::Text;
 

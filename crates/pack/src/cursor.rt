@@ -4,7 +4,7 @@ ghost use mathlib.Core.Path.{_≡_};
 ghost use Prim.Native.Nat.{_+_, _≤_, _<_, _^_};
 ghost use lib.ListN.{length, getD};
 ghost use lib.Dec.{leb};
-ghost use Rattle.pack.specs.Items.{refuse, judged, wideAt, numberAt, codeAt, versionAt, indexAt, sumAt, bytesAt, markAt, textAt, nameAt, four, floatAt, optTextAt, optNumberAt, optFloatAt, optBytesAt, optSumAt, finish};
+ghost use Rattle.pack.specs.Items.{refuse, judged, wideAt, numberAt, codeAt, versionAt, indexAt, sumAt, bytesAt, markAt, textAt, nameAt, four, floatAt, finish};
 use crate::number::decode;
 use crate::number::is_shortest;
 use crate::number::last_byte;
@@ -16,17 +16,6 @@ pub struct Cursor {
     pub at: usize,
     // 01's number of the refusal, 0 where there is none
     pub refused: u32,
-}
-
-pub struct OptNumber {
-    pub given: bool,
-    pub value: u32,
-}
-
-// An optional float, by its 64-bit pattern.
-pub struct OptFloat {
-    pub given: bool,
-    pub pattern: u64,
 }
 
 pub struct WideItem {
@@ -46,21 +35,6 @@ pub struct MarkItem {
 
 pub struct TextItem {
     pub value: Text,
-    pub next: Cursor,
-}
-
-pub struct OptTextItem {
-    pub value: OptText,
-    pub next: Cursor,
-}
-
-pub struct OptNumberItem {
-    pub value: OptNumber,
-    pub next: Cursor,
-}
-
-pub struct OptFloatItem {
-    pub value: OptFloat,
     pub next: Cursor,
 }
 
@@ -296,92 +270,6 @@ impl Cursor {
         }
     }
 
-    pub fn opt_text(self, s: &[u8]) -> OptTextItem
-        ensures { λ r. ⌜ r ≡ optTextAt (now (s .entry)) self ⌝ }
-    {
-        let m = self.mark(s);
-        let c = m.next;
-        if m.value {
-            let t = c.text(s);
-            let text = t.value;
-            let d = t.next;
-            return OptTextItem {
-                value: OptText { given: true, text },
-                next: d,
-            };
-        }
-        OptTextItem {
-            value: OptText {
-                given: false,
-                text: Text { start: 0, len: 0 },
-            },
-            next: c,
-        }
-    }
-
-    pub fn opt_number(self, s: &[u8]) -> OptNumberItem
-        ensures { λ r. ⌜ r ≡ optNumberAt (now (s .entry)) self ⌝ }
-    {
-        let m = self.mark(s);
-        let c = m.next;
-        if m.value {
-            let n = c.number(s);
-            return some_number(n);
-        }
-        no_number(c)
-    }
-
-    // An optional length in bytes whose bits are counted in 32 bits.
-    pub fn opt_bytes(self, s: &[u8]) -> OptNumberItem
-        ensures { λ r. ⌜ r ≡ optBytesAt (now (s .entry)) self ⌝ }
-    {
-        let m = self.mark(s);
-        let c = m.next;
-        if m.value {
-            let n = c.bytes(s);
-            return some_number(n);
-        }
-        no_number(c)
-    }
-
-    // An optional number that completes a sum whose other part is `other`.
-    pub fn opt_sum(self, s: &[u8], other: u32) -> OptNumberItem
-        ensures { λ r. ⌜ r ≡ optSumAt other (now (s .entry)) self ⌝ }
-    {
-        let m = self.mark(s);
-        let c = m.next;
-        if m.value {
-            let n = c.sum(s, other);
-            return some_number(n);
-        }
-        no_number(c)
-    }
-
-    pub fn opt_float(self, s: &[u8]) -> OptFloatItem
-        ensures { λ r. ⌜ r ≡ optFloatAt (now (s .entry)) self ⌝ }
-    {
-        let m = self.mark(s);
-        let c = m.next;
-        if m.value {
-            let f = c.float(s);
-            let d = f.next;
-            return OptFloatItem {
-                value: OptFloat {
-                    given: true,
-                    pattern: f.value,
-                },
-                next: d,
-            };
-        }
-        OptFloatItem {
-            value: OptFloat {
-                given: false,
-                pattern: 0,
-            },
-            next: c,
-        }
-    }
-
     // The end of the pack: refused where bytes are left.
     pub fn finish(self, s: &[u8]) -> Cursor
         ensures { λ r. ⌜ r ≡ finish (now (s .entry)) self ⌝ }
@@ -393,30 +281,5 @@ impl Cursor {
             return self.refuse(8);
         }
         self
-    }
-}
-
-fn some_number(n: NumberItem) -> OptNumberItem
-    ensures { λ r. ⌜ r ≡ Rattle.pack.specs.Items.someNumber n ⌝ }
-{
-    let d = n.next;
-    OptNumberItem {
-        value: OptNumber {
-            given: true,
-            value: n.value,
-        },
-        next: d,
-    }
-}
-
-fn no_number(c: Cursor) -> OptNumberItem
-    ensures { λ r. ⌜ r ≡ Rattle.pack.specs.Items.noNumber c ⌝ }
-{
-    OptNumberItem {
-        value: OptNumber {
-            given: false,
-            value: 0,
-        },
-        next: c,
     }
 }

@@ -3,10 +3,10 @@
 ghost use mathlib.Core.Path.{_≡_};
 ghost use Prim.Native.Nat.{_<_};
 ghost use lib.ListN.{length, getD};
-ghost use Rattle.pack.specs.Value.{noFieldType, noEntry};
+ghost use Rattle.pack.specs.Value.{noFieldType, noEntry, pgn-at, field-at, lookup-at};
 ghost use Rattle.pack.specs.Items.{bytesOf};
 ghost use Rattle.pack.specs.Meaning.{typeMeaning, entryMeaning, fieldMeaning, packOf};
-ghost use Rattle.pack.specs.Ready.{Ready, LookupAt, PgnAt, LookupIs, PgnIs, lookupIn, pgnIn, fieldIn};
+ghost use Rattle.pack.specs.Ready.{Ready, LookupAt, PgnAt, LookupIs, PgnIs};
 use crate::at::entry_at;
 use crate::at::field_at;
 use crate::at::lookup_at;
@@ -15,11 +15,11 @@ use crate::at::pgn_at;
 use crate::at::second_text_at;
 use crate::at::text_at;
 use crate::at::type_at;
-use crate::records::EntryView;
-use crate::records::FieldTypeView;
-use crate::records::FieldView;
-use crate::records::LookupView;
-use crate::records::PgnView;
+use crate::entry::EntryView;
+use crate::field::FieldView;
+use crate::field_type::FieldTypeView;
+use crate::lookup::LookupView;
+use crate::pgn::PgnView;
 use crate::text::Text;
 
 // The offset that the work list has at p.
@@ -43,7 +43,7 @@ pub fn type_of(s: &[u8], work: &[u32], i: u32) -> FieldTypeView
 // Lookup i, at p.
 pub fn lookup_of(s: &[u8], work: &[u32], i: u32, p: usize) -> LookupView
     requires { ⌜ LookupAt (now s) (now work) i p ⌝ }
-    ensures { λ r. ⌜ LookupIs (now (s .entry)) (lookupIn (packOf (now (s .entry))) i) r ⌝ }
+    ensures { λ r. ⌜ LookupIs (now (s .entry)) (lookup-at (packOf (now (s .entry)) .lookups) i) r ⌝ }
 {
     let at = offset(work, p);
     lookup_at(s, at)
@@ -52,7 +52,7 @@ pub fn lookup_of(s: &[u8], work: &[u32], i: u32, p: usize) -> LookupView
 // The name of lookup i, at p.
 pub fn lookup_name_of(s: &[u8], work: &[u32], i: u32, p: usize) -> Text
     requires { ⌜ LookupAt (now s) (now work) i p ⌝ }
-    ensures { λ r. ⌜ bytesOf (now (s .entry)) r ≡ lookupIn (packOf (now (s .entry))) i .name ⌝ }
+    ensures { λ r. ⌜ bytesOf (now (s .entry)) r ≡ lookup-at (packOf (now (s .entry)) .lookups) i .name ⌝ }
 {
     let at = offset(work, p);
     text_at(s, at)
@@ -60,8 +60,8 @@ pub fn lookup_name_of(s: &[u8], work: &[u32], i: u32, p: usize) -> Text
 
 // Entry j of lookup i, at p, which is of that kind.
 pub fn entry_of(s: &[u8], work: &[u32], i: u32, p: usize, kind: u32, j: u32) -> EntryView
-    requires { ⌜ LookupAt (now s) (now work) i p × (kind ≡ lookupIn (packOf (now s)) i .kind) × (j < length (lookupIn (packOf (now s)) i .entries)) ⌝ }
-    ensures { λ r. ⌜ entryMeaning (now (s .entry)) r ≡ getD (lookupIn (packOf (now (s .entry))) i .entries) j noEntry ⌝ }
+    requires { ⌜ LookupAt (now s) (now work) i p × (kind ≡ lookup-at (packOf (now s) .lookups) i .kind) × (j < length (lookup-at (packOf (now s) .lookups) i .entries)) ⌝ }
+    ensures { λ r. ⌜ entryMeaning (now (s .entry)) r ≡ getD (lookup-at (packOf (now (s .entry)) .lookups) i .entries) j noEntry ⌝ }
 {
     let q = p + 1 + j as usize;
     let at = offset(work, q);
@@ -71,7 +71,7 @@ pub fn entry_of(s: &[u8], work: &[u32], i: u32, p: usize, kind: u32, j: u32) -> 
 // PGN i of tree t, at p.
 pub fn pgn_of(s: &[u8], work: &[u32], t: u32, i: u32, p: usize) -> PgnView
     requires { ⌜ PgnAt (now s) (now work) t i p ⌝ }
-    ensures { λ r. ⌜ PgnIs (now (s .entry)) (pgnIn (packOf (now (s .entry))) t i) r ⌝ }
+    ensures { λ r. ⌜ PgnIs (now (s .entry)) (pgn-at (packOf (now (s .entry))) t i) r ⌝ }
 {
     let at = offset(work, p);
     pgn_at(s, at)
@@ -80,7 +80,7 @@ pub fn pgn_of(s: &[u8], work: &[u32], t: u32, i: u32, p: usize) -> PgnView
 // The number of PGN i of tree t, at p.
 pub fn pgn_number_of(s: &[u8], work: &[u32], t: u32, i: u32, p: usize) -> u32
     requires { ⌜ PgnAt (now s) (now work) t i p ⌝ }
-    ensures { λ r. ⌜ r ≡ pgnIn (packOf (now (s .entry))) t i .pgn ⌝ }
+    ensures { λ r. ⌜ r ≡ pgn-at (packOf (now (s .entry))) t i .pgn ⌝ }
 {
     let at = offset(work, p);
     number_at(s, at)
@@ -88,8 +88,8 @@ pub fn pgn_number_of(s: &[u8], work: &[u32], t: u32, i: u32, p: usize) -> u32
 
 // Field j of PGN i of tree t, which is at p.
 pub fn field_of(s: &[u8], work: &[u32], t: u32, i: u32, p: usize, j: u32) -> FieldView
-    requires { ⌜ PgnAt (now s) (now work) t i p × (j < length (pgnIn (packOf (now s)) t i .fields)) ⌝ }
-    ensures { λ r. ⌜ fieldMeaning (now (s .entry)) r ≡ fieldIn (packOf (now (s .entry))) t i j ⌝ }
+    requires { ⌜ PgnAt (now s) (now work) t i p × (j < length (pgn-at (packOf (now s)) t i .fields)) ⌝ }
+    ensures { λ r. ⌜ fieldMeaning (now (s .entry)) r ≡ field-at (pgn-at (packOf (now (s .entry))) t i) j ⌝ }
 {
     let q = p + 1 + j as usize;
     let at = offset(work, q);
@@ -98,8 +98,8 @@ pub fn field_of(s: &[u8], work: &[u32], t: u32, i: u32, p: usize, j: u32) -> Fie
 
 // The id of field j of PGN i of tree t, which is at p.
 pub fn field_id_of(s: &[u8], work: &[u32], t: u32, i: u32, p: usize, j: u32) -> Text
-    requires { ⌜ PgnAt (now s) (now work) t i p × (j < length (pgnIn (packOf (now s)) t i .fields)) ⌝ }
-    ensures { λ r. ⌜ bytesOf (now (s .entry)) r ≡ fieldIn (packOf (now (s .entry))) t i j .id ⌝ }
+    requires { ⌜ PgnAt (now s) (now work) t i p × (j < length (pgn-at (packOf (now s)) t i .fields)) ⌝ }
+    ensures { λ r. ⌜ bytesOf (now (s .entry)) r ≡ field-at (pgn-at (packOf (now (s .entry))) t i) j .id ⌝ }
 {
     let q = p + 1 + j as usize;
     let at = offset(work, q);
@@ -108,8 +108,8 @@ pub fn field_id_of(s: &[u8], work: &[u32], t: u32, i: u32, p: usize, j: u32) -> 
 
 // Its name.
 pub fn field_name_of(s: &[u8], work: &[u32], t: u32, i: u32, p: usize, j: u32) -> Text
-    requires { ⌜ PgnAt (now s) (now work) t i p × (j < length (pgnIn (packOf (now s)) t i .fields)) ⌝ }
-    ensures { λ r. ⌜ bytesOf (now (s .entry)) r ≡ fieldIn (packOf (now (s .entry))) t i j .name ⌝ }
+    requires { ⌜ PgnAt (now s) (now work) t i p × (j < length (pgn-at (packOf (now s)) t i .fields)) ⌝ }
+    ensures { λ r. ⌜ bytesOf (now (s .entry)) r ≡ field-at (pgn-at (packOf (now (s .entry))) t i) j .name ⌝ }
 {
     let q = p + 1 + j as usize;
     let at = offset(work, q);

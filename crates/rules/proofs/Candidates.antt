@@ -10,8 +10,8 @@ use mathlib.Core.Path.{_≡_, refl, sym, ap, _∙_}
 use lib.ListN.{length, getD}
 use borrow.Author.Tests.{ltb-true, ltb-false, lt-ltb, le-ltb, eqb-true, eq-eqb}
 use Rattle.pack.specs.Notation.{_<ᵇ_, _≐_, if_then_else_, optional}
-use Rattle.pack.specs.Value.{Bytes, Pgn, noPgn}
-use Rattle.rules.specs.Model.{given, field-at}
+use Rattle.pack.specs.Value.{Bytes, Pgn, noPgn, field-at}
+use Rattle.rules.specs.Model.{given}
 use Rattle.rules.specs.Search.{larger, maxBelow, lower-key, leastBelow}
 use Rattle.rules.specs.SearchLaws.{first-is}
 use Rattle.rules.specs.SpnNames.{is-number, spn-field, spn-pgn, name-in, name-by, spn-name, names-spn, earlier-if, earlier-in, earlier-spn}

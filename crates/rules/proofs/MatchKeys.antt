@@ -11,13 +11,13 @@ use borrow.Author.Tests.{eq-eqb, ne-eqb}
 use lib.ListN.{length, getD, take, drop, drop-of-length-le}
 use lib.Seq.{drop-cons}
 use Rattle.pack.specs.Notation.{_≐_, if_then_else_, concatBelow}
-use Rattle.pack.specs.Value.{Bytes, Pgn}
+use Rattle.pack.specs.Value.{Bytes, Pgn, field-at}
 use Rattle.pack.specs.Items.{bytesOf}
 use Rattle.pack.specs.declared.text.Text.{Text}
 use Rattle.rules.specs.declared.match_keys.MatchKey.{MatchKey}
 use Rattle.rules.specs.declared.match_keys.KeyByte.{KeyByte}
 use Rattle.rules.specs.Digits.{digits}
-use Rattle.rules.specs.Model.{given, field-at}
+use Rattle.rules.specs.Model.{given}
 use Rattle.rules.specs.MatchKeys.{piece, pieces-from, to-come, first-and}
 use Rattle.rules.specs.Texts.{bytes}
 use Rattle.rules.specs.Variants.{has-match, match-key-at, match-key}

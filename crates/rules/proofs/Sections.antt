@@ -3,12 +3,11 @@ use Prim.Native.Nat.{ℕ, _<_}
 use mathlib.Core.Path.{_≡_, ap, _∙_}
 use lib.ListN.{length}
 use Rattle.pack.specs.Value.{Pack, pgns-of}
-use Rattle.pack.specs.Ready.{treePlace}
+use Rattle.pack.specs.Ready.{treePlace, IndexIs}
 use Rattle.pack.specs.Trees.{protocolOf, sectionOf}
 use Rattle.pack.specs.declared.load.Index.{Index}
 use Rattle.pack.specs.declared.load.Section.{Section}
 use Rattle.pack.specs.declared.protocol.Protocol.{Protocol}
-use Rattle.pack.proofs.Accepted.{IndexIs}
 
 pub at-tree : (P : Pack) (index : Index) → IndexIs P index → (t : ℕ) → t < 3 → (p : Protocol) (S : Section) → p ≡ protocolOf t → S ≡ sectionOf p index
     → (S .count ≡ length (pgns-of P t)) × (S .place ≡ treePlace P t)

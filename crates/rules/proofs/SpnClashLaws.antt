@@ -8,9 +8,9 @@ use mathlib.Core.Path.{_≡_, refl, sym, ap, _∙_}
 use lib.ListN.{length, getD}
 use borrow.Author.Tests.{ltb-true, leb-true, leb-false, ne-eqb}
 use Rattle.pack.specs.Notation.{_<ᵇ_, _≤ᵇ_, _≐_, concatBelow}
-use Rattle.pack.specs.Value.{Bytes, Pgn, noPgn}
+use Rattle.pack.specs.Value.{Bytes, Pgn, noPgn, field-at}
 use Rattle.rules.specs.declared.Finding.{Finding}
-use Rattle.rules.specs.Model.{given, field-at}
+use Rattle.rules.specs.Model.{given}
 use Rattle.rules.specs.PlaceLaws.{same-refl, same-eq}
 use Rattle.rules.specs.Search.{next-rank, ranked, sumBelow}
 use Rattle.rules.specs.SearchLaws.{any-hit}

@@ -8,13 +8,12 @@ use mathlib.Core.Path.{_≡_, refl, sym, ap, _∙_}
 use lib.ListN.{length, getD}
 use borrow.Author.Tests.{eq-eqb}
 use Rattle.pack.specs.Notation.{_<ᵇ_, _≤ᵇ_, _≐_, optional}
-use Rattle.pack.specs.Value.{Pgn, Field, noPgn}
+use Rattle.pack.specs.Value.{Pgn, Field, noPgn, pgn-at, field-at}
 use Rattle.pack.specs.Items.{bytesOf}
 use Rattle.pack.specs.Meaning.{packOf, fieldMeaning}
-use Rattle.pack.specs.Ready.{fieldIn}
-use Rattle.pack.specs.declared.records.FieldView.{FieldView}
+use Rattle.pack.specs.declared.field.FieldView.{FieldView}
 use Rattle.rules.specs.declared.spn_names.Namer.{Namer}
-use Rattle.rules.specs.Model.{given, field-at}
+use Rattle.rules.specs.Model.{given}
 use Rattle.rules.specs.SpnNames.{is-number, spn-field, spn-pgn, name-in, name-by, spn-name, names-spn, earlier-if, earlier-in, earlier-spn, spn-from, least-spn-in, least-spn}
 use Rattle.rules.specs.Namers.{NamesAmong}
 use Rattle.rules.proofs.Extremes.{max-is, min-is, first-given, least-given, optional-is, and-left, and-right}
@@ -77,7 +76,7 @@ module _ (s w : List ℕ) (spn : ℕ) (r : Namer) (a : NamesAmong s w spn (lengt
   unfolding spn-pgn
   pgn-is e = sym (a .least) ∙ ap (λ (b : Bool). optional b (r .pgn)) e
 
-  pub name-is : r .given ≡ true → (v : FieldView) → fieldMeaning s v ≡ fieldIn (packOf s) 1 (r .pgn) (r .field)
+  pub name-is : r .given ≡ true → (v : FieldView) → fieldMeaning s v ≡ field-at (pgn-at (packOf s) 1 (r .pgn)) (r .field)
       → bytesOf s (v .names .name) ≡ spn-name (packOf s .pgns-j1939) spn
   unfolding spn-name
   name-is e v is =

@@ -5,10 +5,10 @@ use native.Mathlib.Nat.{mul-le-mul}
 use mathlib.Core.Path.{_≡_}
 use mathlib.Core.List.{List}
 use lib.ListN.{length, getD}
-use Rattle.pack.specs.Value.{Pgn, Pack, pgns-of, noPgn}
+use Rattle.pack.specs.Value.{Pgn, Pack, pgns-of, noPgn, lookup-at}
 use Rattle.pack.specs.Format.{offsets}
 use Rattle.pack.specs.Meaning.{packOf}
-use Rattle.pack.specs.Ready.{Ready, lookupIn, lookupPlace, treePlace, pgnRecordsBelow}
+use Rattle.pack.specs.Ready.{Ready, lookupPlace, treePlace, pgnRecordsBelow}
 use Rattle.pack.proofs.Bounds.{records-bound}
 use Rattle.pack.proofs.Values.{tree-place}
 use Rattle.rules.specs.Bound.{most-findings, check-most}
@@ -16,7 +16,7 @@ use Rattle.rules.specs.Check.{check}
 use Rattle.rules.specs.Emit.{Fits}
 use Rattle.rules.specs.Search.{sumBelow}
 
-lookups-total : (P : Pack) (n : ℕ) → lookupPlace P n ≡ length (P .fieldtypes) + n + sumBelow (λ l. length (lookupIn P l .entries)) n
+lookups-total : (P : Pack) (n : ℕ) → lookupPlace P n ≡ length (P .fieldtypes) + n + sumBelow (λ l. length (lookup-at (P .lookups) l .entries)) n
 lookups-total P zero = omega arith
 lookups-total P (suc n) = omega (arith, lookups-total P n)
 

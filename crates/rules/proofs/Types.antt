@@ -7,8 +7,8 @@ use Rattle.pack.specs.Notation.{_≐_, optional}
 use Rattle.pack.specs.Value.{FieldType}
 use Rattle.pack.specs.Items.{bytesOf}
 use Rattle.pack.specs.Meaning.{fieldMeaning, typeMeaning}
-use Rattle.pack.specs.declared.records.FieldView.{FieldView}
-use Rattle.pack.specs.declared.records.FieldTypeView.{FieldTypeView}
+use Rattle.pack.specs.declared.field.FieldView.{FieldView}
+use Rattle.pack.specs.declared.field_type.FieldTypeView.{FieldTypeView}
 use Rattle.rules.specs.Texts.{NUMBER, LOOKUP}
 use Rattle.rules.specs.Model.{fieldtype-of, given}
 use Rattle.rules.specs.Continues.{integer}

@@ -5,11 +5,11 @@ use mathlib.Core.List.{List, [], _∷_}
 use mathlib.Core.Option.{Option, none, some}
 use lib.ListN.{length}
 use Rattle.pack.specs.Notation.{_≤ᵇ_, _==_, _≐_, if_then_else_, concatBelow}
-use Rattle.pack.specs.Value.{Bytes, Field, Pgn}
+use Rattle.pack.specs.Value.{Bytes, Field, Pgn, field-at}
 use Rattle.rules.specs.declared.Finding.{Finding}
 use Rattle.rules.specs.Findings.{pgn-error, report-if}
 use Rattle.rules.specs.Floats.{float-eq, ONE}
-use Rattle.rules.specs.Model.{given, field-at, lookup-ref, target}
+use Rattle.rules.specs.Model.{given, lookup-ref, target}
 use Rattle.rules.specs.Texts.{BINARY}
 
 unfoldable pub variable-binary : Field → Bool

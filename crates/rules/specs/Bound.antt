@@ -7,10 +7,10 @@ use mathlib.Core.Option.{Option, none, some}
 use mathlib.Core.Path.{_≡_}
 use lib.ListN.{length, getD, length-append}
 use Rattle.pack.specs.Notation.{_==_, if_then_else_, concatBelow}
-use Rattle.pack.specs.Value.{Bytes, FieldType, Lookup, Entry, Reference, Repeating, Field, Pgn, Pack, pgns-of, noPgn, noLookup}
+use Rattle.pack.specs.Value.{Bytes, FieldType, Lookup, Entry, Reference, Repeating, Field, Pgn, Pack, pgns-of, noPgn, noLookup, field-at, lookup-at, entry-at}
 use Rattle.rules.specs.declared.Finding.{Finding}
 use Rattle.rules.specs.Findings.{report-if, lookup-warning}
-use Rattle.rules.specs.Model.{lookup-at, field-at, entry-at, fieldtype-of, lookup-ref, fieldtypes}
+use Rattle.rules.specs.Model.{fieldtype-of, lookup-ref, fieldtypes}
 use Rattle.rules.specs.Search.{sumBelow}
 use Rattle.rules.specs.Fieldtypes.{check-fieldtypes, fieldtype-at}
 use Rattle.rules.specs.LookupWiring.{check-lookup-wiring, referenced, check-lookup-refs, lookup-ref-at, lookup-found-at, lookup-width-at, check-nested-refs, fieldtype-entry-at, nested-lookup-at}

@@ -3,9 +3,8 @@ use Prim.Native.Nat.{ℕ}
 use mathlib.Core.List.{List, _++_}
 use lib.ListN.{length}
 use Rattle.pack.specs.Notation.{concatBelow}
-use Rattle.pack.specs.Value.{Pgn, Pack, pgns-of}
+use Rattle.pack.specs.Value.{Pgn, Pack, pgns-of, pgn-at}
 use Rattle.rules.specs.declared.Finding.{Finding}
-use Rattle.rules.specs.Model.{pgn-at}
 use Rattle.rules.specs.Fieldtypes.{check-fieldtypes}
 use Rattle.rules.specs.LookupWiring.{check-lookup-wiring}
 use Rattle.rules.specs.LookupNames.{check-lookup-names}

@@ -7,11 +7,10 @@ use mathlib.Core.List.{List, [], _∷_, _++_}
 use mathlib.Core.Path.{_≡_, refl}
 use lib.ListN.{length}
 use Rattle.pack.specs.Notation.{_==_, if_then_else_, concatBelow}
-use Rattle.pack.specs.Value.{Pack, pgns-of}
+use Rattle.pack.specs.Value.{Pack, pgns-of, pgn-at, lookup-at}
 use Rattle.rules.specs.declared.Finding.{Finding}
 use Rattle.rules.specs.Check.{check, check-tree, check-tree-continues, check-pgn}
 use Rattle.rules.specs.Findings.{errors, without-error, report-if, lookup-warning}
-use Rattle.rules.specs.Model.{pgn-at, lookup-at}
 use Rattle.rules.specs.Fieldtypes.{check-fieldtypes}
 use Rattle.rules.specs.LookupWiring.{check-lookup-wiring, check-lookup-refs, check-nested-refs, referenced}
 use Rattle.rules.specs.LookupNames.{check-lookup-names}

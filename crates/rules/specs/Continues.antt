@@ -5,11 +5,11 @@ use mathlib.Core.List.{List, [], _∷_, _++_}
 use mathlib.Core.Option.{Option, none, some}
 use lib.ListN.{length}
 use Rattle.pack.specs.Notation.{_<ᵇ_, _≤ᵇ_, _==_, _≐_, if_then_else_, concatBelow}
-use Rattle.pack.specs.Value.{Bytes, FieldType, Repeating, Field, Pgn}
+use Rattle.pack.specs.Value.{Bytes, FieldType, Repeating, Field, Pgn, field-at}
 use Rattle.rules.specs.declared.Finding.{Finding}
 use Rattle.rules.specs.Findings.{pgn-error, report-if}
 use Rattle.rules.specs.Floats.{float-eq, ZERO, ONE}
-use Rattle.rules.specs.Model.{given, is-text, field-at, fieldtype-of, root-of, value-bits, lookup-ref}
+use Rattle.rules.specs.Model.{given, is-text, fieldtype-of, root-of, value-bits, lookup-ref}
 use Rattle.rules.specs.Search.{firstBelow, countBelow}
 use Rattle.rules.specs.Texts.{NUMBER, LOOKUP}
 

@@ -5,10 +5,10 @@ use mathlib.Core.Bool.{Bool, _&&_, _||_, not}
 use mathlib.Core.List.{List, _++_}
 use lib.ListN.{length}
 use Rattle.pack.specs.Notation.{_≐_, concatBelow}
-use Rattle.pack.specs.Value.{FieldType, Field, Pgn}
+use Rattle.pack.specs.Value.{FieldType, Field, Pgn, field-at}
 use Rattle.rules.specs.declared.Finding.{Finding}
 use Rattle.rules.specs.Findings.{pgn-error, report-if}
-use Rattle.rules.specs.Model.{field-at, root-of}
+use Rattle.rules.specs.Model.{root-of}
 use Rattle.rules.specs.Search.{anyBelow}
 use Rattle.rules.specs.Texts.{DYNAMIC-FIELD-LENGTH, DYNAMIC-FIELD-KEY, DYNAMIC-FIELD-VALUE}
 

@@ -4,11 +4,11 @@ use mathlib.Core.Bool.{_&&_, not}
 use mathlib.Core.List.{List, _++_}
 use lib.ListN.{length}
 use Rattle.pack.specs.Notation.{_==_, concatBelow}
-use Rattle.pack.specs.Value.{FieldType, Field, Pgn}
+use Rattle.pack.specs.Value.{FieldType, Field, Pgn, field-at}
 use Rattle.rules.specs.declared.Finding.{Finding}
 use Rattle.rules.specs.Findings.{pgn-error, report-if}
 use Rattle.rules.specs.Floats.{float-eq, ZERO}
-use Rattle.rules.specs.Model.{given, field-at, fieldtype-of}
+use Rattle.rules.specs.Model.{given, fieldtype-of}
 
 -- 1 the width, 2 the resolution
 unfoldable pub overrides-at : (t i k : ℕ) → Field → FieldType → List Finding

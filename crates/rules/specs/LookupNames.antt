@@ -5,10 +5,9 @@ use mathlib.Core.List.{List, [], _∷_, _++_}
 use mathlib.Core.Option.{Option, none, some}
 use lib.ListN.{length}
 use Rattle.pack.specs.Notation.{_==_, _≐_, if_then_else_, concatBelow}
-use Rattle.pack.specs.Value.{Entry, Lookup, Pack}
+use Rattle.pack.specs.Value.{Entry, Lookup, Pack, lookup-at, entry-at}
 use Rattle.rules.specs.declared.Finding.{Finding}
 use Rattle.rules.specs.Findings.{lookup-error}
-use Rattle.rules.specs.Model.{lookup-at, entry-at}
 use Rattle.rules.specs.Search.{latestBelow}
 use Rattle.rules.specs.SpnNames.{check-spn-names}
 use Rattle.rules.specs.Texts.{SPN-LOOKUP}

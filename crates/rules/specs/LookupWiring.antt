@@ -5,10 +5,10 @@ use mathlib.Core.List.{List, [], _∷_, _++_}
 use mathlib.Core.Option.{Option, none, some}
 use lib.ListN.{length, getD}
 use Rattle.pack.specs.Notation.{_<ᵇ_, _≤ᵇ_, _==_, _≐_, if_then_else_, concatBelow}
-use Rattle.pack.specs.Value.{Bytes, FieldType, Entry, Lookup, Reference, Field, Pgn, Pack, pgns-of, noFieldType}
+use Rattle.pack.specs.Value.{Bytes, FieldType, Entry, Lookup, Reference, Field, Pgn, Pack, pgns-of, noFieldType, pgn-at, field-at, lookup-at, entry-at}
 use Rattle.rules.specs.declared.Finding.{Finding}
 use Rattle.rules.specs.Findings.{pgn-error, pgn-warning, lookup-error, lookup-warning, report-if}
-use Rattle.rules.specs.Model.{given, is-text, pgn-at, field-at, lookup-at, entry-at, value-bits, lookup-ref, find-lookup, fieldtypes}
+use Rattle.rules.specs.Model.{given, is-text, value-bits, lookup-ref, find-lookup, fieldtypes}
 use Rattle.rules.specs.Search.{anyBelow}
 
 -- A field of this width can't have the value: a bit's position counts from 0, any other value is a number.

@@ -4,8 +4,7 @@ use mathlib.Core.Path.{_≡_}
 use mathlib.Core.Bool.{Bool, false, _||_}
 use mathlib.Core.List.{List}
 use lib.ListN.{length, getD}
-use Rattle.pack.specs.Value.{Bytes, Pack}
-use Rattle.pack.specs.Ready.{lookupIn}
+use Rattle.pack.specs.Value.{Bytes, Pack, lookup-at}
 
 -- no mark
 pub record Clear (m : List Bool) : Type 0 where
@@ -13,4 +12,4 @@ pub record Clear (m : List Bool) : Type 0 where
 
 -- a mark more at each lookup whose name has the property, whether it had one or not
 pub record Marked (P : Pack) (m : List Bool) (q : Bytes → Bool) (m′ : List Bool) : Type 0 where
-  pub marks : (l : ℕ) → l < length (P .lookups) → getD m′ l false ≡ (getD m l false || q (lookupIn P l .name))
+  pub marks : (l : ℕ) → l < length (P .lookups) → getD m′ l false ≡ (getD m l false || q (lookup-at (P .lookups) l .name))

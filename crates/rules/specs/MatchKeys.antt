@@ -5,11 +5,10 @@ use mathlib.Core.List.{List, [], _∷_, _++_}
 use mathlib.Core.Option.{Option, none, some}
 use lib.ListN.{length, drop}
 use Rattle.pack.specs.Notation.{if_then_else_}
-use Rattle.pack.specs.Value.{Bytes, Pgn}
+use Rattle.pack.specs.Value.{Bytes, Pgn, field-at}
 use Rattle.pack.specs.Items.{bytesOf}
 use Rattle.rules.specs.declared.match_keys.MatchKey.{MatchKey}
 use Rattle.rules.specs.Digits.{digits}
-use Rattle.rules.specs.Model.{field-at}
 use Rattle.rules.specs.Texts.{bytes}
 
 -- `,`, index, `=` and match text of a field

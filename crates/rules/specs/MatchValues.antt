@@ -5,10 +5,10 @@ use mathlib.Core.List.{List, [], _∷_}
 use mathlib.Core.Option.{Option, none, some}
 use lib.ListN.{length}
 use Rattle.pack.specs.Notation.{_<ᵇ_, if_then_else_, concatBelow}
-use Rattle.pack.specs.Value.{Lookup, Pgn}
+use Rattle.pack.specs.Value.{Lookup, Pgn, field-at}
 use Rattle.rules.specs.declared.Finding.{Finding}
 use Rattle.rules.specs.Findings.{pgn-error, report-if}
-use Rattle.rules.specs.Model.{given, field-at, resolve-match}
+use Rattle.rules.specs.Model.{given, resolve-match}
 
 -- 1 the match does not resolve, 2 it exceeds the field's bits
 unfoldable pub resolved-at : (t i k bits : ℕ) → Option ℕ → List Finding

@@ -5,10 +5,9 @@ use mathlib.Core.List.{List, [], _∷_}
 use mathlib.Core.Option.{Option, none, some}
 use lib.ListN.{length}
 use Rattle.pack.specs.Notation.{_≤ᵇ_, _==_, if_then_else_}
-use Rattle.pack.specs.Value.{Pgn}
+use Rattle.pack.specs.Value.{Pgn, field-at}
 use Rattle.rules.specs.declared.Finding.{Finding}
 use Rattle.rules.specs.Findings.{pgn-error, report-if}
-use Rattle.rules.specs.Model.{field-at}
 use Rattle.rules.specs.Search.{anyBelow, sumBelow}
 
 -- `lands_on_boundary`: the bits up to and with some field are minimum × 8

@@ -5,7 +5,7 @@ use mathlib.Core.List.{List, [], _∷_}
 use mathlib.Core.Option.{Option, none, some}
 use lib.ListN.{length, getD}
 use Rattle.pack.specs.Notation.{_<ᵇ_, _≤ᵇ_, _==_, _≐_, if_then_else_, optional}
-use Rattle.pack.specs.Value.{Bytes, FieldType, Entry, Lookup, Reference, Field, Pgn, Pack, pgns-of, noFieldType, noEntry, noLookup, noField, noPgn}
+use Rattle.pack.specs.Value.{Bytes, FieldType, Entry, Lookup, Reference, Field, Pgn, noFieldType, field-at, lookup-at, entry-at}
 use Rattle.rules.specs.Search.{or-else, firstBelow}
 
 abbrev pub given : {A : Type 0} → Option A → Bool
@@ -15,19 +15,6 @@ given (some a) = true
 abbrev pub is-text : Option Bytes → Bytes → Bool
 is-text none t = false
 is-text (some s) t = s ≐ t
-
--- records by their index
-abbrev pub pgn-at : Pack → ℕ → ℕ → Pgn
-pgn-at P t i = getD (pgns-of P t) i noPgn
-
-abbrev pub field-at : Pgn → ℕ → Field
-field-at p k = getD (p .fields) k noField
-
-abbrev pub lookup-at : List Lookup → ℕ → Lookup
-lookup-at ls l = getD ls l noLookup
-
-abbrev pub entry-at : List Entry → ℕ → Entry
-entry-at es e = getD es e noEntry
 
 -- the Rust's `db.fieldtypes[f.ft]`, and its root's name
 abbrev pub fieldtype-of : List FieldType → Field → FieldType

@@ -7,9 +7,8 @@ use mathlib.Core.Path.{_≡_, refl, sym, _∙_}
 use lib.ListN.{length}
 use borrow.Author.Tests.{ltb-true, ltb-false, leb-true, le-leb}
 use Rattle.pack.specs.Notation.{_<ᵇ_, _≤ᵇ_, _==_, if_then_else_}
-use Rattle.pack.specs.Value.{Lookup}
+use Rattle.pack.specs.Value.{Lookup, entry-at}
 use Rattle.rules.specs.LookupWiring.{beyond-width, unreachable}
-use Rattle.rules.specs.Model.{entry-at}
 use Rattle.rules.specs.Search.{anyBelow, larger, maxBelow}
 
 abbrev pub named-max : Lookup → Option ℕ

@@ -6,11 +6,11 @@ use mathlib.Core.Option.{Option, none, some}
 use mathlib.Core.Path.{_≡_}
 use lib.ListN.{length, getD}
 use Rattle.pack.specs.Notation.{_<ᵇ_, _≐_, optional}
-use Rattle.pack.specs.Value.{Bytes, Pgn, noPgn}
+use Rattle.pack.specs.Value.{Bytes, Pgn, noPgn, pgn-at, field-at}
 use Rattle.pack.specs.Meaning.{packOf}
-use Rattle.pack.specs.Ready.{PgnAt, pgnIn}
+use Rattle.pack.specs.Ready.{PgnAt}
 use Rattle.rules.specs.declared.spn_names.Namer.{Namer}
-use Rattle.rules.specs.Model.{given, field-at}
+use Rattle.rules.specs.Model.{given}
 use Rattle.rules.specs.Search.{maxBelow, leastBelow}
 use Rattle.rules.specs.SpnNames.{spn-field}
 
@@ -19,8 +19,8 @@ pub record NamesAmong (s w : List ℕ) (spn n : ℕ) (r : Namer) : Type 0 where
   pub least : optional (r .given) (r .pgn)
       ≡ leastBelow (λ i. getD (packOf s .pgns-j1939) i noPgn .pgn) (λ i. given (spn-field (getD (packOf s .pgns-j1939) i noPgn) spn)) n
   pub at : r .given ≡ true → PgnAt s w 1 (r .pgn) (r .place)
-  pub field : r .given ≡ true → spn-field (pgnIn (packOf s) 1 (r .pgn)) spn ≡ some (r .field)
-  pub number : r .given ≡ true → r .number ≡ pgnIn (packOf s) 1 (r .pgn) .pgn
+  pub field : r .given ≡ true → spn-field (pgn-at (packOf s) 1 (r .pgn)) spn ≡ some (r .field)
+  pub number : r .given ≡ true → r .number ≡ pgn-at (packOf s) 1 (r .pgn) .pgn
 
 -- the largest SPN below b that a field carries under a name, be it the field that names the SPN or not
 abbrev pub candidate-at : Bytes → (b : ℕ) → Bytes → Option ℕ → Option ℕ

@@ -5,9 +5,8 @@ use mathlib.Core.List.{[], _++_}
 use mathlib.Core.Option.{Option, none}
 use lib.ListN.{length}
 use Rattle.pack.specs.Notation.{_<ᵇ_, _==_, if_then_else_, optional}
-use Rattle.pack.specs.Value.{Bytes, Pgn, Pack, pgns-of}
+use Rattle.pack.specs.Value.{Bytes, Pgn, Pack, pgns-of, pgn-at, lookup-at}
 use Rattle.rules.specs.Digits.{six-digits}
-use Rattle.rules.specs.Model.{pgn-at, lookup-at}
 use Rattle.rules.specs.Search.{anyBelow}
 use Rattle.rules.specs.Texts.{bytes}
 

@@ -5,10 +5,10 @@ use mathlib.Core.List.{List, []}
 use mathlib.Core.Option.{Option, none, some}
 use lib.ListN.{length}
 use Rattle.pack.specs.Notation.{_≤ᵇ_, _==_, _≐_, if_then_else_}
-use Rattle.pack.specs.Value.{Bytes, FieldType, Reference, Pgn}
+use Rattle.pack.specs.Value.{Bytes, FieldType, Reference, Pgn, field-at}
 use Rattle.rules.specs.declared.Finding.{Finding}
 use Rattle.rules.specs.Findings.{pgn-error, report-if}
-use Rattle.rules.specs.Model.{field-at, root-of, lookup-ref}
+use Rattle.rules.specs.Model.{root-of, lookup-ref}
 use Rattle.rules.specs.Texts.{MANUFACTURER-CODE, RESERVED, INDUSTRY-CODE}
 
 -- pgn.h IS_MANUFACTURER_PGN()

@@ -4,10 +4,10 @@ use mathlib.Core.Bool.{Bool, false, not}
 use mathlib.Core.List.{List, [], _∷_}
 use lib.ListN.{length}
 use Rattle.pack.specs.Notation.{_==_, _≐_, if_then_else_, concatBelow}
-use Rattle.pack.specs.Value.{Bytes, Field, Pgn}
+use Rattle.pack.specs.Value.{Bytes, Field, Pgn, field-at}
 use Rattle.rules.specs.declared.Finding.{Finding}
 use Rattle.rules.specs.Findings.{pgn-error, report-if}
-use Rattle.rules.specs.Model.{field-at, all-digits}
+use Rattle.rules.specs.Model.{all-digits}
 use Rattle.rules.specs.Texts.{bytes}
 
 -- the id is the wanted text, followed by ASCII digits or nothing

@@ -1,6 +1,6 @@
 -- Searches among the indexes below n. Each goes by recursion on n, so that a loop that counts up makes one step of it a turn.
 use Prim.Native.Nat.{ℕ, zero, suc, _+_}
-use mathlib.Core.Bool.{Bool, false, _||_}
+use mathlib.Core.Bool.{Bool, true, false, _&&_, _||_}
 use mathlib.Core.Option.{Option, none, some}
 use Rattle.pack.specs.Notation.{_<ᵇ_, if_then_else_, optional}
 
@@ -12,6 +12,11 @@ or-else (some x) y = some x
 abbrev pub anyBelow : (ℕ → Bool) → ℕ → Bool
 anyBelow p zero = false
 anyBelow p (suc n) = anyBelow p n || p n
+
+-- whether every index below n has it
+abbrev pub everyBelow : (ℕ → Bool) → ℕ → Bool
+everyBelow p zero = true
+everyBelow p (suc n) = everyBelow p n && p n
 
 -- the first and the latest index below n that has it
 abbrev pub firstBelow : (ℕ → Bool) → ℕ → Option ℕ

@@ -5,10 +5,9 @@ use mathlib.Core.List.{List, []}
 use mathlib.Core.Option.{Option, none, some}
 use lib.ListN.{length}
 use Rattle.pack.specs.Notation.{_<ᵇ_, _==_, if_then_else_, concatBelow}
-use Rattle.pack.specs.Value.{Pgn}
+use Rattle.pack.specs.Value.{Pgn, field-at}
 use Rattle.rules.specs.declared.Finding.{Finding}
 use Rattle.rules.specs.Findings.{pgn-error, report-if}
-use Rattle.rules.specs.Model.{field-at}
 
 unfoldable pub special-max : (bits : ℕ) → ℕ
 special-max bits = if bits == 0 then 0 else 2 ^ min bits 63 - 1

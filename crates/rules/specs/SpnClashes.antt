@@ -5,8 +5,7 @@ use mathlib.Core.List.{List}
 use mathlib.Core.Option.{Option, none, some}
 use lib.ListN.{length, getD}
 use Rattle.pack.specs.Notation.{_==_, _≐_}
-use Rattle.pack.specs.Value.{Bytes, Pgn, noPgn}
-use Rattle.rules.specs.Model.{field-at}
+use Rattle.pack.specs.Value.{Bytes, Pgn, noPgn, field-at}
 use Rattle.rules.specs.Search.{anyBelow}
 
 -- a field of its own name and SPN has that name, and carries another SPN than that one

@@ -5,11 +5,11 @@ use mathlib.Core.List.{List, [], _∷_, _++_}
 use mathlib.Core.Option.{Option, none, some}
 use lib.ListN.{length, getD}
 use Rattle.pack.specs.Notation.{_<ᵇ_, _==_, _≐_, if_then_else_, concatBelow}
-use Rattle.pack.specs.Value.{Bytes, Field, Pgn, Pack, pgns-of, noPgn}
+use Rattle.pack.specs.Value.{Bytes, Field, Pgn, Pack, pgns-of, noPgn, pgn-at, field-at}
 use Rattle.rules.specs.declared.Finding.{Finding}
 use Rattle.rules.specs.Findings.{pgn-error, report-if}
 use Rattle.rules.specs.Floats.{float-eq}
-use Rattle.rules.specs.Model.{given, pgn-at, field-at}
+use Rattle.rules.specs.Model.{given}
 use Rattle.rules.specs.Search.{firstBelow}
 use Rattle.rules.specs.SpnNames.{spn-field}
 

@@ -4,10 +4,9 @@ use mathlib.Core.List.{List, [], _∷_, _++_}
 use mathlib.Core.Option.{Option, none, some}
 use lib.ListN.{length, getD}
 use Rattle.pack.specs.Notation.{_≐_, concatBelow}
-use Rattle.pack.specs.Value.{Pgn, noPgn}
+use Rattle.pack.specs.Value.{Pgn, noPgn, field-at}
 use Rattle.rules.specs.declared.Finding.{Finding}
 use Rattle.rules.specs.Findings.{pgn-error, report-if}
-use Rattle.rules.specs.Model.{field-at}
 use Rattle.rules.specs.Search.{anyBelow, latestBelow}
 
 -- 1: `insert` answers the latest earlier holder of the id

@@ -5,11 +5,11 @@ use mathlib.Core.List.{List, [], _∷_, _++_}
 use mathlib.Core.Option.{Option, none, some}
 use lib.ListN.{length, getD}
 use Rattle.pack.specs.Notation.{_<ᵇ_, _≤ᵇ_, _==_, _≐_, if_then_else_, concatBelow, optional}
-use Rattle.pack.specs.Value.{Bytes, Pgn, noPgn}
+use Rattle.pack.specs.Value.{Bytes, Pgn, noPgn, field-at}
 use Rattle.rules.specs.declared.Finding.{Finding}
 use Rattle.rules.specs.Digits.{digits}
 use Rattle.rules.specs.Findings.{pgn-error, group-error, report-if}
-use Rattle.rules.specs.Model.{given, field-at}
+use Rattle.rules.specs.Model.{given}
 use Rattle.rules.specs.Search.{anyBelow, latestBelow, countBelow, minBelow, ranked}
 use Rattle.rules.specs.Texts.{bytes}
 

@@ -5,7 +5,8 @@ ghost use Prim.Native.Nat.{_<_};
 ghost use lib.ListN.{length};
 ghost use Rattle.pack.specs.Notation.{_==_};
 ghost use Rattle.pack.specs.Meaning.{optNumber, fieldMeaning, packOf};
-ghost use Rattle.pack.specs.Ready.{PgnAt, PgnIs, pgnIn, fieldIn};
+ghost use Rattle.pack.specs.Ready.{PgnAt, PgnIs};
+ghost use Rattle.pack.specs.Value.{pgn-at, field-at};
 ghost use Rattle.rules.specs.Emit.{Emitted, Fits};
 ghost use Rattle.rules.specs.Floats.{float-eq, ONE};
 ghost use Rattle.rules.specs.BitLengthField.{variable-binary, bit-length-target-at, bit-length-field-at, check-bit-length-field};
@@ -15,10 +16,10 @@ use crate::emit::put_if;
 use crate::floats::ONE;
 use crate::floats::float_eq;
 use crate::targets::target;
-use pack::cursor::OptNumber;
+use pack::field::FieldView;
 use pack::of::field_of;
-use pack::records::FieldView;
-use pack::records::PgnView;
+use pack::optional::OptNumber;
+use pack::pgn::PgnView;
 use pack::text::text_is;
 
 fn variable_binary(s: &[u8], f: FieldView) -> bool
@@ -55,8 +56,8 @@ fn bit_length_target_at(
     k: u32,
     j: OptNumber,
 ) -> usize
-    requires { ⌜ Fits n (bit-length-target-at t i (pgnIn (packOf (now s)) t i) k (optNumber j)) × PgnAt (now s) (now work) t i p × (k < length (pgnIn (packOf (now s)) t i .fields)) ⌝ }
-    ensures { λ r. ⌜ Emitted (now (out .entry)) n (bit-length-target-at t i (pgnIn (packOf (now (s .entry))) t i) k (optNumber j)) (now (out .exit)) r ⌝ }
+    requires { ⌜ Fits n (bit-length-target-at t i (pgn-at (packOf (now s)) t i) k (optNumber j)) × PgnAt (now s) (now work) t i p × (k < length (pgn-at (packOf (now s)) t i .fields)) ⌝ }
+    ensures { λ r. ⌜ Emitted (now (out .entry)) n (bit-length-target-at t i (pgn-at (packOf (now (s .entry))) t i) k (optNumber j)) (now (out .exit)) r ⌝ }
 {
     if !j.given {
         return put(out, n, pgn_error(15, 3, t, i, k, 0));
@@ -82,8 +83,8 @@ fn bit_length_field_at(
     k: u32,
     f: FieldView,
 ) -> usize
-    requires { ⌜ Fits n (bit-length-field-at t i (pgnIn (packOf (now s)) t i) k (fieldIn (packOf (now s)) t i k .bit-length-field)) × PgnAt (now s) (now work) t i p × (fields ≡ length (pgnIn (packOf (now s)) t i .fields)) × (k < fields) × (fieldMeaning (now s) f ≡ fieldIn (packOf (now s)) t i k) ⌝ }
-    ensures { λ r. ⌜ Emitted (now (out .entry)) n (bit-length-field-at t i (pgnIn (packOf (now (s .entry))) t i) k (fieldIn (packOf (now (s .entry))) t i k .bit-length-field)) (now (out .exit)) r ⌝ }
+    requires { ⌜ Fits n (bit-length-field-at t i (pgn-at (packOf (now s)) t i) k (field-at (pgn-at (packOf (now s)) t i) k .bit-length-field)) × PgnAt (now s) (now work) t i p × (fields ≡ length (pgn-at (packOf (now s)) t i .fields)) × (k < fields) × (fieldMeaning (now s) f ≡ field-at (pgn-at (packOf (now s)) t i) k) ⌝ }
+    ensures { λ r. ⌜ Emitted (now (out .entry)) n (bit-length-field-at t i (pgn-at (packOf (now (s .entry))) t i) k (field-at (pgn-at (packOf (now (s .entry))) t i) k .bit-length-field)) (now (out .exit)) r ⌝ }
 {
     let binary = variable_binary(s, f);
     if !f.links.length.given {
@@ -107,8 +108,8 @@ pub fn check_bit_length_field(
     p: usize,
     g: PgnView,
 ) -> usize
-    requires { ⌜ Fits n (check-bit-length-field t i (pgnIn (packOf (now s)) t i)) × PgnAt (now s) (now work) t i p × PgnIs (now s) (pgnIn (packOf (now s)) t i) g ⌝ }
-    ensures { λ r. ⌜ Emitted (now (out .entry)) n (check-bit-length-field t i (pgnIn (packOf (now (s .entry))) t i)) (now (out .exit)) r ⌝ }
+    requires { ⌜ Fits n (check-bit-length-field t i (pgn-at (packOf (now s)) t i)) × PgnAt (now s) (now work) t i p × PgnIs (now s) (pgn-at (packOf (now s)) t i) g ⌝ }
+    ensures { λ r. ⌜ Emitted (now (out .entry)) n (check-bit-length-field t i (pgn-at (packOf (now (s .entry))) t i)) (now (out .exit)) r ⌝ }
 {
     let fields = g.fields;
     let mut m = n;

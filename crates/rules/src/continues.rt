@@ -7,7 +7,8 @@ ghost use lib.ListN.{length};
 ghost use Rattle.pack.specs.Notation.{_==_, _<ᵇ_, _≐_, if_then_else_};
 ghost use Rattle.pack.specs.Items.{bytesOf};
 ghost use Rattle.pack.specs.Meaning.{optFloat, optRepeating, fieldMeaning, packOf};
-ghost use Rattle.pack.specs.Ready.{Ready, PgnAt, PgnIs, pgnIn, fieldIn};
+ghost use Rattle.pack.specs.Ready.{Ready, PgnAt, PgnIs};
+ghost use Rattle.pack.specs.Value.{pgn-at, field-at};
 ghost use Rattle.rules.specs.Emit.{Emitted, Fits};
 ghost use Rattle.rules.specs.Findings.{report-if, pgn-error};
 ghost use Rattle.rules.specs.Floats.{float-eq, ZERO};
@@ -26,13 +27,13 @@ use crate::repeating::precedes;
 use crate::searches::counted;
 use crate::targets::first_with_id;
 use crate::targets::integer;
-use pack::cursor::OptFloat;
+use pack::field::FieldView;
 use pack::of::field_of;
 use pack::of::type_of;
+use pack::optional::OptFloat;
+use pack::pgn::OptRepeating;
+use pack::pgn::PgnView;
 use pack::protocol::FieldOrder;
-use pack::records::FieldView;
-use pack::records::OptRepeating;
-use pack::records::PgnView;
 use pack::text::Text;
 use pack::text::text_is;
 
@@ -98,8 +99,8 @@ fn not_raw(s: &[u8], f: FieldView) -> bool
 
 // How many of n fields do.
 fn continued_by(s: &[u8], work: &[u32], t: u32, i: u32, p: usize, n: u32, id: Text) -> u32
-    requires { ⌜ PgnAt (now s) (now work) t i p × (n ≡ length (pgnIn (packOf (now s)) t i .fields)) ⌝ }
-    ensures { λ r. ⌜ r ≡ continued-by (pgnIn (packOf (now (s .entry))) t i) (bytesOf (now (s .entry)) id) ⌝ }
+    requires { ⌜ PgnAt (now s) (now work) t i p × (n ≡ length (pgn-at (packOf (now s)) t i .fields)) ⌝ }
+    ensures { λ r. ⌜ r ≡ continued-by (pgn-at (packOf (now (s .entry))) t i) (bytesOf (now (s .entry)) id) ⌝ }
 {
     let mut count: u32 = 0;
     let mut k: u32 = 0;
@@ -159,8 +160,8 @@ fn placed_at(
     j: u32,
     continued: bool,
 ) -> usize
-    requires { ⌜ Fits n (if not (set-of (pgnIn (packOf (now s)) t i) j == set-of (pgnIn (packOf (now s)) t i) k) then pgn-error 43 2 t i k j ∷ [] else if not continued then pgn-error 43 3 t i k j ∷ [] else report-if (1 <ᵇ continued-by (pgnIn (packOf (now s)) t i) (bytesOf (now s) id)) (pgn-error 43 4 t i k j)) × PgnAt (now s) (now work) t i p × PgnIs (now s) (pgnIn (packOf (now s)) t i) g × (k < g .fields) × (j < k) ⌝ }
-    ensures { λ r. ⌜ Emitted (now (out .entry)) n (if not (set-of (pgnIn (packOf (now (s .entry))) t i) j == set-of (pgnIn (packOf (now (s .entry))) t i) k) then pgn-error 43 2 t i k j ∷ [] else if not continued then pgn-error 43 3 t i k j ∷ [] else report-if (1 <ᵇ continued-by (pgnIn (packOf (now (s .entry))) t i) (bytesOf (now (s .entry)) id)) (pgn-error 43 4 t i k j)) (now (out .exit)) r ⌝ }
+    requires { ⌜ Fits n (if not (set-of (pgn-at (packOf (now s)) t i) j == set-of (pgn-at (packOf (now s)) t i) k) then pgn-error 43 2 t i k j ∷ [] else if not continued then pgn-error 43 3 t i k j ∷ [] else report-if (1 <ᵇ continued-by (pgn-at (packOf (now s)) t i) (bytesOf (now s) id)) (pgn-error 43 4 t i k j)) × PgnAt (now s) (now work) t i p × PgnIs (now s) (pgn-at (packOf (now s)) t i) g × (k < g .fields) × (j < k) ⌝ }
+    ensures { λ r. ⌜ Emitted (now (out .entry)) n (if not (set-of (pgn-at (packOf (now (s .entry))) t i) j == set-of (pgn-at (packOf (now (s .entry))) t i) k) then pgn-error 43 2 t i k j ∷ [] else if not continued then pgn-error 43 3 t i k j ∷ [] else report-if (1 <ᵇ continued-by (pgn-at (packOf (now (s .entry))) t i) (bytesOf (now (s .entry)) id)) (pgn-error 43 4 t i k j)) (now (out .exit)) r ⌝ }
 {
     if set_of(g, j) != set_of(g, k) {
         return put(out, n, pgn_error(43, 2, t, i, k, j));
@@ -187,8 +188,8 @@ fn continued_at(
     id: Text,
     j: u32,
 ) -> usize
-    requires { ⌜ Fits n (continued-at (packOf (now s) .fieldtypes) t i (pgnIn (packOf (now s)) t i) k (fieldIn (packOf (now s)) t i k) (bytesOf (now s) id) j (fieldIn (packOf (now s)) t i j)) × PgnAt (now s) (now work) t i p × PgnIs (now s) (pgnIn (packOf (now s)) t i) g × (k < g .fields) × (j < k) × (fieldMeaning (now s) f ≡ fieldIn (packOf (now s)) t i k) ⌝ }
-    ensures { λ r. ⌜ Emitted (now (out .entry)) n (continued-at (packOf (now (s .entry)) .fieldtypes) t i (pgnIn (packOf (now (s .entry))) t i) k (fieldIn (packOf (now (s .entry))) t i k) (bytesOf (now (s .entry)) id) j (fieldIn (packOf (now (s .entry))) t i j)) (now (out .exit)) r ⌝ }
+    requires { ⌜ Fits n (continued-at (packOf (now s) .fieldtypes) t i (pgn-at (packOf (now s)) t i) k (field-at (pgn-at (packOf (now s)) t i) k) (bytesOf (now s) id) j (field-at (pgn-at (packOf (now s)) t i) j)) × PgnAt (now s) (now work) t i p × PgnIs (now s) (pgn-at (packOf (now s)) t i) g × (k < g .fields) × (j < k) × (fieldMeaning (now s) f ≡ field-at (pgn-at (packOf (now s)) t i) k) ⌝ }
+    ensures { λ r. ⌜ Emitted (now (out .entry)) n (continued-at (packOf (now (s .entry)) .fieldtypes) t i (pgn-at (packOf (now (s .entry))) t i) k (field-at (pgn-at (packOf (now (s .entry))) t i) k) (bytesOf (now (s .entry)) id) j (field-at (pgn-at (packOf (now (s .entry))) t i) j)) (now (out .exit)) r ⌝ }
 {
     let low = field_of(s, work, t, i, p, j);
     let words = not_integers(s, work, low, f);
@@ -234,8 +235,8 @@ fn continues_at(
     k: u32,
     f: FieldView,
 ) -> usize
-    requires { ⌜ Fits n (continues-at (packOf (now s) .fieldtypes) t i (pgnIn (packOf (now s)) t i) k (fieldIn (packOf (now s)) t i k .continues)) × PgnAt (now s) (now work) t i p × PgnIs (now s) (pgnIn (packOf (now s)) t i) g × (k < g .fields) × (fieldMeaning (now s) f ≡ fieldIn (packOf (now s)) t i k) ⌝ }
-    ensures { λ r. ⌜ Emitted (now (out .entry)) n (continues-at (packOf (now (s .entry)) .fieldtypes) t i (pgnIn (packOf (now (s .entry))) t i) k (fieldIn (packOf (now (s .entry))) t i k .continues)) (now (out .exit)) r ⌝ }
+    requires { ⌜ Fits n (continues-at (packOf (now s) .fieldtypes) t i (pgn-at (packOf (now s)) t i) k (field-at (pgn-at (packOf (now s)) t i) k .continues)) × PgnAt (now s) (now work) t i p × PgnIs (now s) (pgn-at (packOf (now s)) t i) g × (k < g .fields) × (fieldMeaning (now s) f ≡ field-at (pgn-at (packOf (now s)) t i) k) ⌝ }
+    ensures { λ r. ⌜ Emitted (now (out .entry)) n (continues-at (packOf (now (s .entry)) .fieldtypes) t i (pgn-at (packOf (now (s .entry))) t i) k (field-at (pgn-at (packOf (now (s .entry))) t i) k .continues)) (now (out .exit)) r ⌝ }
 {
     if !f.authored.continues.given {
         return n;
@@ -259,8 +260,8 @@ pub fn check_continues(
     p: usize,
     g: PgnView,
 ) -> usize
-    requires { ⌜ Fits n (check-continues (packOf (now s) .fieldtypes) t i (pgnIn (packOf (now s)) t i)) × PgnAt (now s) (now work) t i p × PgnIs (now s) (pgnIn (packOf (now s)) t i) g ⌝ }
-    ensures { λ r. ⌜ Emitted (now (out .entry)) n (check-continues (packOf (now (s .entry)) .fieldtypes) t i (pgnIn (packOf (now (s .entry))) t i)) (now (out .exit)) r ⌝ }
+    requires { ⌜ Fits n (check-continues (packOf (now s) .fieldtypes) t i (pgn-at (packOf (now s)) t i)) × PgnAt (now s) (now work) t i p × PgnIs (now s) (pgn-at (packOf (now s)) t i) g ⌝ }
+    ensures { λ r. ⌜ Emitted (now (out .entry)) n (check-continues (packOf (now (s .entry)) .fieldtypes) t i (pgn-at (packOf (now (s .entry))) t i)) (now (out .exit)) r ⌝ }
 {
     let fields = g.fields;
     let mut m = n;

@@ -4,7 +4,8 @@ ghost use mathlib.Core.Bool.{_||_};
 ghost use Rattle.pack.specs.Notation.{_≐_};
 ghost use Rattle.pack.specs.Items.{bytesOf};
 ghost use Rattle.pack.specs.Meaning.{fieldMeaning, packOf};
-ghost use Rattle.pack.specs.Ready.{PgnAt, PgnIs, pgnIn, fieldIn};
+ghost use Rattle.pack.specs.Ready.{PgnAt, PgnIs};
+ghost use Rattle.pack.specs.Value.{pgn-at, field-at};
 ghost use Rattle.rules.specs.DynamicLength.{have-length-source, dynamic-length-at, check-dynamic-length};
 ghost use Rattle.rules.specs.Emit.{Emitted, Fits};
 ghost use Rattle.rules.specs.Model.{root-of};
@@ -13,9 +14,9 @@ use crate::bools::and_not;
 use crate::emit::pgn_error;
 use crate::emit::put_if;
 use crate::model::root_of;
+use pack::field::FieldView;
 use pack::of::field_of;
-use pack::records::FieldView;
-use pack::records::PgnView;
+use pack::pgn::PgnView;
 use pack::text::Text;
 use pack::text::text_is;
 
@@ -51,8 +52,8 @@ fn dynamic_length_at(
     root: Text,
     have: bool,
 ) -> usize
-    requires { ⌜ Fits n (dynamic-length-at (packOf (now s) .fieldtypes) t i (pgnIn (packOf (now s)) t i) k (fieldIn (packOf (now s)) t i k)) × (fieldMeaning (now s) f ≡ fieldIn (packOf (now s)) t i k) × (bytesOf (now s) root ≡ root-of (packOf (now s) .fieldtypes) (fieldIn (packOf (now s)) t i k)) × (have ≡ have-length-source (packOf (now s) .fieldtypes) (pgnIn (packOf (now s)) t i) k) ⌝ }
-    ensures { λ r. ⌜ Emitted (now (out .entry)) n (dynamic-length-at (packOf (now (s .entry)) .fieldtypes) t i (pgnIn (packOf (now (s .entry))) t i) k (fieldIn (packOf (now (s .entry))) t i k)) (now (out .exit)) r ⌝ }
+    requires { ⌜ Fits n (dynamic-length-at (packOf (now s) .fieldtypes) t i (pgn-at (packOf (now s)) t i) k (field-at (pgn-at (packOf (now s)) t i) k)) × (fieldMeaning (now s) f ≡ field-at (pgn-at (packOf (now s)) t i) k) × (bytesOf (now s) root ≡ root-of (packOf (now s) .fieldtypes) (field-at (pgn-at (packOf (now s)) t i) k)) × (have ≡ have-length-source (packOf (now s) .fieldtypes) (pgn-at (packOf (now s)) t i) k) ⌝ }
+    ensures { λ r. ⌜ Emitted (now (out .entry)) n (dynamic-length-at (packOf (now (s .entry)) .fieldtypes) t i (pgn-at (packOf (now (s .entry))) t i) k (field-at (pgn-at (packOf (now (s .entry))) t i) k)) (now (out .exit)) r ⌝ }
 {
     let dynamic = f.flags.dynamic;
     let is_length = text_is(s, root, b"DYNAMIC_FIELD_LENGTH");
@@ -77,8 +78,8 @@ pub fn check_dynamic_length(
     p: usize,
     g: PgnView,
 ) -> usize
-    requires { ⌜ Fits n (check-dynamic-length (packOf (now s) .fieldtypes) t i (pgnIn (packOf (now s)) t i)) × PgnAt (now s) (now work) t i p × PgnIs (now s) (pgnIn (packOf (now s)) t i) g ⌝ }
-    ensures { λ r. ⌜ Emitted (now (out .entry)) n (check-dynamic-length (packOf (now (s .entry)) .fieldtypes) t i (pgnIn (packOf (now (s .entry))) t i)) (now (out .exit)) r ⌝ }
+    requires { ⌜ Fits n (check-dynamic-length (packOf (now s) .fieldtypes) t i (pgn-at (packOf (now s)) t i)) × PgnAt (now s) (now work) t i p × PgnIs (now s) (pgn-at (packOf (now s)) t i) g ⌝ }
+    ensures { λ r. ⌜ Emitted (now (out .entry)) n (check-dynamic-length (packOf (now (s .entry)) .fieldtypes) t i (pgn-at (packOf (now (s .entry))) t i)) (now (out .exit)) r ⌝ }
 {
     let mut m = n;
     let mut have = false;

@@ -3,7 +3,8 @@ ghost use mathlib.Core.Path.{_≡_};
 ghost use Prim.Native.Nat.{_<_};
 ghost use lib.ListN.{length};
 ghost use Rattle.pack.specs.Meaning.{fieldMeaning, packOf};
-ghost use Rattle.pack.specs.Ready.{Ready, PgnAt, PgnIs, pgnIn, fieldIn};
+ghost use Rattle.pack.specs.Ready.{Ready, PgnAt, PgnIs};
+ghost use Rattle.pack.specs.Value.{pgn-at, field-at};
 ghost use Rattle.rules.specs.Emit.{Emitted, Fits};
 ghost use Rattle.rules.specs.FieldTypeOverrides.{overrides-at, check-field-type-overrides};
 ghost use Rattle.rules.specs.Model.{fieldtype-of};
@@ -12,10 +13,10 @@ use crate::emit::pgn_error;
 use crate::emit::put_if;
 use crate::floats::ZERO;
 use crate::floats::float_eq;
+use pack::field::FieldView;
 use pack::of::field_of;
 use pack::of::type_of;
-use pack::records::FieldView;
-use pack::records::PgnView;
+use pack::pgn::PgnView;
 
 fn overrides_at(
     out: &mut [u32],
@@ -27,8 +28,8 @@ fn overrides_at(
     k: u32,
     f: FieldView,
 ) -> usize
-    requires { ⌜ Fits n (overrides-at t i k (fieldIn (packOf (now s)) t i k) (fieldtype-of (packOf (now s) .fieldtypes) (fieldIn (packOf (now s)) t i k))) × (fieldMeaning (now s) f ≡ fieldIn (packOf (now s)) t i k) × Ready (now s) (now work) × (f .ft < length (packOf (now s) .fieldtypes)) ⌝ }
-    ensures { λ r. ⌜ Emitted (now (out .entry)) n (overrides-at t i k (fieldIn (packOf (now (s .entry))) t i k) (fieldtype-of (packOf (now (s .entry)) .fieldtypes) (fieldIn (packOf (now (s .entry))) t i k))) (now (out .exit)) r ⌝ }
+    requires { ⌜ Fits n (overrides-at t i k (field-at (pgn-at (packOf (now s)) t i) k) (fieldtype-of (packOf (now s) .fieldtypes) (field-at (pgn-at (packOf (now s)) t i) k))) × (fieldMeaning (now s) f ≡ field-at (pgn-at (packOf (now s)) t i) k) × Ready (now s) (now work) × (f .ft < length (packOf (now s) .fieldtypes)) ⌝ }
+    ensures { λ r. ⌜ Emitted (now (out .entry)) n (overrides-at t i k (field-at (pgn-at (packOf (now (s .entry))) t i) k) (fieldtype-of (packOf (now (s .entry)) .fieldtypes) (field-at (pgn-at (packOf (now (s .entry))) t i) k))) (now (out .exit)) r ⌝ }
 {
     let ft = type_of(s, work, f.ft);
     let width = and_not(f.flags.bits, ft.size == 0);
@@ -49,8 +50,8 @@ pub fn check_field_type_overrides(
     p: usize,
     g: PgnView,
 ) -> usize
-    requires { ⌜ Fits n (check-field-type-overrides (packOf (now s) .fieldtypes) t i (pgnIn (packOf (now s)) t i)) × PgnAt (now s) (now work) t i p × PgnIs (now s) (pgnIn (packOf (now s)) t i) g ⌝ }
-    ensures { λ r. ⌜ Emitted (now (out .entry)) n (check-field-type-overrides (packOf (now (s .entry)) .fieldtypes) t i (pgnIn (packOf (now (s .entry))) t i)) (now (out .exit)) r ⌝ }
+    requires { ⌜ Fits n (check-field-type-overrides (packOf (now s) .fieldtypes) t i (pgn-at (packOf (now s)) t i)) × PgnAt (now s) (now work) t i p × PgnIs (now s) (pgn-at (packOf (now s)) t i) g ⌝ }
+    ensures { λ r. ⌜ Emitted (now (out .entry)) n (check-field-type-overrides (packOf (now (s .entry)) .fieldtypes) t i (pgn-at (packOf (now (s .entry))) t i)) (now (out .exit)) r ⌝ }
 {
     let mut m = n;
     let mut k = 0;

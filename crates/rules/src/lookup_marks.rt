@@ -4,24 +4,23 @@ ghost use mathlib.Core.Bool.{false, _||_};
 ghost use Prim.Native.Nat.{_<_, _≤_};
 ghost use lib.ListN.{length, getD, set};
 ghost use Rattle.pack.specs.Notation.{_≐_};
-ghost use Rattle.pack.specs.Value.{pgns-of};
+ghost use Rattle.pack.specs.Value.{pgns-of, pgn-at, lookup-at};
 ghost use Rattle.pack.specs.Items.{bytesOf};
 ghost use Rattle.pack.specs.Meaning.{optBytes, optReference, packOf};
-ghost use Rattle.pack.specs.Ready.{Ready, LookupAt, LookupIs, PgnAt, lookupIn, pgnIn, lookupPlace, treePlace};
-ghost use Rattle.pack.proofs.Accepted.{IndexIs};
+ghost use Rattle.pack.specs.Ready.{Ready, LookupAt, LookupIs, PgnAt, lookupPlace, treePlace, IndexIs};
 ghost use Rattle.rules.specs.Marks.{Marked};
 ghost use Rattle.rules.specs.Model.{is-text};
 ghost use Rattle.rules.specs.Search.{anyBelow};
 ghost use Rattle.rules.specs.LookupWiring.{ref-is, referenced-by-pgn, referenced-by-tree, referenced-by-lookup, referenced};
+use pack::field::OptReference;
 use pack::load::Index;
 use pack::load::Section;
+use pack::lookup::LookupView;
 use pack::of::entry_of;
 use pack::of::field_of;
 use pack::of::lookup_of;
 use pack::of::pgn_of;
 use pack::protocol::Protocol;
-use pack::records::LookupView;
-use pack::records::OptReference;
 use pack::text::OptText;
 use pack::text::Text;
 use pack::text::same_text;
@@ -84,8 +83,8 @@ fn mark_by_pgn(
     p: usize,
     fields: u32,
 )
-    requires { ⌜ (length (packOf (now s) .lookups) ≤ length (now marks)) × PgnAt (now s) (now work) t i p × (lookups .count ≡ length (packOf (now s) .lookups)) × (lookups .place ≡ lookupPlace (packOf (now s)) 0) × (fields ≡ length (pgnIn (packOf (now s)) t i .fields)) ⌝ }
-    ensures { λ r. ⌜ Marked (packOf (now (s .entry))) (now (marks .entry)) (λ n. referenced-by-pgn n (pgnIn (packOf (now (s .entry))) t i)) (now (marks .exit)) ⌝ }
+    requires { ⌜ (length (packOf (now s) .lookups) ≤ length (now marks)) × PgnAt (now s) (now work) t i p × (lookups .count ≡ length (packOf (now s) .lookups)) × (lookups .place ≡ lookupPlace (packOf (now s)) 0) × (fields ≡ length (pgn-at (packOf (now s)) t i .fields)) ⌝ }
+    ensures { λ r. ⌜ Marked (packOf (now (s .entry))) (now (marks .entry)) (λ n. referenced-by-pgn n (pgn-at (packOf (now (s .entry))) t i)) (now (marks .exit)) ⌝ }
 {
     let mut k: u32 = 0;
     while k < fields {
@@ -134,8 +133,8 @@ fn mark_by_lookup(
     p: usize,
     v: LookupView,
 )
-    requires { ⌜ (length (packOf (now s) .lookups) ≤ length (now marks)) × LookupAt (now s) (now work) l p × (lookups .count ≡ length (packOf (now s) .lookups)) × (lookups .place ≡ lookupPlace (packOf (now s)) 0) × LookupIs (now s) (lookupIn (packOf (now s)) l) v ⌝ }
-    ensures { λ r. ⌜ Marked (packOf (now (s .entry))) (now (marks .entry)) (λ n. referenced-by-lookup n (lookupIn (packOf (now (s .entry))) l)) (now (marks .exit)) ⌝ }
+    requires { ⌜ (length (packOf (now s) .lookups) ≤ length (now marks)) × LookupAt (now s) (now work) l p × (lookups .count ≡ length (packOf (now s) .lookups)) × (lookups .place ≡ lookupPlace (packOf (now s)) 0) × LookupIs (now s) (lookup-at (packOf (now s) .lookups) l) v ⌝ }
+    ensures { λ r. ⌜ Marked (packOf (now (s .entry))) (now (marks .entry)) (λ n. referenced-by-lookup n (lookup-at (packOf (now (s .entry)) .lookups) l)) (now (marks .exit)) ⌝ }
 {
     if v.kind != 3 {
         return;
@@ -152,7 +151,7 @@ fn mark_by_lookup(
 // By the lookups.
 fn mark_by_lookups(marks: &mut [bool], s: &[u8], work: &[u32], lookups: Section)
     requires { ⌜ (length (packOf (now s) .lookups) ≤ length (now marks)) × Ready (now s) (now work) × (lookups .count ≡ length (packOf (now s) .lookups)) × (lookups .place ≡ lookupPlace (packOf (now s)) 0) ⌝ }
-    ensures { λ r. ⌜ Marked (packOf (now (s .entry))) (now (marks .entry)) (λ n. anyBelow (λ l. referenced-by-lookup n (lookupIn (packOf (now (s .entry))) l)) (length (packOf (now (s .entry)) .lookups))) (now (marks .exit)) ⌝ }
+    ensures { λ r. ⌜ Marked (packOf (now (s .entry))) (now (marks .entry)) (λ n. anyBelow (λ l. referenced-by-lookup n (lookup-at (packOf (now (s .entry)) .lookups) l)) (length (packOf (now (s .entry)) .lookups))) (now (marks .exit)) ⌝ }
 {
     let count = lookups.count;
     let mut p = lookups.place;

@@ -5,11 +5,10 @@ ghost use mathlib.Core.Bool.{false, not};
 ghost use Prim.Native.Nat.{_<_, _≤_};
 ghost use lib.ListN.{length, getD};
 ghost use Rattle.pack.specs.Notation.{concatBelow};
-ghost use Rattle.pack.specs.Value.{pgns-of};
+ghost use Rattle.pack.specs.Value.{pgns-of, pgn-at, lookup-at};
 ghost use Rattle.pack.specs.Items.{bytesOf};
 ghost use Rattle.pack.specs.Meaning.{optReference, packOf};
-ghost use Rattle.pack.specs.Ready.{Ready, LookupAt, LookupIs, PgnAt, lookupIn, pgnIn, lookupPlace, treePlace};
-ghost use Rattle.pack.proofs.Accepted.{IndexIs};
+ghost use Rattle.pack.specs.Ready.{Ready, LookupAt, LookupIs, PgnAt, lookupPlace, treePlace, IndexIs};
 ghost use Rattle.rules.specs.Emit.{Emitted, Fits};
 ghost use Rattle.rules.specs.Findings.{report-if, lookup-warning};
 ghost use Rattle.rules.specs.Marks.{Clear};
@@ -19,15 +18,15 @@ use crate::emit::lookup_warning;
 use crate::emit::put_if;
 use crate::lookup_marks::mark_referenced;
 use crate::model::is_text;
+use pack::field::OptReference;
 use pack::load::Index;
 use pack::load::Section;
+use pack::lookup::LookupView;
 use pack::of::entry_of;
 use pack::of::field_of;
 use pack::of::lookup_of;
 use pack::of::pgn_of;
 use pack::protocol::Protocol;
-use pack::records::LookupView;
-use pack::records::OptReference;
 use pack::text::Text;
 use pack::text::same_text;
 
@@ -51,8 +50,8 @@ fn referenced_by_pgn(
     fields: u32,
     name: Text,
 ) -> bool
-    requires { ⌜ PgnAt (now s) (now work) t i p × (fields ≡ length (pgnIn (packOf (now s)) t i .fields)) ⌝ }
-    ensures { λ r. ⌜ r ≡ referenced-by-pgn (bytesOf (now (s .entry)) name) (pgnIn (packOf (now (s .entry))) t i) ⌝ }
+    requires { ⌜ PgnAt (now s) (now work) t i p × (fields ≡ length (pgn-at (packOf (now s)) t i .fields)) ⌝ }
+    ensures { λ r. ⌜ r ≡ referenced-by-pgn (bytesOf (now (s .entry)) name) (pgn-at (packOf (now (s .entry))) t i) ⌝ }
 {
     let mut k: u32 = 0;
     while k < fields {
@@ -102,8 +101,8 @@ fn referenced_by_trees(s: &[u8], work: &[u32], index: Index, name: Text) -> bool
 
 // By an entry of lookup l, which is v.
 fn referenced_by_lookup(s: &[u8], work: &[u32], l: u32, p: usize, v: LookupView, name: Text) -> bool
-    requires { ⌜ LookupAt (now s) (now work) l p × LookupIs (now s) (lookupIn (packOf (now s)) l) v ⌝ }
-    ensures { λ r. ⌜ r ≡ referenced-by-lookup (bytesOf (now (s .entry)) name) (lookupIn (packOf (now (s .entry))) l) ⌝ }
+    requires { ⌜ LookupAt (now s) (now work) l p × LookupIs (now s) (lookup-at (packOf (now s) .lookups) l) v ⌝ }
+    ensures { λ r. ⌜ r ≡ referenced-by-lookup (bytesOf (now (s .entry)) name) (lookup-at (packOf (now (s .entry)) .lookups) l) ⌝ }
 {
     if v.kind != 3 {
         return false;
@@ -123,7 +122,7 @@ fn referenced_by_lookup(s: &[u8], work: &[u32], l: u32, p: usize, v: LookupView,
 // By a lookup.
 fn referenced_by_lookups(s: &[u8], work: &[u32], lookups: Section, name: Text) -> bool
     requires { ⌜ Ready (now s) (now work) × (lookups .count ≡ length (packOf (now s) .lookups)) × (lookups .place ≡ lookupPlace (packOf (now s)) 0) ⌝ }
-    ensures { λ r. ⌜ r ≡ anyBelow (λ l. referenced-by-lookup (bytesOf (now (s .entry)) name) (lookupIn (packOf (now (s .entry))) l)) (length (packOf (now (s .entry)) .lookups)) ⌝ }
+    ensures { λ r. ⌜ r ≡ anyBelow (λ l. referenced-by-lookup (bytesOf (now (s .entry)) name) (lookup-at (packOf (now (s .entry)) .lookups) l)) (length (packOf (now (s .entry)) .lookups)) ⌝ }
 {
     let count = lookups.count;
     let mut p = lookups.place;
@@ -152,8 +151,8 @@ fn referenced(s: &[u8], work: &[u32], index: Index, name: Text) -> bool
 
 // Each lookup searched for.
 fn check_by_search(out: &mut [u32], n: usize, s: &[u8], work: &[u32], index: Index) -> usize
-    requires { ⌜ Fits n (concatBelow (λ l. report-if (not (referenced (packOf (now s)) (lookupIn (packOf (now s)) l .name))) (lookup-warning 22 1 l 0 0)) (length (packOf (now s) .lookups))) × Ready (now s) (now work) × IndexIs (packOf (now s)) index ⌝ }
-    ensures { λ r. ⌜ Emitted (now (out .entry)) n (concatBelow (λ l. report-if (not (referenced (packOf (now (s .entry))) (lookupIn (packOf (now (s .entry))) l .name))) (lookup-warning 22 1 l 0 0)) (length (packOf (now (s .entry)) .lookups))) (now (out .exit)) r ⌝ }
+    requires { ⌜ Fits n (concatBelow (λ l. report-if (not (referenced (packOf (now s)) (lookup-at (packOf (now s) .lookups) l .name))) (lookup-warning 22 1 l 0 0)) (length (packOf (now s) .lookups))) × Ready (now s) (now work) × IndexIs (packOf (now s)) index ⌝ }
+    ensures { λ r. ⌜ Emitted (now (out .entry)) n (concatBelow (λ l. report-if (not (referenced (packOf (now (s .entry))) (lookup-at (packOf (now (s .entry)) .lookups) l .name))) (lookup-warning 22 1 l 0 0)) (length (packOf (now (s .entry)) .lookups))) (now (out .exit)) r ⌝ }
 {
     let count = index.lookups.count;
     let mut m = n;
@@ -193,8 +192,8 @@ fn check_by_marks(
     work: &[u32],
     index: Index,
 ) -> usize
-    requires { ⌜ Fits n (concatBelow (λ l. report-if (not (referenced (packOf (now s)) (lookupIn (packOf (now s)) l .name))) (lookup-warning 22 1 l 0 0)) (length (packOf (now s) .lookups))) × Clear (now marks) × (length (packOf (now s) .lookups) ≤ length (now marks)) × Ready (now s) (now work) × IndexIs (packOf (now s)) index ⌝ }
-    ensures { λ r. ⌜ Emitted (now (out .entry)) n (concatBelow (λ l. report-if (not (referenced (packOf (now (s .entry))) (lookupIn (packOf (now (s .entry))) l .name))) (lookup-warning 22 1 l 0 0)) (length (packOf (now (s .entry)) .lookups))) (now (out .exit)) r ⌝ }
+    requires { ⌜ Fits n (concatBelow (λ l. report-if (not (referenced (packOf (now s)) (lookup-at (packOf (now s) .lookups) l .name))) (lookup-warning 22 1 l 0 0)) (length (packOf (now s) .lookups))) × Clear (now marks) × (length (packOf (now s) .lookups) ≤ length (now marks)) × Ready (now s) (now work) × IndexIs (packOf (now s)) index ⌝ }
+    ensures { λ r. ⌜ Emitted (now (out .entry)) n (concatBelow (λ l. report-if (not (referenced (packOf (now (s .entry))) (lookup-at (packOf (now (s .entry)) .lookups) l .name))) (lookup-warning 22 1 l 0 0)) (length (packOf (now (s .entry)) .lookups))) (now (out .exit)) r ⌝ }
 {
     mark_referenced(marks, s, work, index);
     report_unmarked(out, n, marks, index.lookups.count)
@@ -202,8 +201,8 @@ fn check_by_marks(
 
 // R22: every lookup is referenced somewhere. A search for each is slow, so it is left to packs with more lookups than there are marks.
 pub fn check_lookup_uses(out: &mut [u32], n: usize, s: &[u8], work: &[u32], index: Index) -> usize
-    requires { ⌜ Fits n (concatBelow (λ l. report-if (not (referenced (packOf (now s)) (lookupIn (packOf (now s)) l .name))) (lookup-warning 22 1 l 0 0)) (length (packOf (now s) .lookups))) × Ready (now s) (now work) × IndexIs (packOf (now s)) index ⌝ }
-    ensures { λ r. ⌜ Emitted (now (out .entry)) n (concatBelow (λ l. report-if (not (referenced (packOf (now (s .entry))) (lookupIn (packOf (now (s .entry))) l .name))) (lookup-warning 22 1 l 0 0)) (length (packOf (now (s .entry)) .lookups))) (now (out .exit)) r ⌝ }
+    requires { ⌜ Fits n (concatBelow (λ l. report-if (not (referenced (packOf (now s)) (lookup-at (packOf (now s) .lookups) l .name))) (lookup-warning 22 1 l 0 0)) (length (packOf (now s) .lookups))) × Ready (now s) (now work) × IndexIs (packOf (now s)) index ⌝ }
+    ensures { λ r. ⌜ Emitted (now (out .entry)) n (concatBelow (λ l. report-if (not (referenced (packOf (now (s .entry))) (lookup-at (packOf (now (s .entry)) .lookups) l .name))) (lookup-warning 22 1 l 0 0)) (length (packOf (now (s .entry)) .lookups))) (now (out .exit)) r ⌝ }
 {
     if 4096 < index.lookups.count {
         return check_by_search(out, n, s, work, index);

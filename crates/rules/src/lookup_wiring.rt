@@ -5,11 +5,10 @@ ghost use mathlib.Core.Option.{some};
 ghost use Prim.Native.Nat.{_<_};
 ghost use lib.ListN.{length};
 ghost use Rattle.pack.specs.Notation.{_==_, concatBelow};
-ghost use Rattle.pack.specs.Value.{pgns-of};
+ghost use Rattle.pack.specs.Value.{pgns-of, pgn-at, lookup-at};
 ghost use Rattle.pack.specs.Items.{bytesOf};
 ghost use Rattle.pack.specs.Meaning.{optReference, fieldMeaning, packOf};
-ghost use Rattle.pack.specs.Ready.{Ready, LookupAt, LookupIs, PgnAt, lookupIn, pgnIn, lookupPlace, treePlace};
-ghost use Rattle.pack.proofs.Accepted.{IndexIs};
+ghost use Rattle.pack.specs.Ready.{Ready, LookupAt, LookupIs, PgnAt, lookupPlace, treePlace, IndexIs};
 ghost use Rattle.rules.specs.Emit.{Emitted, Fits};
 ghost use Rattle.rules.specs.LookupWiring.{beyond-width, unreachable, lookup-width-at, lookup-found-at, lookup-ref-at, check-lookup-refs, check-lookup-wiring};
 use crate::bools::and_not;
@@ -22,15 +21,15 @@ use crate::lookups::find_lookup;
 use crate::model::value_bits;
 use crate::nested_refs::check_all_nested_refs;
 use crate::widths::exceeds;
+use pack::field::FieldView;
 use pack::load::Index;
 use pack::load::Section;
+use pack::lookup::LookupView;
 use pack::of::entry_of;
 use pack::of::field_of;
 use pack::of::lookup_of;
 use pack::of::pgn_of;
 use pack::protocol::Protocol;
-use pack::records::FieldView;
-use pack::records::LookupView;
 
 // A field of this width can't have the value: a bit's position counts from 0.
 fn beyond_width(kind: u32, width: u64, value: u64) -> bool
@@ -47,8 +46,8 @@ fn beyond_width(kind: u32, width: u64, value: u64) -> bool
 
 // Whether some value of lookup l, which is v, is beyond the width.
 fn unreachable(s: &[u8], work: &[u32], l: u32, p: usize, v: LookupView, width: u64) -> bool
-    requires { ⌜ LookupAt (now s) (now work) l p × LookupIs (now s) (lookupIn (packOf (now s)) l) v ⌝ }
-    ensures { λ r. ⌜ r ≡ unreachable (lookupIn (packOf (now (s .entry))) l) width ⌝ }
+    requires { ⌜ LookupAt (now s) (now work) l p × LookupIs (now s) (lookup-at (packOf (now s) .lookups) l) v ⌝ }
+    ensures { λ r. ⌜ r ≡ unreachable (lookup-at (packOf (now (s .entry)) .lookups) l) width ⌝ }
 {
     let kind = v.kind;
     let entries = v.entries;
@@ -87,8 +86,8 @@ fn lookup_width_at(
     p: usize,
     v: LookupView,
 ) -> usize
-    requires { ⌜ Fits n (lookup-width-at t i k (fieldMeaning (now s) f) l (lookupIn (packOf (now s)) l)) × LookupAt (now s) (now work) l p × LookupIs (now s) (lookupIn (packOf (now s)) l) v ⌝ }
-    ensures { λ r. ⌜ Emitted (now (out .entry)) n (lookup-width-at t i k (fieldMeaning (now (s .entry)) f) l (lookupIn (packOf (now (s .entry))) l)) (now (out .exit)) r ⌝ }
+    requires { ⌜ Fits n (lookup-width-at t i k (fieldMeaning (now s) f) l (lookup-at (packOf (now s) .lookups) l)) × LookupAt (now s) (now work) l p × LookupIs (now s) (lookup-at (packOf (now s) .lookups) l) v ⌝ }
+    ensures { λ r. ⌜ Emitted (now (out .entry)) n (lookup-width-at t i k (fieldMeaning (now (s .entry)) f) l (lookup-at (packOf (now (s .entry)) .lookups) l)) (now (out .exit)) r ⌝ }
 {
     let width = value_bits(s, f);
     let allowed = f.flags.mismatch;
@@ -162,8 +161,8 @@ fn check_lookup_refs(
     p: usize,
     fields: u32,
 ) -> usize
-    requires { ⌜ Fits n (check-lookup-refs (packOf (now s) .lookups) t i (pgnIn (packOf (now s)) t i)) × PgnAt (now s) (now work) t i p × (lookups .count ≡ length (packOf (now s) .lookups)) × (lookups .place ≡ lookupPlace (packOf (now s)) 0) × (fields ≡ length (pgnIn (packOf (now s)) t i .fields)) ⌝ }
-    ensures { λ r. ⌜ Emitted (now (out .entry)) n (check-lookup-refs (packOf (now (s .entry)) .lookups) t i (pgnIn (packOf (now (s .entry))) t i)) (now (out .exit)) r ⌝ }
+    requires { ⌜ Fits n (check-lookup-refs (packOf (now s) .lookups) t i (pgn-at (packOf (now s)) t i)) × PgnAt (now s) (now work) t i p × (lookups .count ≡ length (packOf (now s) .lookups)) × (lookups .place ≡ lookupPlace (packOf (now s)) 0) × (fields ≡ length (pgn-at (packOf (now s)) t i .fields)) ⌝ }
+    ensures { λ r. ⌜ Emitted (now (out .entry)) n (check-lookup-refs (packOf (now (s .entry)) .lookups) t i (pgn-at (packOf (now (s .entry))) t i)) (now (out .exit)) r ⌝ }
 {
     let mut m = n;
     let mut k: u32 = 0;
@@ -185,8 +184,8 @@ fn check_tree_refs(
     t: u32,
     tree: Section,
 ) -> usize
-    requires { ⌜ Fits n (concatBelow (λ i. check-lookup-refs (packOf (now s) .lookups) t i (pgnIn (packOf (now s)) t i)) (length (pgns-of (packOf (now s)) t))) × Ready (now s) (now work) × (lookups .count ≡ length (packOf (now s) .lookups)) × (lookups .place ≡ lookupPlace (packOf (now s)) 0) × (t < 3) × (tree .count ≡ length (pgns-of (packOf (now s)) t)) × (tree .place ≡ treePlace (packOf (now s)) t) ⌝ }
-    ensures { λ r. ⌜ Emitted (now (out .entry)) n (concatBelow (λ i. check-lookup-refs (packOf (now (s .entry)) .lookups) t i (pgnIn (packOf (now (s .entry))) t i)) (length (pgns-of (packOf (now (s .entry))) t))) (now (out .exit)) r ⌝ }
+    requires { ⌜ Fits n (concatBelow (λ i. check-lookup-refs (packOf (now s) .lookups) t i (pgn-at (packOf (now s)) t i)) (length (pgns-of (packOf (now s)) t))) × Ready (now s) (now work) × (lookups .count ≡ length (packOf (now s) .lookups)) × (lookups .place ≡ lookupPlace (packOf (now s)) 0) × (t < 3) × (tree .count ≡ length (pgns-of (packOf (now s)) t)) × (tree .place ≡ treePlace (packOf (now s)) t) ⌝ }
+    ensures { λ r. ⌜ Emitted (now (out .entry)) n (concatBelow (λ i. check-lookup-refs (packOf (now (s .entry)) .lookups) t i (pgn-at (packOf (now (s .entry))) t i)) (length (pgns-of (packOf (now (s .entry))) t))) (now (out .exit)) r ⌝ }
 {
     let count = tree.count;
     let mut m = n;
@@ -203,8 +202,8 @@ fn check_tree_refs(
 
 // The three trees.
 fn check_all_refs(out: &mut [u32], n: usize, s: &[u8], work: &[u32], index: Index) -> usize
-    requires { ⌜ Fits n (concatBelow (λ t. concatBelow (λ i. check-lookup-refs (packOf (now s) .lookups) t i (pgnIn (packOf (now s)) t i)) (length (pgns-of (packOf (now s)) t))) 3) × Ready (now s) (now work) × IndexIs (packOf (now s)) index ⌝ }
-    ensures { λ r. ⌜ Emitted (now (out .entry)) n (concatBelow (λ t. concatBelow (λ i. check-lookup-refs (packOf (now (s .entry)) .lookups) t i (pgnIn (packOf (now (s .entry))) t i)) (length (pgns-of (packOf (now (s .entry))) t))) 3) (now (out .exit)) r ⌝ }
+    requires { ⌜ Fits n (concatBelow (λ t. concatBelow (λ i. check-lookup-refs (packOf (now s) .lookups) t i (pgn-at (packOf (now s)) t i)) (length (pgns-of (packOf (now s)) t))) 3) × Ready (now s) (now work) × IndexIs (packOf (now s)) index ⌝ }
+    ensures { λ r. ⌜ Emitted (now (out .entry)) n (concatBelow (λ t. concatBelow (λ i. check-lookup-refs (packOf (now (s .entry)) .lookups) t i (pgn-at (packOf (now (s .entry))) t i)) (length (pgns-of (packOf (now (s .entry))) t))) 3) (now (out .exit)) r ⌝ }
 {
     let mut m = n;
     let mut t: u32 = 0;

@@ -6,14 +6,15 @@ ghost use lib.ListN.{length, drop};
 ghost use Rattle.pack.specs.Notation.{_==_, if_then_else_, optional};
 ghost use Rattle.pack.specs.Items.{bytesOf};
 ghost use Rattle.pack.specs.Meaning.{optReference, fieldMeaning, packOf};
-ghost use Rattle.pack.specs.Ready.{Ready, LookupAt, lookupIn, lookupPlace};
+ghost use Rattle.pack.specs.Ready.{Ready, LookupAt, lookupPlace};
+ghost use Rattle.pack.specs.Value.{lookup-at};
 ghost use Rattle.rules.specs.Model.{parse-digits, parse-u64, value-named, resolve-name, resolve-match};
 use crate::lookups::find_lookup;
+use pack::field::FieldView;
+use pack::field::OptReference;
 use pack::load::Section;
 use pack::of::entry_of;
 use pack::of::lookup_of;
-use pack::records::FieldView;
-use pack::records::OptReference;
 use pack::text::Text;
 use pack::text::part;
 use pack::text::same_text;
@@ -78,8 +79,8 @@ pub fn parse_u64(b: &[u8]) -> OptWide
 
 // The value of the first of the n entries with that name, of lookup l, which is at p and of that kind.
 fn value_named(s: &[u8], work: &[u32], l: u32, p: usize, kind: u32, n: u32, name: Text) -> OptWide
-    requires { ⌜ LookupAt (now s) (now work) l p × (kind ≡ lookupIn (packOf (now s)) l .kind) × (n ≡ length (lookupIn (packOf (now s)) l .entries)) ⌝ }
-    ensures { λ r. ⌜ optional (r .given) (r .value) ≡ value-named (lookupIn (packOf (now (s .entry))) l .entries) (bytesOf (now (s .entry)) name) ⌝ }
+    requires { ⌜ LookupAt (now s) (now work) l p × (kind ≡ lookup-at (packOf (now s) .lookups) l .kind) × (n ≡ length (lookup-at (packOf (now s) .lookups) l .entries)) ⌝ }
+    ensures { λ r. ⌜ optional (r .given) (r .value) ≡ value-named (lookup-at (packOf (now (s .entry)) .lookups) l .entries) (bytesOf (now (s .entry)) name) ⌝ }
 {
     let mut e: u32 = 0;
     while e < n {

@@ -4,20 +4,20 @@ ghost use lib.ListN.{length};
 ghost use Rattle.pack.specs.Notation.{concatBelow};
 ghost use Rattle.pack.specs.Items.{bytesOf};
 ghost use Rattle.pack.specs.Meaning.{optBytes, entryMeaning, packOf};
-ghost use Rattle.pack.specs.Ready.{Ready, LookupAt, LookupIs, lookupIn, lookupPlace};
-ghost use Rattle.pack.proofs.Accepted.{IndexIs};
+ghost use Rattle.pack.specs.Ready.{Ready, LookupAt, LookupIs, lookupPlace, IndexIs};
+ghost use Rattle.pack.specs.Value.{lookup-at};
 ghost use Rattle.rules.specs.Emit.{Emitted, Fits};
 ghost use Rattle.rules.specs.LookupWiring.{is-fieldtype, nested-lookup-at, fieldtype-entry-at, check-nested-refs};
 use crate::emit::lookup_error;
 use crate::emit::put_if;
 use crate::lookups::find_lookup;
+use pack::entry::EntryView;
 use pack::load::Index;
 use pack::load::Section;
+use pack::lookup::LookupView;
 use pack::of::entry_of;
 use pack::of::lookup_of;
 use pack::of::type_of;
-use pack::records::EntryView;
-use pack::records::LookupView;
 use pack::text::OptText;
 use pack::text::Text;
 use pack::text::same_text;
@@ -89,8 +89,8 @@ fn check_nested_refs(
     p: usize,
     v: LookupView,
 ) -> usize
-    requires { ⌜ Fits n (check-nested-refs (packOf (now s)) l (lookupIn (packOf (now s)) l)) × LookupAt (now s) (now work) l p × LookupIs (now s) (lookupIn (packOf (now s)) l) v × IndexIs (packOf (now s)) index ⌝ }
-    ensures { λ r. ⌜ Emitted (now (out .entry)) n (check-nested-refs (packOf (now (s .entry))) l (lookupIn (packOf (now (s .entry))) l)) (now (out .exit)) r ⌝ }
+    requires { ⌜ Fits n (check-nested-refs (packOf (now s)) l (lookup-at (packOf (now s) .lookups) l)) × LookupAt (now s) (now work) l p × LookupIs (now s) (lookup-at (packOf (now s) .lookups) l) v × IndexIs (packOf (now s)) index ⌝ }
+    ensures { λ r. ⌜ Emitted (now (out .entry)) n (check-nested-refs (packOf (now (s .entry))) l (lookup-at (packOf (now (s .entry)) .lookups) l)) (now (out .exit)) r ⌝ }
 {
     if v.kind != 3 {
         return n;
@@ -114,8 +114,8 @@ pub fn check_all_nested_refs(
     work: &[u32],
     index: Index,
 ) -> usize
-    requires { ⌜ Fits n (concatBelow (λ l. check-nested-refs (packOf (now s)) l (lookupIn (packOf (now s)) l)) (length (packOf (now s) .lookups))) × Ready (now s) (now work) × IndexIs (packOf (now s)) index ⌝ }
-    ensures { λ r. ⌜ Emitted (now (out .entry)) n (concatBelow (λ l. check-nested-refs (packOf (now (s .entry))) l (lookupIn (packOf (now (s .entry))) l)) (length (packOf (now (s .entry)) .lookups))) (now (out .exit)) r ⌝ }
+    requires { ⌜ Fits n (concatBelow (λ l. check-nested-refs (packOf (now s)) l (lookup-at (packOf (now s) .lookups) l)) (length (packOf (now s) .lookups))) × Ready (now s) (now work) × IndexIs (packOf (now s)) index ⌝ }
+    ensures { λ r. ⌜ Emitted (now (out .entry)) n (concatBelow (λ l. check-nested-refs (packOf (now (s .entry))) l (lookup-at (packOf (now (s .entry)) .lookups) l)) (length (packOf (now (s .entry)) .lookups))) (now (out .exit)) r ⌝ }
 {
     let count = index.lookups.count;
     let mut m = n;

@@ -6,16 +6,17 @@ ghost use Prim.Native.Nat.{_+_, _%_, _<_};
 ghost use lib.ListN.{length, drop};
 ghost use Rattle.pack.specs.Notation.{_==_, if_then_else_, optional};
 ghost use Rattle.pack.specs.Meaning.{packOf};
-ghost use Rattle.pack.specs.Ready.{PgnIs, pgnIn};
+ghost use Rattle.pack.specs.Ready.{PgnIs};
 ghost use Rattle.pack.specs.Trees.{treeNumber};
+ghost use Rattle.pack.specs.Value.{pgn-at};
 ghost use Rattle.rules.specs.Emit.{Emitted, Fits};
 ghost use Rattle.rules.specs.Pdu1.{pdu1};
 ghost use Rattle.rules.specs.PgnRange.{range, ranges-of, find-range, quick-range, found-range, check-pgn-range};
 use crate::emit::pgn_error;
 use crate::emit::put;
 use crate::emit::put_if;
+use pack::pgn::PgnView;
 use pack::protocol::Protocol;
-use pack::records::PgnView;
 
 // The packet types.
 const SINGLE: u32 = 0;
@@ -218,8 +219,8 @@ fn disagrees(range: u32, kind: u32) -> bool
 
 // Quick's "PGN" is an 11-bit CAN identifier, and one frame is the whole message.
 fn quick_range(out: &mut [u32], n: usize, s: &[u8], t: u32, i: u32, g: PgnView) -> usize
-    requires { ⌜ Fits n (quick-range t i (pgnIn (packOf (now s)) t i)) × PgnIs (now s) (pgnIn (packOf (now s)) t i) g ⌝ }
-    ensures { λ r. ⌜ Emitted (now (out .entry)) n (quick-range t i (pgnIn (packOf (now (s .entry))) t i)) (now (out .exit)) r ⌝ }
+    requires { ⌜ Fits n (quick-range t i (pgn-at (packOf (now s)) t i)) × PgnIs (now s) (pgn-at (packOf (now s)) t i) g ⌝ }
+    ensures { λ r. ⌜ Emitted (now (out .entry)) n (quick-range t i (pgn-at (packOf (now (s .entry))) t i)) (now (out .exit)) r ⌝ }
 {
     let m = put_if(out, n, QUICK_MOST < g.pgn, pgn_error(2, 1, t, i, 0, 0));
     put_if(out, m, g.kind != SINGLE, pgn_error(2, 2, t, i, 0, 0))
@@ -235,8 +236,8 @@ fn found_range(
     g: PgnView,
     found: OptRange,
 ) -> usize
-    requires { ⌜ Fits n (found-range t i (pgnIn (packOf (now s)) t i) (find-range (ranges-of t) (g .pgn))) × PgnIs (now s) (pgnIn (packOf (now s)) t i) g × (find-range (ranges-of t) (g .pgn) ≡ optional (found .given) (range (found .range .start) (found .range .end) (if pdu1 (found .range .start) then 256 else 1) (found .range .kind))) ⌝ }
-    ensures { λ r. ⌜ Emitted (now (out .entry)) n (found-range t i (pgnIn (packOf (now (s .entry))) t i) (find-range (ranges-of t) (g .pgn))) (now (out .exit)) r ⌝ }
+    requires { ⌜ Fits n (found-range t i (pgn-at (packOf (now s)) t i) (find-range (ranges-of t) (g .pgn))) × PgnIs (now s) (pgn-at (packOf (now s)) t i) g × (find-range (ranges-of t) (g .pgn) ≡ optional (found .given) (range (found .range .start) (found .range .end) (if pdu1 (found .range .start) then 256 else 1) (found .range .kind))) ⌝ }
+    ensures { λ r. ⌜ Emitted (now (out .entry)) n (found-range t i (pgn-at (packOf (now (s .entry))) t i) (find-range (ranges-of t) (g .pgn))) (now (out .exit)) r ⌝ }
 {
     if found.given {
         if g.pgn < found.range.start {
@@ -252,8 +253,8 @@ fn found_range(
 
 // R02: the number in a valid range; PDU1 PGNs end in 0x00; the packet type agrees with the range.
 pub fn check_pgn_range(out: &mut [u32], n: usize, s: &[u8], t: u32, i: u32, g: PgnView) -> usize
-    requires { ⌜ Fits n (check-pgn-range t i (pgnIn (packOf (now s)) t i)) × PgnIs (now s) (pgnIn (packOf (now s)) t i) g × (t < 3) ⌝ }
-    ensures { λ r. ⌜ Emitted (now (out .entry)) n (check-pgn-range t i (pgnIn (packOf (now (s .entry))) t i)) (now (out .exit)) r ⌝ }
+    requires { ⌜ Fits n (check-pgn-range t i (pgn-at (packOf (now s)) t i)) × PgnIs (now s) (pgn-at (packOf (now s)) t i) g × (t < 3) ⌝ }
+    ensures { λ r. ⌜ Emitted (now (out .entry)) n (check-pgn-range t i (pgn-at (packOf (now (s .entry))) t i)) (now (out .exit)) r ⌝ }
 {
     if ACTISENSE_BEM <= g.pgn {
         return n;

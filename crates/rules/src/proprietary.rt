@@ -5,7 +5,8 @@ ghost use Prim.Native.Nat.{_<_};
 ghost use lib.ListN.{length};
 ghost use Rattle.pack.specs.Notation.{_==_, _≐_};
 ghost use Rattle.pack.specs.Meaning.{optReference, fieldMeaning, packOf};
-ghost use Rattle.pack.specs.Ready.{Ready, PgnAt, PgnIs, pgnIn};
+ghost use Rattle.pack.specs.Ready.{Ready, PgnAt, PgnIs};
+ghost use Rattle.pack.specs.Value.{pgn-at};
 ghost use Rattle.rules.specs.Emit.{Emitted, Fits};
 ghost use Rattle.rules.specs.Model.{root-of};
 ghost use Rattle.rules.specs.Proprietary.{is-manufacturer-pgn, pair-is, company-fields, check-proprietary};
@@ -14,9 +15,9 @@ use crate::emit::pgn_error;
 use crate::emit::put_if;
 use crate::is_manufacturer_pgn;
 use crate::model::root_of;
+use pack::field::FieldView;
 use pack::of::field_of;
-use pack::records::FieldView;
-use pack::records::PgnView;
+use pack::pgn::PgnView;
 use pack::text::text_is;
 
 // A field of so many bits with a reference of kind pair to the lookup of that name.
@@ -51,8 +52,8 @@ fn is_reserved(s: &[u8], work: &[u32], f: FieldView, bits: u32) -> bool
 
 // Whether a PGN of so many fields opens with Manufacturer Code, Reserved, Industry Code.
 fn company_fields(s: &[u8], work: &[u32], t: u32, i: u32, p: usize, fields: u32) -> bool
-    requires { ⌜ PgnAt (now s) (now work) t i p × (fields ≡ length (pgnIn (packOf (now s)) t i .fields)) ⌝ }
-    ensures { λ r. ⌜ r ≡ company-fields (packOf (now (s .entry)) .fieldtypes) (pgnIn (packOf (now (s .entry))) t i) ⌝ }
+    requires { ⌜ PgnAt (now s) (now work) t i p × (fields ≡ length (pgn-at (packOf (now s)) t i .fields)) ⌝ }
+    ensures { λ r. ⌜ r ≡ company-fields (packOf (now (s .entry)) .fieldtypes) (pgn-at (packOf (now (s .entry))) t i) ⌝ }
 {
     if fields < 3 {
         return false;
@@ -90,8 +91,8 @@ pub fn check_proprietary(
     p: usize,
     g: PgnView,
 ) -> usize
-    requires { ⌜ Fits n (check-proprietary (packOf (now s) .fieldtypes) t i (pgnIn (packOf (now s)) t i)) × PgnAt (now s) (now work) t i p × PgnIs (now s) (pgnIn (packOf (now s)) t i) g ⌝ }
-    ensures { λ r. ⌜ Emitted (now (out .entry)) n (check-proprietary (packOf (now (s .entry)) .fieldtypes) t i (pgnIn (packOf (now (s .entry))) t i)) (now (out .exit)) r ⌝ }
+    requires { ⌜ Fits n (check-proprietary (packOf (now s) .fieldtypes) t i (pgn-at (packOf (now s)) t i)) × PgnAt (now s) (now work) t i p × PgnIs (now s) (pgn-at (packOf (now s)) t i) g ⌝ }
+    ensures { λ r. ⌜ Emitted (now (out .entry)) n (check-proprietary (packOf (now (s .entry)) .fieldtypes) t i (pgn-at (packOf (now (s .entry))) t i)) (now (out .exit)) r ⌝ }
 {
     if is_exempt(g.pgn, g.flags.fallback) {
         return n;

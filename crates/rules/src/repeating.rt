@@ -4,17 +4,18 @@ ghost use mathlib.Core.Bool.{not, _&&_, _||_};
 ghost use Prim.Native.Nat.{_+_};
 ghost use Rattle.pack.specs.Notation.{_<ᵇ_, _≤ᵇ_, _==_};
 ghost use Rattle.pack.specs.Meaning.{optNumber, repeatingMeaning, optRepeating, packOf};
-ghost use Rattle.pack.specs.Ready.{PgnIs, pgnIn};
+ghost use Rattle.pack.specs.Ready.{PgnIs};
+ghost use Rattle.pack.specs.Value.{pgn-at};
 ghost use Rattle.rules.specs.Emit.{Emitted, Fits};
 ghost use Rattle.rules.specs.Repeating.{none-or-below, set-bounds, set-count-field, set-nesting, check-set, check-repeating};
 use crate::emit::pgn_error;
 use crate::emit::put;
 use crate::emit::put_if;
-use pack::cursor::OptNumber;
+use pack::optional::OptNumber;
+use pack::pgn::OptRepeating;
+use pack::pgn::PgnView;
+use pack::pgn::RepeatingView;
 use pack::protocol::FieldOrder;
-use pack::records::OptRepeating;
-use pack::records::PgnView;
-use pack::records::RepeatingView;
 
 pub fn precedes(a: FieldOrder, b: FieldOrder) -> bool
     ensures { λ r. ⌜ r ≡ (a .0 <ᵇ b .0) ⌝ }
@@ -165,8 +166,8 @@ fn check_set(
 
 // R05: repeating sets are self-consistent, and a nested set lies wholly inside the one that encloses it. Nothing encloses set 1.
 pub fn check_repeating(out: &mut [u32], n: usize, s: &[u8], t: u32, i: u32, g: PgnView) -> usize
-    requires { ⌜ Fits n (check-repeating t i (pgnIn (packOf (now s)) t i)) × PgnIs (now s) (pgnIn (packOf (now s)) t i) g ⌝ }
-    ensures { λ r. ⌜ Emitted (now (out .entry)) n (check-repeating t i (pgnIn (packOf (now (s .entry))) t i)) (now (out .exit)) r ⌝ }
+    requires { ⌜ Fits n (check-repeating t i (pgn-at (packOf (now s)) t i)) × PgnIs (now s) (pgn-at (packOf (now s)) t i) g ⌝ }
+    ensures { λ r. ⌜ Emitted (now (out .entry)) n (check-repeating t i (pgn-at (packOf (now (s .entry))) t i)) (now (out .exit)) r ⌝ }
 {
     let first = g.repeating1;
     let second = g.repeating2;

@@ -5,16 +5,17 @@ ghost use lib.ListN.{drop};
 ghost use Rattle.pack.specs.Notation.{_≐_, if_then_else_};
 ghost use Rattle.pack.specs.Items.{bytesOf};
 ghost use Rattle.pack.specs.Meaning.{fieldMeaning, packOf};
-ghost use Rattle.pack.specs.Ready.{PgnAt, PgnIs, pgnIn, fieldIn};
+ghost use Rattle.pack.specs.Ready.{PgnAt, PgnIs};
+ghost use Rattle.pack.specs.Value.{pgn-at, field-at};
 ghost use Rattle.rules.specs.Emit.{Emitted, Fits};
 ghost use Rattle.rules.specs.Model.{is-digit, all-digits};
 ghost use Rattle.rules.specs.ReservedIds.{numbered, reserved-id-at, check-reserved-ids};
 ghost use Rattle.rules.specs.Texts.{bytes};
 use crate::emit::pgn_error;
 use crate::emit::put_if;
+use pack::field::FieldView;
 use pack::of::field_of;
-use pack::records::FieldView;
-use pack::records::PgnView;
+use pack::pgn::PgnView;
 use pack::text::part;
 use pack::text::text_is;
 
@@ -82,8 +83,8 @@ fn reserved_id_at(
     k: u32,
     f: FieldView,
 ) -> usize
-    requires { ⌜ Fits n (reserved-id-at t i k (fieldIn (packOf (now s)) t i k)) × (fieldMeaning (now s) f ≡ fieldIn (packOf (now s)) t i k) ⌝ }
-    ensures { λ r. ⌜ Emitted (now (out .entry)) n (reserved-id-at t i k (fieldIn (packOf (now (s .entry))) t i k)) (now (out .exit)) r ⌝ }
+    requires { ⌜ Fits n (reserved-id-at t i k (field-at (pgn-at (packOf (now s)) t i) k)) × (fieldMeaning (now s) f ≡ field-at (pgn-at (packOf (now s)) t i) k) ⌝ }
+    ensures { λ r. ⌜ Emitted (now (out .entry)) n (reserved-id-at t i k (field-at (pgn-at (packOf (now (s .entry))) t i) k)) (now (out .exit)) r ⌝ }
 {
     let report = misnamed(s, f);
     put_if(out, n, report, pgn_error(12, 1, t, i, k, 0))
@@ -100,8 +101,8 @@ pub fn check_reserved_ids(
     p: usize,
     g: PgnView,
 ) -> usize
-    requires { ⌜ Fits n (check-reserved-ids t i (pgnIn (packOf (now s)) t i)) × PgnAt (now s) (now work) t i p × PgnIs (now s) (pgnIn (packOf (now s)) t i) g ⌝ }
-    ensures { λ r. ⌜ Emitted (now (out .entry)) n (check-reserved-ids t i (pgnIn (packOf (now (s .entry))) t i)) (now (out .exit)) r ⌝ }
+    requires { ⌜ Fits n (check-reserved-ids t i (pgn-at (packOf (now s)) t i)) × PgnAt (now s) (now work) t i p × PgnIs (now s) (pgn-at (packOf (now s)) t i) g ⌝ }
+    ensures { λ r. ⌜ Emitted (now (out .entry)) n (check-reserved-ids t i (pgn-at (packOf (now (s .entry))) t i)) (now (out .exit)) r ⌝ }
 {
     let mut m = n;
     let mut k = 0;

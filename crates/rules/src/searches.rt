@@ -4,7 +4,7 @@ ghost use Prim.Native.Nat.{_+_, _<_};
 ghost use Rattle.pack.specs.Notation.{if_then_else_, optional};
 ghost use Rattle.pack.specs.Meaning.{optNumber};
 ghost use Rattle.rules.specs.Search.{or-else, larger, smaller};
-use pack::cursor::OptNumber;
+use pack::optional::OptNumber;
 
 // One more, at a hit.
 pub fn counted(count: u32, hit: bool) -> u32

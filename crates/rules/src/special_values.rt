@@ -4,14 +4,15 @@ ghost use mathlib.Core.Bool.{_||_};
 ghost use Prim.Native.Nat.{_<_};
 ghost use Rattle.pack.specs.Notation.{_<ᵇ_};
 ghost use Rattle.pack.specs.Meaning.{fieldMeaning, packOf};
-ghost use Rattle.pack.specs.Ready.{PgnAt, PgnIs, pgnIn, fieldIn};
+ghost use Rattle.pack.specs.Ready.{PgnAt, PgnIs};
+ghost use Rattle.pack.specs.Value.{pgn-at, field-at};
 ghost use Rattle.rules.specs.Emit.{Emitted, Fits};
 ghost use Rattle.rules.specs.SpecialValues.{special-max, special-values-at, check-special-values};
 use crate::emit::pgn_error;
 use crate::emit::put_if;
+use pack::field::FieldView;
 use pack::of::field_of;
-use pack::records::FieldView;
-use pack::records::PgnView;
+use pack::pgn::PgnView;
 
 // The largest value of so many bits, at most of 63.
 fn special_max(bits: u32) -> u64
@@ -45,8 +46,8 @@ fn special_values_at(
     k: u32,
     f: FieldView,
 ) -> usize
-    requires { ⌜ Fits n (special-values-at t i k (fieldIn (packOf (now s)) t i k .res-bits) (fieldIn (packOf (now s)) t i k .special-values)) × (fieldMeaning (now s) f ≡ fieldIn (packOf (now s)) t i k) ⌝ }
-    ensures { λ r. ⌜ Emitted (now (out .entry)) n (special-values-at t i k (fieldIn (packOf (now (s .entry))) t i k .res-bits) (fieldIn (packOf (now (s .entry))) t i k .special-values)) (now (out .exit)) r ⌝ }
+    requires { ⌜ Fits n (special-values-at t i k (field-at (pgn-at (packOf (now s)) t i) k .res-bits) (field-at (pgn-at (packOf (now s)) t i) k .special-values)) × (fieldMeaning (now s) f ≡ field-at (pgn-at (packOf (now s)) t i) k) ⌝ }
+    ensures { λ r. ⌜ Emitted (now (out .entry)) n (special-values-at t i k (field-at (pgn-at (packOf (now (s .entry))) t i) k .res-bits) (field-at (pgn-at (packOf (now (s .entry))) t i) k .special-values)) (now (out .exit)) r ⌝ }
 {
     let special = f.links.special;
     if special.given {
@@ -67,8 +68,8 @@ pub fn check_special_values(
     p: usize,
     g: PgnView,
 ) -> usize
-    requires { ⌜ Fits n (check-special-values t i (pgnIn (packOf (now s)) t i)) × PgnAt (now s) (now work) t i p × PgnIs (now s) (pgnIn (packOf (now s)) t i) g ⌝ }
-    ensures { λ r. ⌜ Emitted (now (out .entry)) n (check-special-values t i (pgnIn (packOf (now (s .entry))) t i)) (now (out .exit)) r ⌝ }
+    requires { ⌜ Fits n (check-special-values t i (pgn-at (packOf (now s)) t i)) × PgnAt (now s) (now work) t i p × PgnIs (now s) (pgn-at (packOf (now s)) t i) g ⌝ }
+    ensures { λ r. ⌜ Emitted (now (out .entry)) n (check-special-values t i (pgn-at (packOf (now (s .entry))) t i)) (now (out .exit)) r ⌝ }
 {
     let mut m = n;
     let mut k = 0;

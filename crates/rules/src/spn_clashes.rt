@@ -6,13 +6,14 @@ ghost use lib.ListN.{length};
 ghost use Rattle.pack.specs.Notation.{_==_};
 ghost use Rattle.pack.specs.Items.{bytesOf};
 ghost use Rattle.pack.specs.Meaning.{optNumber, packOf};
-ghost use Rattle.pack.specs.Ready.{Ready, PgnAt, treePlace, pgnIn, fieldIn};
+ghost use Rattle.pack.specs.Ready.{Ready, PgnAt, treePlace};
+ghost use Rattle.pack.specs.Value.{pgn-at, field-at};
 ghost use Rattle.rules.specs.SpnClashes.{other-spn, other-in, other-among, clash-from, may-clash};
-use pack::cursor::OptNumber;
 use pack::load::Section;
 use pack::of::field_name_of;
 use pack::of::field_of;
 use pack::of::pgn_of;
+use pack::optional::OptNumber;
 use pack::text::Text;
 use pack::text::same_text;
 
@@ -28,8 +29,8 @@ fn differs(n: OptNumber, spn: u32) -> bool
 
 // Whether field h of PGN j, which is at q, has that name, and carries another SPN. Few have the name: only of these more is read.
 fn other_spn(s: &[u8], work: &[u32], name: Text, spn: u32, j: u32, q: usize, h: u32) -> bool
-    requires { ⌜ PgnAt (now s) (now work) 1 j q × (h < length (pgnIn (packOf (now s)) 1 j .fields)) ⌝ }
-    ensures { λ r. ⌜ r ≡ other-spn (bytesOf (now (s .entry)) name) spn (fieldIn (packOf (now (s .entry))) 1 j h .name) (fieldIn (packOf (now (s .entry))) 1 j h .spn) ⌝ }
+    requires { ⌜ PgnAt (now s) (now work) 1 j q × (h < length (pgn-at (packOf (now s)) 1 j .fields)) ⌝ }
+    ensures { λ r. ⌜ r ≡ other-spn (bytesOf (now (s .entry)) name) spn (field-at (pgn-at (packOf (now (s .entry))) 1 j) h .name) (field-at (pgn-at (packOf (now (s .entry))) 1 j) h .spn) ⌝ }
 {
     let own = field_name_of(s, work, 1, j, q, h);
     if !same_text(s, own, name) {
@@ -41,8 +42,8 @@ fn other_spn(s: &[u8], work: &[u32], name: Text, spn: u32, j: u32, q: usize, h: 
 
 // Whether a field of PGN j does.
 fn other_in(s: &[u8], work: &[u32], name: Text, spn: u32, j: u32, q: usize, fields: u32) -> bool
-    requires { ⌜ PgnAt (now s) (now work) 1 j q × (fields ≡ length (pgnIn (packOf (now s)) 1 j .fields)) ⌝ }
-    ensures { λ r. ⌜ r ≡ other-in (bytesOf (now (s .entry)) name) spn (pgnIn (packOf (now (s .entry))) 1 j) ⌝ }
+    requires { ⌜ PgnAt (now s) (now work) 1 j q × (fields ≡ length (pgn-at (packOf (now s)) 1 j .fields)) ⌝ }
+    ensures { λ r. ⌜ r ≡ other-in (bytesOf (now (s .entry)) name) spn (pgn-at (packOf (now (s .entry))) 1 j) ⌝ }
 {
     let mut h: u32 = 0;
     while h < fields {
@@ -77,7 +78,7 @@ fn other_among(s: &[u8], work: &[u32], first: usize, i: u32, name: Text, spn: Op
 
 // Whether a field of PGN i, which is at p, has one up to there.
 fn clash_from(s: &[u8], work: &[u32], first: usize, i: u32, p: usize, fields: u32) -> bool
-    requires { ⌜ (first ≡ treePlace (packOf (now s)) 1) × PgnAt (now s) (now work) 1 i p × (fields ≡ length (pgnIn (packOf (now s)) 1 i .fields)) ⌝ }
+    requires { ⌜ (first ≡ treePlace (packOf (now s)) 1) × PgnAt (now s) (now work) 1 i p × (fields ≡ length (pgn-at (packOf (now s)) 1 i .fields)) ⌝ }
     ensures { λ r. ⌜ r ≡ clash-from (packOf (now (s .entry)) .pgns-j1939) i ⌝ }
 {
     let mut k: u32 = 0;

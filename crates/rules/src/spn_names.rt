@@ -6,10 +6,10 @@ ghost use mathlib.Core.Option.{some};
 ghost use Prim.Native.Nat.{_+_};
 ghost use lib.ListN.{length, getD};
 ghost use Rattle.pack.specs.Notation.{_<ᵇ_, _≤ᵇ_, _≐_};
-ghost use Rattle.pack.specs.Value.{noPgn};
+ghost use Rattle.pack.specs.Value.{noPgn, pgn-at};
 ghost use Rattle.pack.specs.Items.{bytesOf};
 ghost use Rattle.pack.specs.Meaning.{optNumber, pgnMeaning, packOf};
-ghost use Rattle.pack.specs.Ready.{Ready, PgnAt, PgnIs, treePlace, pgnIn};
+ghost use Rattle.pack.specs.Ready.{Ready, PgnAt, PgnIs, treePlace};
 ghost use Rattle.rules.specs.Emit.{Emitted, Fits};
 ghost use Rattle.rules.specs.Model.{given};
 ghost use Rattle.rules.specs.PlaceText.{pgn-loc};
@@ -21,12 +21,12 @@ use crate::emit::put;
 use crate::searches::larger;
 use crate::searches::smaller;
 use crate::spn_clashes::may_clash;
-use pack::cursor::OptNumber;
+use pack::field::FieldView;
 use pack::load::Section;
 use pack::of::field_of;
 use pack::of::pgn_of;
-use pack::records::FieldView;
-use pack::records::PgnView;
+use pack::optional::OptNumber;
+use pack::pgn::PgnView;
 use pack::text::Text;
 use pack::text::same_text;
 
@@ -51,8 +51,8 @@ pub fn is_number(n: OptNumber, v: u32) -> bool
 
 // The first field of PGN j, which is at p, that carries the SPN.
 fn spn_field(s: &[u8], work: &[u32], j: u32, p: usize, fields: u32, spn: u32) -> OptNumber
-    requires { ⌜ PgnAt (now s) (now work) 1 j p × (fields ≡ length (pgnIn (packOf (now s)) 1 j .fields)) ⌝ }
-    ensures { λ r. ⌜ optNumber r ≡ spn-field (pgnIn (packOf (now (s .entry))) 1 j) spn ⌝ }
+    requires { ⌜ PgnAt (now s) (now work) 1 j p × (fields ≡ length (pgn-at (packOf (now s)) 1 j .fields)) ⌝ }
+    ensures { λ r. ⌜ optNumber r ≡ spn-field (pgn-at (packOf (now (s .entry))) 1 j) spn ⌝ }
 {
     let mut k: u32 = 0;
     while k < fields {
@@ -83,7 +83,7 @@ fn comes_after(best: Namer, number: u32) -> bool
 
 // The best so far, when PGN j is tried, which is g, at p.
 fn better(s: &[u8], work: &[u32], spn: u32, best: Namer, j: u32, p: usize, g: PgnView) -> Namer
-    requires { ⌜ NamesAmong (now s) (now work) spn j best × PgnAt (now s) (now work) 1 j p × PgnIs (now s) (pgnIn (packOf (now s)) 1 j) g ⌝ }
+    requires { ⌜ NamesAmong (now s) (now work) spn j best × PgnAt (now s) (now work) 1 j p × PgnIs (now s) (pgn-at (packOf (now s)) 1 j) g ⌝ }
     ensures { λ r. ⌜ NamesAmong (now (s .entry)) (now (work .entry)) spn (j + 1) r ⌝ }
 {
     if comes_after(best, g.pgn) {
@@ -169,7 +169,7 @@ fn candidate_in(
     p: usize,
     fields: u32,
 ) -> OptNumber
-    requires { ⌜ PgnAt (now s) (now work) 1 i p × (fields ≡ length (pgnIn (packOf (now s)) 1 i .fields)) ⌝ }
+    requires { ⌜ PgnAt (now s) (now work) 1 i p × (fields ≡ length (pgn-at (packOf (now s)) 1 i .fields)) ⌝ }
     ensures { λ r. ⌜ optNumber r ≡ candidate-in (packOf (now (s .entry)) .pgns-j1939) (bytesOf (now (s .entry)) name) b i ⌝ }
 {
     let mut found = OptNumber {
@@ -299,7 +299,7 @@ fn is_from(b: u64, spn: OptNumber) -> bool
 
 // The least SPN from b on that a field of PGN i carries, which is at p.
 fn least_spn_in(s: &[u8], work: &[u32], b: u64, i: u32, p: usize, fields: u32) -> OptNumber
-    requires { ⌜ PgnAt (now s) (now work) 1 i p × (fields ≡ length (pgnIn (packOf (now s)) 1 i .fields)) ⌝ }
+    requires { ⌜ PgnAt (now s) (now work) 1 i p × (fields ≡ length (pgn-at (packOf (now s)) 1 i .fields)) ⌝ }
     ensures { λ r. ⌜ optNumber r ≡ least-spn-in (packOf (now (s .entry)) .pgns-j1939) b i ⌝ }
 {
     let mut found = OptNumber {

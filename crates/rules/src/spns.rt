@@ -6,10 +6,9 @@ ghost use Prim.Native.Nat.{_<_};
 ghost use lib.ListN.{length};
 ghost use lib.Ieee.{ofBits, binary64, eq};
 ghost use Rattle.pack.specs.Notation.{_==_, concatBelow};
-ghost use Rattle.pack.specs.Value.{pgns-of};
+ghost use Rattle.pack.specs.Value.{pgns-of, pgn-at, field-at};
 ghost use Rattle.pack.specs.Meaning.{optBytes, fieldMeaning, packOf};
-ghost use Rattle.pack.specs.Ready.{Ready, PgnAt, PgnIs, treePlace, pgnIn, fieldIn};
-ghost use Rattle.pack.proofs.Accepted.{IndexIs};
+ghost use Rattle.pack.specs.Ready.{Ready, PgnAt, PgnIs, treePlace, IndexIs};
 ghost use Rattle.rules.specs.Emit.{Emitted, Fits};
 ghost use Rattle.rules.specs.SpnNames.{spn-field};
 ghost use Rattle.rules.specs.Spns.{spns-elsewhere, same-unit, first-seen, unlike-first, spn-at, check-scalings, check-spns};
@@ -17,15 +16,15 @@ use crate::emit::pgn_error;
 use crate::emit::put;
 use crate::emit::put_if;
 use crate::spn_names::is_number;
+use pack::field::FieldView;
+use pack::field::ScalingView;
 use pack::float::float;
 use pack::load::Index;
 use pack::load::Section;
 use pack::of::field_of;
 use pack::of::pgn_of;
+use pack::pgn::PgnView;
 use pack::protocol::Protocol;
-use pack::records::FieldView;
-use pack::records::PgnView;
-use pack::records::ScalingView;
 use pack::text::OptText;
 use pack::text::same_text;
 
@@ -94,8 +93,8 @@ fn same_scaling(s: &[u8], a: Scaling, b: Scaling) -> bool
 
 // The field that carries the SPN first, of the J1939 tree, which begins at `first`: at or before field k of PGN i, which carries it.
 fn first_seen(s: &[u8], work: &[u32], first: usize, i: u32, k: u32, spn: u32) -> Carrier
-    requires { ⌜ Ready (now s) (now work) × (first ≡ treePlace (packOf (now s)) 1) × (i < length (pgns-of (packOf (now s)) 1)) × (k < length (pgnIn (packOf (now s)) 1 i .fields)) × (fieldIn (packOf (now s)) 1 i k .spn ≡ some spn) ⌝ }
-    ensures { λ r. ⌜ (first-seen (pgns-of (packOf (now (s .entry))) 1) spn ≡ some (r .pgn)) × (spn-field (pgnIn (packOf (now (s .entry))) 1 (r .pgn)) spn ≡ some (r .field)) × PgnAt (now (s .entry)) (now (work .entry)) 1 (r .pgn) (r .place) ⌝ }
+    requires { ⌜ Ready (now s) (now work) × (first ≡ treePlace (packOf (now s)) 1) × (i < length (pgns-of (packOf (now s)) 1)) × (k < length (pgn-at (packOf (now s)) 1 i .fields)) × (field-at (pgn-at (packOf (now s)) 1 i) k .spn ≡ some spn) ⌝ }
+    ensures { λ r. ⌜ (first-seen (pgns-of (packOf (now (s .entry))) 1) spn ≡ some (r .pgn)) × (spn-field (pgn-at (packOf (now (s .entry))) 1 (r .pgn)) spn ≡ some (r .field)) × PgnAt (now (s .entry)) (now (work .entry)) 1 (r .pgn) (r .place) ⌝ }
 {
     let mut pgn: u32 = 0;
     let mut place = first;
@@ -137,7 +136,7 @@ fn unlike_first(
     k: u32,
     f: FieldView,
 ) -> usize
-    requires { ⌜ Fits n (unlike-first (pgns-of (packOf (now s)) 1) i k (f .authored .spn .value) (first-seen (pgns-of (packOf (now s)) 1) (f .authored .spn .value))) × Ready (now s) (now work) × (first ≡ treePlace (packOf (now s)) 1) × (i < length (pgns-of (packOf (now s)) 1)) × (k < length (pgnIn (packOf (now s)) 1 i .fields)) × (fieldMeaning (now s) f ≡ fieldIn (packOf (now s)) 1 i k) × (f .authored .spn .given ≡ true) ⌝ }
+    requires { ⌜ Fits n (unlike-first (pgns-of (packOf (now s)) 1) i k (f .authored .spn .value) (first-seen (pgns-of (packOf (now s)) 1) (f .authored .spn .value))) × Ready (now s) (now work) × (first ≡ treePlace (packOf (now s)) 1) × (i < length (pgns-of (packOf (now s)) 1)) × (k < length (pgn-at (packOf (now s)) 1 i .fields)) × (fieldMeaning (now s) f ≡ field-at (pgn-at (packOf (now s)) 1 i) k) × (f .authored .spn .given ≡ true) ⌝ }
     ensures { λ r. ⌜ Emitted (now (out .entry)) n (unlike-first (pgns-of (packOf (now (s .entry))) 1) i k (f .authored .spn .value) (first-seen (pgns-of (packOf (now (s .entry))) 1) (f .authored .spn .value))) (now (out .exit)) r ⌝ }
 {
     let seen = first_seen(s, work, first, i, k, f.authored.spn.value);
@@ -160,8 +159,8 @@ fn spn_at(
     k: u32,
     f: FieldView,
 ) -> usize
-    requires { ⌜ Fits n (spn-at (pgns-of (packOf (now s)) 1) i k (fieldIn (packOf (now s)) 1 i k .spn)) × Ready (now s) (now work) × (first ≡ treePlace (packOf (now s)) 1) × (i < length (pgns-of (packOf (now s)) 1)) × (k < length (pgnIn (packOf (now s)) 1 i .fields)) × (fieldMeaning (now s) f ≡ fieldIn (packOf (now s)) 1 i k) ⌝ }
-    ensures { λ r. ⌜ Emitted (now (out .entry)) n (spn-at (pgns-of (packOf (now (s .entry))) 1) i k (fieldIn (packOf (now (s .entry))) 1 i k .spn)) (now (out .exit)) r ⌝ }
+    requires { ⌜ Fits n (spn-at (pgns-of (packOf (now s)) 1) i k (field-at (pgn-at (packOf (now s)) 1 i) k .spn)) × Ready (now s) (now work) × (first ≡ treePlace (packOf (now s)) 1) × (i < length (pgns-of (packOf (now s)) 1)) × (k < length (pgn-at (packOf (now s)) 1 i .fields)) × (fieldMeaning (now s) f ≡ field-at (pgn-at (packOf (now s)) 1 i) k) ⌝ }
+    ensures { λ r. ⌜ Emitted (now (out .entry)) n (spn-at (pgns-of (packOf (now (s .entry))) 1) i k (field-at (pgn-at (packOf (now (s .entry))) 1 i) k .spn)) (now (out .exit)) r ⌝ }
 {
     let spn = f.authored.spn;
     if spn.given {
@@ -184,8 +183,8 @@ fn check_scalings(
     p: usize,
     g: PgnView,
 ) -> usize
-    requires { ⌜ Fits n (check-scalings (pgns-of (packOf (now s)) 1) i (pgnIn (packOf (now s)) 1 i)) × PgnAt (now s) (now work) 1 i p × (first ≡ treePlace (packOf (now s)) 1) × PgnIs (now s) (pgnIn (packOf (now s)) 1 i) g ⌝ }
-    ensures { λ r. ⌜ Emitted (now (out .entry)) n (check-scalings (pgns-of (packOf (now (s .entry))) 1) i (pgnIn (packOf (now (s .entry))) 1 i)) (now (out .exit)) r ⌝ }
+    requires { ⌜ Fits n (check-scalings (pgns-of (packOf (now s)) 1) i (pgn-at (packOf (now s)) 1 i)) × PgnAt (now s) (now work) 1 i p × (first ≡ treePlace (packOf (now s)) 1) × PgnIs (now s) (pgn-at (packOf (now s)) 1 i) g ⌝ }
+    ensures { λ r. ⌜ Emitted (now (out .entry)) n (check-scalings (pgns-of (packOf (now (s .entry))) 1) i (pgn-at (packOf (now (s .entry))) 1 i)) (now (out .exit)) r ⌝ }
 {
     let mut m = n;
     let mut k: u32 = 0;
@@ -199,8 +198,8 @@ fn check_scalings(
 
 // The J1939 tree.
 fn scalings(out: &mut [u32], n: usize, s: &[u8], work: &[u32], tree: Section) -> usize
-    requires { ⌜ Fits n (concatBelow (λ i. check-scalings (pgns-of (packOf (now s)) 1) i (pgnIn (packOf (now s)) 1 i)) (length (pgns-of (packOf (now s)) 1))) × Ready (now s) (now work) × (tree .count ≡ length (pgns-of (packOf (now s)) 1)) × (tree .place ≡ treePlace (packOf (now s)) 1) ⌝ }
-    ensures { λ r. ⌜ Emitted (now (out .entry)) n (concatBelow (λ i. check-scalings (pgns-of (packOf (now (s .entry))) 1) i (pgnIn (packOf (now (s .entry))) 1 i)) (length (pgns-of (packOf (now (s .entry))) 1))) (now (out .exit)) r ⌝ }
+    requires { ⌜ Fits n (concatBelow (λ i. check-scalings (pgns-of (packOf (now s)) 1) i (pgn-at (packOf (now s)) 1 i)) (length (pgns-of (packOf (now s)) 1))) × Ready (now s) (now work) × (tree .count ≡ length (pgns-of (packOf (now s)) 1)) × (tree .place ≡ treePlace (packOf (now s)) 1) ⌝ }
+    ensures { λ r. ⌜ Emitted (now (out .entry)) n (concatBelow (λ i. check-scalings (pgns-of (packOf (now (s .entry))) 1) i (pgn-at (packOf (now (s .entry))) 1 i)) (length (pgns-of (packOf (now (s .entry))) 1))) (now (out .exit)) r ⌝ }
 {
     let count = tree.count;
     let first = tree.place;
@@ -227,8 +226,8 @@ fn spns_elsewhere(
     p: usize,
     g: PgnView,
 ) -> usize
-    requires { ⌜ Fits n (spns-elsewhere t i (pgnIn (packOf (now s)) t i)) × PgnAt (now s) (now work) t i p × PgnIs (now s) (pgnIn (packOf (now s)) t i) g ⌝ }
-    ensures { λ r. ⌜ Emitted (now (out .entry)) n (spns-elsewhere t i (pgnIn (packOf (now (s .entry))) t i)) (now (out .exit)) r ⌝ }
+    requires { ⌜ Fits n (spns-elsewhere t i (pgn-at (packOf (now s)) t i)) × PgnAt (now s) (now work) t i p × PgnIs (now s) (pgn-at (packOf (now s)) t i) g ⌝ }
+    ensures { λ r. ⌜ Emitted (now (out .entry)) n (spns-elsewhere t i (pgn-at (packOf (now (s .entry))) t i)) (now (out .exit)) r ⌝ }
 {
     let mut m = n;
     let mut k: u32 = 0;
@@ -242,8 +241,8 @@ fn spns_elsewhere(
 
 // Another tree.
 fn elsewhere(out: &mut [u32], n: usize, s: &[u8], work: &[u32], t: u32, tree: Section) -> usize
-    requires { ⌜ Fits n (concatBelow (λ i. spns-elsewhere t i (pgnIn (packOf (now s)) t i)) (length (pgns-of (packOf (now s)) t))) × Ready (now s) (now work) × (t < 3) × (tree .count ≡ length (pgns-of (packOf (now s)) t)) × (tree .place ≡ treePlace (packOf (now s)) t) ⌝ }
-    ensures { λ r. ⌜ Emitted (now (out .entry)) n (concatBelow (λ i. spns-elsewhere t i (pgnIn (packOf (now (s .entry))) t i)) (length (pgns-of (packOf (now (s .entry))) t))) (now (out .exit)) r ⌝ }
+    requires { ⌜ Fits n (concatBelow (λ i. spns-elsewhere t i (pgn-at (packOf (now s)) t i)) (length (pgns-of (packOf (now s)) t))) × Ready (now s) (now work) × (t < 3) × (tree .count ≡ length (pgns-of (packOf (now s)) t)) × (tree .place ≡ treePlace (packOf (now s)) t) ⌝ }
+    ensures { λ r. ⌜ Emitted (now (out .entry)) n (concatBelow (λ i. spns-elsewhere t i (pgn-at (packOf (now (s .entry))) t i)) (length (pgns-of (packOf (now (s .entry))) t))) (now (out .exit)) r ⌝ }
 {
     let count = tree.count;
     let mut m = n;

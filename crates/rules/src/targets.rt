@@ -6,13 +6,14 @@ ghost use lib.ListN.{length};
 ghost use Rattle.pack.specs.Notation.{_≐_};
 ghost use Rattle.pack.specs.Items.{bytesOf};
 ghost use Rattle.pack.specs.Meaning.{optNumber, packOf};
-ghost use Rattle.pack.specs.Ready.{PgnAt, pgnIn, fieldIn};
+ghost use Rattle.pack.specs.Ready.{PgnAt};
+ghost use Rattle.pack.specs.Value.{pgn-at, field-at};
 ghost use Rattle.rules.specs.Search.{firstBelow};
 ghost use Rattle.rules.specs.Model.{target};
 ghost use Rattle.rules.specs.Texts.{NUMBER, LOOKUP};
-use pack::cursor::OptNumber;
+use pack::field_type::FieldTypeView;
 use pack::of::field_id_of;
-use pack::records::FieldTypeView;
+use pack::optional::OptNumber;
 use pack::text::Text;
 use pack::text::same_text;
 use pack::text::text_is;
@@ -27,8 +28,8 @@ pub fn first_with_id(
     n: u32,
     id: Text,
 ) -> OptNumber
-    requires { ⌜ PgnAt (now s) (now work) t i p × (n ≤ length (pgnIn (packOf (now s)) t i .fields)) ⌝ }
-    ensures { λ r. ⌜ optNumber r ≡ firstBelow (λ j. fieldIn (packOf (now (s .entry))) t i j .id ≐ bytesOf (now (s .entry)) id) n ⌝ }
+    requires { ⌜ PgnAt (now s) (now work) t i p × (n ≤ length (pgn-at (packOf (now s)) t i .fields)) ⌝ }
+    ensures { λ r. ⌜ optNumber r ≡ firstBelow (λ j. field-at (pgn-at (packOf (now (s .entry))) t i) j .id ≐ bytesOf (now (s .entry)) id) n ⌝ }
 {
     let mut j: u32 = 0;
     while j < n {
@@ -49,8 +50,8 @@ pub fn first_with_id(
 
 // "A target is the first field with that id", of n fields.
 pub fn target(s: &[u8], work: &[u32], t: u32, i: u32, p: usize, n: u32, id: Text) -> OptNumber
-    requires { ⌜ PgnAt (now s) (now work) t i p × (n ≡ length (pgnIn (packOf (now s)) t i .fields)) ⌝ }
-    ensures { λ r. ⌜ optNumber r ≡ target (pgnIn (packOf (now (s .entry))) t i) (bytesOf (now (s .entry)) id) ⌝ }
+    requires { ⌜ PgnAt (now s) (now work) t i p × (n ≡ length (pgn-at (packOf (now s)) t i .fields)) ⌝ }
+    ensures { λ r. ⌜ optNumber r ≡ target (pgn-at (packOf (now (s .entry))) t i) (bytesOf (now (s .entry)) id) ⌝ }
 {
     first_with_id(s, work, t, i, p, n, id)
 }

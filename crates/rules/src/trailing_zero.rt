@@ -5,7 +5,8 @@ ghost use Prim.Native.Nat.{_≤_, _<_};
 ghost use lib.ListN.{length};
 ghost use Rattle.pack.specs.Notation.{_==_};
 ghost use Rattle.pack.specs.Meaning.{optNumber, optRepeating, fieldMeaning, packOf};
-ghost use Rattle.pack.specs.Ready.{Ready, PgnAt, PgnIs, pgnIn, fieldIn};
+ghost use Rattle.pack.specs.Ready.{Ready, PgnAt, PgnIs};
+ghost use Rattle.pack.specs.Value.{pgn-at, field-at};
 ghost use Rattle.rules.specs.Emit.{Emitted, Fits};
 ghost use Rattle.rules.specs.Search.{anyBelow};
 ghost use Rattle.rules.specs.TrailingZero.{starts-behind, fixed, unsigned-integer, trailing-zero-target-at, trailing-zero-at, check-trailing-zero-is-digit};
@@ -18,13 +19,13 @@ use crate::floats::float_eq;
 use crate::repeating::precedes;
 use crate::targets::integer;
 use crate::targets::target;
-use pack::cursor::OptNumber;
+use pack::field::FieldView;
 use pack::of::field_of;
 use pack::of::type_of;
+use pack::optional::OptNumber;
+use pack::pgn::OptRepeating;
+use pack::pgn::PgnView;
 use pack::protocol::FieldOrder;
-use pack::records::FieldView;
-use pack::records::OptRepeating;
-use pack::records::PgnView;
 use pack::text::text_is;
 
 // The set, if any, starts behind the order.
@@ -49,8 +50,8 @@ fn moves(f: FieldView) -> bool
 
 // Whether such a field is among the first n.
 fn any_moves(s: &[u8], work: &[u32], t: u32, i: u32, p: usize, n: u32) -> bool
-    requires { ⌜ PgnAt (now s) (now work) t i p × (n ≤ length (pgnIn (packOf (now s)) t i .fields)) ⌝ }
-    ensures { λ r. ⌜ r ≡ anyBelow (λ k. (fieldIn (packOf (now (s .entry))) t i k .res-bits == 0) || fieldIn (packOf (now (s .entry))) t i k .proprietary) n ⌝ }
+    requires { ⌜ PgnAt (now s) (now work) t i p × (n ≤ length (pgn-at (packOf (now s)) t i .fields)) ⌝ }
+    ensures { λ r. ⌜ r ≡ anyBelow (λ k. (field-at (pgn-at (packOf (now (s .entry))) t i) k .res-bits == 0) || field-at (pgn-at (packOf (now (s .entry))) t i) k .proprietary) n ⌝ }
 {
     let mut k: u32 = 0;
     while k < n {
@@ -65,8 +66,8 @@ fn any_moves(s: &[u8], work: &[u32], t: u32, i: u32, p: usize, n: u32) -> bool
 
 // Whether field j has a fixed position.
 fn fixed(s: &[u8], work: &[u32], t: u32, i: u32, p: usize, g: PgnView, j: u32) -> bool
-    requires { ⌜ PgnAt (now s) (now work) t i p × PgnIs (now s) (pgnIn (packOf (now s)) t i) g × (j < length (pgnIn (packOf (now s)) t i .fields)) ⌝ }
-    ensures { λ r. ⌜ r ≡ fixed (pgnIn (packOf (now (s .entry))) t i) j ⌝ }
+    requires { ⌜ PgnAt (now s) (now work) t i p × PgnIs (now s) (pgn-at (packOf (now s)) t i) g × (j < length (pgn-at (packOf (now s)) t i .fields)) ⌝ }
+    ensures { λ r. ⌜ r ≡ fixed (pgn-at (packOf (now (s .entry))) t i) j ⌝ }
 {
     if any_moves(s, work, t, i, p, j) {
         return false;
@@ -115,8 +116,8 @@ fn trailing_zero_target_at(
     k: u32,
     j: OptNumber,
 ) -> usize
-    requires { ⌜ Fits n (trailing-zero-target-at (packOf (now s) .fieldtypes) t i (pgnIn (packOf (now s)) t i) k (optNumber j)) × PgnAt (now s) (now work) t i p × PgnIs (now s) (pgnIn (packOf (now s)) t i) g × (k < g .fields) ⌝ }
-    ensures { λ r. ⌜ Emitted (now (out .entry)) n (trailing-zero-target-at (packOf (now (s .entry)) .fieldtypes) t i (pgnIn (packOf (now (s .entry))) t i) k (optNumber j)) (now (out .exit)) r ⌝ }
+    requires { ⌜ Fits n (trailing-zero-target-at (packOf (now s) .fieldtypes) t i (pgn-at (packOf (now s)) t i) k (optNumber j)) × PgnAt (now s) (now work) t i p × PgnIs (now s) (pgn-at (packOf (now s)) t i) g × (k < g .fields) ⌝ }
+    ensures { λ r. ⌜ Emitted (now (out .entry)) n (trailing-zero-target-at (packOf (now (s .entry)) .fieldtypes) t i (pgn-at (packOf (now (s .entry))) t i) k (optNumber j)) (now (out .exit)) r ⌝ }
 {
     if !j.given {
         return put(out, n, pgn_error(44, 2, t, i, k, 0));
@@ -145,8 +146,8 @@ fn trailing_zero_at(
     k: u32,
     f: FieldView,
 ) -> usize
-    requires { ⌜ Fits n (trailing-zero-at (packOf (now s) .fieldtypes) t i (pgnIn (packOf (now s)) t i) k (fieldIn (packOf (now s)) t i k .trailing-zero)) × PgnAt (now s) (now work) t i p × PgnIs (now s) (pgnIn (packOf (now s)) t i) g × (k < g .fields) × (fieldMeaning (now s) f ≡ fieldIn (packOf (now s)) t i k) ⌝ }
-    ensures { λ r. ⌜ Emitted (now (out .entry)) n (trailing-zero-at (packOf (now (s .entry)) .fieldtypes) t i (pgnIn (packOf (now (s .entry))) t i) k (fieldIn (packOf (now (s .entry))) t i k .trailing-zero)) (now (out .exit)) r ⌝ }
+    requires { ⌜ Fits n (trailing-zero-at (packOf (now s) .fieldtypes) t i (pgn-at (packOf (now s)) t i) k (field-at (pgn-at (packOf (now s)) t i) k .trailing-zero)) × PgnAt (now s) (now work) t i p × PgnIs (now s) (pgn-at (packOf (now s)) t i) g × (k < g .fields) × (fieldMeaning (now s) f ≡ field-at (pgn-at (packOf (now s)) t i) k) ⌝ }
+    ensures { λ r. ⌜ Emitted (now (out .entry)) n (trailing-zero-at (packOf (now (s .entry)) .fieldtypes) t i (pgn-at (packOf (now (s .entry))) t i) k (field-at (pgn-at (packOf (now (s .entry))) t i) k .trailing-zero)) (now (out .exit)) r ⌝ }
 {
     if !f.links.trailing.given {
         return n;
@@ -169,8 +170,8 @@ pub fn check_trailing_zero_is_digit(
     p: usize,
     g: PgnView,
 ) -> usize
-    requires { ⌜ Fits n (check-trailing-zero-is-digit (packOf (now s) .fieldtypes) t i (pgnIn (packOf (now s)) t i)) × PgnAt (now s) (now work) t i p × PgnIs (now s) (pgnIn (packOf (now s)) t i) g ⌝ }
-    ensures { λ r. ⌜ Emitted (now (out .entry)) n (check-trailing-zero-is-digit (packOf (now (s .entry)) .fieldtypes) t i (pgnIn (packOf (now (s .entry))) t i)) (now (out .exit)) r ⌝ }
+    requires { ⌜ Fits n (check-trailing-zero-is-digit (packOf (now s) .fieldtypes) t i (pgn-at (packOf (now s)) t i)) × PgnAt (now s) (now work) t i p × PgnIs (now s) (pgn-at (packOf (now s)) t i) g ⌝ }
+    ensures { λ r. ⌜ Emitted (now (out .entry)) n (check-trailing-zero-is-digit (packOf (now (s .entry)) .fieldtypes) t i (pgn-at (packOf (now (s .entry))) t i)) (now (out .exit)) r ⌝ }
 {
     let fields = g.fields;
     let mut m = n;

@@ -4,11 +4,10 @@ ghost use Prim.Native.Nat.{_<_};
 ghost use lib.ListN.{length};
 ghost use Rattle.pack.specs.Notation.{concatBelow};
 ghost use Rattle.pack.specs.Meaning.{packOf};
-ghost use Rattle.pack.specs.Value.{pgns-of};
-ghost use Rattle.pack.specs.Ready.{Ready, PgnAt, PgnIs, pgnIn, lookupPlace, treePlace};
+ghost use Rattle.pack.specs.Value.{pgns-of, pgn-at};
+ghost use Rattle.pack.specs.Ready.{Ready, PgnAt, PgnIs, lookupPlace, treePlace, IndexIs};
 ghost use Rattle.rules.specs.Check.{check-pgn, check-tree, check-tree-continues};
 ghost use Rattle.rules.specs.Emit.{Emitted, Fits};
-ghost use Rattle.pack.proofs.Accepted.{IndexIs};
 use crate::bit_length_field::check_bit_length_field;
 use crate::continues::check_continues;
 use crate::dynamic_length::check_dynamic_length;
@@ -28,8 +27,8 @@ use crate::variants::check_variants;
 use pack::load::Index;
 use pack::load::Section;
 use pack::of::pgn_of;
+use pack::pgn::PgnView;
 use pack::protocol::Protocol;
-use pack::records::PgnView;
 
 // PGN i of tree t, at p, which is g.
 fn check_pgn(
@@ -43,8 +42,8 @@ fn check_pgn(
     p: usize,
     g: PgnView,
 ) -> usize
-    requires { ⌜ Fits n (check-pgn (packOf (now s)) t i (pgnIn (packOf (now s)) t i)) × PgnAt (now s) (now work) t i p × PgnIs (now s) (pgnIn (packOf (now s)) t i) g × (lookups .count ≡ length (packOf (now s) .lookups)) × (lookups .place ≡ lookupPlace (packOf (now s)) 0) ⌝ }
-    ensures { λ r. ⌜ Emitted (now (out .entry)) n (check-pgn (packOf (now (s .entry))) t i (pgnIn (packOf (now (s .entry))) t i)) (now (out .exit)) r ⌝ }
+    requires { ⌜ Fits n (check-pgn (packOf (now s)) t i (pgn-at (packOf (now s)) t i)) × PgnAt (now s) (now work) t i p × PgnIs (now s) (pgn-at (packOf (now s)) t i) g × (lookups .count ≡ length (packOf (now s) .lookups)) × (lookups .place ≡ lookupPlace (packOf (now s)) 0) ⌝ }
+    ensures { λ r. ⌜ Emitted (now (out .entry)) n (check-pgn (packOf (now (s .entry))) t i (pgn-at (packOf (now (s .entry))) t i)) (now (out .exit)) r ⌝ }
 {
     let r02 = check_pgn_range(out, n, s, t, i, g);
     let r04 = check_frame_length(out, r02, s, t, i, g);
@@ -71,8 +70,8 @@ fn check_pgns(
     t: u32,
     tree: Section,
 ) -> usize
-    requires { ⌜ Fits n (concatBelow (λ i. check-pgn (packOf (now s)) t i (pgnIn (packOf (now s)) t i)) (length (pgns-of (packOf (now s)) t))) × Ready (now s) (now work) × (t < 3) × (tree .count ≡ length (pgns-of (packOf (now s)) t)) × (tree .place ≡ treePlace (packOf (now s)) t) × (lookups .count ≡ length (packOf (now s) .lookups)) × (lookups .place ≡ lookupPlace (packOf (now s)) 0) ⌝ }
-    ensures { λ r. ⌜ Emitted (now (out .entry)) n (concatBelow (λ i. check-pgn (packOf (now (s .entry))) t i (pgnIn (packOf (now (s .entry))) t i)) (length (pgns-of (packOf (now (s .entry))) t))) (now (out .exit)) r ⌝ }
+    requires { ⌜ Fits n (concatBelow (λ i. check-pgn (packOf (now s)) t i (pgn-at (packOf (now s)) t i)) (length (pgns-of (packOf (now s)) t))) × Ready (now s) (now work) × (t < 3) × (tree .count ≡ length (pgns-of (packOf (now s)) t)) × (tree .place ≡ treePlace (packOf (now s)) t) × (lookups .count ≡ length (packOf (now s) .lookups)) × (lookups .place ≡ lookupPlace (packOf (now s)) 0) ⌝ }
+    ensures { λ r. ⌜ Emitted (now (out .entry)) n (concatBelow (λ i. check-pgn (packOf (now (s .entry))) t i (pgn-at (packOf (now (s .entry))) t i)) (length (pgns-of (packOf (now (s .entry))) t))) (now (out .exit)) r ⌝ }
 {
     let count = tree.count;
     let mut m = n;

@@ -4,9 +4,9 @@ ghost use mathlib.Core.Bool.{not, _&&_};
 ghost use Prim.Native.Nat.{_≤_, _<_};
 ghost use lib.ListN.{length};
 ghost use Rattle.pack.specs.Notation.{_==_, _≤ᵇ_};
-ghost use Rattle.pack.specs.Value.{pgns-of};
+ghost use Rattle.pack.specs.Value.{pgns-of, pgn-at};
 ghost use Rattle.pack.specs.Meaning.{optNumber, packOf};
-ghost use Rattle.pack.specs.Ready.{Ready, PgnAt, PgnIs, treePlace, pgnIn};
+ghost use Rattle.pack.specs.Ready.{Ready, PgnAt, PgnIs, treePlace};
 ghost use Rattle.rules.specs.Emit.{Emitted, Fits};
 ghost use Rattle.rules.specs.Search.{latestBelow};
 ghost use Rattle.rules.specs.Variants.{has-match, duplicates, in-group, variant-at, group-findings, least-group, check-variants};
@@ -20,10 +20,10 @@ use crate::match_keys::has_match;
 use crate::searches::counted;
 use crate::searches::latest;
 use crate::searches::smaller;
-use pack::cursor::OptNumber;
 use pack::load::Section;
 use pack::of::pgn_of;
-use pack::records::PgnView;
+use pack::optional::OptNumber;
+use pack::pgn::PgnView;
 
 // A variant of that number; fallback ones are none.
 fn in_group(g: PgnView, number: u32) -> bool
@@ -80,8 +80,8 @@ fn duplicate_at(
     p: usize,
     n: u32,
 ) -> bool
-    requires { ⌜ PgnAt (now s) (now work) t j q × PgnIs (now s) (pgnIn (packOf (now s)) t j) g × PgnAt (now s) (now work) t i p × (n ≡ length (pgnIn (packOf (now s)) t i .fields)) ⌝ }
-    ensures { λ r. ⌜ r ≡ (in-group t (pgns-of (packOf (now (s .entry))) t) number j && duplicates (pgnIn (packOf (now (s .entry))) t j) (pgnIn (packOf (now (s .entry))) t i)) ⌝ }
+    requires { ⌜ PgnAt (now s) (now work) t j q × PgnIs (now s) (pgn-at (packOf (now s)) t j) g × PgnAt (now s) (now work) t i p × (n ≡ length (pgn-at (packOf (now s)) t i .fields)) ⌝ }
+    ensures { λ r. ⌜ r ≡ (in-group t (pgns-of (packOf (now (s .entry))) t) number j && duplicates (pgn-at (packOf (now (s .entry))) t j) (pgn-at (packOf (now (s .entry))) t i)) ⌝ }
 {
     if !in_group(g, number) {
         return false;
@@ -100,8 +100,8 @@ fn latest_duplicate(
     p: usize,
     n: u32,
 ) -> OptNumber
-    requires { ⌜ PgnAt (now s) (now work) t i p × (n ≡ length (pgnIn (packOf (now s)) t i .fields)) × (first ≡ treePlace (packOf (now s)) t) ⌝ }
-    ensures { λ r. ⌜ optNumber r ≡ latestBelow (λ j. in-group t (pgns-of (packOf (now (s .entry))) t) number j && duplicates (pgnIn (packOf (now (s .entry))) t j) (pgnIn (packOf (now (s .entry))) t i)) i ⌝ }
+    requires { ⌜ PgnAt (now s) (now work) t i p × (n ≡ length (pgn-at (packOf (now s)) t i .fields)) × (first ≡ treePlace (packOf (now s)) t) ⌝ }
+    ensures { λ r. ⌜ optNumber r ≡ latestBelow (λ j. in-group t (pgns-of (packOf (now (s .entry))) t) number j && duplicates (pgn-at (packOf (now (s .entry))) t j) (pgn-at (packOf (now (s .entry))) t i)) i ⌝ }
 {
     let mut found = OptNumber {
         given: false,
@@ -132,7 +132,7 @@ fn variant_at(
     p: usize,
     g: PgnView,
 ) -> usize
-    requires { ⌜ Fits n (variant-at t (pgns-of (packOf (now s)) t) number i) × PgnAt (now s) (now work) t i p × PgnIs (now s) (pgnIn (packOf (now s)) t i) g × (first ≡ treePlace (packOf (now s)) t) ⌝ }
+    requires { ⌜ Fits n (variant-at t (pgns-of (packOf (now s)) t) number i) × PgnAt (now s) (now work) t i p × PgnIs (now s) (pgn-at (packOf (now s)) t i) g × (first ≡ treePlace (packOf (now s)) t) ⌝ }
     ensures { λ r. ⌜ Emitted (now (out .entry)) n (variant-at t (pgns-of (packOf (now (s .entry))) t) number i) (now (out .exit)) r ⌝ }
 {
     if !in_group(g, number) {
@@ -150,8 +150,8 @@ fn variant_at(
 
 // PGN i, which is g, is of the group and has no match.
 fn matchless_at(s: &[u8], work: &[u32], t: u32, number: u32, i: u32, p: usize, g: PgnView) -> bool
-    requires { ⌜ PgnAt (now s) (now work) t i p × PgnIs (now s) (pgnIn (packOf (now s)) t i) g ⌝ }
-    ensures { λ r. ⌜ r ≡ (in-group t (pgns-of (packOf (now (s .entry))) t) number i && not (has-match (pgnIn (packOf (now (s .entry))) t i) (length (pgnIn (packOf (now (s .entry))) t i .fields)))) ⌝ }
+    requires { ⌜ PgnAt (now s) (now work) t i p × PgnIs (now s) (pgn-at (packOf (now s)) t i) g ⌝ }
+    ensures { λ r. ⌜ r ≡ (in-group t (pgns-of (packOf (now (s .entry))) t) number i && not (has-match (pgn-at (packOf (now (s .entry))) t i) (length (pgn-at (packOf (now (s .entry))) t i .fields)))) ⌝ }
 {
     if !in_group(g, number) {
         return false;

@@ -2,7 +2,7 @@
 use listing::work;
 use pack::at::pgn_at;
 use pack::load::Section;
-use pack::records::PgnView;
+use pack::pgn::PgnView;
 use pack::text::text_is;
 use rules::matches::OptWide;
 use rules::matches::parse_u64;

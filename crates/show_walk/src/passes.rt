@@ -2,9 +2,9 @@
 // set 2, so that no pass leaves its start out.
 ghost use Prim.Native.Nat.{_+_, _≤_, _<_};
 use listing::say;
+use pack::pgn::OptRepeating;
+use pack::pgn::PgnView;
 use pack::protocol::FieldOrder;
-use pack::records::OptRepeating;
-use pack::records::PgnView;
 use rules::continues::holds_order;
 
 // How many passes of each set have begun, of set 2 since set 1's latest.

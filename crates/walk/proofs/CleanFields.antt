@@ -10,11 +10,11 @@ use lib.ListN.{length}
 use lib.Dec.{leb, eqb}
 use borrow.Author.Tests.{ltb-true, leb-true, leb-false, eqb-true, not-false, lt-ltb, le-leb}
 use Rattle.pack.specs.Notation.{if_then_else_, _==_, _≐_}
-use Rattle.pack.specs.Value.{Bytes, Entry, Reference, Field, Repeating, Pgn, Pack}
+use Rattle.pack.specs.Value.{Bytes, Entry, Reference, Field, Repeating, Pgn, Pack, field-at, lookup-at, entry-at}
 use Rattle.rules.specs.SearchLaws.{first-is}
 use Rattle.rules.specs.Search.{anyBelow, firstBelow}
 use Rattle.rules.specs.Findings.{pgn-error, lookup-error, report-if}
-use Rattle.rules.specs.Model.{given, field-at, lookup-at, entry-at, lookup-ref, find-lookup, target, fieldtypes}
+use Rattle.rules.specs.Model.{given, lookup-ref, find-lookup, target, fieldtypes}
 use Rattle.rules.specs.LookupWiring.{is-fieldtype, lookup-found-at, lookup-ref-at, nested-lookup-at, fieldtype-entry-at, check-nested-refs}
 use Rattle.rules.specs.MatchValues.{resolved-at, match-value-at}
 use Rattle.rules.specs.BitLengthField.{variable-binary, bit-length-target-at, bit-length-field-at}

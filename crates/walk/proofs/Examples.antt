@@ -15,7 +15,8 @@ use Rattle.rules.specs.Computed.{computed}
 use Rattle.rules.specs.Findings.{pgn-error, without-error}
 use Rattle.rules.specs.Floats.{ONE}
 use Rattle.rules.specs.Texts.{bytes, BINARY, NUMBER, DYNAMIC-FIELD-KEY, DYNAMIC-FIELD-VALUE}
-use Rattle.walk.specs.Layout.{Layout, sets-hold, share, nested-in, inside-previous, misplaced, clash, stop-1, layout, everyBelow}
+use Rattle.rules.specs.Search.{everyBelow}
+use Rattle.walk.specs.Layout.{Layout, sets-hold, share, nested-in, inside-previous, misplaced, clash, stop-1, layout}
 use Rattle.walk.specs.Stops.{is-missing, lookup-missing, unfit, match-unfit, names-missing, entries-name-missing, lookup-names-missing, reference-names-missing, lacks, lacks-length, stop-at}
 use Rattle.walk.specs.Passes.{put, arrives, look, close, stand}
 use Rattle.walk.specs.Visits.{visited, latest, is-current}

@@ -6,11 +6,12 @@ use mathlib.Core.Bool.{Bool, true, false, not, _||_}
 use mathlib.Core.Option.{Option, none, some}
 use lib.ListN.{length}
 use borrow.Author.Tests.{ltb-true, not-true, lt-ltb, le-ltb, ne-eqb}
-use Rattle.walk.specs.Layout.{Layout, set-at, start, end, nonempty, holds, everyBelow, nested-in, inside-previous, misplaced, clash, stop-1}
+use Rattle.walk.specs.Layout.{Layout, set-at, start, end, nonempty, holds, nested-in, inside-previous, misplaced, clash, stop-1}
 use Rattle.walk.specs.Held.{shares-held, count-field-held, count-fields-held, nonempty-count-fields-held}
 use Rattle.walk.proofs.Tests.{or-i, and-not, imp-e, imp-i, every-e, every-i, none-below}
 use Rattle.walk.proofs.SetFacts.{Holds, holds-i, short, placed-i, nested-e}
 use Rattle.walk.proofs.Never.{Count-placed}
+use Rattle.rules.specs.Search.{everyBelow}
 
 -- what R05 gives of set k, which holds some order
 pub record Fits (L : Layout) (k : ℕ) : Type 0 where

@@ -7,10 +7,10 @@ use mathlib.Core.List.{List}
 use mathlib.Core.Option.{none, some}
 use lib.ListN.{length}
 use borrow.Author.Tests.{lt-ltb}
-use Rattle.pack.specs.Value.{Bytes, Pgn, Pack, pgns-of}
+use Rattle.pack.specs.Value.{Bytes, Pgn, Pack, pgns-of, pgn-at, field-at}
 use Rattle.rules.specs.SearchLaws.{any-hit}
-use Rattle.rules.specs.Search.{anyBelow}
-use Rattle.rules.specs.Model.{pgn-at, field-at, lookup-ref, target}
+use Rattle.rules.specs.Search.{anyBelow, everyBelow}
+use Rattle.rules.specs.Model.{lookup-ref, target}
 use Rattle.rules.specs.DynamicLength.{length-source}
 use Rattle.rules.specs.LookupWiring.{check-lookup-refs}
 use Rattle.rules.specs.MatchValues.{check-match-values}
@@ -20,7 +20,7 @@ use Rattle.rules.specs.TrailingZero.{check-trailing-zero-is-digit}
 use Rattle.rules.specs.Findings.{without-error}
 use Rattle.rules.specs.Check.{check}
 use Rattle.rules.specs.Clean.{Clean, clean-below, clean-pgn, clean-lookup-refs, clean-nested-refs, clean-continues}
-use Rattle.walk.specs.Layout.{layout, everyBelow, sets-hold, stop-1}
+use Rattle.walk.specs.Layout.{layout, sets-hold, stop-1}
 use Rattle.walk.specs.Stops.{is-dynamic-value, lacks-length, stop-at}
 use Rattle.walk.specs.Walk.{End, whole, used-up, stop, Answer, by-visits, walk}
 use Rattle.walk.specs.ByPlace.{placed}

@@ -11,12 +11,11 @@ use lib.Dec.{ltb}
 use lib.Pow.{pow-pos}
 use borrow.Author.Tests.{ltb-true, ltb-false, lt-ltb, le-ltb, le-leb, lt-leb}
 use Rattle.pack.specs.Notation.{if_then_else_, optional, _<ᵇ_, _≤ᵇ_, _≐_}
-use Rattle.pack.specs.Value.{Bytes, Reference, Field, Pgn, Pack}
+use Rattle.pack.specs.Value.{Bytes, Reference, Field, Pgn, Pack, field-at, lookup-at}
 use Rattle.pack.specs.Meaning.{packOf}
-use Rattle.pack.specs.Ready.{lookupIn}
 use Rattle.rules.specs.Search.{or-else, anyBelow}
 use Rattle.rules.specs.SearchLaws.{first-is}
-use Rattle.rules.specs.Model.{field-at, root-of, lookup-ref, find-lookup, target, resolve-match}
+use Rattle.rules.specs.Model.{root-of, lookup-ref, find-lookup, target, resolve-match}
 use Rattle.rules.specs.DynamicLength.{length-source}
 use Rattle.rules.specs.Texts.{DYNAMIC-FIELD-VALUE}
 use Rattle.rules.proofs.Types.{given-is}
@@ -58,12 +57,12 @@ module _ (P : Pack) (p : Pgn) (current : ℕ → Bool) (i reading : ℕ) where
 
 -- 5, by the fieldtype lookup that the reference names
 pub named-reading : {s w : List ℕ} {r : Option Reference} {v : FieldtypeLookup} → Named s w r v → (reading : ℕ) (b : Bool)
-    → b ≡ (v .given && entries-name-missing (packOf s) (lookupIn (packOf s) (v .index) .entries) reading) → b ≡ reference-names-missing (packOf s) r reading
+    → b ≡ (v .given && entries-name-missing (packOf s) (lookup-at (packOf s .lookups) (v .index) .entries) reading) → b ≡ reference-names-missing (packOf s) r reading
 named-reading {s} {w} {r} {v} N reading b e = go (v .given) refl
   where
     go : (g : Bool) → v .given ≡ g → b ≡ reference-names-missing (packOf s) r reading
-    go true g = e ∙ ap (λ (x : Bool). x && entries-name-missing (packOf s) (lookupIn (packOf s) (v .index) .entries) reading) g ∙ sym (N .decide g reading)
-    go false g = e ∙ ap (λ (x : Bool). x && entries-name-missing (packOf s) (lookupIn (packOf s) (v .index) .entries) reading) g ∙ sym (N .none g reading)
+    go true g = e ∙ ap (λ (x : Bool). x && entries-name-missing (packOf s) (lookup-at (packOf s .lookups) (v .index) .entries) reading) g ∙ sym (N .decide g reading)
+    go false g = e ∙ ap (λ (x : Bool). x && entries-name-missing (packOf s) (lookup-at (packOf s .lookups) (v .index) .entries) reading) g ∙ sym (N .none g reading)
 
 -- harmless: no stop, and no fieldtype lookup
 pub and-not-parts : (a b : Bool) → (a && not b) ≡ true → (a ≡ true) × (b ≡ false)

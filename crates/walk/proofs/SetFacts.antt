@@ -8,8 +8,8 @@ use lib.Dec.{ltb, leb, eqb}
 use borrow.Author.Tests.{ltb-true, ltb-false, leb-true, eqb-true, eqb-false, not-false, lt-ltb, le-leb}
 use Rattle.pack.specs.Value.{Repeating}
 use Rattle.rules.specs.SearchLaws.{any-missed}
-use Rattle.rules.specs.Search.{anyBelow}
-use Rattle.walk.specs.Layout.{Layout, no-set, set-at, start, end, nonempty, holds, everyBelow, sets-hold, share, nested-in, inside-previous, misplaced, clash, stop-1}
+use Rattle.rules.specs.Search.{anyBelow, everyBelow}
+use Rattle.walk.specs.Layout.{Layout, no-set, set-at, start, end, nonempty, holds, sets-hold, share, nested-in, inside-previous, misplaced, clash, stop-1}
 use Rattle.walk.specs.ByPlace.{placed}
 use Rattle.walk.proofs.Tests.{and-l, and-r, and-i, or-l, or-r, imp-e, imp-i, and-false, every-e, every-i}
 

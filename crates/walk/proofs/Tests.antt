@@ -7,8 +7,7 @@ use mathlib.Core.Path.{_≡_, refl, sym, _∙_}
 use mathlib.Core.Bool.{Bool, true, false, not, _&&_, _||_, false≢true}
 use lib.Dec.{ltb, leb}
 use borrow.Author.Tests.{ltb-true, ltb-false, le-leb, lt-leb, eq-eqb, ne-eqb}
-use Rattle.rules.specs.Search.{anyBelow}
-use Rattle.walk.specs.Layout.{everyBelow}
+use Rattle.rules.specs.Search.{anyBelow, everyBelow}
 use Rattle.walk.specs.Passes.{put}
 
 pub and-l : (a b : Bool) → (a && b) ≡ true → a ≡ true

@@ -9,12 +9,11 @@ use lib.Dec.{ltb, leb, eqb}
 use borrow.Author.Tests.{ltb-true, leb-false, eqb-true}
 use Rattle.pack.specs.Load.{Verdict, refused, accepted, verdict, indexOf, loaded}
 use Rattle.pack.specs.Meaning.{packOf}
-use Rattle.pack.specs.Value.{Pgn, Pack, pgns-of}
+use Rattle.pack.specs.Value.{Pgn, Pack, pgns-of, pgn-at}
 use Rattle.rules.specs.declared.Finding.{Finding}
 use Rattle.rules.specs.Check.{check}
 use Rattle.rules.specs.Clean.{errors-clean}
 use Rattle.rules.specs.Checked.{checked}
-use Rattle.rules.specs.Model.{pgn-at}
 use Rattle.rules.specs.Findings.{errors, without-error}
 use Rattle.rules.specs.declared.check.Checked.{Checked}
 use Rattle.walk.specs.Demand3.{clean, Kept, work-short, visits-short, walked-whole, walked-used-up, Demand3}

@@ -10,7 +10,6 @@ use Rattle.pack.specs.Meaning.{packOf}
 use Rattle.pack.specs.declared.load.Index.{Index}
 use Rattle.pack.specs.declared.load.Refusal.{Refusal}
 use Rattle.pack.specs.declared.load.Refusal.the-variants.{Absent, Visits}
-use Rattle.rules.specs.Model.{pgn-at}
 use Rattle.walk.specs.Held.{held}
 use Rattle.walk.specs.Walk.{Answer}
 use Rattle.walk.specs.WalkCall.{in-pack, judged, walk-of, walked, visitsLeft, visitsAfter, held-judged, held-told}
@@ -19,6 +18,7 @@ use Rattle.walk.specs.declared.walk.Walked.the-variants.{Refused}
 use Rattle.walk.specs.declared.walk.HeldAnswer.{HeldAnswer}
 use Rattle.walk.proofs.Walks.{Told}
 use Rattle.pack.specs.declared.load.Loaded.the-variants as load
+use Rattle.pack.specs.Value.{pgn-at}
 use Rattle.walk.specs.declared.walk.HeldAnswer.the-variants as held-answer
 
 -- of a walk A over n readings, of a PGN that may be in the pack

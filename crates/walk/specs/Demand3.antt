@@ -7,9 +7,8 @@ use lib.ListN.{length}
 use Rattle.pack.specs.Notation.{_==_}
 use Rattle.pack.specs.Load.{over}
 use Rattle.pack.specs.Meaning.{packOf}
-use Rattle.pack.specs.Value.{Pgn, Pack}
+use Rattle.pack.specs.Value.{Pgn, Pack, pgn-at}
 use Rattle.pack.specs.declared.load.Refusal.the-variants.{Work, Visits}
-use Rattle.rules.specs.Model.{pgn-at}
 use Rattle.rules.specs.declared.check.Checked.{Checked}
 use Rattle.rules.specs.declared.check.Checked.the-variants as check
 use Rattle.walk.specs.Walk.{whole, used-up, Answer}

@@ -4,9 +4,8 @@ use mathlib.Core.Path.{_≡_}
 use mathlib.Core.Bool.{true}
 use mathlib.Core.List.{List}
 use lib.ListN.{length}
-use Rattle.pack.specs.Value.{Pgn, Pack, pgns-of}
+use Rattle.pack.specs.Value.{Pgn, Pack, pgns-of, pgn-at, lookup-at}
 use Rattle.rules.specs.Findings.{without-error}
-use Rattle.rules.specs.Model.{pgn-at, lookup-at}
 use Rattle.rules.specs.Check.{check}
 use Rattle.rules.specs.Clean.{Clean}
 use Rattle.rules.specs.LookupWiring.{check-lookup-refs, check-nested-refs}

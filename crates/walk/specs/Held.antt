@@ -3,11 +3,11 @@ use Prim.Native.Nat.{ℕ, suc}
 use mathlib.Core.Bool.{Bool, true, not, _&&_, _||_}
 use mathlib.Core.Option.{Option, none, some}
 use lib.ListN.{length}
-use Rattle.pack.specs.Value.{Pgn, Pack}
-use Rattle.rules.specs.Search.{anyBelow}
-use Rattle.rules.specs.Model.{field-at, target}
+use Rattle.pack.specs.Value.{Pgn, Pack, field-at}
+use Rattle.rules.specs.Search.{anyBelow, everyBelow}
+use Rattle.rules.specs.Model.{target}
 use Rattle.rules.specs.DynamicLength.{length-source}
-use Rattle.walk.specs.Layout.{Layout, layout, set-at, nonempty, holds, everyBelow, sets-hold, nested-in, clash}
+use Rattle.walk.specs.Layout.{Layout, layout, set-at, nonempty, holds, sets-hold, nested-in, clash}
 use Rattle.walk.specs.Stops.{is-dynamic-value}
 
 -- "nonempty sets share no order unless set 2 is nested"

@@ -7,7 +7,7 @@ use mathlib.Core.Option.{Option, none, some}
 use lib.ListN.{length, getD}
 use Rattle.pack.specs.Notation.{_<ᵇ_, _≤ᵇ_, _==_}
 use Rattle.pack.specs.Value.{Field, Repeating, Pgn}
-use Rattle.rules.specs.Search.{anyBelow}
+use Rattle.rules.specs.Search.{anyBelow, everyBelow}
 
 pub record Layout : Type 0 where
   pub fields : List Field
@@ -41,11 +41,6 @@ nonempty L k = 0 <ᵇ set-at L k .count
 -- set k holds the order o: an empty set holds none
 abbrev pub holds : Layout → ℕ → ℕ → Bool
 holds L k o = (start L k ≤ᵇ o) && (o <ᵇ end L k)
-
--- f at every k below n
-abbrev pub everyBelow : (ℕ → Bool) → ℕ → Bool
-everyBelow f zero = true
-everyBelow f (suc n) = everyBelow f n && f n
 
 -- every set that holds the order a holds the order b
 unfoldable pub sets-hold : Layout → ℕ → ℕ → Bool

@@ -5,9 +5,9 @@ use mathlib.Core.List.{List}
 use mathlib.Core.Option.{Option, none, some}
 use lib.ListN.{length}
 use Rattle.pack.specs.Notation.{if_then_else_, _<ᵇ_, _==_, _≐_}
-use Rattle.pack.specs.Value.{Bytes, Entry, Reference, Field, Pgn, Pack}
+use Rattle.pack.specs.Value.{Bytes, Entry, Reference, Field, Pgn, Pack, field-at, lookup-at, entry-at}
 use Rattle.rules.specs.Search.{anyBelow}
-use Rattle.rules.specs.Model.{given, field-at, lookup-at, entry-at, root-of, lookup-ref, find-lookup, target, fieldtypes, resolve-match}
+use Rattle.rules.specs.Model.{given, root-of, lookup-ref, find-lookup, target, fieldtypes, resolve-match}
 use Rattle.rules.specs.DynamicLength.{length-source}
 use Rattle.rules.specs.LookupWiring.{is-fieldtype}
 use Rattle.rules.specs.Texts.{DYNAMIC-FIELD-VALUE}

@@ -4,8 +4,9 @@ use mathlib.Core.Bool.{Bool, false, not, _&&_, _||_}
 use mathlib.Core.List.{List, [], _∷_}
 use lib.ListN.{length}
 use Rattle.pack.specs.Notation.{if_then_else_, _≤ᵇ_, _==_}
-use Rattle.walk.specs.Layout.{Layout, holds, everyBelow}
+use Rattle.walk.specs.Layout.{Layout, holds}
 use Rattle.walk.specs.Passes.{Place, present}
+use Rattle.rules.specs.Search.{everyBelow}
 
 pub record Visit : Type 0 where
   pub field : ℕ

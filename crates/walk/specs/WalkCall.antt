@@ -6,11 +6,10 @@ use lib.ListN.{length}
 use Rattle.pack.specs.Notation.{_<ᵇ_, _≤ᵇ_, if_then_else_}
 use Rattle.pack.specs.Load.{loaded, over}
 use Rattle.pack.specs.Meaning.{packOf}
-use Rattle.pack.specs.Value.{Pack, pgns-of}
+use Rattle.pack.specs.Value.{Pack, pgns-of, pgn-at}
 use Rattle.pack.specs.declared.load.Loaded.{Loaded}
 use Rattle.pack.specs.declared.load.Loaded.the-variants as load
 use Rattle.pack.specs.declared.load.Refusal.the-variants.{Absent, Visits}
-use Rattle.rules.specs.Model.{pgn-at}
 use Rattle.walk.specs.Walk.{End, whole, used-up, stop, Answer, walk}
 use Rattle.walk.specs.Held.{held}
 use Rattle.walk.specs.declared.walk.End.{End as Ending}

@@ -6,8 +6,8 @@ ghost use Prim.Native.Nat.{suc, _<_};
 ghost use lib.ListN.{length, getD, set};
 ghost use Rattle.pack.specs.Meaning.{packOf};
 ghost use Rattle.pack.specs.Notation.{if_then_else_};
-ghost use Rattle.pack.specs.Ready.{PgnAt, pgnIn};
-ghost use Rattle.pack.proofs.Accepted.{IndexIs};
+ghost use Rattle.pack.specs.Ready.{PgnAt, IndexIs};
+ghost use Rattle.pack.specs.Value.{pgn-at};
 ghost use Rattle.walk.specs.ByPlace.{placed};
 ghost use Rattle.walk.specs.Layout.{layout};
 ghost use Rattle.walk.specs.SetsOf.{SetsAre};
@@ -60,9 +60,9 @@ pub fn stop_at(
     k: u32,
     reading: u64,
 ) -> u32
-    requires { ⌜ PgnAt (now s) (now work) t i p × IndexIs (packOf (now s)) index × SetsAre (layout (pgnIn (packOf (now s)) t i)) sets × Harmless (packOf (now s)) (pgnIn (packOf (now s)) t i) (now harmless) × (k < length (pgnIn (packOf (now s)) t i .fields)) ⌝ }
-    ensures { λ r. ⌜ stop-number r ≡ stop-at (packOf (now (s .entry))) (pgnIn (packOf (now (s .entry))) t i) (placed (layout (pgnIn (packOf (now (s .entry))) t i)) (suc k)) k reading ⌝ }
-    ensures { λ r. ⌜ Harmless (packOf (now (s .entry))) (pgnIn (packOf (now (s .entry))) t i) (now (harmless .exit)) ⌝ }
+    requires { ⌜ PgnAt (now s) (now work) t i p × IndexIs (packOf (now s)) index × SetsAre (layout (pgn-at (packOf (now s)) t i)) sets × Harmless (packOf (now s)) (pgn-at (packOf (now s)) t i) (now harmless) × (k < length (pgn-at (packOf (now s)) t i .fields)) ⌝ }
+    ensures { λ r. ⌜ stop-number r ≡ stop-at (packOf (now (s .entry))) (pgn-at (packOf (now (s .entry))) t i) (placed (layout (pgn-at (packOf (now (s .entry))) t i)) (suc k)) k reading ⌝ }
+    ensures { λ r. ⌜ Harmless (packOf (now (s .entry))) (pgn-at (packOf (now (s .entry))) t i) (now (harmless .exit)) ⌝ }
 {
     if is_marked(harmless, k) {
         return 0;

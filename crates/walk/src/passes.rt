@@ -15,7 +15,7 @@ use crate::sets::Set;
 use crate::sets::Sets;
 use crate::sets::is_nonempty;
 use crate::sets::placed;
-use pack::cursor::OptNumber;
+use pack::optional::OptNumber;
 use pack::protocol::FieldIndex;
 use pack::protocol::FieldOrder;
 

@@ -4,15 +4,16 @@ ghost use mathlib.Core.Bool.{true, not, _&&_, _||_};
 ghost use Prim.Native.Nat.{suc, _+_, _<_};
 ghost use Rattle.pack.specs.Meaning.{optRepeating, packOf};
 ghost use Rattle.pack.specs.Notation.{_<ᵇ_, _==_};
-ghost use Rattle.pack.specs.Ready.{PgnAt, PgnIs, pgnIn};
+ghost use Rattle.pack.specs.Ready.{PgnAt, PgnIs};
+ghost use Rattle.pack.specs.Value.{pgn-at};
 ghost use Rattle.walk.specs.ByPlace.{placed};
 ghost use Rattle.walk.specs.Layout.{Layout, layout, no-set, set-or-empty, sets-hold, clash, stop-1};
 ghost use Rattle.walk.specs.SetsOf.{SetIs, SetsAre, has-orders, in-set, holds-both, sets-share, set-misplaced, in-first};
-use pack::cursor::OptNumber;
+use pack::optional::OptNumber;
+use pack::pgn::OptRepeating;
+use pack::pgn::PgnView;
 use pack::protocol::FieldIndex;
 use pack::protocol::FieldOrder;
-use pack::records::OptRepeating;
-use pack::records::PgnView;
 use rules::bools::and_not;
 use rules::repeating::precedes;
 
@@ -66,8 +67,8 @@ fn set_of(o: OptRepeating) -> Set
 
 // The sets of PGN i of tree t, which is at p and which is g.
 pub fn sets_of(s: &[u8], work: &[u32], t: u32, i: u32, p: usize, g: PgnView) -> Sets
-    requires { ⌜ PgnAt (now s) (now work) t i p × PgnIs (now s) (pgnIn (packOf (now s)) t i) g ⌝ }
-    ensures { λ r. ⌜ SetsAre (layout (pgnIn (packOf (now (s .entry))) t i)) r ⌝ }
+    requires { ⌜ PgnAt (now s) (now work) t i p × PgnIs (now s) (pgn-at (packOf (now s)) t i) g ⌝ }
+    ensures { λ r. ⌜ SetsAre (layout (pgn-at (packOf (now (s .entry))) t i)) r ⌝ }
 {
     Sets {
         fields: g.fields,

@@ -6,8 +6,8 @@ ghost use Prim.Native.Nat.{ℕ, suc, _≤_, _<_};
 ghost use lib.ListN.{length, getD};
 ghost use Rattle.pack.specs.Meaning.{packOf};
 ghost use Rattle.pack.specs.Notation.{if_then_else_};
-ghost use Rattle.pack.specs.Ready.{PgnAt, pgnIn};
-ghost use Rattle.pack.proofs.Accepted.{IndexIs};
+ghost use Rattle.pack.specs.Ready.{PgnAt, IndexIs};
+ghost use Rattle.pack.specs.Value.{pgn-at};
 ghost use Rattle.walk.specs.ByPlace.{by-place, placed};
 ghost use Rattle.walk.specs.Layout.{Layout, layout};
 ghost use Rattle.walk.specs.Passes.{first};
@@ -109,9 +109,9 @@ fn step_at(
     spot: Spot,
     reading: u64,
 ) -> Stepping
-    requires { ⌜ PgnAt (now s) (now work) t i p × IndexIs (packOf (now s)) index × SetsAre (layout (pgnIn (packOf (now s)) t i)) sets × Harmless (packOf (now s)) (pgnIn (packOf (now s)) t i) (now harmless) × (1 ≤ spot .order .0) × (spot .order .0 ≤ length (pgnIn (packOf (now s)) t i .fields)) ⌝ }
-    ensures { λ r. ⌜ step-of r ≡ one-step (layout (pgnIn (packOf (now (s .entry))) t i)) (stop-at (packOf (now (s .entry))) (pgnIn (packOf (now (s .entry))) t i)) (due (place-of spot) (memory-of counts)) reading ⌝ }
-    ensures { λ r. ⌜ Harmless (packOf (now (s .entry))) (pgnIn (packOf (now (s .entry))) t i) (now (harmless .exit)) ⌝ }
+    requires { ⌜ PgnAt (now s) (now work) t i p × IndexIs (packOf (now s)) index × SetsAre (layout (pgn-at (packOf (now s)) t i)) sets × Harmless (packOf (now s)) (pgn-at (packOf (now s)) t i) (now harmless) × (1 ≤ spot .order .0) × (spot .order .0 ≤ length (pgn-at (packOf (now s)) t i .fields)) ⌝ }
+    ensures { λ r. ⌜ step-of r ≡ one-step (layout (pgn-at (packOf (now (s .entry))) t i)) (stop-at (packOf (now (s .entry))) (pgn-at (packOf (now (s .entry))) t i)) (due (place-of spot) (memory-of counts)) reading ⌝ }
+    ensures { λ r. ⌜ Harmless (packOf (now (s .entry))) (pgn-at (packOf (now (s .entry))) t i) (now (harmless .exit)) ⌝ }
 {
     let field = spot.order.0 - 1;
     let stop = stop_at(s, work, index, t, i, p, sets, harmless, field, reading);
@@ -135,9 +135,9 @@ pub fn step(
     state: State,
     reading: u64,
 ) -> Stepping
-    requires { ⌜ PgnAt (now s) (now work) t i p × IndexIs (packOf (now s)) index × SetsAre (layout (pgnIn (packOf (now s)) t i)) sets × Harmless (packOf (now s)) (pgnIn (packOf (now s)) t i) (now harmless) × Within (layout (pgnIn (packOf (now s)) t i)) (state-of state) ⌝ }
-    ensures { λ r. ⌜ step-of r ≡ one-step (layout (pgnIn (packOf (now (s .entry))) t i)) (stop-at (packOf (now (s .entry))) (pgnIn (packOf (now (s .entry))) t i)) (state-of state) reading ⌝ }
-    ensures { λ r. ⌜ Harmless (packOf (now (s .entry))) (pgnIn (packOf (now (s .entry))) t i) (now (harmless .exit)) ⌝ }
+    requires { ⌜ PgnAt (now s) (now work) t i p × IndexIs (packOf (now s)) index × SetsAre (layout (pgn-at (packOf (now s)) t i)) sets × Harmless (packOf (now s)) (pgn-at (packOf (now s)) t i) (now harmless) × Within (layout (pgn-at (packOf (now s)) t i)) (state-of state) ⌝ }
+    ensures { λ r. ⌜ step-of r ≡ one-step (layout (pgn-at (packOf (now (s .entry))) t i)) (stop-at (packOf (now (s .entry))) (pgn-at (packOf (now (s .entry))) t i)) (state-of state) reading ⌝ }
+    ensures { λ r. ⌜ Harmless (packOf (now (s .entry))) (pgn-at (packOf (now (s .entry))) t i) (now (harmless .exit)) ⌝ }
 {
     let settling = state.settling;
     if settling.due {

@@ -6,8 +6,8 @@ ghost use Prim.Native.Nat.{ℕ, suc, _+_, _<_};
 ghost use lib.ListN.{length};
 ghost use Rattle.pack.specs.Notation.{_==_};
 ghost use Rattle.pack.specs.Meaning.{optBytes, optReference, entryMeaning, fieldMeaning, packOf};
-ghost use Rattle.pack.specs.Ready.{Ready, LookupAt, PgnAt, lookupIn, pgnIn, fieldIn};
-ghost use Rattle.pack.proofs.Accepted.{IndexIs};
+ghost use Rattle.pack.specs.Ready.{Ready, LookupAt, PgnAt, IndexIs};
+ghost use Rattle.pack.specs.Value.{pgn-at, field-at, lookup-at};
 ghost use Rattle.rules.specs.Search.{anyBelow};
 ghost use Rattle.rules.specs.DynamicLength.{length-source};
 ghost use Rattle.walk.specs.ByPlace.{placed};
@@ -18,15 +18,15 @@ ghost use Rattle.walk.specs.Stops.{is-missing, lookup-missing, match-unf
 use crate::sets::Sets;
 use crate::sets::placed;
 use crate::sets::sets_hold;
+use pack::entry::EntryView;
+use pack::field::FieldView;
+use pack::field::OptReference;
 use pack::load::Index;
 use pack::of::entry_of;
 use pack::of::field_of;
 use pack::of::lookup_of;
 use pack::protocol::FieldIndex;
 use pack::protocol::FieldOrder;
-use pack::records::EntryView;
-use pack::records::FieldView;
-use pack::records::OptReference;
 use pack::text::OptText;
 use pack::text::text_is;
 use rules::bools::and_not;
@@ -129,8 +129,8 @@ fn entries_name_missing(
     entries: u32,
     reading: u64,
 ) -> bool
-    requires { ⌜ LookupAt (now s) (now work) l p × (3 ≡ lookupIn (packOf (now s)) l .kind) × (entries ≡ length (lookupIn (packOf (now s)) l .entries)) × IndexIs (packOf (now s)) index ⌝ }
-    ensures { λ r. ⌜ r ≡ entries-name-missing (packOf (now (s .entry))) (lookupIn (packOf (now (s .entry))) l .entries) reading ⌝ }
+    requires { ⌜ LookupAt (now s) (now work) l p × (3 ≡ lookup-at (packOf (now s) .lookups) l .kind) × (entries ≡ length (lookup-at (packOf (now s) .lookups) l .entries)) × IndexIs (packOf (now s)) index ⌝ }
+    ensures { λ r. ⌜ r ≡ entries-name-missing (packOf (now (s .entry))) (lookup-at (packOf (now (s .entry)) .lookups) l .entries) reading ⌝ }
 {
     let mut e: u32 = 0;
     while e < entries {
@@ -189,8 +189,8 @@ fn lookup_names_missing(
     l: FieldtypeLookup,
     reading: u64,
 ) -> bool
-    requires { ⌜ IndexIs (packOf (now s)) index × (l .given ≡ true → LookupAt (now s) (now work) (l .index) (l .place)) × (l .given ≡ true → 3 ≡ lookupIn (packOf (now s)) (l .index) .kind) × (l .given ≡ true → l .entries ≡ length (lookupIn (packOf (now s)) (l .index) .entries)) ⌝ }
-    ensures { λ b. ⌜ b ≡ (l .given && entries-name-missing (packOf (now (s .entry))) (lookupIn (packOf (now (s .entry))) (l .index) .entries) reading) ⌝ }
+    requires { ⌜ IndexIs (packOf (now s)) index × (l .given ≡ true → LookupAt (now s) (now work) (l .index) (l .place)) × (l .given ≡ true → 3 ≡ lookup-at (packOf (now s) .lookups) (l .index) .kind) × (l .given ≡ true → l .entries ≡ length (lookup-at (packOf (now s) .lookups) (l .index) .entries)) ⌝ }
+    ensures { λ b. ⌜ b ≡ (l .given && entries-name-missing (packOf (now (s .entry))) (lookup-at (packOf (now (s .entry)) .lookups) (l .index) .entries) reading) ⌝ }
 {
     if !l.given {
         return false;
@@ -210,8 +210,8 @@ fn lacks(
     o: FieldOrder,
     id: OptText,
 ) -> bool
-    requires { ⌜ PgnAt (now s) (now work) t i p × SetsAre (layout (pgnIn (packOf (now s)) t i)) sets ⌝ }
-    ensures { λ r. ⌜ r ≡ lacks (pgnIn (packOf (now (s .entry))) t i) (placed (layout (pgnIn (packOf (now (s .entry))) t i)) (o .0)) (optBytes (now (s .entry)) id) ⌝ }
+    requires { ⌜ PgnAt (now s) (now work) t i p × SetsAre (layout (pgn-at (packOf (now s)) t i)) sets ⌝ }
+    ensures { λ r. ⌜ r ≡ lacks (pgn-at (packOf (now (s .entry))) t i) (placed (layout (pgn-at (packOf (now (s .entry))) t i)) (o .0)) (optBytes (now (s .entry)) id) ⌝ }
 {
     if !id.given {
         return false;
@@ -225,8 +225,8 @@ fn lacks(
 
 // Whether field j is a length source.
 fn length_source_at(s: &[u8], work: &[u32], t: u32, i: u32, p: usize, j: u32) -> bool
-    requires { ⌜ PgnAt (now s) (now work) t i p × (j < length (pgnIn (packOf (now s)) t i .fields)) ⌝ }
-    ensures { λ r. ⌜ r ≡ length-source (packOf (now (s .entry)) .fieldtypes) (fieldIn (packOf (now (s .entry))) t i j) ⌝ }
+    requires { ⌜ PgnAt (now s) (now work) t i p × (j < length (pgn-at (packOf (now s)) t i .fields)) ⌝ }
+    ensures { λ r. ⌜ r ≡ length-source (packOf (now (s .entry)) .fieldtypes) (field-at (pgn-at (packOf (now (s .entry))) t i) j) ⌝ }
 {
     let f = field_of(s, work, t, i, p, j);
     let root = root_of(s, work, f.ft);
@@ -244,8 +244,8 @@ fn gives_length(
     o: FieldOrder,
     j: u32,
 ) -> bool
-    requires { ⌜ PgnAt (now s) (now work) t i p × SetsAre (layout (pgnIn (packOf (now s)) t i)) sets × (j < length (pgnIn (packOf (now s)) t i .fields)) ⌝ }
-    ensures { λ r. ⌜ r ≡ (length-source (packOf (now (s .entry)) .fieldtypes) (fieldIn (packOf (now (s .entry))) t i j) && sets-hold (layout (pgnIn (packOf (now (s .entry))) t i)) (suc j) (o .0)) ⌝ }
+    requires { ⌜ PgnAt (now s) (now work) t i p × SetsAre (layout (pgn-at (packOf (now s)) t i)) sets × (j < length (pgn-at (packOf (now s)) t i .fields)) ⌝ }
+    ensures { λ r. ⌜ r ≡ (length-source (packOf (now (s .entry)) .fieldtypes) (field-at (pgn-at (packOf (now (s .entry))) t i) j) && sets-hold (layout (pgn-at (packOf (now (s .entry))) t i)) (suc j) (o .0)) ⌝ }
 {
     if sets_hold(sets, FieldIndex(j).order(), o) {
         return length_source_at(s, work, t, i, p, j);
@@ -255,8 +255,8 @@ fn gives_length(
 
 // Whether a field before field k gives it a length.
 fn has_length(s: &[u8], work: &[u32], t: u32, i: u32, p: usize, sets: Sets, k: u32) -> bool
-    requires { ⌜ PgnAt (now s) (now work) t i p × SetsAre (layout (pgnIn (packOf (now s)) t i)) sets × (k < length (pgnIn (packOf (now s)) t i .fields)) ⌝ }
-    ensures { λ r. ⌜ r ≡ anyBelow (λ j. length-source (packOf (now (s .entry)) .fieldtypes) (fieldIn (packOf (now (s .entry))) t i j) && sets-hold (layout (pgnIn (packOf (now (s .entry))) t i)) (suc j) (suc k)) k ⌝ }
+    requires { ⌜ PgnAt (now s) (now work) t i p × SetsAre (layout (pgn-at (packOf (now s)) t i)) sets × (k < length (pgn-at (packOf (now s)) t i .fields)) ⌝ }
+    ensures { λ r. ⌜ r ≡ anyBelow (λ j. length-source (packOf (now (s .entry)) .fieldtypes) (field-at (pgn-at (packOf (now (s .entry))) t i) j) && sets-hold (layout (pgn-at (packOf (now (s .entry))) t i)) (suc j) (suc k)) k ⌝ }
 {
     let own = FieldIndex(k).order();
     let mut j: u32 = 0;
@@ -280,8 +280,8 @@ pub fn lacks_length(
     k: u32,
     f: FieldView,
 ) -> bool
-    requires { ⌜ PgnAt (now s) (now work) t i p × SetsAre (layout (pgnIn (packOf (now s)) t i)) sets × (k < length (pgnIn (packOf (now s)) t i .fields)) × (fieldMeaning (now s) f ≡ fieldIn (packOf (now s)) t i k) ⌝ }
-    ensures { λ r. ⌜ r ≡ lacks-length (packOf (now (s .entry))) (pgnIn (packOf (now (s .entry))) t i) (placed (layout (pgnIn (packOf (now (s .entry))) t i)) (suc k)) k ⌝ }
+    requires { ⌜ PgnAt (now s) (now work) t i p × SetsAre (layout (pgn-at (packOf (now s)) t i)) sets × (k < length (pgn-at (packOf (now s)) t i .fields)) × (fieldMeaning (now s) f ≡ field-at (pgn-at (packOf (now s)) t i) k) ⌝ }
+    ensures { λ r. ⌜ r ≡ lacks-length (packOf (now (s .entry))) (pgn-at (packOf (now (s .entry))) t i) (placed (layout (pgn-at (packOf (now (s .entry))) t i)) (suc k)) k ⌝ }
 {
     let root = root_of(s, work, f.ft);
     if text_is(s, root, b"DYNAMIC_FIELD_VALUE") {
@@ -301,8 +301,8 @@ fn need_stop(
     k: u32,
     f: FieldView,
 ) -> u32
-    requires { ⌜ PgnAt (now s) (now work) t i p × SetsAre (layout (pgnIn (packOf (now s)) t i)) sets × (k < length (pgnIn (packOf (now s)) t i .fields)) × (fieldMeaning (now s) f ≡ fieldIn (packOf (now s)) t i k) ⌝ }
-    ensures { λ r. ⌜ stop-number r ≡ need-stop (packOf (now (s .entry))) (pgnIn (packOf (now (s .entry))) t i) (placed (layout (pgnIn (packOf (now (s .entry))) t i)) (suc k)) k ⌝ }
+    requires { ⌜ PgnAt (now s) (now work) t i p × SetsAre (layout (pgn-at (packOf (now s)) t i)) sets × (k < length (pgn-at (packOf (now s)) t i .fields)) × (fieldMeaning (now s) f ≡ field-at (pgn-at (packOf (now s)) t i) k) ⌝ }
+    ensures { λ r. ⌜ stop-number r ≡ need-stop (packOf (now (s .entry))) (pgn-at (packOf (now (s .entry))) t i) (placed (layout (pgn-at (packOf (now (s .entry))) t i)) (suc k)) k ⌝ }
 {
     let own = FieldIndex(k).order();
     if lacks(s, work, t, i, p, sets, own, f.links.length) {
@@ -338,9 +338,9 @@ pub fn judge(
     k: u32,
     reading: u64,
 ) -> Judged
-    requires { ⌜ PgnAt (now s) (now work) t i p × IndexIs (packOf (now s)) index × SetsAre (layout (pgnIn (packOf (now s)) t i)) sets × (k < length (pgnIn (packOf (now s)) t i .fields)) ⌝ }
-    ensures { λ r. ⌜ stop-number (r .stop) ≡ stop-at (packOf (now (s .entry))) (pgnIn (packOf (now (s .entry))) t i) (placed (layout (pgnIn (packOf (now (s .entry))) t i)) (suc k)) k reading ⌝ }
-    ensures { λ r. ⌜ (r .harmless ≡ true → (other : ℕ) → stop-at (packOf (now (s .entry))) (pgnIn (packOf (now (s .entry))) t i) (placed (layout (pgnIn (packOf (now (s .entry))) t i)) (suc k)) k other ≡ none) ⌝ }
+    requires { ⌜ PgnAt (now s) (now work) t i p × IndexIs (packOf (now s)) index × SetsAre (layout (pgn-at (packOf (now s)) t i)) sets × (k < length (pgn-at (packOf (now s)) t i .fields)) ⌝ }
+    ensures { λ r. ⌜ stop-number (r .stop) ≡ stop-at (packOf (now (s .entry))) (pgn-at (packOf (now (s .entry))) t i) (placed (layout (pgn-at (packOf (now (s .entry))) t i)) (suc k)) k reading ⌝ }
+    ensures { λ r. ⌜ (r .harmless ≡ true → (other : ℕ) → stop-at (packOf (now (s .entry))) (pgn-at (packOf (now (s .entry))) t i) (placed (layout (pgn-at (packOf (now (s .entry))) t i)) (suc k)) k other ≡ none) ⌝ }
 {
     let f = field_of(s, work, t, i, p, k);
     let by_field = field_stop(s, work, index, f);

@@ -5,9 +5,8 @@ ghost use Prim.Native.Nat.{_≤_};
 ghost use lib.ListN.{length};
 ghost use Rattle.pack.specs.Load.{over, workAfter};
 ghost use Rattle.pack.specs.Meaning.{packOf};
-ghost use Rattle.pack.specs.Ready.{Ready, PgnAt, pgnIn};
-ghost use Rattle.pack.proofs.Accepted.{IndexIs};
-ghost use Rattle.rules.specs.Model.{pgn-at};
+ghost use Rattle.pack.specs.Ready.{Ready, PgnAt, IndexIs};
+ghost use Rattle.pack.specs.Value.{pgn-at};
 ghost use Rattle.walk.specs.Held.{held};
 ghost use Rattle.walk.specs.Layout.{layout, stop-1};
 ghost use Rattle.walk.specs.SetsOf.{SetsAre};
@@ -86,9 +85,9 @@ fn walk_on(
     readings: &[u64],
     visits: &mut [u32],
 ) -> Walked
-    requires { ⌜ PgnAt (now s) (now work) t i p × IndexIs (packOf (now s)) index × SetsAre (layout (pgnIn (packOf (now s)) t i)) sets × Harmless (packOf (now s)) (pgnIn (packOf (now s)) t i) (now harmless) × (stop-1 (layout (pgnIn (packOf (now s)) t i)) ≡ false) × (length (now readings) ≤ length (now visits)) ⌝ }
-    ensures { λ r. ⌜ r ≡ told (walk (packOf (now (s .entry))) (pgnIn (packOf (now (s .entry))) t i) (now (readings .entry))) ⌝ }
-    ensures { λ r. ⌜ now (visits .exit) ≡ over (walk (packOf (now (s .entry))) (pgnIn (packOf (now (s .entry))) t i) (now (readings .entry)) .visits) (now (visits .entry)) ⌝ }
+    requires { ⌜ PgnAt (now s) (now work) t i p × IndexIs (packOf (now s)) index × SetsAre (layout (pgn-at (packOf (now s)) t i)) sets × Harmless (packOf (now s)) (pgn-at (packOf (now s)) t i) (now harmless) × (stop-1 (layout (pgn-at (packOf (now s)) t i)) ≡ false) × (length (now readings) ≤ length (now visits)) ⌝ }
+    ensures { λ r. ⌜ r ≡ told (walk (packOf (now (s .entry))) (pgn-at (packOf (now (s .entry))) t i) (now (readings .entry))) ⌝ }
+    ensures { λ r. ⌜ now (visits .exit) ≡ over (walk (packOf (now (s .entry))) (pgn-at (packOf (now (s .entry))) t i) (now (readings .entry)) .visits) (now (visits .entry)) ⌝ }
 {
     let mut state = begin(sets);
     let mut n = 0;
@@ -119,9 +118,9 @@ fn walk_at(
     readings: &[u64],
     visits: &mut [u32],
 ) -> Walked
-    requires { ⌜ PgnAt (now s) (now work) t i p × IndexIs (packOf (now s)) index × SetsAre (layout (pgnIn (packOf (now s)) t i)) sets × (length (now readings) ≤ length (now visits)) ⌝ }
-    ensures { λ r. ⌜ r ≡ told (walk (packOf (now (s .entry))) (pgnIn (packOf (now (s .entry))) t i) (now (readings .entry))) ⌝ }
-    ensures { λ r. ⌜ now (visits .exit) ≡ over (walk (packOf (now (s .entry))) (pgnIn (packOf (now (s .entry))) t i) (now (readings .entry)) .visits) (now (visits .entry)) ⌝ }
+    requires { ⌜ PgnAt (now s) (now work) t i p × IndexIs (packOf (now s)) index × SetsAre (layout (pgn-at (packOf (now s)) t i)) sets × (length (now readings) ≤ length (now visits)) ⌝ }
+    ensures { λ r. ⌜ r ≡ told (walk (packOf (now (s .entry))) (pgn-at (packOf (now (s .entry))) t i) (now (readings .entry))) ⌝ }
+    ensures { λ r. ⌜ now (visits .exit) ≡ over (walk (packOf (now (s .entry))) (pgn-at (packOf (now (s .entry))) t i) (now (readings .entry)) .visits) (now (visits .entry)) ⌝ }
 {
     if stop_1(sets) {
         return Walked::Ended {
@@ -148,7 +147,7 @@ fn walk_at(
 fn find_pgn(s: &[u8], work: &[u32], index: Index, tree: u32, pgn: u32) -> FoundPgn
     requires { ⌜ Ready (now s) (now work) × IndexIs (packOf (now s)) index ⌝ }
     ensures { λ r. ⌜ r .given ≡ in-pack (packOf (now (s .entry))) tree pgn ⌝ }
-    ensures { λ r. ⌜ (r .given ≡ true → PgnAt (now (s .entry)) (now (work .entry)) tree pgn (r .place) × SetsAre (layout (pgnIn (packOf (now (s .entry))) tree pgn)) (r .sets)) ⌝ }
+    ensures { λ r. ⌜ (r .given ≡ true → PgnAt (now (s .entry)) (now (work .entry)) tree pgn (r .place) × SetsAre (layout (pgn-at (packOf (now (s .entry))) tree pgn)) (r .sets)) ⌝ }
 {
     if Protocol::COUNT <= tree as usize {
         return absent();

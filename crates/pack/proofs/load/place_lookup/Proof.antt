@@ -1,6 +1,6 @@
 use Rattle.pack.proofs.Places.{placed-refused, placed-parts, room-head}
 use Rattle.pack.proofs.Reading.{lookup-reader, lookup-moves, entries-reader}
-use Rattle.pack.specs.declared.records.LookupItem.{LookupItem}
+use Rattle.pack.specs.declared.lookup.LookupItem.{LookupItem}
 use Rattle.pack.specs.Format.{entries, lookupNext, lookupRecords}
 use Rattle.pack.specs.Records.{lookupAt}
 use native.Mathlib.Omega.{arith}

@@ -2,7 +2,7 @@ use Rattle.pack.specs.declared.cursor.Cursor.{Cursor}
 use Rattle.pack.specs.Format.{fieldOffsets, fields, pgnNext, pgnRecords}
 use Rattle.pack.proofs.Places.{placed-refused, placed-parts, room-head}
 use Rattle.pack.proofs.Reading.{pgn-reader, pgn-moves, fields-reader}
-use Rattle.pack.specs.declared.records.PgnItem.{PgnItem}
+use Rattle.pack.specs.declared.pgn.PgnItem.{PgnItem}
 use Rattle.pack.specs.Placing.{PlacedTo}
 use Rattle.pack.specs.Records.{pgnAt}
 use Prim.Native.Nat.{ℕ, _+_}

@@ -1,12 +1,11 @@
 use Rattle.rules.specs.BitLengthField.{variable-binary, bit-length-target-at, bit-length-field-at}
-use Rattle.rules.specs.Model.{target, given, field-at}
+use Rattle.rules.specs.Model.{target, given}
 use Rattle.rules.specs.Findings.{report-if, pgn-error}
 use Rattle.rules.specs.declared.Finding.{Finding}
-use Rattle.pack.specs.declared.records.FieldView.{FieldView}
-use Rattle.pack.specs.Ready.{pgnIn}
+use Rattle.pack.specs.declared.field.FieldView.{FieldView}
 use Rattle.pack.specs.Meaning.{optNumber, fieldMeaning, packOf}
 use Rattle.pack.specs.Items.{bytesOf}
-use Rattle.pack.specs.Value.{Pgn}
+use Rattle.pack.specs.Value.{Pgn, pgn-at, field-at}
 use mathlib.Core.Option.{Option}
 use mathlib.Core.Bool.{Bool, true, false}
 use Prim.Native.Nat.{ℕ}
@@ -41,37 +40,37 @@ pgn-error-requires : tie.Need-pgn-error-requires
 pgn-error-requires c κs = search needs
 
 put-if-requires : tie.Need-put-if-requires
-put-if-requires c κs = rw (without (now (c .before .before .before .before .before .before .before .before .args .s)) (c .before .before .before .before .before .before .before .before .args .t) (c .before .before .before .before .before .before .before .before .args .i) (c .before .before .before .before .before .before .before .before .args .k) (pgnIn (packOf (now (c .before .before .before .before .before .before .before .before .args .s))) (c .before .before .before .before .before .before .before .before .args .t) (c .before .before .before .before .before .before .before .before .args .i)) (c .before .before .before .before .before .before .before .before .args .f) (c .before .before .before .before .before .before .before .before .pre .4) (c .before .before .before .before .variable-binary .result) (c .before .before .before .before .variable-binary .ensures) (not-true (c .before .before .before .before .before .before .before .before .args .f .links .length .given) (c .before .before .if1 .taken)) (c .pgn-error .result) (c .pgn-error .ensures)) at (c .before .before .before .before .before .before .before .before .pre .0)
+put-if-requires c κs = rw (without (now (c .before .before .before .before .before .before .before .before .args .s)) (c .before .before .before .before .before .before .before .before .args .t) (c .before .before .before .before .before .before .before .before .args .i) (c .before .before .before .before .before .before .before .before .args .k) (pgn-at (packOf (now (c .before .before .before .before .before .before .before .before .args .s))) (c .before .before .before .before .before .before .before .before .args .t) (c .before .before .before .before .before .before .before .before .args .i)) (c .before .before .before .before .before .before .before .before .args .f) (c .before .before .before .before .before .before .before .before .pre .4) (c .before .before .before .before .variable-binary .result) (c .before .before .before .before .variable-binary .ensures) (not-true (c .before .before .before .before .before .before .before .before .args .f .links .length .given) (c .before .before .if1 .taken)) (c .pgn-error .result) (c .pgn-error .ensures)) at (c .before .before .before .before .before .before .before .before .pre .0)
 
 same-length : tie.Need-same-length
 same-length c = search needs
 
 returns : tie.Need-returns
-returns c = rw (without (now (c .before .before .before .before .before .before .before .before .before .before .before .args .s)) (c .before .before .before .before .before .before .before .before .before .before .before .args .t) (c .before .before .before .before .before .before .before .before .before .before .before .args .i) (c .before .before .before .before .before .before .before .before .before .before .before .args .k) (pgnIn (packOf (now (c .before .before .before .before .before .before .before .before .before .before .before .args .s))) (c .before .before .before .before .before .before .before .before .before .before .before .args .t) (c .before .before .before .before .before .before .before .before .before .before .before .args .i)) (c .before .before .before .before .before .before .before .before .before .before .before .args .f) (c .before .before .before .before .before .before .before .before .before .before .before .pre .4) (c .before .before .before .before .before .before .before .variable-binary .result) (c .before .before .before .before .before .before .before .variable-binary .ensures) (not-true (c .before .before .before .before .before .before .before .before .before .before .before .args .f .links .length .given) (c .before .before .before .before .before .if1 .taken)) (c .before .before .before .pgn-error .result) (c .before .before .before .pgn-error .ensures)) (c .before .before .put-if .ensures)
+returns c = rw (without (now (c .before .before .before .before .before .before .before .before .before .before .before .args .s)) (c .before .before .before .before .before .before .before .before .before .before .before .args .t) (c .before .before .before .before .before .before .before .before .before .before .before .args .i) (c .before .before .before .before .before .before .before .before .before .before .before .args .k) (pgn-at (packOf (now (c .before .before .before .before .before .before .before .before .before .before .before .args .s))) (c .before .before .before .before .before .before .before .before .before .before .before .args .t) (c .before .before .before .before .before .before .before .before .before .before .before .args .i)) (c .before .before .before .before .before .before .before .before .before .before .before .args .f) (c .before .before .before .before .before .before .before .before .before .before .before .pre .4) (c .before .before .before .before .before .before .before .variable-binary .result) (c .before .before .before .before .before .before .before .variable-binary .ensures) (not-true (c .before .before .before .before .before .before .before .before .before .before .before .args .f .links .length .given) (c .before .before .before .before .before .if1 .taken)) (c .before .before .before .pgn-error .result) (c .before .before .before .pgn-error .ensures)) (c .before .before .put-if .ensures)
 
 pgn-error-requires-2 : tie.Need-pgn-error-requires-2
 pgn-error-requires-2 c κs = search needs
 
 put-requires : tie.Need-put-requires
-put-requires c κs = rw (needless (now (c .before .before .before .before .before .before .before .before .before .args .s)) (c .before .before .before .before .before .before .before .before .before .args .t) (c .before .before .before .before .before .before .before .before .before .args .i) (c .before .before .before .before .before .before .before .before .before .args .k) (pgnIn (packOf (now (c .before .before .before .before .before .before .before .before .before .args .s))) (c .before .before .before .before .before .before .before .before .before .args .t) (c .before .before .before .before .before .before .before .before .before .args .i)) (c .before .before .before .before .before .before .before .before .before .args .f) (c .before .before .before .before .before .before .before .before .before .pre .4) (c .before .before .before .before .before .variable-binary .result) (c .before .before .before .before .before .variable-binary .ensures) (not-false (c .before .before .before .before .before .before .before .before .before .args .f .links .length .given) (c .before .before .before .if1 .left)) (not-true (c .before .before .before .before .before .variable-binary .result) (c .before .before .if2 .taken)) (c .pgn-error2 .result) (c .pgn-error2 .ensures)) at (c .before .before .before .before .before .before .before .before .before .pre .0)
+put-requires c κs = rw (needless (now (c .before .before .before .before .before .before .before .before .before .args .s)) (c .before .before .before .before .before .before .before .before .before .args .t) (c .before .before .before .before .before .before .before .before .before .args .i) (c .before .before .before .before .before .before .before .before .before .args .k) (pgn-at (packOf (now (c .before .before .before .before .before .before .before .before .before .args .s))) (c .before .before .before .before .before .before .before .before .before .args .t) (c .before .before .before .before .before .before .before .before .before .args .i)) (c .before .before .before .before .before .before .before .before .before .args .f) (c .before .before .before .before .before .before .before .before .before .pre .4) (c .before .before .before .before .before .variable-binary .result) (c .before .before .before .before .before .variable-binary .ensures) (not-false (c .before .before .before .before .before .before .before .before .before .args .f .links .length .given) (c .before .before .before .if1 .left)) (not-true (c .before .before .before .before .before .variable-binary .result) (c .before .before .if2 .taken)) (c .pgn-error2 .result) (c .pgn-error2 .ensures)) at (c .before .before .before .before .before .before .before .before .before .pre .0)
 
 same-length-2 : tie.Need-same-length-2
 same-length-2 c = search needs
 
 returns-2 : tie.Need-returns-2
-returns-2 c = rw (needless (now (c .before .before .before .before .before .before .before .before .before .before .before .before .args .s)) (c .before .before .before .before .before .before .before .before .before .before .before .before .args .t) (c .before .before .before .before .before .before .before .before .before .before .before .before .args .i) (c .before .before .before .before .before .before .before .before .before .before .before .before .args .k) (pgnIn (packOf (now (c .before .before .before .before .before .before .before .before .before .before .before .before .args .s))) (c .before .before .before .before .before .before .before .before .before .before .before .before .args .t) (c .before .before .before .before .before .before .before .before .before .before .before .before .args .i)) (c .before .before .before .before .before .before .before .before .before .before .before .before .args .f) (c .before .before .before .before .before .before .before .before .before .before .before .before .pre .4) (c .before .before .before .before .before .before .before .before .variable-binary .result) (c .before .before .before .before .before .before .before .before .variable-binary .ensures) (not-false (c .before .before .before .before .before .before .before .before .before .before .before .before .args .f .links .length .given) (c .before .before .before .before .before .before .if1 .left)) (not-true (c .before .before .before .before .before .before .before .before .variable-binary .result) (c .before .before .before .before .before .if2 .taken)) (c .before .before .before .pgn-error2 .result) (c .before .before .before .pgn-error2 .ensures)) (c .before .before .put .ensures)
+returns-2 c = rw (needless (now (c .before .before .before .before .before .before .before .before .before .before .before .before .args .s)) (c .before .before .before .before .before .before .before .before .before .before .before .before .args .t) (c .before .before .before .before .before .before .before .before .before .before .before .before .args .i) (c .before .before .before .before .before .before .before .before .before .before .before .before .args .k) (pgn-at (packOf (now (c .before .before .before .before .before .before .before .before .before .before .before .before .args .s))) (c .before .before .before .before .before .before .before .before .before .before .before .before .args .t) (c .before .before .before .before .before .before .before .before .before .before .before .before .args .i)) (c .before .before .before .before .before .before .before .before .before .before .before .before .args .f) (c .before .before .before .before .before .before .before .before .before .before .before .before .pre .4) (c .before .before .before .before .before .before .before .before .variable-binary .result) (c .before .before .before .before .before .before .before .before .variable-binary .ensures) (not-false (c .before .before .before .before .before .before .before .before .before .before .before .before .args .f .links .length .given) (c .before .before .before .before .before .before .if1 .left)) (not-true (c .before .before .before .before .before .before .before .before .variable-binary .result) (c .before .before .before .before .before .if2 .taken)) (c .before .before .before .pgn-error2 .result) (c .before .before .before .pgn-error2 .ensures)) (c .before .before .put .ensures)
 
 target-requires : tie.Need-target-requires
 target-requires c κs = (c .before .before .before .before .before .before .before .pre .1, c .before .before .before .before .before .before .before .pre .2)
 
 bit-length-target-at-requires : tie.Need-bit-length-target-at-requires
-bit-length-target-at-requires c κs = ((rw (with-target (now (c .before .before .before .before .before .before .before .before .before .args .s)) (c .before .before .before .before .before .before .before .before .before .args .t) (c .before .before .before .before .before .before .before .before .before .args .i) (c .before .before .before .before .before .before .before .before .before .args .k) (pgnIn (packOf (now (c .before .before .before .before .before .before .before .before .before .args .s))) (c .before .before .before .before .before .before .before .before .before .args .t) (c .before .before .before .before .before .before .before .before .before .args .i)) (c .before .before .before .before .before .before .before .before .before .args .f) (c .before .before .before .before .before .before .before .before .before .pre .4) (c .before .before .before .before .before .variable-binary .result) (c .before .before .before .before .before .variable-binary .ensures) (not-false (c .before .before .before .before .before .before .before .before .before .args .f .links .length .given) (c .before .before .before .if1 .left)) (not-false (c .before .before .before .before .before .variable-binary .result) (c .before .before .if2 .left)) (optNumber (c .before .target .result)) (c .before .target .ensures)) at (c .before .before .before .before .before .before .before .before .before .pre .0)), c .before .before .before .before .before .before .before .before .before .pre .1, omega (arith, c .before .before .before .before .before .before .before .before .before .pre .2, c .before .before .before .before .before .before .before .before .before .pre .3))
+bit-length-target-at-requires c κs = ((rw (with-target (now (c .before .before .before .before .before .before .before .before .before .args .s)) (c .before .before .before .before .before .before .before .before .before .args .t) (c .before .before .before .before .before .before .before .before .before .args .i) (c .before .before .before .before .before .before .before .before .before .args .k) (pgn-at (packOf (now (c .before .before .before .before .before .before .before .before .before .args .s))) (c .before .before .before .before .before .before .before .before .before .args .t) (c .before .before .before .before .before .before .before .before .before .args .i)) (c .before .before .before .before .before .before .before .before .before .args .f) (c .before .before .before .before .before .before .before .before .before .pre .4) (c .before .before .before .before .before .variable-binary .result) (c .before .before .before .before .before .variable-binary .ensures) (not-false (c .before .before .before .before .before .before .before .before .before .args .f .links .length .given) (c .before .before .before .if1 .left)) (not-false (c .before .before .before .before .before .variable-binary .result) (c .before .before .if2 .left)) (optNumber (c .before .target .result)) (c .before .target .ensures)) at (c .before .before .before .before .before .before .before .before .before .pre .0)), c .before .before .before .before .before .before .before .before .before .pre .1, omega (arith, c .before .before .before .before .before .before .before .before .before .pre .2, c .before .before .before .before .before .before .before .before .before .pre .3))
 
 same-length-3 : tie.Need-same-length-3
 same-length-3 c = search needs
 
 returns-3 : tie.Need-returns-3
-returns-3 c = rw (with-target (now (c .before .before .before .before .before .before .before .before .before .before .before .before .args .s)) (c .before .before .before .before .before .before .before .before .before .before .before .before .args .t) (c .before .before .before .before .before .before .before .before .before .before .before .before .args .i) (c .before .before .before .before .before .before .before .before .before .before .before .before .args .k) (pgnIn (packOf (now (c .before .before .before .before .before .before .before .before .before .before .before .before .args .s))) (c .before .before .before .before .before .before .before .before .before .before .before .before .args .t) (c .before .before .before .before .before .before .before .before .before .before .before .before .args .i)) (c .before .before .before .before .before .before .before .before .before .before .before .before .args .f) (c .before .before .before .before .before .before .before .before .before .before .before .before .pre .4) (c .before .before .before .before .before .before .before .before .variable-binary .result) (c .before .before .before .before .before .before .before .before .variable-binary .ensures) (not-false (c .before .before .before .before .before .before .before .before .before .before .before .before .args .f .links .length .given) (c .before .before .before .before .before .before .if1 .left)) (not-false (c .before .before .before .before .before .before .before .before .variable-binary .result) (c .before .before .before .before .before .if2 .left)) (optNumber (c .before .before .before .before .target .result)) (c .before .before .before .before .target .ensures)) (c .before .before .bit-length-target-at .ensures)
+returns-3 c = rw (with-target (now (c .before .before .before .before .before .before .before .before .before .before .before .before .args .s)) (c .before .before .before .before .before .before .before .before .before .before .before .before .args .t) (c .before .before .before .before .before .before .before .before .before .before .before .before .args .i) (c .before .before .before .before .before .before .before .before .before .before .before .before .args .k) (pgn-at (packOf (now (c .before .before .before .before .before .before .before .before .before .before .before .before .args .s))) (c .before .before .before .before .before .before .before .before .before .before .before .before .args .t) (c .before .before .before .before .before .before .before .before .before .before .before .before .args .i)) (c .before .before .before .before .before .before .before .before .before .before .before .before .args .f) (c .before .before .before .before .before .before .before .before .before .before .before .before .pre .4) (c .before .before .before .before .before .before .before .before .variable-binary .result) (c .before .before .before .before .before .before .before .before .variable-binary .ensures) (not-false (c .before .before .before .before .before .before .before .before .before .before .before .before .args .f .links .length .given) (c .before .before .before .before .before .before .if1 .left)) (not-false (c .before .before .before .before .before .before .before .before .variable-binary .result) (c .before .before .before .before .before .if2 .left)) (optNumber (c .before .before .before .before .target .result)) (c .before .before .before .before .target .ensures)) (c .before .before .bit-length-target-at .ensures)
 
 pub bit-length-field-at-spec : {M : Type 1} → statement M
 bit-length-field-at-spec =

@@ -1,13 +1,12 @@
 use Rattle.rules.specs.BitLengthField.{not-bit-count, bit-length-target-at}
 use Rattle.rules.specs.Floats.{float-eq, ONE}
-use Rattle.pack.specs.declared.cursor.OptNumber.{OptNumber}
-use Rattle.rules.specs.Model.{given, field-at}
+use Rattle.pack.specs.declared.optional.OptNumber.{OptNumber}
+use Rattle.rules.specs.Model.{given}
 use Rattle.rules.specs.Findings.{report-if, pgn-error}
 use Rattle.rules.specs.declared.Finding.{Finding}
-use Rattle.pack.specs.declared.records.FieldView.{FieldView}
-use Rattle.pack.specs.Ready.{pgnIn}
+use Rattle.pack.specs.declared.field.FieldView.{FieldView}
 use Rattle.pack.specs.Meaning.{optNumber, fieldMeaning, packOf}
-use Rattle.pack.specs.Value.{Pgn}
+use Rattle.pack.specs.Value.{Pgn, pgn-at, field-at}
 use Rattle.pack.specs.Notation.{_==_, optional}
 use mathlib.Core.Bool.{not, _||_, Bool, true, false}
 use Prim.Native.Nat.{ℕ, _≤_, _<_}
@@ -43,25 +42,25 @@ pgn-error-requires : tie.Need-pgn-error-requires
 pgn-error-requires c κs = search needs
 
 put-requires : tie.Need-put-requires
-put-requires c κs = rw (absent (now (c .before .before .before .before .before .before .before .args .s)) (c .before .before .before .before .before .before .before .args .t) (c .before .before .before .before .before .before .before .args .i) (c .before .before .before .before .before .before .before .args .k) (pgnIn (packOf (now (c .before .before .before .before .before .before .before .args .s))) (c .before .before .before .before .before .before .before .args .t) (c .before .before .before .before .before .before .before .args .i)) (c .before .before .before .before .before .before .before .args .j) (not-true (c .before .before .before .before .before .before .before .args .j .given) (c .before .before .if1 .taken)) (c .pgn-error .result) (c .pgn-error .ensures)) at (c .before .before .before .before .before .before .before .pre .0)
+put-requires c κs = rw (absent (now (c .before .before .before .before .before .before .before .args .s)) (c .before .before .before .before .before .before .before .args .t) (c .before .before .before .before .before .before .before .args .i) (c .before .before .before .before .before .before .before .args .k) (pgn-at (packOf (now (c .before .before .before .before .before .before .before .args .s))) (c .before .before .before .before .before .before .before .args .t) (c .before .before .before .before .before .before .before .args .i)) (c .before .before .before .before .before .before .before .args .j) (not-true (c .before .before .before .before .before .before .before .args .j .given) (c .before .before .if1 .taken)) (c .pgn-error .result) (c .pgn-error .ensures)) at (c .before .before .before .before .before .before .before .pre .0)
 
 same-length : tie.Need-same-length
 same-length c = search needs
 
 returns : tie.Need-returns
-returns c = rw (absent (now (c .before .before .before .before .before .before .before .before .before .before .args .s)) (c .before .before .before .before .before .before .before .before .before .before .args .t) (c .before .before .before .before .before .before .before .before .before .before .args .i) (c .before .before .before .before .before .before .before .before .before .before .args .k) (pgnIn (packOf (now (c .before .before .before .before .before .before .before .before .before .before .args .s))) (c .before .before .before .before .before .before .before .before .before .before .args .t) (c .before .before .before .before .before .before .before .before .before .before .args .i)) (c .before .before .before .before .before .before .before .before .before .before .args .j) (not-true (c .before .before .before .before .before .before .before .before .before .before .args .j .given) (c .before .before .before .before .before .if1 .taken)) (c .before .before .before .pgn-error .result) (c .before .before .before .pgn-error .ensures)) (c .before .before .put .ensures)
+returns c = rw (absent (now (c .before .before .before .before .before .before .before .before .before .before .args .s)) (c .before .before .before .before .before .before .before .before .before .before .args .t) (c .before .before .before .before .before .before .before .before .before .before .args .i) (c .before .before .before .before .before .before .before .before .before .before .args .k) (pgn-at (packOf (now (c .before .before .before .before .before .before .before .before .before .before .args .s))) (c .before .before .before .before .before .before .before .before .before .before .args .t) (c .before .before .before .before .before .before .before .before .before .before .args .i)) (c .before .before .before .before .before .before .before .before .before .before .args .j) (not-true (c .before .before .before .before .before .before .before .before .before .before .args .j .given) (c .before .before .before .before .before .if1 .taken)) (c .before .before .before .pgn-error .result) (c .before .before .before .pgn-error .ensures)) (c .before .before .put .ensures)
 
 pgn-error-requires-2 : tie.Need-pgn-error-requires-2
 pgn-error-requires-2 c κs = search needs
 
 put-requires-2 : tie.Need-put-requires-2
-put-requires-2 c κs = rw (later (now (c .before .before .before .before .before .before .before .before .before .args .s)) (c .before .before .before .before .before .before .before .before .before .args .t) (c .before .before .before .before .before .before .before .before .before .args .i) (c .before .before .before .before .before .before .before .before .before .args .k) (pgnIn (packOf (now (c .before .before .before .before .before .before .before .before .before .args .s))) (c .before .before .before .before .before .before .before .before .before .args .t) (c .before .before .before .before .before .before .before .before .before .args .i)) (c .before .before .before .before .before .before .before .before .before .args .j) (not-false (c .before .before .before .before .before .before .before .before .before .args .j .given) (c .before .before .before .before .if1 .left)) (c .before .before .if2 .taken) (c .pgn-error2 .result) (c .pgn-error2 .ensures)) at (c .before .before .before .before .before .before .before .before .before .pre .0)
+put-requires-2 c κs = rw (later (now (c .before .before .before .before .before .before .before .before .before .args .s)) (c .before .before .before .before .before .before .before .before .before .args .t) (c .before .before .before .before .before .before .before .before .before .args .i) (c .before .before .before .before .before .before .before .before .before .args .k) (pgn-at (packOf (now (c .before .before .before .before .before .before .before .before .before .args .s))) (c .before .before .before .before .before .before .before .before .before .args .t) (c .before .before .before .before .before .before .before .before .before .args .i)) (c .before .before .before .before .before .before .before .before .before .args .j) (not-false (c .before .before .before .before .before .before .before .before .before .args .j .given) (c .before .before .before .before .if1 .left)) (c .before .before .if2 .taken) (c .pgn-error2 .result) (c .pgn-error2 .ensures)) at (c .before .before .before .before .before .before .before .before .before .pre .0)
 
 same-length-2 : tie.Need-same-length-2
 same-length-2 c = search needs
 
 returns-2 : tie.Need-returns-2
-returns-2 c = rw (later (now (c .before .before .before .before .before .before .before .before .before .before .before .before .args .s)) (c .before .before .before .before .before .before .before .before .before .before .before .before .args .t) (c .before .before .before .before .before .before .before .before .before .before .before .before .args .i) (c .before .before .before .before .before .before .before .before .before .before .before .before .args .k) (pgnIn (packOf (now (c .before .before .before .before .before .before .before .before .before .before .before .before .args .s))) (c .before .before .before .before .before .before .before .before .before .before .before .before .args .t) (c .before .before .before .before .before .before .before .before .before .before .before .before .args .i)) (c .before .before .before .before .before .before .before .before .before .before .before .before .args .j) (not-false (c .before .before .before .before .before .before .before .before .before .before .before .before .args .j .given) (c .before .before .before .before .before .before .before .if1 .left)) (c .before .before .before .before .before .if2 .taken) (c .before .before .before .pgn-error2 .result) (c .before .before .before .pgn-error2 .ensures)) (c .before .before .put2 .ensures)
+returns-2 c = rw (later (now (c .before .before .before .before .before .before .before .before .before .before .before .before .args .s)) (c .before .before .before .before .before .before .before .before .before .before .before .before .args .t) (c .before .before .before .before .before .before .before .before .before .before .before .before .args .i) (c .before .before .before .before .before .before .before .before .before .before .before .before .args .k) (pgn-at (packOf (now (c .before .before .before .before .before .before .before .before .before .before .before .before .args .s))) (c .before .before .before .before .before .before .before .before .before .before .before .before .args .t) (c .before .before .before .before .before .before .before .before .before .before .before .before .args .i)) (c .before .before .before .before .before .before .before .before .before .before .before .before .args .j) (not-false (c .before .before .before .before .before .before .before .before .before .before .before .before .args .j .given) (c .before .before .before .before .before .before .before .if1 .left)) (c .before .before .before .before .before .if2 .taken) (c .before .before .before .pgn-error2 .result) (c .before .before .before .pgn-error2 .ensures)) (c .before .before .put2 .ensures)
 
 field-of-requires : tie.Need-field-of-requires
 field-of-requires c κs = (c .before .before .before .before .before .before .before .pre .1, omega (arith, c .before .before .before .before .before .before .before .pre .2, c .if2 .left))
@@ -73,13 +72,13 @@ pgn-error-requires-3 : tie.Need-pgn-error-requires-3
 pgn-error-requires-3 c κs = search needs
 
 put-if-requires : tie.Need-put-if-requires
-put-if-requires c κs = rw (earlier (now (c .before .before .before .before .before .before .before .before .before .before .before .args .s)) (c .before .before .before .before .before .before .before .before .before .before .before .args .t) (c .before .before .before .before .before .before .before .before .before .before .before .args .i) (c .before .before .before .before .before .before .before .before .before .before .before .args .k) (pgnIn (packOf (now (c .before .before .before .before .before .before .before .before .before .before .before .args .s))) (c .before .before .before .before .before .before .before .before .before .before .before .args .t) (c .before .before .before .before .before .before .before .before .before .before .before .args .i)) (c .before .before .before .before .before .before .before .before .before .before .before .args .j) (not-false (c .before .before .before .before .before .before .before .before .before .before .before .args .j .given) (c .before .before .before .before .before .before .if1 .left)) (c .before .before .before .before .if2 .left) (c .before .before .before .field-of .result) (c .before .before .before .field-of .ensures) (c .before .before .not-bit-count .result) (c .before .before .not-bit-count .ensures) (c .pgn-error3 .result) (c .pgn-error3 .ensures)) at (c .before .before .before .before .before .before .before .before .before .before .before .pre .0)
+put-if-requires c κs = rw (earlier (now (c .before .before .before .before .before .before .before .before .before .before .before .args .s)) (c .before .before .before .before .before .before .before .before .before .before .before .args .t) (c .before .before .before .before .before .before .before .before .before .before .before .args .i) (c .before .before .before .before .before .before .before .before .before .before .before .args .k) (pgn-at (packOf (now (c .before .before .before .before .before .before .before .before .before .before .before .args .s))) (c .before .before .before .before .before .before .before .before .before .before .before .args .t) (c .before .before .before .before .before .before .before .before .before .before .before .args .i)) (c .before .before .before .before .before .before .before .before .before .before .before .args .j) (not-false (c .before .before .before .before .before .before .before .before .before .before .before .args .j .given) (c .before .before .before .before .before .before .if1 .left)) (c .before .before .before .before .if2 .left) (c .before .before .before .field-of .result) (c .before .before .before .field-of .ensures) (c .before .before .not-bit-count .result) (c .before .before .not-bit-count .ensures) (c .pgn-error3 .result) (c .pgn-error3 .ensures)) at (c .before .before .before .before .before .before .before .before .before .before .before .pre .0)
 
 same-length-3 : tie.Need-same-length-3
 same-length-3 c = search needs
 
 returns-3 : tie.Need-returns-3
-returns-3 c = rw (earlier (now (c .before .before .before .before .before .before .before .before .before .before .before .before .before .before .args .s)) (c .before .before .before .before .before .before .before .before .before .before .before .before .before .before .args .t) (c .before .before .before .before .before .before .before .before .before .before .before .before .before .before .args .i) (c .before .before .before .before .before .before .before .before .before .before .before .before .before .before .args .k) (pgnIn (packOf (now (c .before .before .before .before .before .before .before .before .before .before .before .before .before .before .args .s))) (c .before .before .before .before .before .before .before .before .before .before .before .before .before .before .args .t) (c .before .before .before .before .before .before .before .before .before .before .before .before .before .before .args .i)) (c .before .before .before .before .before .before .before .before .before .before .before .before .before .before .args .j) (not-false (c .before .before .before .before .before .before .before .before .before .before .before .before .before .before .args .j .given) (c .before .before .before .before .before .before .before .before .before .if1 .left)) (c .before .before .before .before .before .before .before .if2 .left) (c .before .before .before .before .before .before .field-of .result) (c .before .before .before .before .before .before .field-of .ensures) (c .before .before .before .before .before .not-bit-count .result) (c .before .before .before .before .before .not-bit-count .ensures) (c .before .before .before .pgn-error3 .result) (c .before .before .before .pgn-error3 .ensures)) (c .before .before .put-if .ensures)
+returns-3 c = rw (earlier (now (c .before .before .before .before .before .before .before .before .before .before .before .before .before .before .args .s)) (c .before .before .before .before .before .before .before .before .before .before .before .before .before .before .args .t) (c .before .before .before .before .before .before .before .before .before .before .before .before .before .before .args .i) (c .before .before .before .before .before .before .before .before .before .before .before .before .before .before .args .k) (pgn-at (packOf (now (c .before .before .before .before .before .before .before .before .before .before .before .before .before .before .args .s))) (c .before .before .before .before .before .before .before .before .before .before .before .before .before .before .args .t) (c .before .before .before .before .before .before .before .before .before .before .before .before .before .before .args .i)) (c .before .before .before .before .before .before .before .before .before .before .before .before .before .before .args .j) (not-false (c .before .before .before .before .before .before .before .before .before .before .before .before .before .before .args .j .given) (c .before .before .before .before .before .before .before .before .before .if1 .left)) (c .before .before .before .before .before .before .before .if2 .left) (c .before .before .before .before .before .before .field-of .result) (c .before .before .before .before .before .before .field-of .ensures) (c .before .before .before .before .before .not-bit-count .result) (c .before .before .before .before .before .not-bit-count .ensures) (c .before .before .before .pgn-error3 .result) (c .before .before .before .pgn-error3 .ensures)) (c .before .before .put-if .ensures)
 
 pub bit-length-target-at-spec : {M : Type 1} → statement M
 bit-length-target-at-spec =

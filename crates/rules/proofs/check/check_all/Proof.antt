@@ -1,6 +1,6 @@
 -- the whole list is as long as its parts
 use lib.ListN.{length-append, length}
-use Rattle.pack.specs.Value.{Pack}
+use Rattle.pack.specs.Value.{Pack, lookup-at}
 use Rattle.rules.specs.Spns.{check-spns}
 use Rattle.rules.specs.LookupNames.{lookup-names-of, check-lookup-names}
 use Rattle.rules.specs.SpnNames.{check-spn-names}
@@ -13,16 +13,15 @@ use mathlib.Core.Path.{_≡_, _∙_}
 use mathlib.Core.List.{_++_}
 use denote.Ref.{now}
 use Rattle.pack.specs.Notation.{concatBelow}
-use Rattle.pack.specs.Ready.{lookupIn}
 use Rattle.pack.specs.Meaning.{packOf}
 use Rattle.rules.proofs.Emits.{emitted-append}
 use Rattle.rules.proofs.check.check_all.Statement.{statement}
 use Rattle.rules.proofs.check.check_all.Tie as tie
 
-parts : (P : Pack) → length (check P) ≡ length (check-fieldtypes (P .fieldtypes)) + length (check-lookup-wiring P) + length (check-spn-names (P .pgns-j1939)) + length (concatBelow (λ l. lookup-names-of l (lookupIn P l)) (length (P .lookups))) + length (concatBelow (check-tree P) 3) + length (check-spns P) + length (concatBelow (check-tree-continues P) 3)
+parts : (P : Pack) → length (check P) ≡ length (check-fieldtypes (P .fieldtypes)) + length (check-lookup-wiring P) + length (check-spn-names (P .pgns-j1939)) + length (concatBelow (λ l. lookup-names-of l (lookup-at (P .lookups) l)) (length (P .lookups))) + length (concatBelow (check-tree P) 3) + length (check-spns P) + length (concatBelow (check-tree-continues P) 3)
 unfolding check check-lookup-names
 parts P =
-    let names = length-append (check-spn-names (P .pgns-j1939)) (concatBelow (λ l. lookup-names-of l (lookupIn P l)) (length (P .lookups))) in
+    let names = length-append (check-spn-names (P .pgns-j1939)) (concatBelow (λ l. lookup-names-of l (lookup-at (P .lookups) l)) (length (P .lookups))) in
     let a = length-append (check-fieldtypes (P .fieldtypes)) (check-lookup-wiring P) in
     let b = length-append (check-fieldtypes (P .fieldtypes) ++ check-lookup-wiring P) (check-lookup-names P) in
     let c = length-append (check-fieldtypes (P .fieldtypes) ++ check-lookup-wiring P ++ check-lookup-names P) (concatBelow (check-tree P) 3) in

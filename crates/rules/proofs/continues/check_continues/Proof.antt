@@ -3,9 +3,9 @@ use Rattle.rules.proofs.Sizes.{fields-few}
 use Rattle.rules.proofs.Emits.{emitted-none, emitted-turn, fits-turn}
 use Rattle.rules.specs.Emit.{Emitted}
 use Rattle.rules.specs.declared.Finding.{Finding}
-use Rattle.pack.specs.Ready.{pgnIn, fieldIn}
 use Rattle.pack.specs.Meaning.{packOf}
 use Rattle.pack.specs.Notation.{concatBelow}
+use Rattle.pack.specs.Value.{pgn-at, field-at}
 use Prim.Native.Nat.{ℕ, _-_, _≤_}
 use native.Mathlib.Omega.{arith}
 use mathlib.Core.Path.{_≡_, refl, _∙_}
@@ -18,7 +18,7 @@ use Rattle.rules.proofs.continues.check_continues.Tie as tie
 
 -- the findings of field k
 abbrev of-field : List ℕ → ℕ → ℕ → ℕ → List Finding
-of-field s t i k = continues-at (packOf s .fieldtypes) t i (pgnIn (packOf s) t i) k (fieldIn (packOf s) t i k .continues)
+of-field s t i k = continues-at (packOf s .fieldtypes) t i (pgn-at (packOf s) t i) k (field-at (pgn-at (packOf s) t i) k .continues)
 
 abbrev Inv-loop : tie.InvT-loop
 Inv-loop out₀ n s work t i p g fields m₀ k₀ out m k = (k ≤ fields) × (length out ≡ length out₀) × Emitted out₀ n (concatBelow (of-field s t i) k) out m
@@ -50,7 +50,7 @@ same-length c = c .before .loop .inv .1
 
 returns : tie.Need-returns Inv-loop μ-loop
 unfolding check-continues
-returns c = let e : length (pgnIn (packOf (now (c .before .before .before .before .before .args .s))) (c .before .before .before .before .before .args .t) (c .before .before .before .before .before .args .i) .fields) ≡ c .before .loop .k = omega (arith, c .before .before .before .before .before .pre .2 .fields, c .before .loop .inv .0, c .loop-test .left) in rw e (c .before .loop .inv .2)
+returns c = let e : length (pgn-at (packOf (now (c .before .before .before .before .before .args .s))) (c .before .before .before .before .before .args .t) (c .before .before .before .before .before .args .i) .fields) ≡ c .before .loop .k = omega (arith, c .before .before .before .before .before .pre .2 .fields, c .before .loop .inv .0, c .loop-test .left) in rw e (c .before .loop .inv .2)
 
 pub check-continues-spec : {M : Type 1} → statement M
 check-continues-spec =

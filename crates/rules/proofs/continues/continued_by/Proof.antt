@@ -3,10 +3,9 @@ use Rattle.rules.specs.Continues.{continued-by}
 use Rattle.rules.specs.SearchLaws.{count-turn}
 use Rattle.rules.specs.Search.{countBelow}
 use Rattle.rules.specs.Model.{is-text}
-use Rattle.pack.specs.Ready.{pgnIn, fieldIn}
 use Rattle.pack.specs.Meaning.{packOf}
 use Rattle.pack.specs.Items.{bytesOf}
-use Rattle.pack.specs.Value.{Field}
+use Rattle.pack.specs.Value.{Field, pgn-at, field-at}
 use mathlib.Core.Bool.{Bool}
 use Prim.Native.Nat.{ℕ, _-_, _≤_}
 use native.Mathlib.Omega.{arith}
@@ -20,7 +19,7 @@ use Rattle.rules.proofs.continues.continued_by.Tie as tie
 
 -- whether field k continues the one with the id
 abbrev continuing : List ℕ → ℕ → ℕ → List ℕ → ℕ → Bool
-continuing s t i id k = is-text (fieldIn (packOf s) t i k .continues) id
+continuing s t i id k = is-text (field-at (pgn-at (packOf s) t i) k .continues) id
 
 abbrev Inv-loop : tie.InvT-loop
 Inv-loop s work t i p n id count₀ k₀ count k = (k ≤ n) × (count ≤ k) × (count ≡ countBelow (continuing s t i (bytesOf s id)) k)
@@ -53,7 +52,7 @@ loop-again c =
 
 returns : tie.Need-returns Inv-loop μ-loop
 unfolding continued-by
-returns c = let e : length (pgnIn (packOf (now (c .before .before .before .before .args .s))) (c .before .before .before .before .args .t) (c .before .before .before .before .args .i) .fields) ≡ c .before .loop .k = omega (arith, c .before .before .before .before .pre .1, c .before .loop .inv .0, c .loop-test .left) in rw e (c .before .loop .inv .2)
+returns c = let e : length (pgn-at (packOf (now (c .before .before .before .before .args .s))) (c .before .before .before .before .args .t) (c .before .before .before .before .args .i) .fields) ≡ c .before .loop .k = omega (arith, c .before .before .before .before .pre .1, c .before .loop .inv .0, c .loop-test .left) in rw e (c .before .loop .inv .2)
 
 pub continued-by-spec : {M : Type 1} → statement M
 continued-by-spec =

@@ -2,14 +2,13 @@ use Rattle.rules.specs.Continues.{continued-at, continued-found-at, cont
 use Rattle.rules.specs.SearchLaws.{first-is}
 use Rattle.rules.specs.Search.{firstBelow}
 use Rattle.rules.proofs.Emits.{emitted-none}
-use Rattle.rules.specs.Model.{given, field-at}
+use Rattle.rules.specs.Model.{given}
 use Rattle.rules.specs.Findings.{pgn-error}
 use Rattle.rules.specs.declared.Finding.{Finding}
-use Rattle.pack.specs.declared.records.FieldView.{FieldView}
-use Rattle.pack.specs.Ready.{pgnIn}
+use Rattle.pack.specs.declared.field.FieldView.{FieldView}
 use Rattle.pack.specs.Meaning.{fieldMeaning, packOf}
 use Rattle.pack.specs.Items.{bytesOf}
-use Rattle.pack.specs.Value.{FieldType, Field, Pgn}
+use Rattle.pack.specs.Value.{FieldType, Field, Pgn, pgn-at, field-at}
 use Rattle.pack.specs.Notation.{_≐_, optional}
 use mathlib.Core.Option.{some}
 use mathlib.Core.Bool.{Bool, true, false}
@@ -44,7 +43,7 @@ module _ (s : List ℕ) (fts : List FieldType) (t i k : ℕ) (p : Pgn) (f : Fiel
     below x = first-is (λ j. field-at p j .id ≐ bytesOf s (f .authored .continues .text)) k v (sym e ∙ (rw x)) .0
 
 returns : tie.Need-returns
-returns c = rw (without (now (c .before .before .before .before .before .args .s)) (packOf (now (c .before .before .before .before .before .args .s)) .fieldtypes) (c .before .before .before .before .before .args .t) (c .before .before .before .before .before .args .i) (c .before .before .before .before .before .args .k) (pgnIn (packOf (now (c .before .before .before .before .before .args .s))) (c .before .before .before .before .before .args .t) (c .before .before .before .before .before .args .i)) (c .before .before .before .before .before .args .f) (c .before .before .before .before .before .pre .4) (not-true (c .before .before .before .before .before .args .f .authored .continues .given) (c .if1 .taken))) (emitted-none (now (c .before .before .before .before .before .args .out)) (c .before .before .before .before .before .args .n))
+returns c = rw (without (now (c .before .before .before .before .before .args .s)) (packOf (now (c .before .before .before .before .before .args .s)) .fieldtypes) (c .before .before .before .before .before .args .t) (c .before .before .before .before .before .args .i) (c .before .before .before .before .before .args .k) (pgn-at (packOf (now (c .before .before .before .before .before .args .s))) (c .before .before .before .before .before .args .t) (c .before .before .before .before .before .args .i)) (c .before .before .before .before .before .args .f) (c .before .before .before .before .before .pre .4) (not-true (c .before .before .before .before .before .args .f .authored .continues .given) (c .if1 .taken))) (emitted-none (now (c .before .before .before .before .before .args .out)) (c .before .before .before .before .before .args .n))
 
 first-with-id-requires : tie.Need-first-with-id-requires
 first-with-id-requires c κs = (c .before .before .before .before .before .before .pre .1, omega (arith, c .before .before .before .before .before .before .pre .2 .fields, c .before .before .before .before .before .before .pre .3))
@@ -53,22 +52,22 @@ pgn-error-requires : tie.Need-pgn-error-requires
 pgn-error-requires c κs = search needs
 
 put-requires : tie.Need-put-requires
-put-requires c κs = rw (absent (now (c .before .before .before .before .before .before .before .before .before .before .before .args .s)) (packOf (now (c .before .before .before .before .before .before .before .before .before .before .before .args .s)) .fieldtypes) (c .before .before .before .before .before .before .before .before .before .before .before .args .t) (c .before .before .before .before .before .before .before .before .before .before .before .args .i) (c .before .before .before .before .before .before .before .before .before .before .before .args .k) (pgnIn (packOf (now (c .before .before .before .before .before .before .before .before .before .before .before .args .s))) (c .before .before .before .before .before .before .before .before .before .before .before .args .t) (c .before .before .before .before .before .before .before .before .before .before .before .args .i)) (c .before .before .before .before .before .before .before .before .before .before .before .args .f) (c .before .before .before .before .before .before .before .before .before .before .before .pre .4) (not-false (c .before .before .before .before .before .before .before .before .before .before .before .args .f .authored .continues .given) (c .before .before .before .before .before .before .if1 .left)) (c .before .before .before .before .first-with-id .result .given) (c .before .before .before .before .first-with-id .result .value) (c .before .before .before .before .first-with-id .ensures) (not-true (c .before .before .before .before .first-with-id .result .given) (c .before .before .if2 .taken)) (c .pgn-error .result) (c .pgn-error .ensures)) at (c .before .before .before .before .before .before .before .before .before .before .before .pre .0)
+put-requires c κs = rw (absent (now (c .before .before .before .before .before .before .before .before .before .before .before .args .s)) (packOf (now (c .before .before .before .before .before .before .before .before .before .before .before .args .s)) .fieldtypes) (c .before .before .before .before .before .before .before .before .before .before .before .args .t) (c .before .before .before .before .before .before .before .before .before .before .before .args .i) (c .before .before .before .before .before .before .before .before .before .before .before .args .k) (pgn-at (packOf (now (c .before .before .before .before .before .before .before .before .before .before .before .args .s))) (c .before .before .before .before .before .before .before .before .before .before .before .args .t) (c .before .before .before .before .before .before .before .before .before .before .before .args .i)) (c .before .before .before .before .before .before .before .before .before .before .before .args .f) (c .before .before .before .before .before .before .before .before .before .before .before .pre .4) (not-false (c .before .before .before .before .before .before .before .before .before .before .before .args .f .authored .continues .given) (c .before .before .before .before .before .before .if1 .left)) (c .before .before .before .before .first-with-id .result .given) (c .before .before .before .before .first-with-id .result .value) (c .before .before .before .before .first-with-id .ensures) (not-true (c .before .before .before .before .first-with-id .result .given) (c .before .before .if2 .taken)) (c .pgn-error .result) (c .pgn-error .ensures)) at (c .before .before .before .before .before .before .before .before .before .before .before .pre .0)
 
 same-length : tie.Need-same-length
 same-length c = search needs
 
 returns-2 : tie.Need-returns-2
-returns-2 c = rw (absent (now (c .before .before .before .before .before .before .before .before .before .before .before .before .before .before .args .s)) (packOf (now (c .before .before .before .before .before .before .before .before .before .before .before .before .before .before .args .s)) .fieldtypes) (c .before .before .before .before .before .before .before .before .before .before .before .before .before .before .args .t) (c .before .before .before .before .before .before .before .before .before .before .before .before .before .before .args .i) (c .before .before .before .before .before .before .before .before .before .before .before .before .before .before .args .k) (pgnIn (packOf (now (c .before .before .before .before .before .before .before .before .before .before .before .before .before .before .args .s))) (c .before .before .before .before .before .before .before .before .before .before .before .before .before .before .args .t) (c .before .before .before .before .before .before .before .before .before .before .before .before .before .before .args .i)) (c .before .before .before .before .before .before .before .before .before .before .before .before .before .before .args .f) (c .before .before .before .before .before .before .before .before .before .before .before .before .before .before .pre .4) (not-false (c .before .before .before .before .before .before .before .before .before .before .before .before .before .before .args .f .authored .continues .given) (c .before .before .before .before .before .before .before .before .before .if1 .left)) (c .before .before .before .before .before .before .before .first-with-id .result .given) (c .before .before .before .before .before .before .before .first-with-id .result .value) (c .before .before .before .before .before .before .before .first-with-id .ensures) (not-true (c .before .before .before .before .before .before .before .first-with-id .result .given) (c .before .before .before .before .before .if2 .taken)) (c .before .before .before .pgn-error .result) (c .before .before .before .pgn-error .ensures)) (c .before .before .put .ensures)
+returns-2 c = rw (absent (now (c .before .before .before .before .before .before .before .before .before .before .before .before .before .before .args .s)) (packOf (now (c .before .before .before .before .before .before .before .before .before .before .before .before .before .before .args .s)) .fieldtypes) (c .before .before .before .before .before .before .before .before .before .before .before .before .before .before .args .t) (c .before .before .before .before .before .before .before .before .before .before .before .before .before .before .args .i) (c .before .before .before .before .before .before .before .before .before .before .before .before .before .before .args .k) (pgn-at (packOf (now (c .before .before .before .before .before .before .before .before .before .before .before .before .before .before .args .s))) (c .before .before .before .before .before .before .before .before .before .before .before .before .before .before .args .t) (c .before .before .before .before .before .before .before .before .before .before .before .before .before .before .args .i)) (c .before .before .before .before .before .before .before .before .before .before .before .before .before .before .args .f) (c .before .before .before .before .before .before .before .before .before .before .before .before .before .before .pre .4) (not-false (c .before .before .before .before .before .before .before .before .before .before .before .before .before .before .args .f .authored .continues .given) (c .before .before .before .before .before .before .before .before .before .if1 .left)) (c .before .before .before .before .before .before .before .first-with-id .result .given) (c .before .before .before .before .before .before .before .first-with-id .result .value) (c .before .before .before .before .before .before .before .first-with-id .ensures) (not-true (c .before .before .before .before .before .before .before .first-with-id .result .given) (c .before .before .before .before .before .if2 .taken)) (c .before .before .before .pgn-error .result) (c .before .before .before .pgn-error .ensures)) (c .before .before .put .ensures)
 
 continued-at-requires : tie.Need-continued-at-requires
-continued-at-requires c κs = ((rw (found (now (c .before .before .before .before .before .before .before .before .before .before .args .s)) (packOf (now (c .before .before .before .before .before .before .before .before .before .before .args .s)) .fieldtypes) (c .before .before .before .before .before .before .before .before .before .before .args .t) (c .before .before .before .before .before .before .before .before .before .before .args .i) (c .before .before .before .before .before .before .before .before .before .before .args .k) (pgnIn (packOf (now (c .before .before .before .before .before .before .before .before .before .before .args .s))) (c .before .before .before .before .before .before .before .before .before .before .args .t) (c .before .before .before .before .before .before .before .before .before .before .args .i)) (c .before .before .before .before .before .before .before .before .before .before .args .f) (c .before .before .before .before .before .before .before .before .before .before .pre .4) (not-false (c .before .before .before .before .before .before .before .before .before .before .args .f .authored .continues .given) (c .before .before .before .before .before .if1 .left)) (c .before .before .before .first-with-id .result .given) (c .before .before .before .first-with-id .result .value) (c .before .before .before .first-with-id .ensures) (not-false (c .before .before .before .first-with-id .result .given) (c .before .if2 .left))) at (c .before .before .before .before .before .before .before .before .before .before .pre .0)), c .before .before .before .before .before .before .before .before .before .before .pre .1, c .before .before .before .before .before .before .before .before .before .before .pre .2, c .before .before .before .before .before .before .before .before .before .before .pre .3, below (now (c .before .before .before .before .before .before .before .before .before .before .args .s)) (packOf (now (c .before .before .before .before .before .before .before .before .before .before .args .s)) .fieldtypes) (c .before .before .before .before .before .before .before .before .before .before .args .t) (c .before .before .before .before .before .before .before .before .before .before .args .i) (c .before .before .before .before .before .before .before .before .before .before .args .k) (pgnIn (packOf (now (c .before .before .before .before .before .before .before .before .before .before .args .s))) (c .before .before .before .before .before .before .before .before .before .before .args .t) (c .before .before .before .before .before .before .before .before .before .before .args .i)) (c .before .before .before .before .before .before .before .before .before .before .args .f) (c .before .before .before .before .before .before .before .before .before .before .pre .4) (not-false (c .before .before .before .before .before .before .before .before .before .before .args .f .authored .continues .given) (c .before .before .before .before .before .if1 .left)) (c .before .before .before .first-with-id .result .given) (c .before .before .before .first-with-id .result .value) (c .before .before .before .first-with-id .ensures) (not-false (c .before .before .before .first-with-id .result .given) (c .before .if2 .left)), c .before .before .before .before .before .before .before .before .before .before .pre .4)
+continued-at-requires c κs = ((rw (found (now (c .before .before .before .before .before .before .before .before .before .before .args .s)) (packOf (now (c .before .before .before .before .before .before .before .before .before .before .args .s)) .fieldtypes) (c .before .before .before .before .before .before .before .before .before .before .args .t) (c .before .before .before .before .before .before .before .before .before .before .args .i) (c .before .before .before .before .before .before .before .before .before .before .args .k) (pgn-at (packOf (now (c .before .before .before .before .before .before .before .before .before .before .args .s))) (c .before .before .before .before .before .before .before .before .before .before .args .t) (c .before .before .before .before .before .before .before .before .before .before .args .i)) (c .before .before .before .before .before .before .before .before .before .before .args .f) (c .before .before .before .before .before .before .before .before .before .before .pre .4) (not-false (c .before .before .before .before .before .before .before .before .before .before .args .f .authored .continues .given) (c .before .before .before .before .before .if1 .left)) (c .before .before .before .first-with-id .result .given) (c .before .before .before .first-with-id .result .value) (c .before .before .before .first-with-id .ensures) (not-false (c .before .before .before .first-with-id .result .given) (c .before .if2 .left))) at (c .before .before .before .before .before .before .before .before .before .before .pre .0)), c .before .before .before .before .before .before .before .before .before .before .pre .1, c .before .before .before .before .before .before .before .before .before .before .pre .2, c .before .before .before .before .before .before .before .before .before .before .pre .3, below (now (c .before .before .before .before .before .before .before .before .before .before .args .s)) (packOf (now (c .before .before .before .before .before .before .before .before .before .before .args .s)) .fieldtypes) (c .before .before .before .before .before .before .before .before .before .before .args .t) (c .before .before .before .before .before .before .before .before .before .before .args .i) (c .before .before .before .before .before .before .before .before .before .before .args .k) (pgn-at (packOf (now (c .before .before .before .before .before .before .before .before .before .before .args .s))) (c .before .before .before .before .before .before .before .before .before .before .args .t) (c .before .before .before .before .before .before .before .before .before .before .args .i)) (c .before .before .before .before .before .before .before .before .before .before .args .f) (c .before .before .before .before .before .before .before .before .before .before .pre .4) (not-false (c .before .before .before .before .before .before .before .before .before .before .args .f .authored .continues .given) (c .before .before .before .before .before .if1 .left)) (c .before .before .before .first-with-id .result .given) (c .before .before .before .first-with-id .result .value) (c .before .before .before .first-with-id .ensures) (not-false (c .before .before .before .first-with-id .result .given) (c .before .if2 .left)), c .before .before .before .before .before .before .before .before .before .before .pre .4)
 
 same-length-2 : tie.Need-same-length-2
 same-length-2 c = search needs
 
 returns-3 : tie.Need-returns-3
-returns-3 c = rw (found (now (c .before .before .before .before .before .before .before .before .before .before .before .before .before .args .s)) (packOf (now (c .before .before .before .before .before .before .before .before .before .before .before .before .before .args .s)) .fieldtypes) (c .before .before .before .before .before .before .before .before .before .before .before .before .before .args .t) (c .before .before .before .before .before .before .before .before .before .before .before .before .before .args .i) (c .before .before .before .before .before .before .before .before .before .before .before .before .before .args .k) (pgnIn (packOf (now (c .before .before .before .before .before .before .before .before .before .before .before .before .before .args .s))) (c .before .before .before .before .before .before .before .before .before .before .before .before .before .args .t) (c .before .before .before .before .before .before .before .before .before .before .before .before .before .args .i)) (c .before .before .before .before .before .before .before .before .before .before .before .before .before .args .f) (c .before .before .before .before .before .before .before .before .before .before .before .before .before .pre .4) (not-false (c .before .before .before .before .before .before .before .before .before .before .before .before .before .args .f .authored .continues .given) (c .before .before .before .before .before .before .before .before .if1 .left)) (c .before .before .before .before .before .before .first-with-id .result .given) (c .before .before .before .before .before .before .first-with-id .result .value) (c .before .before .before .before .before .before .first-with-id .ensures) (not-false (c .before .before .before .before .before .before .first-with-id .result .given) (c .before .before .before .before .if2 .left))) (c .before .before .continued-at .ensures)
+returns-3 c = rw (found (now (c .before .before .before .before .before .before .before .before .before .before .before .before .before .args .s)) (packOf (now (c .before .before .before .before .before .before .before .before .before .before .before .before .before .args .s)) .fieldtypes) (c .before .before .before .before .before .before .before .before .before .before .before .before .before .args .t) (c .before .before .before .before .before .before .before .before .before .before .before .before .before .args .i) (c .before .before .before .before .before .before .before .before .before .before .before .before .before .args .k) (pgn-at (packOf (now (c .before .before .before .before .before .before .before .before .before .before .before .before .before .args .s))) (c .before .before .before .before .before .before .before .before .before .before .before .before .before .args .t) (c .before .before .before .before .before .before .before .before .before .before .before .before .before .args .i)) (c .before .before .before .before .before .before .before .before .before .before .before .before .before .args .f) (c .before .before .before .before .before .before .before .before .before .before .before .before .before .pre .4) (not-false (c .before .before .before .before .before .before .before .before .before .before .before .before .before .args .f .authored .continues .given) (c .before .before .before .before .before .before .before .before .if1 .left)) (c .before .before .before .before .before .before .first-with-id .result .given) (c .before .before .before .before .before .before .first-with-id .result .value) (c .before .before .before .before .before .before .first-with-id .ensures) (not-false (c .before .before .before .before .before .before .first-with-id .result .given) (c .before .before .before .before .if2 .left))) (c .before .before .continued-at .ensures)
 
 pub continues-at-spec : {M : Type 1} → statement M
 continues-at-spec =

@@ -2,7 +2,7 @@ use Rattle.rules.proofs.Types.{given-is}
 use Rattle.rules.specs.Continues.{differs-from, not-raw}
 use Rattle.rules.specs.Floats.{ZERO, ONE}
 use Rattle.rules.specs.Model.{given}
-use Rattle.pack.specs.declared.records.FieldView.{FieldView}
+use Rattle.pack.specs.declared.field.FieldView.{FieldView}
 use Rattle.pack.specs.Meaning.{optFloat, fieldMeaning}
 use mathlib.Core.Bool.{_||_, Bool}
 use Prim.Native.Nat.{ℕ}

@@ -1,10 +1,10 @@
 use Rattle.rules.proofs.Sizes.{fields-few}
 use Rattle.rules.specs.Continues.{holds-order, set-of}
 use Rattle.rules.specs.Findings.{pgn-error}
-use Rattle.pack.specs.declared.records.PgnView.{PgnView}
-use Rattle.pack.specs.Ready.{PgnIs, pgnIn}
+use Rattle.pack.specs.declared.pgn.PgnView.{PgnView}
+use Rattle.pack.specs.Ready.{PgnIs}
 use Rattle.pack.specs.Meaning.{optRepeating, packOf}
-use Rattle.pack.specs.Value.{Pgn}
+use Rattle.pack.specs.Value.{Pgn, pgn-at}
 use Rattle.pack.specs.Notation.{if_then_else_}
 use Prim.Native.Nat.{ℕ, _+_}
 use native.Mathlib.Omega.{arith}
@@ -30,25 +30,25 @@ pgn-error-requires : tie.Need-pgn-error-requires
 pgn-error-requires c κs = search needs
 
 put-requires : tie.Need-put-requires
-put-requires c κs = rw (c .pgn-error .ensures) (rw ((set-is (now (c .before .before .before .before .before .before .before .before .args .s)) (pgnIn (packOf (now (c .before .before .before .before .before .before .before .before .args .s))) (c .before .before .before .before .before .before .before .before .args .t) (c .before .before .before .before .before .before .before .before .args .i)) (c .before .before .before .before .before .before .before .before .args .g) (c .before .before .before .before .before .before .before .before .pre .2) (c .before .before .before .before .before .before .before .before .args .j) (c .before .before .before .before .set-of .result) (c .before .before .before .before .set-of .ensures)), (set-is (now (c .before .before .before .before .before .before .before .before .args .s)) (pgnIn (packOf (now (c .before .before .before .before .before .before .before .before .args .s))) (c .before .before .before .before .before .before .before .before .args .t) (c .before .before .before .before .before .before .before .before .args .i)) (c .before .before .before .before .before .before .before .before .args .g) (c .before .before .before .before .before .before .before .before .pre .2) (c .before .before .before .before .before .before .before .before .args .k) (c .before .before .before .set-of2 .result) (c .before .before .before .set-of2 .ensures)), ne-eqb (c .before .before .before .before .set-of .result) (c .before .before .before .set-of2 .result) (c .before .before .if1 .taken)) at (c .before .before .before .before .before .before .before .before .pre .0))
+put-requires c κs = rw (c .pgn-error .ensures) (rw ((set-is (now (c .before .before .before .before .before .before .before .before .args .s)) (pgn-at (packOf (now (c .before .before .before .before .before .before .before .before .args .s))) (c .before .before .before .before .before .before .before .before .args .t) (c .before .before .before .before .before .before .before .before .args .i)) (c .before .before .before .before .before .before .before .before .args .g) (c .before .before .before .before .before .before .before .before .pre .2) (c .before .before .before .before .before .before .before .before .args .j) (c .before .before .before .before .set-of .result) (c .before .before .before .before .set-of .ensures)), (set-is (now (c .before .before .before .before .before .before .before .before .args .s)) (pgn-at (packOf (now (c .before .before .before .before .before .before .before .before .args .s))) (c .before .before .before .before .before .before .before .before .args .t) (c .before .before .before .before .before .before .before .before .args .i)) (c .before .before .before .before .before .before .before .before .args .g) (c .before .before .before .before .before .before .before .before .pre .2) (c .before .before .before .before .before .before .before .before .args .k) (c .before .before .before .set-of2 .result) (c .before .before .before .set-of2 .ensures)), ne-eqb (c .before .before .before .before .set-of .result) (c .before .before .before .set-of2 .result) (c .before .before .if1 .taken)) at (c .before .before .before .before .before .before .before .before .pre .0))
 
 same-length : tie.Need-same-length
 same-length c = search needs
 
 returns : tie.Need-returns
-returns c = rw ((set-is (now (c .before .before .before .before .before .before .before .before .before .before .before .args .s)) (pgnIn (packOf (now (c .before .before .before .before .before .before .before .before .before .before .before .args .s))) (c .before .before .before .before .before .before .before .before .before .before .before .args .t) (c .before .before .before .before .before .before .before .before .before .before .before .args .i)) (c .before .before .before .before .before .before .before .before .before .before .before .args .g) (c .before .before .before .before .before .before .before .before .before .before .before .pre .2) (c .before .before .before .before .before .before .before .before .before .before .before .args .j) (c .before .before .before .before .before .before .before .set-of .result) (c .before .before .before .before .before .before .before .set-of .ensures)), (set-is (now (c .before .before .before .before .before .before .before .before .before .before .before .args .s)) (pgnIn (packOf (now (c .before .before .before .before .before .before .before .before .before .before .before .args .s))) (c .before .before .before .before .before .before .before .before .before .before .before .args .t) (c .before .before .before .before .before .before .before .before .before .before .before .args .i)) (c .before .before .before .before .before .before .before .before .before .before .before .args .g) (c .before .before .before .before .before .before .before .before .before .before .before .pre .2) (c .before .before .before .before .before .before .before .before .before .before .before .args .k) (c .before .before .before .before .before .before .set-of2 .result) (c .before .before .before .before .before .before .set-of2 .ensures)), ne-eqb (c .before .before .before .before .before .before .before .set-of .result) (c .before .before .before .before .before .before .set-of2 .result) (c .before .before .before .before .before .if1 .taken)) (rw (c .before .before .before .pgn-error .ensures) at (c .before .before .put .ensures))
+returns c = rw ((set-is (now (c .before .before .before .before .before .before .before .before .before .before .before .args .s)) (pgn-at (packOf (now (c .before .before .before .before .before .before .before .before .before .before .before .args .s))) (c .before .before .before .before .before .before .before .before .before .before .before .args .t) (c .before .before .before .before .before .before .before .before .before .before .before .args .i)) (c .before .before .before .before .before .before .before .before .before .before .before .args .g) (c .before .before .before .before .before .before .before .before .before .before .before .pre .2) (c .before .before .before .before .before .before .before .before .before .before .before .args .j) (c .before .before .before .before .before .before .before .set-of .result) (c .before .before .before .before .before .before .before .set-of .ensures)), (set-is (now (c .before .before .before .before .before .before .before .before .before .before .before .args .s)) (pgn-at (packOf (now (c .before .before .before .before .before .before .before .before .before .before .before .args .s))) (c .before .before .before .before .before .before .before .before .before .before .before .args .t) (c .before .before .before .before .before .before .before .before .before .before .before .args .i)) (c .before .before .before .before .before .before .before .before .before .before .before .args .g) (c .before .before .before .before .before .before .before .before .before .before .before .pre .2) (c .before .before .before .before .before .before .before .before .before .before .before .args .k) (c .before .before .before .before .before .before .set-of2 .result) (c .before .before .before .before .before .before .set-of2 .ensures)), ne-eqb (c .before .before .before .before .before .before .before .set-of .result) (c .before .before .before .before .before .before .set-of2 .result) (c .before .before .before .before .before .if1 .taken)) (rw (c .before .before .before .pgn-error .ensures) at (c .before .before .put .ensures))
 
 pgn-error-requires-2 : tie.Need-pgn-error-requires-2
 pgn-error-requires-2 c κs = search needs
 
 put-requires-2 : tie.Need-put-requires-2
-put-requires-2 c κs = rw (c .pgn-error2 .ensures) (rw ((set-is (now (c .before .before .before .before .before .before .before .before .before .args .s)) (pgnIn (packOf (now (c .before .before .before .before .before .before .before .before .before .args .s))) (c .before .before .before .before .before .before .before .before .before .args .t) (c .before .before .before .before .before .before .before .before .before .args .i)) (c .before .before .before .before .before .before .before .before .before .args .g) (c .before .before .before .before .before .before .before .before .before .pre .2) (c .before .before .before .before .before .before .before .before .before .args .j) (c .before .before .before .before .before .set-of .result) (c .before .before .before .before .before .set-of .ensures)), (set-is (now (c .before .before .before .before .before .before .before .before .before .args .s)) (pgnIn (packOf (now (c .before .before .before .before .before .before .before .before .before .args .s))) (c .before .before .before .before .before .before .before .before .before .args .t) (c .before .before .before .before .before .before .before .before .before .args .i)) (c .before .before .before .before .before .before .before .before .before .args .g) (c .before .before .before .before .before .before .before .before .before .pre .2) (c .before .before .before .before .before .before .before .before .before .args .k) (c .before .before .before .before .set-of2 .result) (c .before .before .before .before .set-of2 .ensures)), eq-eqb (c .before .before .before .before .before .set-of .result) (c .before .before .before .before .set-of2 .result) (c .before .before .before .if1 .left), not-true (c .before .before .before .before .before .before .before .before .before .args .continued) (c .before .before .if2 .taken)) at (c .before .before .before .before .before .before .before .before .before .pre .0))
+put-requires-2 c κs = rw (c .pgn-error2 .ensures) (rw ((set-is (now (c .before .before .before .before .before .before .before .before .before .args .s)) (pgn-at (packOf (now (c .before .before .before .before .before .before .before .before .before .args .s))) (c .before .before .before .before .before .before .before .before .before .args .t) (c .before .before .before .before .before .before .before .before .before .args .i)) (c .before .before .before .before .before .before .before .before .before .args .g) (c .before .before .before .before .before .before .before .before .before .pre .2) (c .before .before .before .before .before .before .before .before .before .args .j) (c .before .before .before .before .before .set-of .result) (c .before .before .before .before .before .set-of .ensures)), (set-is (now (c .before .before .before .before .before .before .before .before .before .args .s)) (pgn-at (packOf (now (c .before .before .before .before .before .before .before .before .before .args .s))) (c .before .before .before .before .before .before .before .before .before .args .t) (c .before .before .before .before .before .before .before .before .before .args .i)) (c .before .before .before .before .before .before .before .before .before .args .g) (c .before .before .before .before .before .before .before .before .before .pre .2) (c .before .before .before .before .before .before .before .before .before .args .k) (c .before .before .before .before .set-of2 .result) (c .before .before .before .before .set-of2 .ensures)), eq-eqb (c .before .before .before .before .before .set-of .result) (c .before .before .before .before .set-of2 .result) (c .before .before .before .if1 .left), not-true (c .before .before .before .before .before .before .before .before .before .args .continued) (c .before .before .if2 .taken)) at (c .before .before .before .before .before .before .before .before .before .pre .0))
 
 same-length-2 : tie.Need-same-length-2
 same-length-2 c = search needs
 
 returns-2 : tie.Need-returns-2
-returns-2 c = rw ((set-is (now (c .before .before .before .before .before .before .before .before .before .before .before .before .args .s)) (pgnIn (packOf (now (c .before .before .before .before .before .before .before .before .before .before .before .before .args .s))) (c .before .before .before .before .before .before .before .before .before .before .before .before .args .t) (c .before .before .before .before .before .before .before .before .before .before .before .before .args .i)) (c .before .before .before .before .before .before .before .before .before .before .before .before .args .g) (c .before .before .before .before .before .before .before .before .before .before .before .before .pre .2) (c .before .before .before .before .before .before .before .before .before .before .before .before .args .j) (c .before .before .before .before .before .before .before .before .set-of .result) (c .before .before .before .before .before .before .before .before .set-of .ensures)), (set-is (now (c .before .before .before .before .before .before .before .before .before .before .before .before .args .s)) (pgnIn (packOf (now (c .before .before .before .before .before .before .before .before .before .before .before .before .args .s))) (c .before .before .before .before .before .before .before .before .before .before .before .before .args .t) (c .before .before .before .before .before .before .before .before .before .before .before .before .args .i)) (c .before .before .before .before .before .before .before .before .before .before .before .before .args .g) (c .before .before .before .before .before .before .before .before .before .before .before .before .pre .2) (c .before .before .before .before .before .before .before .before .before .before .before .before .args .k) (c .before .before .before .before .before .before .before .set-of2 .result) (c .before .before .before .before .before .before .before .set-of2 .ensures)), eq-eqb (c .before .before .before .before .before .before .before .before .set-of .result) (c .before .before .before .before .before .before .before .set-of2 .result) (c .before .before .before .before .before .before .if1 .left), not-true (c .before .before .before .before .before .before .before .before .before .before .before .before .args .continued) (c .before .before .before .before .before .if2 .taken)) (rw (c .before .before .before .pgn-error2 .ensures) at (c .before .before .put2 .ensures))
+returns-2 c = rw ((set-is (now (c .before .before .before .before .before .before .before .before .before .before .before .before .args .s)) (pgn-at (packOf (now (c .before .before .before .before .before .before .before .before .before .before .before .before .args .s))) (c .before .before .before .before .before .before .before .before .before .before .before .before .args .t) (c .before .before .before .before .before .before .before .before .before .before .before .before .args .i)) (c .before .before .before .before .before .before .before .before .before .before .before .before .args .g) (c .before .before .before .before .before .before .before .before .before .before .before .before .pre .2) (c .before .before .before .before .before .before .before .before .before .before .before .before .args .j) (c .before .before .before .before .before .before .before .before .set-of .result) (c .before .before .before .before .before .before .before .before .set-of .ensures)), (set-is (now (c .before .before .before .before .before .before .before .before .before .before .before .before .args .s)) (pgn-at (packOf (now (c .before .before .before .before .before .before .before .before .before .before .before .before .args .s))) (c .before .before .before .before .before .before .before .before .before .before .before .before .args .t) (c .before .before .before .before .before .before .before .before .before .before .before .before .args .i)) (c .before .before .before .before .before .before .before .before .before .before .before .before .args .g) (c .before .before .before .before .before .before .before .before .before .before .before .before .pre .2) (c .before .before .before .before .before .before .before .before .before .before .before .before .args .k) (c .before .before .before .before .before .before .before .set-of2 .result) (c .before .before .before .before .before .before .before .set-of2 .ensures)), eq-eqb (c .before .before .before .before .before .before .before .before .set-of .result) (c .before .before .before .before .before .before .before .set-of2 .result) (c .before .before .before .before .before .before .if1 .left), not-true (c .before .before .before .before .before .before .before .before .before .before .before .before .args .continued) (c .before .before .before .before .before .if2 .taken)) (rw (c .before .before .before .pgn-error2 .ensures) at (c .before .before .put2 .ensures))
 
 continued-by-requires : tie.Need-continued-by-requires
 continued-by-requires c κs = (c .before .before .before .before .before .before .before .pre .1, c .before .before .before .before .before .before .before .pre .2 .fields)
@@ -57,13 +57,13 @@ pgn-error-requires-3 : tie.Need-pgn-error-requires-3
 pgn-error-requires-3 c κs = search needs
 
 put-if-requires : tie.Need-put-if-requires
-put-if-requires c κs = rw (c .pgn-error3 .ensures, c .before .before .continued-by .ensures) (rw ((set-is (now (c .before .before .before .before .before .before .before .before .before .before .args .s)) (pgnIn (packOf (now (c .before .before .before .before .before .before .before .before .before .before .args .s))) (c .before .before .before .before .before .before .before .before .before .before .args .t) (c .before .before .before .before .before .before .before .before .before .before .args .i)) (c .before .before .before .before .before .before .before .before .before .before .args .g) (c .before .before .before .before .before .before .before .before .before .before .pre .2) (c .before .before .before .before .before .before .before .before .before .before .args .j) (c .before .before .before .before .before .before .set-of .result) (c .before .before .before .before .before .before .set-of .ensures)), (set-is (now (c .before .before .before .before .before .before .before .before .before .before .args .s)) (pgnIn (packOf (now (c .before .before .before .before .before .before .before .before .before .before .args .s))) (c .before .before .before .before .before .before .before .before .before .before .args .t) (c .before .before .before .before .before .before .before .before .before .before .args .i)) (c .before .before .before .before .before .before .before .before .before .before .args .g) (c .before .before .before .before .before .before .before .before .before .before .pre .2) (c .before .before .before .before .before .before .before .before .before .before .args .k) (c .before .before .before .before .before .set-of2 .result) (c .before .before .before .before .before .set-of2 .ensures)), eq-eqb (c .before .before .before .before .before .before .set-of .result) (c .before .before .before .before .before .set-of2 .result) (c .before .before .before .before .if1 .left), not-false (c .before .before .before .before .before .before .before .before .before .before .args .continued) (c .before .before .before .if2 .left)) at (c .before .before .before .before .before .before .before .before .before .before .pre .0))
+put-if-requires c κs = rw (c .pgn-error3 .ensures, c .before .before .continued-by .ensures) (rw ((set-is (now (c .before .before .before .before .before .before .before .before .before .before .args .s)) (pgn-at (packOf (now (c .before .before .before .before .before .before .before .before .before .before .args .s))) (c .before .before .before .before .before .before .before .before .before .before .args .t) (c .before .before .before .before .before .before .before .before .before .before .args .i)) (c .before .before .before .before .before .before .before .before .before .before .args .g) (c .before .before .before .before .before .before .before .before .before .before .pre .2) (c .before .before .before .before .before .before .before .before .before .before .args .j) (c .before .before .before .before .before .before .set-of .result) (c .before .before .before .before .before .before .set-of .ensures)), (set-is (now (c .before .before .before .before .before .before .before .before .before .before .args .s)) (pgn-at (packOf (now (c .before .before .before .before .before .before .before .before .before .before .args .s))) (c .before .before .before .before .before .before .before .before .before .before .args .t) (c .before .before .before .before .before .before .before .before .before .before .args .i)) (c .before .before .before .before .before .before .before .before .before .before .args .g) (c .before .before .before .before .before .before .before .before .before .before .pre .2) (c .before .before .before .before .before .before .before .before .before .before .args .k) (c .before .before .before .before .before .set-of2 .result) (c .before .before .before .before .before .set-of2 .ensures)), eq-eqb (c .before .before .before .before .before .before .set-of .result) (c .before .before .before .before .before .set-of2 .result) (c .before .before .before .before .if1 .left), not-false (c .before .before .before .before .before .before .before .before .before .before .args .continued) (c .before .before .before .if2 .left)) at (c .before .before .before .before .before .before .before .before .before .before .pre .0))
 
 same-length-3 : tie.Need-same-length-3
 same-length-3 c = search needs
 
 returns-3 : tie.Need-returns-3
-returns-3 c = rw ((set-is (now (c .before .before .before .before .before .before .before .before .before .before .before .before .before .args .s)) (pgnIn (packOf (now (c .before .before .before .before .before .before .before .before .before .before .before .before .before .args .s))) (c .before .before .before .before .before .before .before .before .before .before .before .before .before .args .t) (c .before .before .before .before .before .before .before .before .before .before .before .before .before .args .i)) (c .before .before .before .before .before .before .before .before .before .before .before .before .before .args .g) (c .before .before .before .before .before .before .before .before .before .before .before .before .before .pre .2) (c .before .before .before .before .before .before .before .before .before .before .before .before .before .args .j) (c .before .before .before .before .before .before .before .before .before .set-of .result) (c .before .before .before .before .before .before .before .before .before .set-of .ensures)), (set-is (now (c .before .before .before .before .before .before .before .before .before .before .before .before .before .args .s)) (pgnIn (packOf (now (c .before .before .before .before .before .before .before .before .before .before .before .before .before .args .s))) (c .before .before .before .before .before .before .before .before .before .before .before .before .before .args .t) (c .before .before .before .before .before .before .before .before .before .before .before .before .before .args .i)) (c .before .before .before .before .before .before .before .before .before .before .before .before .before .args .g) (c .before .before .before .before .before .before .before .before .before .before .before .before .before .pre .2) (c .before .before .before .before .before .before .before .before .before .before .before .before .before .args .k) (c .before .before .before .before .before .before .before .before .set-of2 .result) (c .before .before .before .before .before .before .before .before .set-of2 .ensures)), eq-eqb (c .before .before .before .before .before .before .before .before .before .set-of .result) (c .before .before .before .before .before .before .before .before .set-of2 .result) (c .before .before .before .before .before .before .before .if1 .left), not-false (c .before .before .before .before .before .before .before .before .before .before .before .before .before .args .continued) (c .before .before .before .before .before .before .if2 .left)) (rw (c .before .before .before .pgn-error3 .ensures, c .before .before .before .before .before .continued-by .ensures) at (c .before .before .put-if .ensures))
+returns-3 c = rw ((set-is (now (c .before .before .before .before .before .before .before .before .before .before .before .before .before .args .s)) (pgn-at (packOf (now (c .before .before .before .before .before .before .before .before .before .before .before .before .before .args .s))) (c .before .before .before .before .before .before .before .before .before .before .before .before .before .args .t) (c .before .before .before .before .before .before .before .before .before .before .before .before .before .args .i)) (c .before .before .before .before .before .before .before .before .before .before .before .before .before .args .g) (c .before .before .before .before .before .before .before .before .before .before .before .before .before .pre .2) (c .before .before .before .before .before .before .before .before .before .before .before .before .before .args .j) (c .before .before .before .before .before .before .before .before .before .set-of .result) (c .before .before .before .before .before .before .before .before .before .set-of .ensures)), (set-is (now (c .before .before .before .before .before .before .before .before .before .before .before .before .before .args .s)) (pgn-at (packOf (now (c .before .before .before .before .before .before .before .before .before .before .before .before .before .args .s))) (c .before .before .before .before .before .before .before .before .before .before .before .before .before .args .t) (c .before .before .before .before .before .before .before .before .before .before .before .before .before .args .i)) (c .before .before .before .before .before .before .before .before .before .before .before .before .before .args .g) (c .before .before .before .before .before .before .before .before .before .before .before .before .before .pre .2) (c .before .before .before .before .before .before .before .before .before .before .before .before .before .args .k) (c .before .before .before .before .before .before .before .before .set-of2 .result) (c .before .before .before .before .before .before .before .before .set-of2 .ensures)), eq-eqb (c .before .before .before .before .before .before .before .before .before .set-of .result) (c .before .before .before .before .before .before .before .before .set-of2 .result) (c .before .before .before .before .before .before .before .if1 .left), not-false (c .before .before .before .before .before .before .before .before .before .before .before .before .before .args .continued) (c .before .before .before .before .before .before .if2 .left)) (rw (c .before .before .before .pgn-error3 .ensures, c .before .before .before .before .before .continued-by .ensures) at (c .before .before .put-if .ensures))
 
 pub placed-at-spec : {M : Type 1} → statement M
 placed-at-spec =

@@ -6,12 +6,11 @@ use Rattle.rules.specs.DynamicLength.{length-source, have-length-source,
 use Rattle.rules.specs.declared.Finding.{Finding}
 use mathlib.Core.Bool.{_||_, Bool}
 use Rattle.pack.proofs.Positions.{field-ft-law}
-use Rattle.pack.specs.Value.{Field, noFieldType}
+use Rattle.pack.specs.Value.{Field, noFieldType, pgn-at, field-at}
 use Rattle.pack.specs.Notation.{_≐_, concatBelow}
-use Rattle.pack.specs.Ready.{pgnIn, fieldIn}
 use Rattle.pack.specs.Meaning.{fieldMeaning, packOf}
 use Rattle.pack.specs.Items.{bytesOf}
-use Rattle.pack.specs.declared.records.FieldView.{FieldView}
+use Rattle.pack.specs.declared.field.FieldView.{FieldView}
 use Prim.Native.Nat.{ℕ, suc, _-_, _≤_}
 use native.Mathlib.Omega.{arith}
 use native.Mathlib.Numerals.{add-one}
@@ -24,13 +23,13 @@ use Rattle.rules.proofs.dynamic_length.check_dynamic_length.Statement.{
 use Rattle.rules.proofs.dynamic_length.check_dynamic_length.Tie as tie
 
 abbrev of-field : List ℕ → ℕ → ℕ → ℕ → List Finding
-of-field s t i k = dynamic-length-at (packOf s .fieldtypes) t i (pgnIn (packOf s) t i) k (fieldIn (packOf s) t i k)
+of-field s t i k = dynamic-length-at (packOf s .fieldtypes) t i (pgn-at (packOf s) t i) k (field-at (pgn-at (packOf s) t i) k)
 
 abbrev source : List ℕ → ℕ → ℕ → ℕ → Bool
-source s t i j = length-source (packOf s .fieldtypes) (fieldIn (packOf s) t i j)
+source s t i j = length-source (packOf s .fieldtypes) (field-at (pgn-at (packOf s) t i) j)
 
 -- a turn of the search for a length source
-found : (s : List ℕ) (t i k : ℕ) (v : FieldView) (root : List ℕ) (old new : Bool) → fieldMeaning s v ≡ fieldIn (packOf s) t i k → root ≡ getD (packOf s .fieldtypes) (v .ft) noFieldType .root-name
+found : (s : List ℕ) (t i k : ℕ) (v : FieldView) (root : List ℕ) (old new : Bool) → fieldMeaning s v ≡ field-at (pgn-at (packOf s) t i) k → root ≡ getD (packOf s .fieldtypes) (v .ft) noFieldType .root-name
     → old ≡ anyBelow (source s t i) k → new ≡ (old || (v .flags .dynamic || (root ≐ DYNAMIC-FIELD-KEY))) → new ≡ anyBelow (source s t i) (suc k)
 unfolding length-source
 found s t i k v root old new is r o n = rw (n, o, r, ← is)
@@ -48,7 +47,7 @@ field-of-requires : tie.Need-field-of-requires Inv-loop μ-loop
 field-of-requires c κs = (c .before .before .before .before .before .before .pre .1, omega (arith, c .before .before .before .before .before .before .pre .2 .fields))
 
 root-of-requires : tie.Need-root-of-requires Inv-loop μ-loop
-root-of-requires c κs = (c .before .before .before .before .before .before .before .pre .1 .ready, (let e : c .field-of .result .ft ≡ fieldIn (packOf (now (c .before .before .before .before .before .before .before .args .s))) (c .before .before .before .before .before .before .before .args .t) (c .before .before .before .before .before .before .before .args .i) (c .before .before .before .loop .k) .ft = ap (λ (F : Field). F .ft) (c .field-of .ensures) in omega (arith, e, field-ft-law (c .before .before .before .before .before .before .before .pre .1) (c .before .before .before .loop .k) (omega (arith, c .before .if1 .taken, c .before .before .before .before .before .before .before .pre .2 .fields)))))
+root-of-requires c κs = (c .before .before .before .before .before .before .before .pre .1 .ready, (let e : c .field-of .result .ft ≡ field-at (pgn-at (packOf (now (c .before .before .before .before .before .before .before .args .s))) (c .before .before .before .before .before .before .before .args .t) (c .before .before .before .before .before .before .before .args .i)) (c .before .before .before .loop .k) .ft = ap (λ (F : Field). F .ft) (c .field-of .ensures) in omega (arith, e, field-ft-law (c .before .before .before .before .before .before .before .pre .1) (c .before .before .before .loop .k) (omega (arith, c .before .if1 .taken, c .before .before .before .before .before .before .before .pre .2 .fields)))))
 
 have-length-source-requires : tie.Need-have-length-source-requires Inv-loop μ-loop
 have-length-source-requires c κs = search needs
@@ -71,7 +70,7 @@ same-length c = search needs
 
 returns : tie.Need-returns Inv-loop μ-loop
 unfolding check-dynamic-length
-returns c = let e : c .before .before .loop .k ≡ length (pgnIn (packOf (now (c .before .before .before .before .before .before .args .s))) (c .before .before .before .before .before .before .args .t) (c .before .before .before .before .before .before .args .i) .fields) = omega (arith, c .before .before .before .before .before .before .pre .2 .fields) in rw (← e) (c .before .before .loop .inv .2)
+returns c = let e : c .before .before .loop .k ≡ length (pgn-at (packOf (now (c .before .before .before .before .before .before .args .s))) (c .before .before .before .before .before .before .args .t) (c .before .before .before .before .before .before .args .i) .fields) = omega (arith, c .before .before .before .before .before .before .pre .2 .fields) in rw (← e) (c .before .before .loop .inv .2)
 
 pub check-dynamic-length-spec : {M : Type 1} → statement M
 check-dynamic-length-spec =

@@ -5,12 +5,11 @@ use Rattle.rules.specs.DynamicLength.{have-length-source, dynamic-length
 use Rattle.rules.specs.Findings.{report-if, pgn-error}
 use Rattle.rules.specs.declared.Finding.{Finding}
 use mathlib.Core.Bool.{not, _&&_, Bool}
-use Rattle.pack.specs.Value.{FieldType, Field, Pgn}
-use Rattle.pack.specs.Ready.{pgnIn}
+use Rattle.pack.specs.Value.{FieldType, Field, Pgn, pgn-at}
 use Rattle.pack.specs.Notation.{_≐_}
 use Rattle.pack.specs.Meaning.{fieldMeaning, packOf}
 use Rattle.pack.specs.Items.{bytesOf}
-use Rattle.pack.specs.declared.records.FieldView.{FieldView}
+use Rattle.pack.specs.declared.field.FieldView.{FieldView}
 use Prim.Native.Nat.{ℕ}
 use mathlib.Core.Path.{_≡_, refl}
 use mathlib.Core.List.{List, _++_}
@@ -48,7 +47,7 @@ pgn-error-requires : tie.Need-pgn-error-requires
 pgn-error-requires c κs = search needs
 
 put-if-requires : tie.Need-put-if-requires
-put-if-requires c κs = fits-left _ _ (fits-left _ _ (rw (viewed (now (c .before .before .before .before .before .before .before .before .before .args .s)) (packOf (now (c .before .before .before .before .before .before .before .before .before .args .s)) .fieldtypes) (c .before .before .before .before .before .before .before .before .before .args .t) (c .before .before .before .before .before .before .before .before .before .args .i) (pgnIn (packOf (now (c .before .before .before .before .before .before .before .before .before .args .s))) (c .before .before .before .before .before .before .before .before .before .args .t) (c .before .before .before .before .before .before .before .before .before .args .i)) (c .before .before .before .before .before .before .before .before .before .args .k) _ (c .before .before .before .before .before .before .before .before .before .args .f) (bytesOf (now (c .before .before .before .before .before .before .before .before .before .args .s)) (c .before .before .before .before .before .before .before .before .before .args .root)) (c .before .before .before .before .before .before .before .before .before .args .have) (c .before .before .before .before .before .before .before .before .before .pre .1) (c .before .before .before .before .before .before .before .before .before .pre .2) (c .before .before .before .before .before .before .before .before .before .pre .3) _ _ _ _ _ _ _ _ (c .before .before .before .before .before .text-is .ensures) (c .before .before .before .text-is2 .ensures) (c .before .before .and-not .ensures) (c .pgn-error .ensures) refl refl refl refl) at (c .before .before .before .before .before .before .before .before .before .pre .0)))
+put-if-requires c κs = fits-left _ _ (fits-left _ _ (rw (viewed (now (c .before .before .before .before .before .before .before .before .before .args .s)) (packOf (now (c .before .before .before .before .before .before .before .before .before .args .s)) .fieldtypes) (c .before .before .before .before .before .before .before .before .before .args .t) (c .before .before .before .before .before .before .before .before .before .args .i) (pgn-at (packOf (now (c .before .before .before .before .before .before .before .before .before .args .s))) (c .before .before .before .before .before .before .before .before .before .args .t) (c .before .before .before .before .before .before .before .before .before .args .i)) (c .before .before .before .before .before .before .before .before .before .args .k) _ (c .before .before .before .before .before .before .before .before .before .args .f) (bytesOf (now (c .before .before .before .before .before .before .before .before .before .args .s)) (c .before .before .before .before .before .before .before .before .before .args .root)) (c .before .before .before .before .before .before .before .before .before .args .have) (c .before .before .before .before .before .before .before .before .before .pre .1) (c .before .before .before .before .before .before .before .before .before .pre .2) (c .before .before .before .before .before .before .before .before .before .pre .3) _ _ _ _ _ _ _ _ (c .before .before .before .before .before .text-is .ensures) (c .before .before .before .text-is2 .ensures) (c .before .before .and-not .ensures) (c .pgn-error .ensures) refl refl refl refl) at (c .before .before .before .before .before .before .before .before .before .pre .0)))
 
 and-not-requires-2 : tie.Need-and-not-requires-2
 and-not-requires-2 c κs = search needs
@@ -57,7 +56,7 @@ pgn-error-requires-2 : tie.Need-pgn-error-requires-2
 pgn-error-requires-2 c κs = search needs
 
 put-if-requires-2 : tie.Need-put-if-requires-2
-put-if-requires-2 c κs = fits-right (report-if (c .before .before .before .before .before .before .before .before .and-not .result) (c .before .before .before .before .before .before .pgn-error .result)) _ (fits-left _ _ (rw (viewed (now (c .before .before .before .before .before .before .before .before .before .before .before .before .before .before .before .args .s)) (packOf (now (c .before .before .before .before .before .before .before .before .before .before .before .before .before .before .before .args .s)) .fieldtypes) (c .before .before .before .before .before .before .before .before .before .before .before .before .before .before .before .args .t) (c .before .before .before .before .before .before .before .before .before .before .before .before .before .before .before .args .i) (pgnIn (packOf (now (c .before .before .before .before .before .before .before .before .before .before .before .before .before .before .before .args .s))) (c .before .before .before .before .before .before .before .before .before .before .before .before .before .before .before .args .t) (c .before .before .before .before .before .before .before .before .before .before .before .before .before .before .before .args .i)) (c .before .before .before .before .before .before .before .before .before .before .before .before .before .before .before .args .k) _ (c .before .before .before .before .before .before .before .before .before .before .before .before .before .before .before .args .f) (bytesOf (now (c .before .before .before .before .before .before .before .before .before .before .before .before .before .before .before .args .s)) (c .before .before .before .before .before .before .before .before .before .before .before .before .before .before .before .args .root)) (c .before .before .before .before .before .before .before .before .before .before .before .before .before .before .before .args .have) (c .before .before .before .before .before .before .before .before .before .before .before .before .before .before .before .pre .1) (c .before .before .before .before .before .before .before .before .before .before .before .before .before .before .before .pre .2) (c .before .before .before .before .before .before .before .before .before .before .before .before .before .before .before .pre .3) _ _ _ _ _ _ _ _ (c .before .before .before .before .before .before .before .before .before .before .before .text-is .ensures) (c .before .before .before .before .before .before .before .before .before .text-is2 .ensures) (c .before .before .before .before .before .before .before .before .and-not .ensures) (c .before .before .before .before .before .before .pgn-error .ensures) (c .before .before .and-not2 .ensures) (c .pgn-error2 .ensures) refl refl) at (c .before .before .before .before .before .before .before .before .before .before .before .before .before .before .before .pre .0))) (c .before .before .before .before .before .put-if .ensures)
+put-if-requires-2 c κs = fits-right (report-if (c .before .before .before .before .before .before .before .before .and-not .result) (c .before .before .before .before .before .before .pgn-error .result)) _ (fits-left _ _ (rw (viewed (now (c .before .before .before .before .before .before .before .before .before .before .before .before .before .before .before .args .s)) (packOf (now (c .before .before .before .before .before .before .before .before .before .before .before .before .before .before .before .args .s)) .fieldtypes) (c .before .before .before .before .before .before .before .before .before .before .before .before .before .before .before .args .t) (c .before .before .before .before .before .before .before .before .before .before .before .before .before .before .before .args .i) (pgn-at (packOf (now (c .before .before .before .before .before .before .before .before .before .before .before .before .before .before .before .args .s))) (c .before .before .before .before .before .before .before .before .before .before .before .before .before .before .before .args .t) (c .before .before .before .before .before .before .before .before .before .before .before .before .before .before .before .args .i)) (c .before .before .before .before .before .before .before .before .before .before .before .before .before .before .before .args .k) _ (c .before .before .before .before .before .before .before .before .before .before .before .before .before .before .before .args .f) (bytesOf (now (c .before .before .before .before .before .before .before .before .before .before .before .before .before .before .before .args .s)) (c .before .before .before .before .before .before .before .before .before .before .before .before .before .before .before .args .root)) (c .before .before .before .before .before .before .before .before .before .before .before .before .before .before .before .args .have) (c .before .before .before .before .before .before .before .before .before .before .before .before .before .before .before .pre .1) (c .before .before .before .before .before .before .before .before .before .before .before .before .before .before .before .pre .2) (c .before .before .before .before .before .before .before .before .before .before .before .before .before .before .before .pre .3) _ _ _ _ _ _ _ _ (c .before .before .before .before .before .before .before .before .before .before .before .text-is .ensures) (c .before .before .before .before .before .before .before .before .before .text-is2 .ensures) (c .before .before .before .before .before .before .before .before .and-not .ensures) (c .before .before .before .before .before .before .pgn-error .ensures) (c .before .before .and-not2 .ensures) (c .pgn-error2 .ensures) refl refl) at (c .before .before .before .before .before .before .before .before .before .before .before .before .before .before .before .pre .0))) (c .before .before .before .before .before .put-if .ensures)
 
 and-not-requires-3 : tie.Need-and-not-requires-3
 and-not-requires-3 c κs = search needs
@@ -66,13 +65,13 @@ pgn-error-requires-3 : tie.Need-pgn-error-requires-3
 pgn-error-requires-3 c κs = search needs
 
 put-if-requires-3 : tie.Need-put-if-requires-3
-put-if-requires-3 c κs = fits-right _ _ (rw (viewed (now (c .before .before .before .before .before .before .before .before .before .before .before .before .before .before .before .before .before .before .before .before .before .args .s)) (packOf (now (c .before .before .before .before .before .before .before .before .before .before .before .before .before .before .before .before .before .before .before .before .before .args .s)) .fieldtypes) (c .before .before .before .before .before .before .before .before .before .before .before .before .before .before .before .before .before .before .before .before .before .args .t) (c .before .before .before .before .before .before .before .before .before .before .before .before .before .before .before .before .before .before .before .before .before .args .i) (pgnIn (packOf (now (c .before .before .before .before .before .before .before .before .before .before .before .before .before .before .before .before .before .before .before .before .before .args .s))) (c .before .before .before .before .before .before .before .before .before .before .before .before .before .before .before .before .before .before .before .before .before .args .t) (c .before .before .before .before .before .before .before .before .before .before .before .before .before .before .before .before .before .before .before .before .before .args .i)) (c .before .before .before .before .before .before .before .before .before .before .before .before .before .before .before .before .before .before .before .before .before .args .k) _ (c .before .before .before .before .before .before .before .before .before .before .before .before .before .before .before .before .before .before .before .before .before .args .f) (bytesOf (now (c .before .before .before .before .before .before .before .before .before .before .before .before .before .before .before .before .before .before .before .before .before .args .s)) (c .before .before .before .before .before .before .before .before .before .before .before .before .before .before .before .before .before .before .before .before .before .args .root)) (c .before .before .before .before .before .before .before .before .before .before .before .before .before .before .before .before .before .before .before .before .before .args .have) (c .before .before .before .before .before .before .before .before .before .before .before .before .before .before .before .before .before .before .before .before .before .pre .1) (c .before .before .before .before .before .before .before .before .before .before .before .before .before .before .before .before .before .before .before .before .before .pre .2) (c .before .before .before .before .before .before .before .before .before .before .before .before .before .before .before .before .before .before .before .before .before .pre .3) _ _ _ _ _ _ _ _ (c .before .before .before .before .before .before .before .before .before .before .before .before .before .before .before .before .before .text-is .ensures) (c .before .before .before .before .before .before .before .before .before .before .before .before .before .before .before .text-is2 .ensures) (c .before .before .before .before .before .before .before .before .before .before .before .before .before .before .and-not .ensures) (c .before .before .before .before .before .before .before .before .before .before .before .before .pgn-error .ensures) (c .before .before .before .before .before .before .before .before .and-not2 .ensures) (c .before .before .before .before .before .before .pgn-error2 .ensures) (c .before .before .and-not3 .ensures) (c .pgn-error3 .ensures)) at (c .before .before .before .before .before .before .before .before .before .before .before .before .before .before .before .before .before .before .before .before .before .pre .0)) (emitted-append (c .before .before .before .before .before .before .before .before .before .before .before .put-if .ensures) (c .before .before .before .before .before .put-if2 .ensures))
+put-if-requires-3 c κs = fits-right _ _ (rw (viewed (now (c .before .before .before .before .before .before .before .before .before .before .before .before .before .before .before .before .before .before .before .before .before .args .s)) (packOf (now (c .before .before .before .before .before .before .before .before .before .before .before .before .before .before .before .before .before .before .before .before .before .args .s)) .fieldtypes) (c .before .before .before .before .before .before .before .before .before .before .before .before .before .before .before .before .before .before .before .before .before .args .t) (c .before .before .before .before .before .before .before .before .before .before .before .before .before .before .before .before .before .before .before .before .before .args .i) (pgn-at (packOf (now (c .before .before .before .before .before .before .before .before .before .before .before .before .before .before .before .before .before .before .before .before .before .args .s))) (c .before .before .before .before .before .before .before .before .before .before .before .before .before .before .before .before .before .before .before .before .before .args .t) (c .before .before .before .before .before .before .before .before .before .before .before .before .before .before .before .before .before .before .before .before .before .args .i)) (c .before .before .before .before .before .before .before .before .before .before .before .before .before .before .before .before .before .before .before .before .before .args .k) _ (c .before .before .before .before .before .before .before .before .before .before .before .before .before .before .before .before .before .before .before .before .before .args .f) (bytesOf (now (c .before .before .before .before .before .before .before .before .before .before .before .before .before .before .before .before .before .before .before .before .before .args .s)) (c .before .before .before .before .before .before .before .before .before .before .before .before .before .before .before .before .before .before .before .before .before .args .root)) (c .before .before .before .before .before .before .before .before .before .before .before .before .before .before .before .before .before .before .before .before .before .args .have) (c .before .before .before .before .before .before .before .before .before .before .before .before .before .before .before .before .before .before .before .before .before .pre .1) (c .before .before .before .before .before .before .before .before .before .before .before .before .before .before .before .before .before .before .before .before .before .pre .2) (c .before .before .before .before .before .before .before .before .before .before .before .before .before .before .before .before .before .before .before .before .before .pre .3) _ _ _ _ _ _ _ _ (c .before .before .before .before .before .before .before .before .before .before .before .before .before .before .before .before .before .text-is .ensures) (c .before .before .before .before .before .before .before .before .before .before .before .before .before .before .before .text-is2 .ensures) (c .before .before .before .before .before .before .before .before .before .before .before .before .before .before .and-not .ensures) (c .before .before .before .before .before .before .before .before .before .before .before .before .pgn-error .ensures) (c .before .before .before .before .before .before .before .before .and-not2 .ensures) (c .before .before .before .before .before .before .pgn-error2 .ensures) (c .before .before .and-not3 .ensures) (c .pgn-error3 .ensures)) at (c .before .before .before .before .before .before .before .before .before .before .before .before .before .before .before .before .before .before .before .before .before .pre .0)) (emitted-append (c .before .before .before .before .before .before .before .before .before .before .before .put-if .ensures) (c .before .before .before .before .before .put-if2 .ensures))
 
 same-length : tie.Need-same-length
 same-length c = search needs
 
 returns : tie.Need-returns
-returns c = rw (viewed (now (c .before .before .before .before .before .before .before .before .before .before .before .before .before .before .before .before .before .before .before .before .before .before .before .before .args .s)) (packOf (now (c .before .before .before .before .before .before .before .before .before .before .before .before .before .before .before .before .before .before .before .before .before .before .before .before .args .s)) .fieldtypes) (c .before .before .before .before .before .before .before .before .before .before .before .before .before .before .before .before .before .before .before .before .before .before .before .before .args .t) (c .before .before .before .before .before .before .before .before .before .before .before .before .before .before .before .before .before .before .before .before .before .before .before .before .args .i) (pgnIn (packOf (now (c .before .before .before .before .before .before .before .before .before .before .before .before .before .before .before .before .before .before .before .before .before .before .before .before .args .s))) (c .before .before .before .before .before .before .before .before .before .before .before .before .before .before .before .before .before .before .before .before .before .before .before .before .args .t) (c .before .before .before .before .before .before .before .before .before .before .before .before .before .before .before .before .before .before .before .before .before .before .before .before .args .i)) (c .before .before .before .before .before .before .before .before .before .before .before .before .before .before .before .before .before .before .before .before .before .before .before .before .args .k) _ (c .before .before .before .before .before .before .before .before .before .before .before .before .before .before .before .before .before .before .before .before .before .before .before .before .args .f) (bytesOf (now (c .before .before .before .before .before .before .before .before .before .before .before .before .before .before .before .before .before .before .before .before .before .before .before .before .args .s)) (c .before .before .before .before .before .before .before .before .before .before .before .before .before .before .before .before .before .before .before .before .before .before .before .before .args .root)) (c .before .before .before .before .before .before .before .before .before .before .before .before .before .before .before .before .before .before .before .before .before .before .before .before .args .have) (c .before .before .before .before .before .before .before .before .before .before .before .before .before .before .before .before .before .before .before .before .before .before .before .before .pre .1) (c .before .before .before .before .before .before .before .before .before .before .before .before .before .before .before .before .before .before .before .before .before .before .before .before .pre .2) (c .before .before .before .before .before .before .before .before .before .before .before .before .before .before .before .before .before .before .before .before .before .before .before .before .pre .3) _ _ _ _ _ _ _ _ (c .before .before .before .before .before .before .before .before .before .before .before .before .before .before .before .before .before .before .before .before .text-is .ensures) (c .before .before .before .before .before .before .before .before .before .before .before .before .before .before .before .before .before .before .text-is2 .ensures) (c .before .before .before .before .before .before .before .before .before .before .before .before .before .before .before .before .before .and-not .ensures) (c .before .before .before .before .before .before .before .before .before .before .before .before .before .before .before .pgn-error .ensures) (c .before .before .before .before .before .before .before .before .before .before .before .and-not2 .ensures) (c .before .before .before .before .before .before .before .before .before .pgn-error2 .ensures) (c .before .before .before .before .before .and-not3 .ensures) (c .before .before .before .pgn-error3 .ensures)) (emitted-append (emitted-append (c .before .before .before .before .before .before .before .before .before .before .before .before .before .before .put-if .ensures) (c .before .before .before .before .before .before .before .before .put-if2 .ensures)) (c .before .before .put-if3 .ensures))
+returns c = rw (viewed (now (c .before .before .before .before .before .before .before .before .before .before .before .before .before .before .before .before .before .before .before .before .before .before .before .before .args .s)) (packOf (now (c .before .before .before .before .before .before .before .before .before .before .before .before .before .before .before .before .before .before .before .before .before .before .before .before .args .s)) .fieldtypes) (c .before .before .before .before .before .before .before .before .before .before .before .before .before .before .before .before .before .before .before .before .before .before .before .before .args .t) (c .before .before .before .before .before .before .before .before .before .before .before .before .before .before .before .before .before .before .before .before .before .before .before .before .args .i) (pgn-at (packOf (now (c .before .before .before .before .before .before .before .before .before .before .before .before .before .before .before .before .before .before .before .before .before .before .before .before .args .s))) (c .before .before .before .before .before .before .before .before .before .before .before .before .before .before .before .before .before .before .before .before .before .before .before .before .args .t) (c .before .before .before .before .before .before .before .before .before .before .before .before .before .before .before .before .before .before .before .before .before .before .before .before .args .i)) (c .before .before .before .before .before .before .before .before .before .before .before .before .before .before .before .before .before .before .before .before .before .before .before .before .args .k) _ (c .before .before .before .before .before .before .before .before .before .before .before .before .before .before .before .before .before .before .before .before .before .before .before .before .args .f) (bytesOf (now (c .before .before .before .before .before .before .before .before .before .before .before .before .before .before .before .before .before .before .before .before .before .before .before .before .args .s)) (c .before .before .before .before .before .before .before .before .before .before .before .before .before .before .before .before .before .before .before .before .before .before .before .before .args .root)) (c .before .before .before .before .before .before .before .before .before .before .before .before .before .before .before .before .before .before .before .before .before .before .before .before .args .have) (c .before .before .before .before .before .before .before .before .before .before .before .before .before .before .before .before .before .before .before .before .before .before .before .before .pre .1) (c .before .before .before .before .before .before .before .before .before .before .before .before .before .before .before .before .before .before .before .before .before .before .before .before .pre .2) (c .before .before .before .before .before .before .before .before .before .before .before .before .before .before .before .before .before .before .before .before .before .before .before .before .pre .3) _ _ _ _ _ _ _ _ (c .before .before .before .before .before .before .before .before .before .before .before .before .before .before .before .before .before .before .before .before .text-is .ensures) (c .before .before .before .before .before .before .before .before .before .before .before .before .before .before .before .before .before .before .text-is2 .ensures) (c .before .before .before .before .before .before .before .before .before .before .before .before .before .before .before .before .before .and-not .ensures) (c .before .before .before .before .before .before .before .before .before .before .before .before .before .before .before .pgn-error .ensures) (c .before .before .before .before .before .before .before .before .before .before .before .and-not2 .ensures) (c .before .before .before .before .before .before .before .before .before .pgn-error2 .ensures) (c .before .before .before .before .before .and-not3 .ensures) (c .before .before .before .pgn-error3 .ensures)) (emitted-append (emitted-append (c .before .before .before .before .before .before .before .before .before .before .before .before .before .before .put-if .ensures) (c .before .before .before .before .before .before .before .before .put-if2 .ensures)) (c .before .before .put-if3 .ensures))
 
 pub dynamic-length-at-spec : {M : Type 1} → statement M
 dynamic-length-at-spec =

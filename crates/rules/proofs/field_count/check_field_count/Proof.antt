@@ -4,7 +4,7 @@ use Rattle.rules.specs.declared.Finding.{Finding}
 use Rattle.pack.specs.Notation.{_<ᵇ_}
 use Rattle.pack.specs.Value.{Pgn}
 use Rattle.pack.specs.Ready.{PgnIs}
-use Rattle.pack.specs.declared.records.PgnView.{PgnView}
+use Rattle.pack.specs.declared.pgn.PgnView.{PgnView}
 use Prim.Native.Nat.{ℕ}
 use mathlib.Core.Path.{_≡_}
 use mathlib.Core.List.{List}

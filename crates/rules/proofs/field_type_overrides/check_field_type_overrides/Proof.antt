@@ -4,9 +4,8 @@ use Rattle.rules.specs.FieldTypeOverrides.{overrides-at, check-field-typ
 use Rattle.rules.specs.Model.{fieldtype-of}
 use Rattle.rules.specs.declared.Finding.{Finding}
 use Rattle.pack.proofs.Positions.{field-ft-law}
-use Rattle.pack.specs.Value.{Field}
+use Rattle.pack.specs.Value.{Field, pgn-at, field-at}
 use Rattle.pack.specs.Notation.{concatBelow}
-use Rattle.pack.specs.Ready.{pgnIn, fieldIn}
 use Rattle.pack.specs.Meaning.{packOf}
 use Prim.Native.Nat.{ℕ, _-_, _≤_}
 use native.Mathlib.Omega.{arith}
@@ -21,7 +20,7 @@ use Rattle.rules.proofs.field_type_overrides.check_field_type_overrides
 }
 
 abbrev of-field : List ℕ → ℕ → ℕ → ℕ → List Finding
-of-field s t i k = overrides-at t i k (fieldIn (packOf s) t i k) (fieldtype-of (packOf s .fieldtypes) (fieldIn (packOf s) t i k))
+of-field s t i k = overrides-at t i k (field-at (pgn-at (packOf s) t i) k) (fieldtype-of (packOf s .fieldtypes) (field-at (pgn-at (packOf s) t i) k))
 
 abbrev Inv-loop : tie.InvT-loop
 Inv-loop out₀ n s work t i p g m₀ k₀ out m k = (k ≤ g .fields) × (length out ≡ length out₀) × Emitted out₀ n (concatBelow (of-field s t i) k) out m
@@ -37,7 +36,7 @@ field-of-requires c κs = (c .before .before .before .before .before .before .pr
 
 overrides-at-requires : tie.Need-overrides-at-requires Inv-loop μ-loop
 unfolding check-field-type-overrides
-overrides-at-requires c κs = (fits-turn (of-field (now (c .before .before .before .before .before .before .before .before .args .s)) (c .before .before .before .before .before .before .before .before .args .t) (c .before .before .before .before .before .before .before .before .args .i)) (c .before .before .before .before .before .before .before .before .args .g .fields) (c .before .before .before .before .loop .k) (c .before .before .if1 .taken) (rw (← c .before .before .before .before .before .before .before .before .pre .2 .fields) at (c .before .before .before .before .before .before .before .before .pre .0)) (c .before .before .before .before .loop .inv .2), c .before .field-of .ensures, c .before .before .before .before .before .before .before .before .pre .1 .ready, (let e : c .before .field-of .result .ft ≡ fieldIn (packOf (now (c .before .before .before .before .before .before .before .before .args .s))) (c .before .before .before .before .before .before .before .before .args .t) (c .before .before .before .before .before .before .before .before .args .i) (c .before .before .before .before .loop .k) .ft = ap (λ (F : Field). F .ft) (c .before .field-of .ensures) in omega (arith, e, field-ft-law (c .before .before .before .before .before .before .before .before .pre .1) (c .before .before .before .before .loop .k) (omega (arith, c .before .before .if1 .taken, c .before .before .before .before .before .before .before .before .pre .2 .fields)))))
+overrides-at-requires c κs = (fits-turn (of-field (now (c .before .before .before .before .before .before .before .before .args .s)) (c .before .before .before .before .before .before .before .before .args .t) (c .before .before .before .before .before .before .before .before .args .i)) (c .before .before .before .before .before .before .before .before .args .g .fields) (c .before .before .before .before .loop .k) (c .before .before .if1 .taken) (rw (← c .before .before .before .before .before .before .before .before .pre .2 .fields) at (c .before .before .before .before .before .before .before .before .pre .0)) (c .before .before .before .before .loop .inv .2), c .before .field-of .ensures, c .before .before .before .before .before .before .before .before .pre .1 .ready, (let e : c .before .field-of .result .ft ≡ field-at (pgn-at (packOf (now (c .before .before .before .before .before .before .before .before .args .s))) (c .before .before .before .before .before .before .before .before .args .t) (c .before .before .before .before .before .before .before .before .args .i)) (c .before .before .before .before .loop .k) .ft = ap (λ (F : Field). F .ft) (c .before .field-of .ensures) in omega (arith, e, field-ft-law (c .before .before .before .before .before .before .before .before .pre .1) (c .before .before .before .before .loop .k) (omega (arith, c .before .before .if1 .taken, c .before .before .before .before .before .before .before .before .pre .2 .fields)))))
 
 add-k : tie.Need-add-k Inv-loop μ-loop
 add-k c = omega (arith, c .before .before .before .before .before .before .struct-known .given)
@@ -53,7 +52,7 @@ same-length c = search needs
 
 returns : tie.Need-returns Inv-loop μ-loop
 unfolding check-field-type-overrides
-returns c = let e : c .before .before .loop .k ≡ length (pgnIn (packOf (now (c .before .before .before .before .before .before .args .s))) (c .before .before .before .before .before .before .args .t) (c .before .before .before .before .before .before .args .i) .fields) = omega (arith, c .before .before .before .before .before .before .pre .2 .fields) in rw (← e) (c .before .before .loop .inv .2)
+returns c = let e : c .before .before .loop .k ≡ length (pgn-at (packOf (now (c .before .before .before .before .before .before .args .s))) (c .before .before .before .before .before .before .args .t) (c .before .before .before .before .before .before .args .i) .fields) = omega (arith, c .before .before .before .before .before .before .pre .2 .fields) in rw (← e) (c .before .before .loop .inv .2)
 
 pub check-field-type-overrides-spec : {M : Type 1} → statement M
 check-field-type-overrides-spec =

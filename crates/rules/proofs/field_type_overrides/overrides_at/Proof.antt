@@ -8,8 +8,8 @@ use mathlib.Core.Bool.{not, _&&_, Bool, true, false}
 use Rattle.pack.specs.Value.{Field, FieldType, noFieldType}
 use Rattle.pack.specs.Notation.{_==_, optional}
 use Rattle.pack.specs.Meaning.{fieldMeaning, typeMeaning, packOf}
-use Rattle.pack.specs.declared.records.FieldTypeView.{FieldTypeView}
-use Rattle.pack.specs.declared.records.FieldView.{FieldView}
+use Rattle.pack.specs.declared.field_type.FieldTypeView.{FieldTypeView}
+use Rattle.pack.specs.declared.field.FieldView.{FieldView}
 use Prim.Native.Nat.{ℕ}
 use mathlib.Core.Path.{_≡_, refl}
 use mathlib.Core.List.{List, _++_}

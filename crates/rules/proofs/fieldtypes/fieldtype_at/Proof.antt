@@ -4,7 +4,7 @@ use Rattle.rules.specs.declared.Finding.{Finding}
 use mathlib.Core.Bool.{not, _&&_, Bool}
 use Rattle.pack.specs.Value.{FieldType}
 use Rattle.pack.specs.Meaning.{typeMeaning}
-use Rattle.pack.specs.declared.records.FieldTypeView.{FieldTypeView}
+use Rattle.pack.specs.declared.field_type.FieldTypeView.{FieldTypeView}
 use Prim.Native.Nat.{ℕ}
 use mathlib.Core.Path.{_≡_}
 use mathlib.Core.List.{List}

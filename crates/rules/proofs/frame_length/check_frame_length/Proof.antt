@@ -1,5 +1,5 @@
 use Rattle.rules.specs.declared.Finding.{Finding}
-use Rattle.pack.specs.declared.records.PgnView.{PgnView}
+use Rattle.pack.specs.declared.pgn.PgnView.{PgnView}
 use Rattle.pack.specs.Ready.{PgnIs}
 use Rattle.pack.specs.Notation.{_==_, _<ᵇ_}
 use mathlib.Core.Bool.{not, _&&_, Bool}

@@ -3,7 +3,7 @@ use Rattle.rules.specs.Marks.{Marked}
 use Rattle.rules.specs.LookupWiring.{referenced-by-lookup}
 use Rattle.rules.specs.Model.{is-text}
 use Rattle.rules.specs.Search.{anyBelow}
-use Rattle.pack.specs.Value.{Lookup, Entry, noEntry}
+use Rattle.pack.specs.Value.{Lookup, Entry, noEntry, lookup-at}
 use Rattle.pack.specs.Meaning.{optBytes, packOf}
 use borrow.Author.Needs.{needs}
 use native.Mathlib.Omega.{arith}
@@ -13,13 +13,12 @@ use mathlib.Core.Bool.{Bool, false}
 use mathlib.Core.List.{List}
 use lib.ListN.{length, getD}
 use denote.Ref.{now}
-use Rattle.pack.specs.Ready.{lookupIn}
 use Rattle.rules.proofs.lookup_marks.mark_by_lookup.Statement.{statement}
 use Rattle.rules.proofs.lookup_marks.mark_by_lookup.Tie as tie
 
 -- whether entry e nests the name
 abbrev nests : List ℕ → ℕ → List ℕ → ℕ → Bool
-nests s l name e = is-text (getD (lookupIn (packOf s) l .entries) e noEntry .nested) name
+nests s l name e = is-text (getD (lookup-at (packOf s .lookups) l .entries) e noEntry .nested) name
 
 abbrev Inv-loop : tie.InvT-loop
 Inv-loop marks₀ s work lookups l p entries e₀ marks e = (e ≤ entries) × (length marks ≡ length marks₀) × Marked (packOf s) marks₀ (λ n. anyBelow (nests s l n) e) marks
@@ -28,7 +27,7 @@ abbrev μ-loop : tie.MeasureT-loop
 μ-loop marks₀ s work lookups l p entries e₀ marks e = entries - e
 
 returns : tie.Need-returns Inv-loop μ-loop
-returns c = marked-as (λ n. false) (λ n. referenced-by-lookup n (lookupIn (packOf (now (c .before .before .before .before .before .args .s))) (c .before .before .before .before .before .args .l))) (λ n. sym (not-nesting (now (c .before .before .before .before .before .args .s)) n (lookupIn (packOf (now (c .before .before .before .before .before .args .s))) (c .before .before .before .before .before .args .l)) (c .before .before .before .before .before .args .v) (c .before .before .before .before .before .pre .4) (c .if1 .taken))) (marked-none (packOf (now (c .before .before .before .before .before .args .s))) (now (c .before .before .before .before .before .args .marks)))
+returns c = marked-as (λ n. false) (λ n. referenced-by-lookup n (lookup-at (packOf (now (c .before .before .before .before .before .args .s)) .lookups) (c .before .before .before .before .before .args .l))) (λ n. sym (not-nesting (now (c .before .before .before .before .before .args .s)) n (lookup-at (packOf (now (c .before .before .before .before .before .args .s)) .lookups) (c .before .before .before .before .before .args .l)) (c .before .before .before .before .before .args .v) (c .before .before .before .before .before .pre .4) (c .if1 .taken))) (marked-none (packOf (now (c .before .before .before .before .before .args .s))) (now (c .before .before .before .before .before .args .marks)))
 
 loop-holds : tie.Need-loop-holds Inv-loop μ-loop
 loop-holds c = (search needs, refl, marked-none (packOf (now (c .before .before .before .before .before .args .s))) (now (c .before .before .before .before .before .args .marks)))
@@ -52,7 +51,7 @@ same-length : tie.Need-same-length Inv-loop μ-loop
 same-length c = c .before .loop .inv .1
 
 returns-2 : tie.Need-returns-2 Inv-loop μ-loop
-returns-2 c = let q : length (lookupIn (packOf (now (c .before .before .before .before .before .before .before .args .s))) (c .before .before .before .before .before .before .before .args .l) .entries) ≡ c .before .loop .e = omega (arith, c .before .before .before .before .before .before .before .pre .4 .entries, c .before .loop .inv .0, c .loop-test .left) in marked-as (λ n. anyBelow (nests (now (c .before .before .before .before .before .before .before .args .s)) (c .before .before .before .before .before .before .before .args .l) n) (c .before .loop .e)) (λ n. referenced-by-lookup n (lookupIn (packOf (now (c .before .before .before .before .before .before .before .args .s))) (c .before .before .before .before .before .before .before .args .l))) (λ n. sym (nesting (now (c .before .before .before .before .before .before .before .args .s)) n (lookupIn (packOf (now (c .before .before .before .before .before .before .before .args .s))) (c .before .before .before .before .before .before .before .args .l)) (c .before .before .before .before .before .before .before .args .v) (c .before .before .before .before .before .before .before .pre .4) (c .before .before .if1 .left) ∙ ap (anyBelow (nests (now (c .before .before .before .before .before .before .before .args .s)) (c .before .before .before .before .before .before .before .args .l) n)) q)) (c .before .loop .inv .2)
+returns-2 c = let q : length (lookup-at (packOf (now (c .before .before .before .before .before .before .before .args .s)) .lookups) (c .before .before .before .before .before .before .before .args .l) .entries) ≡ c .before .loop .e = omega (arith, c .before .before .before .before .before .before .before .pre .4 .entries, c .before .loop .inv .0, c .loop-test .left) in marked-as (λ n. anyBelow (nests (now (c .before .before .before .before .before .before .before .args .s)) (c .before .before .before .before .before .before .before .args .l) n) (c .before .loop .e)) (λ n. referenced-by-lookup n (lookup-at (packOf (now (c .before .before .before .before .before .before .before .args .s)) .lookups) (c .before .before .before .before .before .before .before .args .l))) (λ n. sym (nesting (now (c .before .before .before .before .before .before .before .args .s)) n (lookup-at (packOf (now (c .before .before .before .before .before .before .before .args .s)) .lookups) (c .before .before .before .before .before .before .before .args .l)) (c .before .before .before .before .before .before .before .args .v) (c .before .before .before .before .before .before .before .pre .4) (c .before .before .if1 .left) ∙ ap (anyBelow (nests (now (c .before .before .before .before .before .before .before .args .s)) (c .before .before .before .before .before .before .before .args .l) n)) q)) (c .before .loop .inv .2)
 
 pub mark-by-lookup-spec : {M : Type 1} → statement M
 mark-by-lookup-spec =

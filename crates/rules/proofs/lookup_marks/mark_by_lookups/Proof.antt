@@ -12,14 +12,15 @@ use mathlib.Core.Bool.{Bool}
 use mathlib.Core.List.{List}
 use lib.ListN.{length}
 use denote.Ref.{now}
-use Rattle.pack.specs.Ready.{lookupIn, lookupPlace}
+use Rattle.pack.specs.Ready.{lookupPlace}
 use Rattle.pack.specs.Meaning.{packOf}
+use Rattle.pack.specs.Value.{lookup-at}
 use Rattle.rules.proofs.lookup_marks.mark_by_lookups.Statement.{statement}
 use Rattle.rules.proofs.lookup_marks.mark_by_lookups.Tie as tie
 
 -- whether lookup l references the name
 abbrev has : List ℕ → List ℕ → ℕ → Bool
-has s name l = referenced-by-lookup name (lookupIn (packOf s) l)
+has s name l = referenced-by-lookup name (lookup-at (packOf s .lookups) l)
 
 abbrev Inv-loop : tie.InvT-loop
 Inv-loop marks₀ s work lookups count p₀ l₀ marks p l = (l ≤ count) × (p ≡ lookupPlace (packOf s) l) × (length marks ≡ length marks₀) × Marked (packOf s) marks₀ (λ n. anyBelow (has s n) l) marks

@@ -2,7 +2,7 @@ use Rattle.rules.proofs.Marking.{marked-none, marked-as, marked-turn}
 use Rattle.rules.specs.Marks.{Marked}
 use Rattle.rules.specs.LookupWiring.{ref-is, referenced-by-pgn}
 use Rattle.rules.specs.Search.{anyBelow}
-use Rattle.pack.specs.Value.{Field}
+use Rattle.pack.specs.Value.{Field, pgn-at, field-at}
 use Rattle.pack.specs.Meaning.{optReference, packOf}
 use borrow.Author.Needs.{needs}
 use native.Mathlib.Omega.{arith}
@@ -12,13 +12,12 @@ use mathlib.Core.Bool.{Bool}
 use mathlib.Core.List.{List}
 use lib.ListN.{length}
 use denote.Ref.{now}
-use Rattle.pack.specs.Ready.{pgnIn, fieldIn}
 use Rattle.rules.proofs.lookup_marks.mark_by_pgn.Statement.{statement}
 use Rattle.rules.proofs.lookup_marks.mark_by_pgn.Tie as tie
 
 -- whether field k refers to the name
 abbrev refers : List ℕ → ℕ → ℕ → List ℕ → ℕ → Bool
-refers s t i name k = ref-is (fieldIn (packOf s) t i k .reference) name
+refers s t i name k = ref-is (field-at (pgn-at (packOf s) t i) k .reference) name
 
 abbrev Inv-loop : tie.InvT-loop
 Inv-loop marks₀ s work lookups t i p fields k₀ marks k = (k ≤ fields) × (length marks ≡ length marks₀) × Marked (packOf s) marks₀ (λ n. anyBelow (refers s t i n) k) marks
@@ -49,7 +48,7 @@ same-length c = c .before .loop .inv .1
 
 returns : tie.Need-returns Inv-loop μ-loop
 unfolding referenced-by-pgn
-returns c = let q : c .before .loop .k ≡ length (pgnIn (packOf (now (c .before .before .before .before .before .args .s))) (c .before .before .before .before .before .args .t) (c .before .before .before .before .before .args .i) .fields) = omega (arith, c .before .before .before .before .before .pre .4, c .before .loop .inv .0, c .loop-test .left) in marked-as (λ n. anyBelow (refers (now (c .before .before .before .before .before .args .s)) (c .before .before .before .before .before .args .t) (c .before .before .before .before .before .args .i) n) (c .before .loop .k)) (λ n. referenced-by-pgn n (pgnIn (packOf (now (c .before .before .before .before .before .args .s))) (c .before .before .before .before .before .args .t) (c .before .before .before .before .before .args .i))) (λ n. ap (anyBelow (refers (now (c .before .before .before .before .before .args .s)) (c .before .before .before .before .before .args .t) (c .before .before .before .before .before .args .i) n)) q) (c .before .loop .inv .2)
+returns c = let q : c .before .loop .k ≡ length (pgn-at (packOf (now (c .before .before .before .before .before .args .s))) (c .before .before .before .before .before .args .t) (c .before .before .before .before .before .args .i) .fields) = omega (arith, c .before .before .before .before .before .pre .4, c .before .loop .inv .0, c .loop-test .left) in marked-as (λ n. anyBelow (refers (now (c .before .before .before .before .before .args .s)) (c .before .before .before .before .before .args .t) (c .before .before .before .before .before .args .i) n) (c .before .loop .k)) (λ n. referenced-by-pgn n (pgn-at (packOf (now (c .before .before .before .before .before .args .s))) (c .before .before .before .before .before .args .t) (c .before .before .before .before .before .args .i))) (λ n. ap (anyBelow (refers (now (c .before .before .before .before .before .args .s)) (c .before .before .before .before .before .args .t) (c .before .before .before .before .before .args .i) n)) q) (c .before .loop .inv .2)
 
 pub mark-by-pgn-spec : {M : Type 1} → statement M
 mark-by-pgn-spec =

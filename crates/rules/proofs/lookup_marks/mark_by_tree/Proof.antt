@@ -4,7 +4,7 @@ use Rattle.rules.specs.Marks.{Marked}
 use Rattle.rules.specs.LookupWiring.{referenced-by-pgn, referenced-by-tree}
 use Rattle.rules.specs.Search.{anyBelow}
 use Rattle.pack.proofs.Positions.{pgn-place-next}
-use Rattle.pack.specs.Ready.{pgnPlace, pgnIn}
+use Rattle.pack.specs.Ready.{pgnPlace}
 use borrow.Author.Needs.{needs}
 use native.Mathlib.Omega.{arith}
 use Prim.Native.Nat.{ℕ, _-_, _≤_}
@@ -14,13 +14,13 @@ use mathlib.Core.List.{List}
 use lib.ListN.{length}
 use denote.Ref.{now}
 use Rattle.pack.specs.Meaning.{packOf}
-use Rattle.pack.specs.Value.{pgns-of}
+use Rattle.pack.specs.Value.{pgns-of, pgn-at}
 use Rattle.rules.proofs.lookup_marks.mark_by_tree.Statement.{statement}
 use Rattle.rules.proofs.lookup_marks.mark_by_tree.Tie as tie
 
 -- whether PGN i references the name
 abbrev has : List ℕ → ℕ → List ℕ → ℕ → Bool
-has s t name i = referenced-by-pgn name (pgnIn (packOf s) t i)
+has s t name i = referenced-by-pgn name (pgn-at (packOf s) t i)
 
 abbrev Inv-loop : tie.InvT-loop
 Inv-loop marks₀ s work lookups t count p₀ i₀ marks p i = (i ≤ count) × (p ≡ pgnPlace (packOf s) t i) × (length marks ≡ length marks₀) × Marked (packOf s) marks₀ (λ n. anyBelow (has s t n) i) marks

@@ -1,6 +1,6 @@
 use Rattle.rules.proofs.Marking.{marked-none, marked-as}
 use Rattle.rules.specs.LookupWiring.{ref-is}
-use Rattle.pack.specs.declared.records.OptReference.{OptReference}
+use Rattle.pack.specs.declared.field.OptReference.{OptReference}
 use Rattle.pack.specs.Meaning.{optReference, packOf}
 use Rattle.pack.specs.Items.{bytesOf}
 use Prim.Native.Nat.{ℕ}

@@ -5,8 +5,8 @@ use native.Mathlib.Omega.{arith}
 use mathlib.Core.Path.{_∙_}
 use lib.ListN.{length}
 use denote.Ref.{now}
-use Rattle.pack.specs.Ready.{lookupIn}
 use Rattle.pack.specs.Meaning.{packOf}
+use Rattle.pack.specs.Value.{lookup-at}
 use Rattle.rules.proofs.lookup_marks.mark_referenced.Statement.{statement}
 use Rattle.rules.proofs.lookup_marks.mark_referenced.Tie as tie
 
@@ -21,7 +21,7 @@ same-length c = c .before .before .mark-by-lookups .kept .0 ∙ c .before .befor
 
 returns : tie.Need-returns
 unfolding referenced
-returns c = marked-then (λ n. anyBelow (λ t. referenced-by-tree (packOf (now (c .before .before .before .before .before .before .before .before .before .before .before .args .s))) n t) 3) (λ n. anyBelow (λ l. referenced-by-lookup n (lookupIn (packOf (now (c .before .before .before .before .before .before .before .before .before .before .before .args .s))) l)) (length (packOf (now (c .before .before .before .before .before .before .before .before .before .before .before .args .s)) .lookups))) (c .before .before .before .before .before .before .mark-by-trees .ensures) (c .before .before .mark-by-lookups .ensures)
+returns c = marked-then (λ n. anyBelow (λ t. referenced-by-tree (packOf (now (c .before .before .before .before .before .before .before .before .before .before .before .args .s))) n t) 3) (λ n. anyBelow (λ l. referenced-by-lookup n (lookup-at (packOf (now (c .before .before .before .before .before .before .before .before .before .before .before .args .s)) .lookups) l)) (length (packOf (now (c .before .before .before .before .before .before .before .before .before .before .before .args .s)) .lookups))) (c .before .before .before .before .before .before .mark-by-trees .ensures) (c .before .before .mark-by-lookups .ensures)
 
 pub mark-referenced-spec : {M : Type 1} → statement M
 mark-referenced-spec =

@@ -1,12 +1,13 @@
 use Rattle.rules.proofs.Sizes.{at-lookup, entries-few, lookups-few}
 use Rattle.rules.specs.LookupNames.{lookup-names-of}
 use Rattle.pack.proofs.Positions.{lookup-place-next}
-use Rattle.pack.specs.Ready.{lookupPlace, lookupIn}
+use Rattle.pack.specs.Ready.{lookupPlace}
 use Rattle.rules.proofs.Emits.{emitted-none, emitted-turn, fits-turn}
 use Rattle.rules.specs.Emit.{Emitted}
 use Rattle.rules.specs.declared.Finding.{Finding}
 use Rattle.pack.specs.Meaning.{packOf}
 use Rattle.pack.specs.Notation.{concatBelow}
+use Rattle.pack.specs.Value.{lookup-at}
 use Prim.Native.Nat.{ℕ, _-_, _≤_}
 use native.Mathlib.Omega.{arith}
 use mathlib.Core.Path.{_≡_, refl, _∙_}
@@ -19,7 +20,7 @@ use Rattle.rules.proofs.lookup_names.check_lookup_names.Tie as tie
 
 -- the findings of lookup l
 abbrev of-lookup : List ℕ → ℕ → List Finding
-of-lookup s l = lookup-names-of l (lookupIn (packOf s) l)
+of-lookup s l = lookup-names-of l (lookup-at (packOf s .lookups) l)
 
 abbrev Inv-loop : tie.InvT-loop
 Inv-loop out₀ n s work count m₀ p₀ l₀ out m p l = (l ≤ count) × (p ≡ lookupPlace (packOf s) l) × (length out ≡ length out₀) × Emitted out₀ n (concatBelow (of-lookup s) l) out m

@@ -1,10 +1,9 @@
 use Rattle.rules.specs.LookupNames.{same-name}
 use Rattle.rules.specs.SearchLaws.{latest-turn}
 use Rattle.rules.specs.Search.{latestBelow}
-use Rattle.pack.specs.declared.records.EntryView.{EntryView}
+use Rattle.pack.specs.declared.entry.EntryView.{EntryView}
 use Rattle.pack.specs.Meaning.{entryMeaning, optNumber, packOf}
-use Rattle.pack.specs.Value.{noEntry}
-use Rattle.pack.specs.Ready.{lookupIn}
+use Rattle.pack.specs.Value.{noEntry, lookup-at}
 use mathlib.Core.Bool.{Bool}
 use Prim.Native.Nat.{ℕ, _-_, _≤_}
 use native.Mathlib.Omega.{arith}
@@ -18,9 +17,9 @@ use Rattle.rules.proofs.lookup_names.latest_same_name.Tie as tie
 
 -- whether entry d has the name of entry e
 abbrev named : List ℕ → ℕ → ℕ → ℕ → Bool
-named s l e d = same-name (lookupIn (packOf s) l .kind) (getD (lookupIn (packOf s) l .entries) d noEntry) (getD (lookupIn (packOf s) l .entries) e noEntry)
+named s l e d = same-name (lookup-at (packOf s .lookups) l .kind) (getD (lookup-at (packOf s .lookups) l .entries) d noEntry) (getD (lookup-at (packOf s .lookups) l .entries) e noEntry)
 
-said : (s : List ℕ) (l e d k : ℕ) (a b : EntryView) (r : Bool) → k ≡ lookupIn (packOf s) l .kind → entryMeaning s a ≡ getD (lookupIn (packOf s) l .entries) d noEntry → entryMeaning s b ≡ getD (lookupIn (packOf s) l .entries) e noEntry
+said : (s : List ℕ) (l e d k : ℕ) (a b : EntryView) (r : Bool) → k ≡ lookup-at (packOf s .lookups) l .kind → entryMeaning s a ≡ getD (lookup-at (packOf s .lookups) l .entries) d noEntry → entryMeaning s b ≡ getD (lookup-at (packOf s .lookups) l .entries) e noEntry
     → r ≡ same-name k (entryMeaning s a) (entryMeaning s b) → r ≡ named s l e d
 said s l e d k a b r x y z h = h ∙ (λ j. same-name (x j) (y j) (z j))
 

@@ -2,12 +2,12 @@ use Rattle.rules.proofs.Sizes.{entries-few}
 use Rattle.rules.specs.LookupNames.{same-name, same-name-as, lookup-names-of}
 use Rattle.rules.specs.Texts.{SPN-LOOKUP}
 use Rattle.rules.specs.Search.{latestBelow}
-use Rattle.pack.specs.declared.records.LookupView.{LookupView}
-use Rattle.pack.specs.Value.{noEntry, Lookup}
+use Rattle.pack.specs.declared.lookup.LookupView.{LookupView}
+use Rattle.pack.specs.Value.{noEntry, Lookup, lookup-at}
 use Rattle.rules.proofs.Emits.{emitted-none, emitted-turn, fits-turn}
 use Rattle.rules.specs.Emit.{Emitted}
 use Rattle.rules.specs.declared.Finding.{Finding}
-use Rattle.pack.specs.Ready.{LookupIs, lookupIn}
+use Rattle.pack.specs.Ready.{LookupIs}
 use Rattle.pack.specs.Meaning.{packOf}
 use Rattle.pack.specs.Items.{bytesOf}
 use Rattle.pack.specs.Notation.{_≐_, concatBelow}
@@ -36,7 +36,7 @@ module _ (s : List ℕ) (L : Lookup) (v : LookupView) (is : LookupIs s L v) (l :
   others h = let e : (L .name ≐ SPN-LOOKUP) ≡ false = ap (λ (M : Lookup). M .name ≐ SPN-LOOKUP) (sym (is .means)) ∙ sym z ∙ h in rw (e, is .entries)
 
 abbrev Inv-loop : tie.InvT-loop
-Inv-loop out₀ n s work l p entries kind m₀ e₀ out m e = (e ≤ entries) × (length out ≡ length out₀) × Emitted out₀ n (concatBelow (of-entry (lookupIn (packOf s) l) l) e) out m
+Inv-loop out₀ n s work l p entries kind m₀ e₀ out m e = (e ≤ entries) × (length out ≡ length out₀) × Emitted out₀ n (concatBelow (of-entry (lookup-at (packOf s .lookups) l) l) e) out m
 
 abbrev μ-loop : tie.MeasureT-loop
 μ-loop out₀ n s work l p entries kind m₀ e₀ out m e = entries - e
@@ -48,13 +48,13 @@ text-is-requires : tie.Need-text-is-requires Inv-loop μ-loop
 text-is-requires c κs = search needs
 
 returns : tie.Need-returns Inv-loop μ-loop
-returns c = rw (spns (now (c .before .before .before .before .before .before .args .s)) (lookupIn (packOf (now (c .before .before .before .before .before .before .args .s))) (c .before .before .before .before .before .before .args .l)) (c .before .before .before .before .before .before .args .v) (c .before .before .before .before .before .before .pre .2) (c .before .before .before .before .before .before .args .l) (c .before .text-is .result) (c .before .text-is .ensures) (c .if1 .taken)) (emitted-none (now (c .before .before .before .before .before .before .args .out)) (c .before .before .before .before .before .before .args .n))
+returns c = rw (spns (now (c .before .before .before .before .before .before .args .s)) (lookup-at (packOf (now (c .before .before .before .before .before .before .args .s)) .lookups) (c .before .before .before .before .before .before .args .l)) (c .before .before .before .before .before .before .args .v) (c .before .before .before .before .before .before .pre .2) (c .before .before .before .before .before .before .args .l) (c .before .text-is .result) (c .before .text-is .ensures) (c .if1 .taken)) (emitted-none (now (c .before .before .before .before .before .before .args .out)) (c .before .before .before .before .before .before .args .n))
 
 loop-holds : tie.Need-loop-holds Inv-loop μ-loop
 loop-holds c = (search needs, refl, emitted-none (now (c .before .before .before .before .before .before .args .out)) (c .before .before .before .before .before .before .args .n))
 
 same-name-at-requires : tie.Need-same-name-at-requires Inv-loop μ-loop
-same-name-at-requires c κs = (fits-turn (of-entry (lookupIn (packOf (now (c .before .before .before .before .before .before .before .before .before .args .s))) (c .before .before .before .before .before .before .before .before .before .args .l)) (c .before .before .before .before .before .before .before .before .before .args .l)) (c .before .before .before .before .before .before .before .before .before .args .v .entries) (c .before .before .loop .e) (c .before .loop-test .taken) (rw (others (now (c .before .before .before .before .before .before .before .before .before .args .s)) (lookupIn (packOf (now (c .before .before .before .before .before .before .before .before .before .args .s))) (c .before .before .before .before .before .before .before .before .before .args .l)) (c .before .before .before .before .before .before .before .before .before .args .v) (c .before .before .before .before .before .before .before .before .before .pre .2) (c .before .before .before .before .before .before .before .before .before .args .l) (c .before .before .before .before .text-is .result) (c .before .before .before .before .text-is .ensures) (c .before .before .before .if1 .left)) at (c .before .before .before .before .before .before .before .before .before .pre .0)) (c .before .before .loop .inv .2), c .before .before .before .before .before .before .before .before .before .pre .1, ap (λ (M : Lookup). M .kind) (c .before .before .before .before .before .before .before .before .before .pre .2 .means), omega (arith, c .before .before .before .before .before .before .before .before .before .pre .2 .entries, c .before .loop-test .taken))
+same-name-at-requires c κs = (fits-turn (of-entry (lookup-at (packOf (now (c .before .before .before .before .before .before .before .before .before .args .s)) .lookups) (c .before .before .before .before .before .before .before .before .before .args .l)) (c .before .before .before .before .before .before .before .before .before .args .l)) (c .before .before .before .before .before .before .before .before .before .args .v .entries) (c .before .before .loop .e) (c .before .loop-test .taken) (rw (others (now (c .before .before .before .before .before .before .before .before .before .args .s)) (lookup-at (packOf (now (c .before .before .before .before .before .before .before .before .before .args .s)) .lookups) (c .before .before .before .before .before .before .before .before .before .args .l)) (c .before .before .before .before .before .before .before .before .before .args .v) (c .before .before .before .before .before .before .before .before .before .pre .2) (c .before .before .before .before .before .before .before .before .before .args .l) (c .before .before .before .before .text-is .result) (c .before .before .before .before .text-is .ensures) (c .before .before .before .if1 .left)) at (c .before .before .before .before .before .before .before .before .before .pre .0)) (c .before .before .loop .inv .2), c .before .before .before .before .before .before .before .before .before .pre .1, ap (λ (M : Lookup). M .kind) (c .before .before .before .before .before .before .before .before .before .pre .2 .means), omega (arith, c .before .before .before .before .before .before .before .before .before .pre .2 .entries, c .before .loop-test .taken))
 
 add-e : tie.Need-add-e Inv-loop μ-loop
 add-e c = omega (arith, c .before .before .before .before .loop-test .taken, c .before .before .before .before .before .before .before .before .before .before .before .before .pre .2 .entries, entries-few (c .before .before .before .before .before .before .before .before .before .before .before .before .pre .1))
@@ -63,13 +63,13 @@ loop-less : tie.Need-loop-less Inv-loop μ-loop
 loop-less c = search needs
 
 loop-again : tie.Need-loop-again Inv-loop μ-loop
-loop-again c = (search needs, c .before .before .same-name-at .kept .0 ∙ c .before .before .before .before .before .loop .inv .1, emitted-turn (of-entry (lookupIn (packOf (now (c .before .before .before .before .before .before .before .before .before .before .before .before .args .s))) (c .before .before .before .before .before .before .before .before .before .before .before .before .args .l)) (c .before .before .before .before .before .before .before .before .before .before .before .before .args .l)) (c .before .before .before .before .before .loop .e) (c .before .before .before .before .before .loop .inv .2) (c .before .before .same-name-at .ensures))
+loop-again c = (search needs, c .before .before .same-name-at .kept .0 ∙ c .before .before .before .before .before .loop .inv .1, emitted-turn (of-entry (lookup-at (packOf (now (c .before .before .before .before .before .before .before .before .before .before .before .before .args .s)) .lookups) (c .before .before .before .before .before .before .before .before .before .before .before .before .args .l)) (c .before .before .before .before .before .before .before .before .before .before .before .before .args .l)) (c .before .before .before .before .before .loop .e) (c .before .before .before .before .before .loop .inv .2) (c .before .before .same-name-at .ensures))
 
 same-length : tie.Need-same-length Inv-loop μ-loop
 same-length c = c .before .loop .inv .1
 
 returns-2 : tie.Need-returns-2 Inv-loop μ-loop
-returns-2 c = let q : c .before .before .before .before .before .before .before .before .args .v .entries ≡ c .before .loop .e = omega (arith, c .before .loop .inv .0, c .loop-test .left) in rw (others (now (c .before .before .before .before .before .before .before .before .args .s)) (lookupIn (packOf (now (c .before .before .before .before .before .before .before .before .args .s))) (c .before .before .before .before .before .before .before .before .args .l)) (c .before .before .before .before .before .before .before .before .args .v) (c .before .before .before .before .before .before .before .before .pre .2) (c .before .before .before .before .before .before .before .before .args .l) (c .before .before .before .text-is .result) (c .before .before .before .text-is .ensures) (c .before .before .if1 .left), q) (c .before .loop .inv .2)
+returns-2 c = let q : c .before .before .before .before .before .before .before .before .args .v .entries ≡ c .before .loop .e = omega (arith, c .before .loop .inv .0, c .loop-test .left) in rw (others (now (c .before .before .before .before .before .before .before .before .args .s)) (lookup-at (packOf (now (c .before .before .before .before .before .before .before .before .args .s)) .lookups) (c .before .before .before .before .before .before .before .before .args .l)) (c .before .before .before .before .before .before .before .before .args .v) (c .before .before .before .before .before .before .before .before .pre .2) (c .before .before .before .before .before .before .before .before .args .l) (c .before .before .before .text-is .result) (c .before .before .before .text-is .ensures) (c .before .before .if1 .left), q) (c .before .loop .inv .2)
 
 pub lookup-names-of-spec : {M : Type 1} → statement M
 lookup-names-of-spec =

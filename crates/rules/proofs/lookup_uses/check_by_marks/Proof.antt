@@ -1,7 +1,7 @@
 use Rattle.rules.proofs.Marking.{marks-are, concat-same}
 use Rattle.rules.specs.Marks.{Clear, Marked}
 use Rattle.rules.specs.LookupWiring.{referenced}
-use Rattle.pack.specs.Value.{Pack}
+use Rattle.pack.specs.Value.{Pack, lookup-at}
 use native.Mathlib.Omega.{arith}
 use Prim.Native.Nat.{ℕ}
 use mathlib.Core.Path.{_≡_, sym, _∙_, ap}
@@ -10,7 +10,6 @@ use mathlib.Core.List.{List}
 use lib.ListN.{length, getD}
 use denote.Ref.{now}
 use Rattle.pack.specs.Notation.{concatBelow}
-use Rattle.pack.specs.Ready.{lookupIn}
 use Rattle.pack.specs.Meaning.{packOf}
 use Rattle.rules.specs.declared.Finding.{Finding}
 use Rattle.rules.specs.Emit.{Emitted, Fits}
@@ -21,9 +20,9 @@ use Rattle.rules.proofs.lookup_uses.check_by_marks.Tie as tie
 
 -- what the marks say is what the rule says
 said : (P : Pack) (m m′ : List Bool) (count : ℕ) → count ≡ length (P .lookups) → Clear m → Marked P m (λ n. referenced P n) m′
-    → concatBelow (λ l. report-if (not (referenced P (lookupIn P l .name))) (lookup-warning 22 1 l 0 0)) (length (P .lookups)) ≡ concatBelow (λ l. report-if (not (getD m′ l false)) (lookup-warning 22 1 l 0 0)) count
+    → concatBelow (λ l. report-if (not (referenced P (lookup-at (P .lookups) l .name))) (lookup-warning 22 1 l 0 0)) (length (P .lookups)) ≡ concatBelow (λ l. report-if (not (getD m′ l false)) (lookup-warning 22 1 l 0 0)) count
 said P m m′ count e z a =
-    concat-same (λ l. report-if (not (referenced P (lookupIn P l .name))) (lookup-warning 22 1 l 0 0)) (λ l. report-if (not (getD m′ l false)) (lookup-warning 22 1 l 0 0)) (length (P .lookups)) (λ l h. ap (λ (b : Bool). report-if (not b) (lookup-warning 22 1 l 0 0)) (sym (marks-are (λ n. referenced P n) z a l h)))
+    concat-same (λ l. report-if (not (referenced P (lookup-at (P .lookups) l .name))) (lookup-warning 22 1 l 0 0)) (λ l. report-if (not (getD m′ l false)) (lookup-warning 22 1 l 0 0)) (length (P .lookups)) (λ l h. ap (λ (b : Bool). report-if (not b) (lookup-warning 22 1 l 0 0)) (sym (marks-are (λ n. referenced P n) z a l h)))
     ∙ ap (concatBelow (λ l. report-if (not (getD m′ l false)) (lookup-warning 22 1 l 0 0))) (sym e)
 
 fits-as : {n : ℕ} {xs ys : List Finding} → xs ≡ ys → Fits n xs → Fits n ys

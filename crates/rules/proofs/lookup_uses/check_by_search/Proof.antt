@@ -1,5 +1,5 @@
-use Rattle.pack.specs.declared.records.LookupView.{LookupView}
-use Rattle.pack.specs.Value.{Lookup}
+use Rattle.pack.specs.declared.lookup.LookupView.{LookupView}
+use Rattle.pack.specs.Value.{Lookup, lookup-at}
 use Rattle.pack.specs.Items.{bytesOf}
 use Rattle.pack.proofs.Positions.{lookup-place-next}
 use Rattle.rules.proofs.Sizes.{at-lookup, entries-few, lookups-few}
@@ -13,7 +13,7 @@ use mathlib.Core.List.{List}
 use lib.ListN.{length}
 use denote.Ref.{now}
 use Rattle.pack.specs.Notation.{concatBelow}
-use Rattle.pack.specs.Ready.{LookupIs, lookupIn, lookupPlace}
+use Rattle.pack.specs.Ready.{LookupIs, lookupPlace}
 use Rattle.pack.specs.Meaning.{packOf}
 use Rattle.rules.specs.declared.Finding.{Finding}
 use Rattle.rules.specs.Emit.{Emitted}
@@ -24,12 +24,12 @@ use Rattle.rules.proofs.lookup_uses.check_by_search.Tie as tie
 
 -- the finding of lookup l
 abbrev of-lookup : List ℕ → ℕ → List Finding
-of-lookup s l = report-if (not (referenced (packOf s) (lookupIn (packOf s) l .name))) (lookup-warning 22 1 l 0 0)
+of-lookup s l = report-if (not (referenced (packOf s) (lookup-at (packOf s .lookups) l .name))) (lookup-warning 22 1 l 0 0)
 
-said : (s : List ℕ) (l : ℕ) (v : LookupView) → LookupIs s (lookupIn (packOf s) l) v → (b : Bool) → b ≡ referenced (packOf s) (bytesOf s (v .name)) → (F : Finding) → F ≡ lookup-warning 22 1 l 0 0
+said : (s : List ℕ) (l : ℕ) (v : LookupView) → LookupIs s (lookup-at (packOf s .lookups) l) v → (b : Bool) → b ≡ referenced (packOf s) (bytesOf s (v .name)) → (F : Finding) → F ≡ lookup-warning 22 1 l 0 0
     → of-lookup s l ≡ report-if (not b) F
 said s l v is b x F y =
-    let e : b ≡ referenced (packOf s) (lookupIn (packOf s) l .name) = x ∙ ap (λ (L : Lookup). referenced (packOf s) (L .name)) (is .means) in
+    let e : b ≡ referenced (packOf s) (lookup-at (packOf s .lookups) l .name) = x ∙ ap (λ (L : Lookup). referenced (packOf s) (L .name)) (is .means) in
     sym (λ j. report-if (not (e j)) (y j))
 
 abbrev Inv-loop : tie.InvT-loop

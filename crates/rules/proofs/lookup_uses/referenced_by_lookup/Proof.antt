@@ -1,6 +1,6 @@
 use Rattle.rules.proofs.Marking.{not-nesting, nesting}
-use Rattle.pack.specs.declared.records.EntryView.{EntryView}
-use Rattle.pack.specs.Value.{Lookup, noEntry}
+use Rattle.pack.specs.declared.entry.EntryView.{EntryView}
+use Rattle.pack.specs.Value.{Lookup, noEntry, lookup-at}
 use Rattle.pack.specs.Meaning.{optBytes, entryMeaning, packOf}
 use Rattle.pack.specs.Items.{bytesOf}
 use Rattle.rules.specs.Search.{anyBelow}
@@ -14,15 +14,14 @@ use mathlib.Core.Bool.{Bool, false}
 use mathlib.Core.List.{List}
 use lib.ListN.{length, getD}
 use denote.Ref.{now}
-use Rattle.pack.specs.Ready.{lookupIn}
 use Rattle.rules.proofs.lookup_uses.referenced_by_lookup.Statement.{statement}
 use Rattle.rules.proofs.lookup_uses.referenced_by_lookup.Tie as tie
 
 -- whether entry e of lookup l nests the name
 abbrev nests : List ℕ → ℕ → List ℕ → ℕ → Bool
-nests s l name e = is-text (getD (lookupIn (packOf s) l .entries) e noEntry .nested) name
+nests s l name e = is-text (getD (lookup-at (packOf s .lookups) l .entries) e noEntry .nested) name
 
-said : (s : List ℕ) (l : ℕ) (name : List ℕ) (e : ℕ) (v : EntryView) (r : Bool) → entryMeaning s v ≡ getD (lookupIn (packOf s) l .entries) e noEntry → r ≡ is-text (optBytes s (v .nested)) name → nests s l name e ≡ r
+said : (s : List ℕ) (l : ℕ) (name : List ℕ) (e : ℕ) (v : EntryView) (r : Bool) → entryMeaning s v ≡ getD (lookup-at (packOf s .lookups) l .entries) e noEntry → r ≡ is-text (optBytes s (v .nested)) name → nests s l name e ≡ r
 said s l name e v r y h = sym (h ∙ (λ j. is-text (y j .nested) name))
 
 abbrev Inv-loop : tie.InvT-loop
@@ -32,7 +31,7 @@ abbrev μ-loop : tie.MeasureT-loop
 μ-loop s work l p name entries e₀ e = entries - e
 
 returns : tie.Need-returns Inv-loop μ-loop
-returns c = sym (not-nesting (now (c .before .before .before .before .args .s)) (bytesOf (now (c .before .before .before .before .args .s)) (c .before .before .before .before .args .name)) (lookupIn (packOf (now (c .before .before .before .before .args .s))) (c .before .before .before .before .args .l)) (c .before .before .before .before .args .v) (c .before .before .before .before .pre .1) (c .if1 .taken))
+returns c = sym (not-nesting (now (c .before .before .before .before .args .s)) (bytesOf (now (c .before .before .before .before .args .s)) (c .before .before .before .before .args .name)) (lookup-at (packOf (now (c .before .before .before .before .args .s)) .lookups) (c .before .before .before .before .args .l)) (c .before .before .before .before .args .v) (c .before .before .before .before .pre .1) (c .if1 .taken))
 
 loop-holds : tie.Need-loop-holds Inv-loop μ-loop
 loop-holds c = (search needs, refl)
@@ -46,7 +45,7 @@ is-text-requires c κs = search needs
 returns-2 : tie.Need-returns-2 Inv-loop μ-loop
 returns-2 c =
     let h = said (now (c .before .before .before .before .before .before .before .before .before .args .s)) (c .before .before .before .before .before .before .before .before .before .args .l) (bytesOf (now (c .before .before .before .before .before .before .before .before .before .args .s)) (c .before .before .before .before .before .before .before .before .before .args .name)) (c .before .before .before .before .loop .e) (c .before .before .entry-of .result) (c .before .is-text .result) (c .before .before .entry-of .ensures) (c .before .is-text .ensures) in
-    sym (nesting (now (c .before .before .before .before .before .before .before .before .before .args .s)) (bytesOf (now (c .before .before .before .before .before .before .before .before .before .args .s)) (c .before .before .before .before .before .before .before .before .before .args .name)) (lookupIn (packOf (now (c .before .before .before .before .before .before .before .before .before .args .s))) (c .before .before .before .before .before .before .before .before .before .args .l)) (c .before .before .before .before .before .before .before .before .before .args .v) (c .before .before .before .before .before .before .before .before .before .pre .1) (c .before .before .before .before .before .if1 .left) ∙ any-hit (nests (now (c .before .before .before .before .before .before .before .before .before .args .s)) (c .before .before .before .before .before .before .before .before .before .args .l) (bytesOf (now (c .before .before .before .before .before .before .before .before .before .args .s)) (c .before .before .before .before .before .before .before .before .before .args .name))) (length (lookupIn (packOf (now (c .before .before .before .before .before .before .before .before .before .args .s))) (c .before .before .before .before .before .before .before .before .before .args .l) .entries)) (c .before .before .before .before .loop .e) (omega (arith, c .before .before .before .before .before .before .before .before .before .pre .1 .entries, c .before .before .before .loop-test .taken)) (h ∙ c .if2 .taken))
+    sym (nesting (now (c .before .before .before .before .before .before .before .before .before .args .s)) (bytesOf (now (c .before .before .before .before .before .before .before .before .before .args .s)) (c .before .before .before .before .before .before .before .before .before .args .name)) (lookup-at (packOf (now (c .before .before .before .before .before .before .before .before .before .args .s)) .lookups) (c .before .before .before .before .before .before .before .before .before .args .l)) (c .before .before .before .before .before .before .before .before .before .args .v) (c .before .before .before .before .before .before .before .before .before .pre .1) (c .before .before .before .before .before .if1 .left) ∙ any-hit (nests (now (c .before .before .before .before .before .before .before .before .before .args .s)) (c .before .before .before .before .before .before .before .before .before .args .l) (bytesOf (now (c .before .before .before .before .before .before .before .before .before .args .s)) (c .before .before .before .before .before .before .before .before .before .args .name))) (length (lookup-at (packOf (now (c .before .before .before .before .before .before .before .before .before .args .s)) .lookups) (c .before .before .before .before .before .before .before .before .before .args .l) .entries)) (c .before .before .before .before .loop .e) (omega (arith, c .before .before .before .before .before .before .before .before .before .pre .1 .entries, c .before .before .before .loop-test .taken)) (h ∙ c .if2 .taken))
 
 add-e : tie.Need-add-e Inv-loop μ-loop
 add-e c = search needs
@@ -60,7 +59,7 @@ loop-again c =
     (search needs, any-turn (nests (now (c .before .before .before .before .before .before .before .before .before .args .s)) (c .before .before .before .before .before .before .before .before .before .args .l) (bytesOf (now (c .before .before .before .before .before .before .before .before .before .args .s)) (c .before .before .before .before .before .before .before .before .before .args .name))) (c .before .before .before .before .loop .e) ∙ (rw (c .before .before .before .before .loop .inv .1, h ∙ c .if2 .left)))
 
 returns-3 : tie.Need-returns-3 Inv-loop μ-loop
-returns-3 c = let q : length (lookupIn (packOf (now (c .before .before .before .before .before .before .args .s))) (c .before .before .before .before .before .before .args .l) .entries) ≡ c .before .loop .e = omega (arith, c .before .before .before .before .before .before .pre .1 .entries, c .before .loop .inv .0, c .loop-test .left) in sym (nesting (now (c .before .before .before .before .before .before .args .s)) (bytesOf (now (c .before .before .before .before .before .before .args .s)) (c .before .before .before .before .before .before .args .name)) (lookupIn (packOf (now (c .before .before .before .before .before .before .args .s))) (c .before .before .before .before .before .before .args .l)) (c .before .before .before .before .before .before .args .v) (c .before .before .before .before .before .before .pre .1) (c .before .before .if1 .left) ∙ (rw (q, c .before .loop .inv .1)))
+returns-3 c = let q : length (lookup-at (packOf (now (c .before .before .before .before .before .before .args .s)) .lookups) (c .before .before .before .before .before .before .args .l) .entries) ≡ c .before .loop .e = omega (arith, c .before .before .before .before .before .before .pre .1 .entries, c .before .loop .inv .0, c .loop-test .left) in sym (nesting (now (c .before .before .before .before .before .before .args .s)) (bytesOf (now (c .before .before .before .before .before .before .args .s)) (c .before .before .before .before .before .before .args .name)) (lookup-at (packOf (now (c .before .before .before .before .before .before .args .s)) .lookups) (c .before .before .before .before .before .before .args .l)) (c .before .before .before .before .before .before .args .v) (c .before .before .before .before .before .before .pre .1) (c .before .before .if1 .left) ∙ (rw (q, c .before .loop .inv .1)))
 
 pub referenced-by-lookup-spec : {M : Type 1} → statement M
 referenced-by-lookup-spec =

@@ -12,14 +12,15 @@ use mathlib.Core.Bool.{Bool, false}
 use mathlib.Core.List.{List}
 use lib.ListN.{length}
 use denote.Ref.{now}
-use Rattle.pack.specs.Ready.{lookupIn, lookupPlace}
+use Rattle.pack.specs.Ready.{lookupPlace}
 use Rattle.pack.specs.Meaning.{packOf}
+use Rattle.pack.specs.Value.{lookup-at}
 use Rattle.rules.proofs.lookup_uses.referenced_by_lookups.Statement.{statement}
 use Rattle.rules.proofs.lookup_uses.referenced_by_lookups.Tie as tie
 
 -- whether lookup l nests the name
 abbrev has : List ℕ → List ℕ → ℕ → Bool
-has s name l = referenced-by-lookup name (lookupIn (packOf s) l)
+has s name l = referenced-by-lookup name (lookup-at (packOf s .lookups) l)
 
 abbrev Inv-loop : tie.InvT-loop
 Inv-loop s work name count p₀ l₀ p l = (l ≤ count) × (p ≡ lookupPlace (packOf s) l) × (anyBelow (has s (bytesOf s name)) l ≡ false)

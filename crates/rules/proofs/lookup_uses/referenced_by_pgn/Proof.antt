@@ -1,6 +1,7 @@
-use Rattle.pack.specs.declared.records.FieldView.{FieldView}
+use Rattle.pack.specs.declared.field.FieldView.{FieldView}
 use Rattle.pack.specs.Meaning.{optReference, packOf, fieldMeaning}
 use Rattle.pack.specs.Items.{bytesOf}
+use Rattle.pack.specs.Value.{pgn-at, field-at}
 use Rattle.rules.specs.Search.{anyBelow}
 use Rattle.rules.specs.SearchLaws.{any-turn, any-hit}
 use Rattle.rules.specs.LookupWiring.{ref-is, referenced-by-pgn}
@@ -12,15 +13,14 @@ use mathlib.Core.Bool.{Bool, false}
 use mathlib.Core.List.{List}
 use lib.ListN.{length}
 use denote.Ref.{now}
-use Rattle.pack.specs.Ready.{pgnIn, fieldIn}
 use Rattle.rules.proofs.lookup_uses.referenced_by_pgn.Statement.{statement}
 use Rattle.rules.proofs.lookup_uses.referenced_by_pgn.Tie as tie
 
 -- whether field k references the name
 abbrev refers : List ℕ → ℕ → ℕ → List ℕ → ℕ → Bool
-refers s t i name k = ref-is (fieldIn (packOf s) t i k .reference) name
+refers s t i name k = ref-is (field-at (pgn-at (packOf s) t i) k .reference) name
 
-said : (s : List ℕ) (t i : ℕ) (name : List ℕ) (k : ℕ) (v : FieldView) (r : Bool) → fieldMeaning s v ≡ fieldIn (packOf s) t i k → r ≡ ref-is (optReference s (v .links .reference)) name → refers s t i name k ≡ r
+said : (s : List ℕ) (t i : ℕ) (name : List ℕ) (k : ℕ) (v : FieldView) (r : Bool) → fieldMeaning s v ≡ field-at (pgn-at (packOf s) t i) k → r ≡ ref-is (optReference s (v .links .reference)) name → refers s t i name k ≡ r
 said s t i name k v r y h = sym (h ∙ (λ j. ref-is (y j .reference) name))
 
 abbrev Inv-loop : tie.InvT-loop
@@ -42,7 +42,7 @@ returns : tie.Need-returns Inv-loop μ-loop
 unfolding referenced-by-pgn
 returns c =
     let h = said (now (c .before .before .before .before .before .before .before .args .s)) (c .before .before .before .before .before .before .before .args .t) (c .before .before .before .before .before .before .before .args .i) (bytesOf (now (c .before .before .before .before .before .before .before .args .s)) (c .before .before .before .before .before .before .before .args .name)) (c .before .before .before .before .loop .k) (c .before .before .field-of .result) (c .before .ref-is .result) (c .before .before .field-of .ensures) (c .before .ref-is .ensures) in
-    sym (any-hit (refers (now (c .before .before .before .before .before .before .before .args .s)) (c .before .before .before .before .before .before .before .args .t) (c .before .before .before .before .before .before .before .args .i) (bytesOf (now (c .before .before .before .before .before .before .before .args .s)) (c .before .before .before .before .before .before .before .args .name))) (length (pgnIn (packOf (now (c .before .before .before .before .before .before .before .args .s))) (c .before .before .before .before .before .before .before .args .t) (c .before .before .before .before .before .before .before .args .i) .fields)) (c .before .before .before .before .loop .k) (omega (arith, c .before .before .before .before .before .before .before .pre .1, c .before .before .before .loop-test .taken)) (h ∙ c .if1 .taken))
+    sym (any-hit (refers (now (c .before .before .before .before .before .before .before .args .s)) (c .before .before .before .before .before .before .before .args .t) (c .before .before .before .before .before .before .before .args .i) (bytesOf (now (c .before .before .before .before .before .before .before .args .s)) (c .before .before .before .before .before .before .before .args .name))) (length (pgn-at (packOf (now (c .before .before .before .before .before .before .before .args .s))) (c .before .before .before .before .before .before .before .args .t) (c .before .before .before .before .before .before .before .args .i) .fields)) (c .before .before .before .before .loop .k) (omega (arith, c .before .before .before .before .before .before .before .pre .1, c .before .before .before .loop-test .taken)) (h ∙ c .if1 .taken))
 
 add-k : tie.Need-add-k Inv-loop μ-loop
 add-k c = search needs
@@ -57,7 +57,7 @@ loop-again c =
 
 returns-2 : tie.Need-returns-2 Inv-loop μ-loop
 unfolding referenced-by-pgn
-returns-2 c = let q : length (pgnIn (packOf (now (c .before .before .before .before .args .s))) (c .before .before .before .before .args .t) (c .before .before .before .before .args .i) .fields) ≡ c .before .loop .k = omega (arith, c .before .before .before .before .pre .1, c .before .loop .inv .0, c .loop-test .left) in rw (q, c .before .loop .inv .1)
+returns-2 c = let q : length (pgn-at (packOf (now (c .before .before .before .before .args .s))) (c .before .before .before .before .args .t) (c .before .before .before .before .args .i) .fields) ≡ c .before .loop .k = omega (arith, c .before .before .before .before .pre .1, c .before .loop .inv .0, c .loop-test .left) in rw (q, c .before .loop .inv .1)
 
 pub referenced-by-pgn-spec : {M : Type 1} → statement M
 referenced-by-pgn-spec =

@@ -1,4 +1,4 @@
-use Rattle.pack.specs.Ready.{pgnPlace, pgnIn}
+use Rattle.pack.specs.Ready.{pgnPlace}
 use Rattle.pack.specs.Items.{bytesOf}
 use Rattle.pack.proofs.Positions.{pgn-place-next}
 use Rattle.rules.proofs.Sizes.{at-pgn, fields-few, pgns-few}
@@ -14,13 +14,13 @@ use mathlib.Core.List.{List}
 use lib.ListN.{length}
 use denote.Ref.{now}
 use Rattle.pack.specs.Meaning.{packOf}
-use Rattle.pack.specs.Value.{pgns-of}
+use Rattle.pack.specs.Value.{pgns-of, pgn-at}
 use Rattle.rules.proofs.lookup_uses.referenced_by_tree.Statement.{statement}
 use Rattle.rules.proofs.lookup_uses.referenced_by_tree.Tie as tie
 
 -- whether PGN i references the name
 abbrev has : List ℕ → ℕ → List ℕ → ℕ → Bool
-has s t name i = referenced-by-pgn name (pgnIn (packOf s) t i)
+has s t name i = referenced-by-pgn name (pgn-at (packOf s) t i)
 
 abbrev Inv-loop : tie.InvT-loop
 Inv-loop s work t name count p₀ i₀ p i = (i ≤ count) × (p ≡ pgnPlace (packOf s) t i) × (anyBelow (has s t (bytesOf s name)) i ≡ false)

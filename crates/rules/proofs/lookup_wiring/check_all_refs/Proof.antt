@@ -8,9 +8,8 @@ use mathlib.Core.List.{List}
 use lib.ListN.{length}
 use denote.Ref.{now}
 use Rattle.pack.specs.Notation.{concatBelow}
-use Rattle.pack.specs.Ready.{pgnIn}
 use Rattle.pack.specs.Meaning.{packOf}
-use Rattle.pack.specs.Value.{pgns-of}
+use Rattle.pack.specs.Value.{pgns-of, pgn-at}
 use Rattle.rules.specs.declared.Finding.{Finding}
 use Rattle.rules.specs.Emit.{Emitted}
 use Rattle.rules.proofs.Emits.{emitted-none, emitted-turn, fits-turn}
@@ -19,7 +18,7 @@ use Rattle.rules.proofs.lookup_wiring.check_all_refs.Tie as tie
 
 -- the findings of tree t
 abbrev of-tree : List ℕ → ℕ → List Finding
-of-tree s t = concatBelow (λ i. check-lookup-refs (packOf s .lookups) t i (pgnIn (packOf s) t i)) (length (pgns-of (packOf s) t))
+of-tree s t = concatBelow (λ i. check-lookup-refs (packOf s .lookups) t i (pgn-at (packOf s) t i)) (length (pgns-of (packOf s) t))
 
 abbrev Inv-loop : tie.InvT-loop
 Inv-loop out₀ n s work index m₀ t₀ out m t = (t ≤ 3) × (length out ≡ length out₀) × Emitted out₀ n (concatBelow (of-tree s) t) out m

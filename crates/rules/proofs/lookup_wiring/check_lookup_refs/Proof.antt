@@ -1,5 +1,5 @@
-use Rattle.pack.specs.declared.records.FieldView.{FieldView}
-use Rattle.pack.specs.Value.{Lookup, Field}
+use Rattle.pack.specs.declared.field.FieldView.{FieldView}
+use Rattle.pack.specs.Value.{Lookup, Field, pgn-at, field-at}
 use Rattle.pack.specs.Meaning.{optReference, packOf, fieldMeaning}
 use Rattle.rules.proofs.Sizes.{fields-few}
 use Rattle.rules.specs.LookupWiring.{lookup-ref-at, check-lookup-refs}
@@ -11,7 +11,6 @@ use mathlib.Core.List.{List}
 use lib.ListN.{length}
 use denote.Ref.{now}
 use Rattle.pack.specs.Notation.{concatBelow}
-use Rattle.pack.specs.Ready.{pgnIn, fieldIn}
 use Rattle.rules.specs.declared.Finding.{Finding}
 use Rattle.rules.specs.Emit.{Emitted, Fits}
 use Rattle.rules.proofs.Emits.{emitted-none, emitted-turn, fits-turn}
@@ -20,7 +19,7 @@ use Rattle.rules.proofs.lookup_wiring.check_lookup_refs.Tie as tie
 
 -- the findings of field k
 abbrev of-field : List ℕ → ℕ → ℕ → ℕ → List Finding
-of-field s t i k = lookup-ref-at (packOf s .lookups) t i k (fieldIn (packOf s) t i k) (fieldIn (packOf s) t i k .reference)
+of-field s t i k = lookup-ref-at (packOf s .lookups) t i k (field-at (pgn-at (packOf s) t i) k) (field-at (pgn-at (packOf s) t i) k .reference)
 
 module _ (s : List ℕ) (ls : List Lookup) (t i k : ℕ) (v : FieldView) (F : Field) (is : fieldMeaning s v ≡ F) where
   asked : {m : ℕ} → Fits m (lookup-ref-at ls t i k F (F .reference)) → Fits m (lookup-ref-at ls t i k (fieldMeaning s v) (optReference s (v .links .reference)))
@@ -43,7 +42,7 @@ field-of-requires c κs = (c .before .before .before .before .before .pre .1, om
 
 lookup-ref-at-requires : tie.Need-lookup-ref-at-requires Inv-loop μ-loop
 unfolding check-lookup-refs
-lookup-ref-at-requires c κs = (asked (now (c .before .before .before .before .before .before .before .args .s)) (packOf (now (c .before .before .before .before .before .before .before .args .s)) .lookups) (c .before .before .before .before .before .before .before .args .t) (c .before .before .before .before .before .before .before .args .i) (c .before .before .before .loop .k) (c .before .field-of .result) (fieldIn (packOf (now (c .before .before .before .before .before .before .before .args .s))) (c .before .before .before .before .before .before .before .args .t) (c .before .before .before .before .before .before .before .args .i) (c .before .before .before .loop .k)) (c .before .field-of .ensures) (fits-turn (of-field (now (c .before .before .before .before .before .before .before .args .s)) (c .before .before .before .before .before .before .before .args .t) (c .before .before .before .before .before .before .before .args .i)) (c .before .before .before .before .before .before .before .args .fields) (c .before .before .before .loop .k) (c .before .before .loop-test .taken) (rw (← c .before .before .before .before .before .before .before .pre .4) at (c .before .before .before .before .before .before .before .pre .0)) (c .before .before .before .loop .inv .2)), c .before .before .before .before .before .before .before .pre .1 .ready, c .before .before .before .before .before .before .before .pre .2, c .before .before .before .before .before .before .before .pre .3)
+lookup-ref-at-requires c κs = (asked (now (c .before .before .before .before .before .before .before .args .s)) (packOf (now (c .before .before .before .before .before .before .before .args .s)) .lookups) (c .before .before .before .before .before .before .before .args .t) (c .before .before .before .before .before .before .before .args .i) (c .before .before .before .loop .k) (c .before .field-of .result) (field-at (pgn-at (packOf (now (c .before .before .before .before .before .before .before .args .s))) (c .before .before .before .before .before .before .before .args .t) (c .before .before .before .before .before .before .before .args .i)) (c .before .before .before .loop .k)) (c .before .field-of .ensures) (fits-turn (of-field (now (c .before .before .before .before .before .before .before .args .s)) (c .before .before .before .before .before .before .before .args .t) (c .before .before .before .before .before .before .before .args .i)) (c .before .before .before .before .before .before .before .args .fields) (c .before .before .before .loop .k) (c .before .before .loop-test .taken) (rw (← c .before .before .before .before .before .before .before .pre .4) at (c .before .before .before .before .before .before .before .pre .0)) (c .before .before .before .loop .inv .2)), c .before .before .before .before .before .before .before .pre .1 .ready, c .before .before .before .before .before .before .before .pre .2, c .before .before .before .before .before .before .before .pre .3)
 
 add-k : tie.Need-add-k Inv-loop μ-loop
 add-k c = omega (arith, c .before .before .before .before .before .loop-test .taken, c .before .before .before .before .before .before .before .before .before .before .pre .4, fields-few (c .before .before .before .before .before .before .before .before .before .before .pre .1))
@@ -52,14 +51,14 @@ loop-less : tie.Need-loop-less Inv-loop μ-loop
 loop-less c = search needs
 
 loop-again : tie.Need-loop-again Inv-loop μ-loop
-loop-again c = (search needs, c .before .before .lookup-ref-at .kept .0 ∙ c .before .before .before .before .before .before .loop .inv .1, emitted-turn (of-field (now (c .before .before .before .before .before .before .before .before .before .before .args .s)) (c .before .before .before .before .before .before .before .before .before .before .args .t) (c .before .before .before .before .before .before .before .before .before .before .args .i)) (c .before .before .before .before .before .before .loop .k) (c .before .before .before .before .before .before .loop .inv .2) (told (now (c .before .before .before .before .before .before .before .before .before .before .args .s)) (packOf (now (c .before .before .before .before .before .before .before .before .before .before .args .s)) .lookups) (c .before .before .before .before .before .before .before .before .before .before .args .t) (c .before .before .before .before .before .before .before .before .before .before .args .i) (c .before .before .before .before .before .before .loop .k) (c .before .before .before .before .field-of .result) (fieldIn (packOf (now (c .before .before .before .before .before .before .before .before .before .before .args .s))) (c .before .before .before .before .before .before .before .before .before .before .args .t) (c .before .before .before .before .before .before .before .before .before .before .args .i) (c .before .before .before .before .before .before .loop .k)) (c .before .before .before .before .field-of .ensures) (c .before .before .lookup-ref-at .ensures)))
+loop-again c = (search needs, c .before .before .lookup-ref-at .kept .0 ∙ c .before .before .before .before .before .before .loop .inv .1, emitted-turn (of-field (now (c .before .before .before .before .before .before .before .before .before .before .args .s)) (c .before .before .before .before .before .before .before .before .before .before .args .t) (c .before .before .before .before .before .before .before .before .before .before .args .i)) (c .before .before .before .before .before .before .loop .k) (c .before .before .before .before .before .before .loop .inv .2) (told (now (c .before .before .before .before .before .before .before .before .before .before .args .s)) (packOf (now (c .before .before .before .before .before .before .before .before .before .before .args .s)) .lookups) (c .before .before .before .before .before .before .before .before .before .before .args .t) (c .before .before .before .before .before .before .before .before .before .before .args .i) (c .before .before .before .before .before .before .loop .k) (c .before .before .before .before .field-of .result) (field-at (pgn-at (packOf (now (c .before .before .before .before .before .before .before .before .before .before .args .s))) (c .before .before .before .before .before .before .before .before .before .before .args .t) (c .before .before .before .before .before .before .before .before .before .before .args .i)) (c .before .before .before .before .before .before .loop .k)) (c .before .before .before .before .field-of .ensures) (c .before .before .lookup-ref-at .ensures)))
 
 same-length : tie.Need-same-length Inv-loop μ-loop
 same-length c = c .before .loop .inv .1
 
 returns : tie.Need-returns Inv-loop μ-loop
 unfolding check-lookup-refs
-returns c = let e : length (pgnIn (packOf (now (c .before .before .before .before .before .args .s))) (c .before .before .before .before .before .args .t) (c .before .before .before .before .before .args .i) .fields) ≡ c .before .loop .k = omega (arith, c .before .before .before .before .before .pre .4, c .before .loop .inv .0, c .loop-test .left) in rw e (c .before .loop .inv .2)
+returns c = let e : length (pgn-at (packOf (now (c .before .before .before .before .before .args .s))) (c .before .before .before .before .before .args .t) (c .before .before .before .before .before .args .i) .fields) ≡ c .before .loop .k = omega (arith, c .before .before .before .before .before .pre .4, c .before .loop .inv .0, c .loop-test .left) in rw e (c .before .loop .inv .2)
 
 pub check-lookup-refs-spec : {M : Type 1} → statement M
 check-lookup-refs-spec =

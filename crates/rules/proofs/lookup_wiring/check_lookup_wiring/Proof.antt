@@ -1,4 +1,4 @@
-use Rattle.pack.specs.Value.{Pack, pgns-of}
+use Rattle.pack.specs.Value.{Pack, pgns-of, pgn-at, lookup-at}
 use Rattle.rules.specs.LookupWiring.{check-lookup-refs, check-nested-refs, referenced, check-lookup-wiring}
 use borrow.Author.Needs.{needs}
 use mathlib.Core.Bool.{not}
@@ -6,7 +6,6 @@ use mathlib.Core.List.{List, _++_}
 use lib.ListN.{length}
 use denote.Ref.{now}
 use Rattle.pack.specs.Notation.{concatBelow}
-use Rattle.pack.specs.Ready.{lookupIn, pgnIn}
 use Rattle.pack.specs.Meaning.{packOf}
 use Rattle.rules.specs.declared.Finding.{Finding}
 use Rattle.rules.specs.Findings.{report-if, lookup-warning}
@@ -15,13 +14,13 @@ use Rattle.rules.proofs.lookup_wiring.check_lookup_wiring.Statement.{st
 use Rattle.rules.proofs.lookup_wiring.check_lookup_wiring.Tie as tie
 
 abbrev refs : Pack → List Finding
-refs P = concatBelow (λ t. concatBelow (λ i. check-lookup-refs (P .lookups) t i (pgnIn P t i)) (length (pgns-of P t))) 3
+refs P = concatBelow (λ t. concatBelow (λ i. check-lookup-refs (P .lookups) t i (pgn-at P t i)) (length (pgns-of P t))) 3
 
 abbrev nested : Pack → List Finding
-nested P = concatBelow (λ l. check-nested-refs P l (lookupIn P l)) (length (P .lookups))
+nested P = concatBelow (λ l. check-nested-refs P l (lookup-at (P .lookups) l)) (length (P .lookups))
 
 abbrev unused : Pack → List Finding
-unused P = concatBelow (λ l. report-if (not (referenced P (lookupIn P l .name))) (lookup-warning 22 1 l 0 0)) (length (P .lookups))
+unused P = concatBelow (λ l. report-if (not (referenced P (lookup-at (P .lookups) l .name))) (lookup-warning 22 1 l 0 0)) (length (P .lookups))
 
 check-all-refs-requires : tie.Need-check-all-refs-requires
 unfolding check-lookup-wiring

@@ -1,5 +1,5 @@
 use borrow.Author.Tests.{not-true, not-false}
-use Rattle.pack.specs.declared.records.OptReference.{OptReference}
+use Rattle.pack.specs.declared.field.OptReference.{OptReference}
 use Rattle.pack.specs.Value.{Lookup, Field}
 use Rattle.pack.specs.Meaning.{optReference, packOf, fieldMeaning}
 use Rattle.pack.specs.Items.{bytesOf}

@@ -1,7 +1,7 @@
 use borrow.Author.Tests.{eq-eqb, ne-eqb}
-use Rattle.pack.specs.declared.records.LookupView.{LookupView}
-use Rattle.pack.specs.declared.records.FieldView.{FieldView}
-use Rattle.pack.specs.Value.{Lookup}
+use Rattle.pack.specs.declared.lookup.LookupView.{LookupView}
+use Rattle.pack.specs.declared.field.FieldView.{FieldView}
+use Rattle.pack.specs.Value.{Lookup, lookup-at}
 use Rattle.rules.specs.Model.{value-bits}
 use Rattle.rules.specs.LookupWiring.{unreachable, lookup-width-at}
 use borrow.Author.Needs.{needs}
@@ -11,7 +11,7 @@ use mathlib.Core.Bool.{Bool, true, false, not, _&&_}
 use mathlib.Core.List.{List, [], _∷_}
 use denote.Ref.{now}
 use Rattle.pack.specs.Notation.{if_then_else_, _==_}
-use Rattle.pack.specs.Ready.{LookupIs, lookupIn}
+use Rattle.pack.specs.Ready.{LookupIs}
 use Rattle.pack.specs.Meaning.{packOf, fieldMeaning}
 use Rattle.rules.specs.declared.Finding.{Finding}
 use Rattle.rules.specs.Findings.{report-if, pgn-error, pgn-warning}
@@ -61,13 +61,13 @@ pgn-error-requires : tie.Need-pgn-error-requires
 pgn-error-requires c κs = search needs
 
 put-requires : tie.Need-put-requires
-put-requires c κs = rw (beyond (now (c .before .before .before .before .before .before .before .before .before .before .args .s)) (c .before .before .before .before .before .before .before .before .before .before .args .t) (c .before .before .before .before .before .before .before .before .before .before .args .i) (c .before .before .before .before .before .before .before .before .before .before .args .k) (c .before .before .before .before .before .before .before .before .before .before .args .l) (c .before .before .before .before .before .before .value-bits .result) (c .before .before .before .before .before .before .before .before .before .before .args .f) (lookupIn (packOf (now (c .before .before .before .before .before .before .before .before .before .before .args .s))) (c .before .before .before .before .before .before .before .before .before .before .args .l)) (c .before .before .before .before .before .before .before .before .before .before .args .v) (c .before .before .before .before .before .before .before .before .before .before .pre .2) (c .before .before .before .before .before .before .value-bits .ensures) (c .before .before .before .before .before .unreachable .result) (c .before .before .before .before .shares-bits .result) (c .before .before .before .and-not .result) (c .before .before .before .before .before .unreachable .ensures) (c .before .before .before .before .shares-bits .ensures) (c .before .before .before .and-not .ensures) (c .before .before .if1 .taken) (c .pgn-error .result) (c .pgn-error .ensures)) at (c .before .before .before .before .before .before .before .before .before .before .pre .0)
+put-requires c κs = rw (beyond (now (c .before .before .before .before .before .before .before .before .before .before .args .s)) (c .before .before .before .before .before .before .before .before .before .before .args .t) (c .before .before .before .before .before .before .before .before .before .before .args .i) (c .before .before .before .before .before .before .before .before .before .before .args .k) (c .before .before .before .before .before .before .before .before .before .before .args .l) (c .before .before .before .before .before .before .value-bits .result) (c .before .before .before .before .before .before .before .before .before .before .args .f) (lookup-at (packOf (now (c .before .before .before .before .before .before .before .before .before .before .args .s)) .lookups) (c .before .before .before .before .before .before .before .before .before .before .args .l)) (c .before .before .before .before .before .before .before .before .before .before .args .v) (c .before .before .before .before .before .before .before .before .before .before .pre .2) (c .before .before .before .before .before .before .value-bits .ensures) (c .before .before .before .before .before .unreachable .result) (c .before .before .before .before .shares-bits .result) (c .before .before .before .and-not .result) (c .before .before .before .before .before .unreachable .ensures) (c .before .before .before .before .shares-bits .ensures) (c .before .before .before .and-not .ensures) (c .before .before .if1 .taken) (c .pgn-error .result) (c .pgn-error .ensures)) at (c .before .before .before .before .before .before .before .before .before .before .pre .0)
 
 same-length : tie.Need-same-length
 same-length c = search needs
 
 returns : tie.Need-returns
-returns c = rw (beyond (now (c .before .before .before .before .before .before .before .before .before .before .before .before .before .args .s)) (c .before .before .before .before .before .before .before .before .before .before .before .before .before .args .t) (c .before .before .before .before .before .before .before .before .before .before .before .before .before .args .i) (c .before .before .before .before .before .before .before .before .before .before .before .before .before .args .k) (c .before .before .before .before .before .before .before .before .before .before .before .before .before .args .l) (c .before .before .before .before .before .before .before .before .before .value-bits .result) (c .before .before .before .before .before .before .before .before .before .before .before .before .before .args .f) (lookupIn (packOf (now (c .before .before .before .before .before .before .before .before .before .before .before .before .before .args .s))) (c .before .before .before .before .before .before .before .before .before .before .before .before .before .args .l)) (c .before .before .before .before .before .before .before .before .before .before .before .before .before .args .v) (c .before .before .before .before .before .before .before .before .before .before .before .before .before .pre .2) (c .before .before .before .before .before .before .before .before .before .value-bits .ensures) (c .before .before .before .before .before .before .before .before .unreachable .result) (c .before .before .before .before .before .before .before .shares-bits .result) (c .before .before .before .before .before .before .and-not .result) (c .before .before .before .before .before .before .before .before .unreachable .ensures) (c .before .before .before .before .before .before .before .shares-bits .ensures) (c .before .before .before .before .before .before .and-not .ensures) (c .before .before .before .before .before .if1 .taken) (c .before .before .before .pgn-error .result) (c .before .before .before .pgn-error .ensures)) (c .before .before .put .ensures)
+returns c = rw (beyond (now (c .before .before .before .before .before .before .before .before .before .before .before .before .before .args .s)) (c .before .before .before .before .before .before .before .before .before .before .before .before .before .args .t) (c .before .before .before .before .before .before .before .before .before .before .before .before .before .args .i) (c .before .before .before .before .before .before .before .before .before .before .before .before .before .args .k) (c .before .before .before .before .before .before .before .before .before .before .before .before .before .args .l) (c .before .before .before .before .before .before .before .before .before .value-bits .result) (c .before .before .before .before .before .before .before .before .before .before .before .before .before .args .f) (lookup-at (packOf (now (c .before .before .before .before .before .before .before .before .before .before .before .before .before .args .s)) .lookups) (c .before .before .before .before .before .before .before .before .before .before .before .before .before .args .l)) (c .before .before .before .before .before .before .before .before .before .before .before .before .before .args .v) (c .before .before .before .before .before .before .before .before .before .before .before .before .before .pre .2) (c .before .before .before .before .before .before .before .before .before .value-bits .ensures) (c .before .before .before .before .before .before .before .before .unreachable .result) (c .before .before .before .before .before .before .before .shares-bits .result) (c .before .before .before .before .before .before .and-not .result) (c .before .before .before .before .before .before .before .before .unreachable .ensures) (c .before .before .before .before .before .before .before .shares-bits .ensures) (c .before .before .before .before .before .before .and-not .ensures) (c .before .before .before .before .before .if1 .taken) (c .before .before .before .pgn-error .result) (c .before .before .before .pgn-error .ensures)) (c .before .before .put .ensures)
 
 cast-if2 : tie.Need-cast-if2
 cast-if2 c = search needs
@@ -76,25 +76,25 @@ pgn-error-requires-2 : tie.Need-pgn-error-requires-2
 pgn-error-requires-2 c κs = search needs
 
 put-if-requires : tie.Need-put-if-requires
-put-if-requires c κs = rw (other (now (c .before .before .before .before .before .before .before .before .before .before .before .before .args .s)) (c .before .before .before .before .before .before .before .before .before .before .before .before .args .t) (c .before .before .before .before .before .before .before .before .before .before .before .before .args .i) (c .before .before .before .before .before .before .before .before .before .before .before .before .args .k) (c .before .before .before .before .before .before .before .before .before .before .before .before .args .l) (c .before .before .before .before .before .before .before .before .value-bits .result) (c .before .before .before .before .before .before .before .before .before .before .before .before .args .f) (lookupIn (packOf (now (c .before .before .before .before .before .before .before .before .before .before .before .before .args .s))) (c .before .before .before .before .before .before .before .before .before .before .before .before .args .l)) (c .before .before .before .before .before .before .before .before .before .before .before .before .args .v) (c .before .before .before .before .before .before .before .before .before .before .before .before .pre .2) (c .before .before .before .before .before .before .before .before .value-bits .ensures) (c .before .before .before .before .before .before .before .unreachable .result) (c .before .before .before .before .before .before .shares-bits .result) (c .before .before .before .before .before .and-not .result) (c .before .before .before .before .before .before .before .unreachable .ensures) (c .before .before .before .before .before .before .shares-bits .ensures) (c .before .before .before .before .before .and-not .ensures) (c .before .before .before .before .if1 .left) (c .before .before .if2 .taken) (c .pgn-error2 .result) (c .pgn-error2 .ensures)) at (c .before .before .before .before .before .before .before .before .before .before .before .before .pre .0)
+put-if-requires c κs = rw (other (now (c .before .before .before .before .before .before .before .before .before .before .before .before .args .s)) (c .before .before .before .before .before .before .before .before .before .before .before .before .args .t) (c .before .before .before .before .before .before .before .before .before .before .before .before .args .i) (c .before .before .before .before .before .before .before .before .before .before .before .before .args .k) (c .before .before .before .before .before .before .before .before .before .before .before .before .args .l) (c .before .before .before .before .before .before .before .before .value-bits .result) (c .before .before .before .before .before .before .before .before .before .before .before .before .args .f) (lookup-at (packOf (now (c .before .before .before .before .before .before .before .before .before .before .before .before .args .s)) .lookups) (c .before .before .before .before .before .before .before .before .before .before .before .before .args .l)) (c .before .before .before .before .before .before .before .before .before .before .before .before .args .v) (c .before .before .before .before .before .before .before .before .before .before .before .before .pre .2) (c .before .before .before .before .before .before .before .before .value-bits .ensures) (c .before .before .before .before .before .before .before .unreachable .result) (c .before .before .before .before .before .before .shares-bits .result) (c .before .before .before .before .before .and-not .result) (c .before .before .before .before .before .before .before .unreachable .ensures) (c .before .before .before .before .before .before .shares-bits .ensures) (c .before .before .before .before .before .and-not .ensures) (c .before .before .before .before .if1 .left) (c .before .before .if2 .taken) (c .pgn-error2 .result) (c .pgn-error2 .ensures)) at (c .before .before .before .before .before .before .before .before .before .before .before .before .pre .0)
 
 same-length-2 : tie.Need-same-length-2
 same-length-2 c = search needs
 
 returns-2 : tie.Need-returns-2
-returns-2 c = rw (other (now (c .before .before .before .before .before .before .before .before .before .before .before .before .before .before .before .args .s)) (c .before .before .before .before .before .before .before .before .before .before .before .before .before .before .before .args .t) (c .before .before .before .before .before .before .before .before .before .before .before .before .before .before .before .args .i) (c .before .before .before .before .before .before .before .before .before .before .before .before .before .before .before .args .k) (c .before .before .before .before .before .before .before .before .before .before .before .before .before .before .before .args .l) (c .before .before .before .before .before .before .before .before .before .before .before .value-bits .result) (c .before .before .before .before .before .before .before .before .before .before .before .before .before .before .before .args .f) (lookupIn (packOf (now (c .before .before .before .before .before .before .before .before .before .before .before .before .before .before .before .args .s))) (c .before .before .before .before .before .before .before .before .before .before .before .before .before .before .before .args .l)) (c .before .before .before .before .before .before .before .before .before .before .before .before .before .before .before .args .v) (c .before .before .before .before .before .before .before .before .before .before .before .before .before .before .before .pre .2) (c .before .before .before .before .before .before .before .before .before .before .before .value-bits .ensures) (c .before .before .before .before .before .before .before .before .before .before .unreachable .result) (c .before .before .before .before .before .before .before .before .before .shares-bits .result) (c .before .before .before .before .before .before .before .before .and-not .result) (c .before .before .before .before .before .before .before .before .before .before .unreachable .ensures) (c .before .before .before .before .before .before .before .before .before .shares-bits .ensures) (c .before .before .before .before .before .before .before .before .and-not .ensures) (c .before .before .before .before .before .before .before .if1 .left) (c .before .before .before .before .before .if2 .taken) (c .before .before .before .pgn-error2 .result) (c .before .before .before .pgn-error2 .ensures)) (c .before .before .put-if .ensures)
+returns-2 c = rw (other (now (c .before .before .before .before .before .before .before .before .before .before .before .before .before .before .before .args .s)) (c .before .before .before .before .before .before .before .before .before .before .before .before .before .before .before .args .t) (c .before .before .before .before .before .before .before .before .before .before .before .before .before .before .before .args .i) (c .before .before .before .before .before .before .before .before .before .before .before .before .before .before .before .args .k) (c .before .before .before .before .before .before .before .before .before .before .before .before .before .before .before .args .l) (c .before .before .before .before .before .before .before .before .before .before .before .value-bits .result) (c .before .before .before .before .before .before .before .before .before .before .before .before .before .before .before .args .f) (lookup-at (packOf (now (c .before .before .before .before .before .before .before .before .before .before .before .before .before .before .before .args .s)) .lookups) (c .before .before .before .before .before .before .before .before .before .before .before .before .before .before .before .args .l)) (c .before .before .before .before .before .before .before .before .before .before .before .before .before .before .before .args .v) (c .before .before .before .before .before .before .before .before .before .before .before .before .before .before .before .pre .2) (c .before .before .before .before .before .before .before .before .before .before .before .value-bits .ensures) (c .before .before .before .before .before .before .before .before .before .before .unreachable .result) (c .before .before .before .before .before .before .before .before .before .shares-bits .result) (c .before .before .before .before .before .before .before .before .and-not .result) (c .before .before .before .before .before .before .before .before .before .before .unreachable .ensures) (c .before .before .before .before .before .before .before .before .before .shares-bits .ensures) (c .before .before .before .before .before .before .before .before .and-not .ensures) (c .before .before .before .before .before .before .before .if1 .left) (c .before .before .before .before .before .if2 .taken) (c .before .before .before .pgn-error2 .result) (c .before .before .before .pgn-error2 .ensures)) (c .before .before .put-if .ensures)
 
 pgn-warning-requires : tie.Need-pgn-warning-requires
 pgn-warning-requires c κs = search needs
 
 put-if-requires-2 : tie.Need-put-if-requires-2
-put-if-requires-2 c κs = rw (same (now (c .before .before .before .before .before .before .before .before .before .before .before .before .args .s)) (c .before .before .before .before .before .before .before .before .before .before .before .before .args .t) (c .before .before .before .before .before .before .before .before .before .before .before .before .args .i) (c .before .before .before .before .before .before .before .before .before .before .before .before .args .k) (c .before .before .before .before .before .before .before .before .before .before .before .before .args .l) (c .before .before .before .before .before .before .before .before .value-bits .result) (c .before .before .before .before .before .before .before .before .before .before .before .before .args .f) (lookupIn (packOf (now (c .before .before .before .before .before .before .before .before .before .before .before .before .args .s))) (c .before .before .before .before .before .before .before .before .before .before .before .before .args .l)) (c .before .before .before .before .before .before .before .before .before .before .before .before .args .v) (c .before .before .before .before .before .before .before .before .before .before .before .before .pre .2) (c .before .before .before .before .before .before .before .before .value-bits .ensures) (c .before .before .before .before .before .before .before .unreachable .result) (c .before .before .before .before .before .before .shares-bits .result) (c .before .before .before .before .before .and-not .result) (c .before .before .before .before .before .before .before .unreachable .ensures) (c .before .before .before .before .before .before .shares-bits .ensures) (c .before .before .before .before .before .and-not .ensures) (c .before .before .before .before .if1 .left) (c .before .before .if2 .left) (c .pgn-warning .result) (c .pgn-warning .ensures)) at (c .before .before .before .before .before .before .before .before .before .before .before .before .pre .0)
+put-if-requires-2 c κs = rw (same (now (c .before .before .before .before .before .before .before .before .before .before .before .before .args .s)) (c .before .before .before .before .before .before .before .before .before .before .before .before .args .t) (c .before .before .before .before .before .before .before .before .before .before .before .before .args .i) (c .before .before .before .before .before .before .before .before .before .before .before .before .args .k) (c .before .before .before .before .before .before .before .before .before .before .before .before .args .l) (c .before .before .before .before .before .before .before .before .value-bits .result) (c .before .before .before .before .before .before .before .before .before .before .before .before .args .f) (lookup-at (packOf (now (c .before .before .before .before .before .before .before .before .before .before .before .before .args .s)) .lookups) (c .before .before .before .before .before .before .before .before .before .before .before .before .args .l)) (c .before .before .before .before .before .before .before .before .before .before .before .before .args .v) (c .before .before .before .before .before .before .before .before .before .before .before .before .pre .2) (c .before .before .before .before .before .before .before .before .value-bits .ensures) (c .before .before .before .before .before .before .before .unreachable .result) (c .before .before .before .before .before .before .shares-bits .result) (c .before .before .before .before .before .and-not .result) (c .before .before .before .before .before .before .before .unreachable .ensures) (c .before .before .before .before .before .before .shares-bits .ensures) (c .before .before .before .before .before .and-not .ensures) (c .before .before .before .before .if1 .left) (c .before .before .if2 .left) (c .pgn-warning .result) (c .pgn-warning .ensures)) at (c .before .before .before .before .before .before .before .before .before .before .before .before .pre .0)
 
 same-length-3 : tie.Need-same-length-3
 same-length-3 c = search needs
 
 returns-3 : tie.Need-returns-3
-returns-3 c = rw (same (now (c .before .before .before .before .before .before .before .before .before .before .before .before .before .before .before .args .s)) (c .before .before .before .before .before .before .before .before .before .before .before .before .before .before .before .args .t) (c .before .before .before .before .before .before .before .before .before .before .before .before .before .before .before .args .i) (c .before .before .before .before .before .before .before .before .before .before .before .before .before .before .before .args .k) (c .before .before .before .before .before .before .before .before .before .before .before .before .before .before .before .args .l) (c .before .before .before .before .before .before .before .before .before .before .before .value-bits .result) (c .before .before .before .before .before .before .before .before .before .before .before .before .before .before .before .args .f) (lookupIn (packOf (now (c .before .before .before .before .before .before .before .before .before .before .before .before .before .before .before .args .s))) (c .before .before .before .before .before .before .before .before .before .before .before .before .before .before .before .args .l)) (c .before .before .before .before .before .before .before .before .before .before .before .before .before .before .before .args .v) (c .before .before .before .before .before .before .before .before .before .before .before .before .before .before .before .pre .2) (c .before .before .before .before .before .before .before .before .before .before .before .value-bits .ensures) (c .before .before .before .before .before .before .before .before .before .before .unreachable .result) (c .before .before .before .before .before .before .before .before .before .shares-bits .result) (c .before .before .before .before .before .before .before .before .and-not .result) (c .before .before .before .before .before .before .before .before .before .before .unreachable .ensures) (c .before .before .before .before .before .before .before .before .before .shares-bits .ensures) (c .before .before .before .before .before .before .before .before .and-not .ensures) (c .before .before .before .before .before .before .before .if1 .left) (c .before .before .before .before .before .if2 .left) (c .before .before .before .pgn-warning .result) (c .before .before .before .pgn-warning .ensures)) (c .before .before .put-if2 .ensures)
+returns-3 c = rw (same (now (c .before .before .before .before .before .before .before .before .before .before .before .before .before .before .before .args .s)) (c .before .before .before .before .before .before .before .before .before .before .before .before .before .before .before .args .t) (c .before .before .before .before .before .before .before .before .before .before .before .before .before .before .before .args .i) (c .before .before .before .before .before .before .before .before .before .before .before .before .before .before .before .args .k) (c .before .before .before .before .before .before .before .before .before .before .before .before .before .before .before .args .l) (c .before .before .before .before .before .before .before .before .before .before .before .value-bits .result) (c .before .before .before .before .before .before .before .before .before .before .before .before .before .before .before .args .f) (lookup-at (packOf (now (c .before .before .before .before .before .before .before .before .before .before .before .before .before .before .before .args .s)) .lookups) (c .before .before .before .before .before .before .before .before .before .before .before .before .before .before .before .args .l)) (c .before .before .before .before .before .before .before .before .before .before .before .before .before .before .before .args .v) (c .before .before .before .before .before .before .before .before .before .before .before .before .before .before .before .pre .2) (c .before .before .before .before .before .before .before .before .before .before .before .value-bits .ensures) (c .before .before .before .before .before .before .before .before .before .before .unreachable .result) (c .before .before .before .before .before .before .before .before .before .shares-bits .result) (c .before .before .before .before .before .before .before .before .and-not .result) (c .before .before .before .before .before .before .before .before .before .before .unreachable .ensures) (c .before .before .before .before .before .before .before .before .before .shares-bits .ensures) (c .before .before .before .before .before .before .before .before .and-not .ensures) (c .before .before .before .before .before .before .before .if1 .left) (c .before .before .before .before .before .if2 .left) (c .before .before .before .pgn-warning .result) (c .before .before .before .pgn-warning .ensures)) (c .before .before .put-if2 .ensures)
 
 pub lookup-width-at-spec : {M : Type 1} → statement M
 lookup-width-at-spec =

@@ -1,6 +1,6 @@
 use Rattle.rules.proofs.Sizes.{entries-few}
-use Rattle.pack.specs.declared.records.EntryView.{EntryView}
-use Rattle.pack.specs.Value.{Lookup, noEntry}
+use Rattle.pack.specs.declared.entry.EntryView.{EntryView}
+use Rattle.pack.specs.Value.{Lookup, noEntry, lookup-at}
 use Rattle.pack.specs.Meaning.{entryMeaning, packOf}
 use Rattle.rules.specs.Search.{anyBelow}
 use Rattle.rules.specs.SearchLaws.{any-turn, any-hit}
@@ -13,15 +13,14 @@ use mathlib.Core.Bool.{Bool, false}
 use mathlib.Core.List.{List}
 use lib.ListN.{length, getD}
 use denote.Ref.{now}
-use Rattle.pack.specs.Ready.{lookupIn}
 use Rattle.rules.proofs.lookup_wiring.unreachable.Statement.{statement}
 use Rattle.rules.proofs.lookup_wiring.unreachable.Tie as tie
 
 -- whether entry e of lookup l is beyond the width
 abbrev beyond : List ℕ → ℕ → ℕ → ℕ → Bool
-beyond s l width e = beyond-width (lookupIn (packOf s) l .kind) width (getD (lookupIn (packOf s) l .entries) e noEntry .value)
+beyond s l width e = beyond-width (lookup-at (packOf s .lookups) l .kind) width (getD (lookup-at (packOf s .lookups) l .entries) e noEntry .value)
 
-said : (s : List ℕ) (l width e k : ℕ) (v : EntryView) (r : Bool) → k ≡ lookupIn (packOf s) l .kind → entryMeaning s v ≡ getD (lookupIn (packOf s) l .entries) e noEntry → r ≡ beyond-width k width (v .value) → beyond s l width e ≡ r
+said : (s : List ℕ) (l width e k : ℕ) (v : EntryView) (r : Bool) → k ≡ lookup-at (packOf s .lookups) l .kind → entryMeaning s v ≡ getD (lookup-at (packOf s .lookups) l .entries) e noEntry → r ≡ beyond-width k width (v .value) → beyond s l width e ≡ r
 said s l width e k v r x y h = sym (h ∙ (λ j. beyond-width (x j) width (y j .value)))
 
 abbrev Inv-loop : tie.InvT-loop
@@ -43,7 +42,7 @@ returns : tie.Need-returns Inv-loop μ-loop
 unfolding unreachable
 returns c =
     let h = said (now (c .before .before .before .before .before .before .before .args .s)) (c .before .before .before .before .before .before .before .args .l) (c .before .before .before .before .before .before .before .args .width) (c .before .before .before .before .loop .e) (c .before .before .before .before .before .before .before .args .v .kind) (c .before .before .entry-of .result) (c .before .beyond-width .result) (ap (λ (L : Lookup). L .kind) (c .before .before .before .before .before .before .before .pre .1 .means)) (c .before .before .entry-of .ensures) (c .before .beyond-width .ensures) in
-    sym (any-hit (beyond (now (c .before .before .before .before .before .before .before .args .s)) (c .before .before .before .before .before .before .before .args .l) (c .before .before .before .before .before .before .before .args .width)) (length (lookupIn (packOf (now (c .before .before .before .before .before .before .before .args .s))) (c .before .before .before .before .before .before .before .args .l) .entries)) (c .before .before .before .before .loop .e) (omega (arith, c .before .before .before .before .before .before .before .pre .1 .entries, c .before .before .before .loop-test .taken)) (h ∙ c .if1 .taken))
+    sym (any-hit (beyond (now (c .before .before .before .before .before .before .before .args .s)) (c .before .before .before .before .before .before .before .args .l) (c .before .before .before .before .before .before .before .args .width)) (length (lookup-at (packOf (now (c .before .before .before .before .before .before .before .args .s)) .lookups) (c .before .before .before .before .before .before .before .args .l) .entries)) (c .before .before .before .before .loop .e) (omega (arith, c .before .before .before .before .before .before .before .pre .1 .entries, c .before .before .before .loop-test .taken)) (h ∙ c .if1 .taken))
 
 add-e : tie.Need-add-e Inv-loop μ-loop
 add-e c = omega (arith, c .before .before .before .loop-test .taken, c .before .before .before .before .before .before .before .pre .1 .entries, entries-few (c .before .before .before .before .before .before .before .pre .0))
@@ -58,7 +57,7 @@ loop-again c =
 
 returns-2 : tie.Need-returns-2 Inv-loop μ-loop
 unfolding unreachable
-returns-2 c = let q : length (lookupIn (packOf (now (c .before .before .before .before .args .s))) (c .before .before .before .before .args .l) .entries) ≡ c .before .loop .e = omega (arith, c .before .before .before .before .pre .1 .entries, c .before .loop .inv .0, c .loop-test .left) in rw (q, c .before .loop .inv .1)
+returns-2 c = let q : length (lookup-at (packOf (now (c .before .before .before .before .args .s)) .lookups) (c .before .before .before .before .args .l) .entries) ≡ c .before .loop .e = omega (arith, c .before .before .before .before .pre .1 .entries, c .before .loop .inv .0, c .loop-test .left) in rw (q, c .before .loop .inv .1)
 
 pub unreachable-spec : {M : Type 1} → statement M
 unreachable-spec =

@@ -3,10 +3,10 @@ use Rattle.rules.specs.Model.{find-lookup}
 use Rattle.rules.specs.SearchLaws.{first-turn, first-hit}
 use Rattle.rules.specs.Search.{firstBelow}
 use Rattle.pack.proofs.Positions.{lookup-place-next, lookup-room}
-use Rattle.pack.specs.Ready.{lookupIn, lookupPlace}
+use Rattle.pack.specs.Ready.{lookupPlace}
 use Rattle.pack.specs.Meaning.{packOf}
 use Rattle.pack.specs.Items.{bytesOf}
-use Rattle.pack.specs.Value.{Lookup}
+use Rattle.pack.specs.Value.{Lookup, lookup-at}
 use Rattle.pack.specs.Notation.{_≐_}
 use mathlib.Core.Option.{none}
 use mathlib.Core.Bool.{false≢true, Bool, true, false}
@@ -22,7 +22,7 @@ use Rattle.rules.proofs.lookups.find_lookup.Tie as tie
 
 -- whether lookup l has the name
 abbrev named : List ℕ → List ℕ → ℕ → Bool
-named s name l = lookupIn (packOf s) l .name ≐ name
+named s name l = lookup-at (packOf s .lookups) l .name ≐ name
 
 abbrev Inv-loop : tie.InvT-loop
 Inv-loop s work name n place₀ index₀ place index = (index ≤ n) × (place ≡ lookupPlace (packOf s) index) × (firstBelow (named s (bytesOf s name)) index ≡ none)

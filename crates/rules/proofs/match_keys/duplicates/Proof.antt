@@ -1,5 +1,5 @@
 use borrow.Author.Tests.{not-true, not-false}
-use Rattle.pack.specs.Value.{Pgn}
+use Rattle.pack.specs.Value.{Pgn, pgn-at}
 use Rattle.rules.proofs.MatchKeys.{same-keys}
 use Rattle.rules.specs.MatchKeys.{pieces-from}
 use Rattle.rules.specs.Variants.{has-match, duplicates}
@@ -9,7 +9,6 @@ use mathlib.Core.Bool.{true, false}
 use lib.ListN.{length}
 use denote.Ref.{now}
 use Rattle.pack.specs.Notation.{_≐_}
-use Rattle.pack.specs.Ready.{pgnIn}
 use Rattle.pack.specs.Meaning.{packOf}
 use borrow.Author.Needs.{needs}
 use Rattle.rules.proofs.match_keys.duplicates.Statement.{statement}
@@ -35,19 +34,19 @@ has-match-requires : tie.Need-has-match-requires
 has-match-requires c κs = search needs
 
 returns : tie.Need-returns
-returns c = first-none (pgnIn (packOf (now (c .before .before .before .before .args .s))) (c .before .before .before .before .args .t) (c .before .before .before .before .args .i)) (pgnIn (packOf (now (c .before .before .before .before .args .s))) (c .before .before .before .before .args .t) (c .before .before .before .before .args .j)) (c .before .before .before .before .args .m) (c .before .before .before .before .args .n) (c .before .before .before .before .pre .1) (c .before .before .before .before .pre .3) (sym (c .before .has-match .ensures) ∙ not-true (c .before .has-match .result) (c .if1 .taken))
+returns c = first-none (pgn-at (packOf (now (c .before .before .before .before .args .s))) (c .before .before .before .before .args .t) (c .before .before .before .before .args .i)) (pgn-at (packOf (now (c .before .before .before .before .args .s))) (c .before .before .before .before .args .t) (c .before .before .before .before .args .j)) (c .before .before .before .before .args .m) (c .before .before .before .before .args .n) (c .before .before .before .before .pre .1) (c .before .before .before .before .pre .3) (sym (c .before .has-match .ensures) ∙ not-true (c .before .has-match .result) (c .if1 .taken))
 
 has-match-requires-2 : tie.Need-has-match-requires-2
 has-match-requires-2 c κs = search needs
 
 returns-2 : tie.Need-returns-2
-returns-2 c = second-none (pgnIn (packOf (now (c .before .before .before .before .before .before .args .s))) (c .before .before .before .before .before .before .args .t) (c .before .before .before .before .before .before .args .i)) (pgnIn (packOf (now (c .before .before .before .before .before .before .args .s))) (c .before .before .before .before .before .before .args .t) (c .before .before .before .before .before .before .args .j)) (c .before .before .before .before .before .before .args .m) (c .before .before .before .before .before .before .args .n) (c .before .before .before .before .before .before .pre .1) (c .before .before .before .before .before .before .pre .3) (sym (c .before .before .before .has-match .ensures) ∙ not-false (c .before .before .before .has-match .result) (c .before .before .if1 .left)) (sym (c .before .has-match2 .ensures) ∙ not-true (c .before .has-match2 .result) (c .if2 .taken))
+returns-2 c = second-none (pgn-at (packOf (now (c .before .before .before .before .before .before .args .s))) (c .before .before .before .before .before .before .args .t) (c .before .before .before .before .before .before .args .i)) (pgn-at (packOf (now (c .before .before .before .before .before .before .args .s))) (c .before .before .before .before .before .before .args .t) (c .before .before .before .before .before .before .args .j)) (c .before .before .before .before .before .before .args .m) (c .before .before .before .before .before .before .args .n) (c .before .before .before .before .before .before .pre .1) (c .before .before .before .before .before .before .pre .3) (sym (c .before .before .before .has-match .ensures) ∙ not-false (c .before .before .before .has-match .result) (c .before .before .if1 .left)) (sym (c .before .has-match2 .ensures) ∙ not-true (c .before .has-match2 .result) (c .if2 .taken))
 
 same-key-requires : tie.Need-same-key-requires
 same-key-requires c κs = search needs
 
 returns-3 : tie.Need-returns-3
-returns-3 c = c .same-key .ensures ∙ both (pgnIn (packOf (now (c .before .before .before .before .before .before .before .args .s))) (c .before .before .before .before .before .before .before .args .t) (c .before .before .before .before .before .before .before .args .i)) (pgnIn (packOf (now (c .before .before .before .before .before .before .before .args .s))) (c .before .before .before .before .before .before .before .args .t) (c .before .before .before .before .before .before .before .args .j)) (c .before .before .before .before .before .before .before .args .m) (c .before .before .before .before .before .before .before .args .n) (c .before .before .before .before .before .before .before .pre .1) (c .before .before .before .before .before .before .before .pre .3) (sym (c .before .before .before .before .has-match .ensures) ∙ not-false (c .before .before .before .before .has-match .result) (c .before .before .before .if1 .left)) (sym (c .before .before .has-match2 .ensures) ∙ not-false (c .before .before .has-match2 .result) (c .before .if2 .left))
+returns-3 c = c .same-key .ensures ∙ both (pgn-at (packOf (now (c .before .before .before .before .before .before .before .args .s))) (c .before .before .before .before .before .before .before .args .t) (c .before .before .before .before .before .before .before .args .i)) (pgn-at (packOf (now (c .before .before .before .before .before .before .before .args .s))) (c .before .before .before .before .before .before .before .args .t) (c .before .before .before .before .before .before .before .args .j)) (c .before .before .before .before .before .before .before .args .m) (c .before .before .before .before .before .before .before .args .n) (c .before .before .before .before .before .before .before .pre .1) (c .before .before .before .before .before .before .before .pre .3) (sym (c .before .before .before .before .has-match .ensures) ∙ not-false (c .before .before .before .before .has-match .result) (c .before .before .before .if1 .left)) (sym (c .before .before .has-match2 .ensures) ∙ not-false (c .before .before .has-match2 .result) (c .before .if2 .left))
 
 pub duplicates-spec : {M : Type 1} → statement M
 duplicates-spec =

@@ -1,8 +1,8 @@
-use Rattle.pack.specs.declared.records.FieldView.{FieldView}
+use Rattle.pack.specs.declared.field.FieldView.{FieldView}
 use Rattle.pack.specs.Items.{bytesOf}
-use Rattle.pack.specs.Value.{Pgn, Field}
+use Rattle.pack.specs.Value.{Pgn, Field, pgn-at, field-at}
 use Rattle.rules.proofs.Types.{given-is}
-use Rattle.rules.specs.Model.{given, field-at}
+use Rattle.rules.specs.Model.{given}
 use Rattle.rules.specs.SearchLaws.{any-turn, any-hit}
 use Rattle.rules.specs.Search.{anyBelow}
 use Rattle.rules.specs.Variants.{has-match}
@@ -13,7 +13,6 @@ use mathlib.Core.Path.{_≡_, refl, sym, _∙_, ap}
 use mathlib.Core.Bool.{Bool, false}
 use mathlib.Core.List.{List}
 use denote.Ref.{now}
-use Rattle.pack.specs.Ready.{pgnIn}
 use Rattle.pack.specs.Meaning.{packOf, fieldMeaning}
 use Rattle.rules.proofs.match_keys.has_match.Statement.{statement}
 use Rattle.rules.proofs.match_keys.has_match.Tie as tie
@@ -26,7 +25,7 @@ said : (s : List ℕ) (p : Pgn) (k : ℕ) (f : FieldView) → fieldMeaning s f �
 said s p k f e = ap (λ (x : Field). given (x .match)) (sym e) ∙ given-is (f .authored .matched .given) (bytesOf s (f .authored .matched .text))
 
 abbrev Inv-loop : tie.InvT-loop
-Inv-loop s work t i p fields k₀ k = (k ≤ fields) × (anyBelow (has (pgnIn (packOf s) t i)) k ≡ false)
+Inv-loop s work t i p fields k₀ k = (k ≤ fields) × (anyBelow (has (pgn-at (packOf s) t i)) k ≡ false)
 
 abbrev μ-loop : tie.MeasureT-loop
 μ-loop s work t i p fields k₀ k = fields - k
@@ -39,7 +38,7 @@ field-of-requires c κs = (c .before .before .before .before .pre .0, omega (ari
 
 returns : tie.Need-returns Inv-loop μ-loop
 unfolding has-match
-returns c = sym (any-hit (has (pgnIn (packOf (now (c .before .before .before .before .before .before .args .s))) (c .before .before .before .before .before .before .args .t) (c .before .before .before .before .before .before .args .i))) (c .before .before .before .before .before .before .args .fields) (c .before .before .before .loop .k) (c .before .before .loop-test .taken) (said (now (c .before .before .before .before .before .before .args .s)) (pgnIn (packOf (now (c .before .before .before .before .before .before .args .s))) (c .before .before .before .before .before .before .args .t) (c .before .before .before .before .before .before .args .i)) (c .before .before .before .loop .k) (c .before .field-of .result) (c .before .field-of .ensures) ∙ c .if1 .taken))
+returns c = sym (any-hit (has (pgn-at (packOf (now (c .before .before .before .before .before .before .args .s))) (c .before .before .before .before .before .before .args .t) (c .before .before .before .before .before .before .args .i))) (c .before .before .before .before .before .before .args .fields) (c .before .before .before .loop .k) (c .before .before .loop-test .taken) (said (now (c .before .before .before .before .before .before .args .s)) (pgn-at (packOf (now (c .before .before .before .before .before .before .args .s))) (c .before .before .before .before .before .before .args .t) (c .before .before .before .before .before .before .args .i)) (c .before .before .before .loop .k) (c .before .field-of .result) (c .before .field-of .ensures) ∙ c .if1 .taken))
 
 add-k : tie.Need-add-k Inv-loop μ-loop
 add-k c = search needs
@@ -48,7 +47,7 @@ loop-less : tie.Need-loop-less Inv-loop μ-loop
 loop-less c = search needs
 
 loop-again : tie.Need-loop-again Inv-loop μ-loop
-loop-again c = (search needs, any-turn (has (pgnIn (packOf (now (c .before .before .before .before .before .before .args .s))) (c .before .before .before .before .before .before .args .t) (c .before .before .before .before .before .before .args .i))) (c .before .before .before .loop .k) ∙ (rw (c .before .before .before .loop .inv .1) (said (now (c .before .before .before .before .before .before .args .s)) (pgnIn (packOf (now (c .before .before .before .before .before .before .args .s))) (c .before .before .before .before .before .before .args .t) (c .before .before .before .before .before .before .args .i)) (c .before .before .before .loop .k) (c .before .field-of .result) (c .before .field-of .ensures) ∙ c .if1 .left)))
+loop-again c = (search needs, any-turn (has (pgn-at (packOf (now (c .before .before .before .before .before .before .args .s))) (c .before .before .before .before .before .before .args .t) (c .before .before .before .before .before .before .args .i))) (c .before .before .before .loop .k) ∙ (rw (c .before .before .before .loop .inv .1) (said (now (c .before .before .before .before .before .before .args .s)) (pgn-at (packOf (now (c .before .before .before .before .before .before .args .s))) (c .before .before .before .before .before .before .args .t) (c .before .before .before .before .before .before .args .i)) (c .before .before .before .loop .k) (c .before .field-of .result) (c .before .field-of .ensures) ∙ c .if1 .left)))
 
 returns-2 : tie.Need-returns-2 Inv-loop μ-loop
 unfolding has-match

@@ -1,8 +1,8 @@
 use Rattle.rules.proofs.MatchKeys.{head-byte}
 use native.Mathlib.Omega.{arith}
 use denote.Ref.{now}
-use Rattle.pack.specs.Ready.{pgnIn}
 use Rattle.pack.specs.Meaning.{packOf}
+use Rattle.pack.specs.Value.{pgn-at}
 use borrow.Author.Needs.{needs}
 use Rattle.rules.proofs.match_keys.next.Statement.{statement}
 use Rattle.rules.proofs.match_keys.next.Tie as tie
@@ -20,7 +20,7 @@ add-t18 : tie.Need-add-t18
 add-t18 c = search needs
 
 returns-2 : tie.Need-returns-2
-returns-2 c = (head-byte (now (c .before .before .before .before .before .args .s)) (pgnIn (packOf (now (c .before .before .before .before .before .args .s))) (c .before .before .before .before .before .args .t) (c .before .before .before .before .before .args .i)) (c .before .before .before .before .before .args .key) (omega (arith, c .before .before .before .before .before .pre .3, c .before .before .if1 .left)), (c .before .before .before .before .before .pre .2, c .before .before .before .before .before .pre .3))
+returns-2 c = (head-byte (now (c .before .before .before .before .before .args .s)) (pgn-at (packOf (now (c .before .before .before .before .before .args .s))) (c .before .before .before .before .before .args .t) (c .before .before .before .before .before .args .i)) (c .before .before .before .before .before .args .key) (omega (arith, c .before .before .before .before .before .pre .3, c .before .before .if1 .left)), (c .before .before .before .before .before .pre .2, c .before .before .before .before .before .pre .3))
 
 pub next-spec : {M : Type 1} → statement M
 next-spec = tie.close (tie.spec next-of-text-requires returns array-read-byte add-t18 returns-2)

@@ -1,7 +1,6 @@
-use Rattle.pack.specs.declared.records.FieldView.{FieldView}
+use Rattle.pack.specs.declared.field.FieldView.{FieldView}
 use Rattle.pack.specs.Items.{bytesOf}
-use Rattle.pack.specs.Value.{Pgn, Field, Bytes}
-use Rattle.rules.specs.Model.{field-at}
+use Rattle.pack.specs.Value.{Pgn, Field, Bytes, pgn-at, field-at}
 use Rattle.rules.specs.MatchKeys.{pieces-from}
 use Rattle.rules.proofs.MatchKeys.{pieces-next, pieces-ended, piece-begun}
 use borrow.Author.Needs.{needs}
@@ -13,7 +12,6 @@ use mathlib.Core.List.{List}
 use mathlib.Core.Option.{some}
 use denote.Ref.{now}
 use Rattle.pack.specs.Notation.{optional}
-use Rattle.pack.specs.Ready.{pgnIn}
 use Rattle.pack.specs.Meaning.{packOf, fieldMeaning}
 use Rattle.rules.proofs.match_keys.next_piece.Statement.{statement}
 use Rattle.rules.proofs.match_keys.next_piece.Tie as tie
@@ -28,7 +26,7 @@ given-text : (b : Bool) (m : Bytes) → b ≡ true → optional b m ≡ some m
 given-text b m e = rw e
 
 abbrev Inv-loop : tie.InvT-loop
-Inv-loop s work t i p fields from k₀ k = (k ≤ fields) × (pieces-from (pgnIn (packOf s) t i) from (fields - from) ≡ pieces-from (pgnIn (packOf s) t i) k (fields - k))
+Inv-loop s work t i p fields from k₀ k = (k ≤ fields) × (pieces-from (pgn-at (packOf s) t i) from (fields - from) ≡ pieces-from (pgn-at (packOf s) t i) k (fields - k))
 
 abbrev μ-loop : tie.MeasureT-loop
 μ-loop s work t i p fields from k₀ k = fields - k
@@ -43,7 +41,7 @@ begun-requires : tie.Need-begun-requires Inv-loop μ-loop
 begun-requires c κs = search needs
 
 returns : tie.Need-returns Inv-loop μ-loop
-returns c = (c .before .before .before .before .loop .inv .1 ∙ piece-begun (now (c .before .before .before .before .before .before .before .args .s)) (pgnIn (packOf (now (c .before .before .before .before .before .before .before .args .s))) (c .before .before .before .before .before .before .before .args .t) (c .before .before .before .before .before .before .before .args .i)) (c .before .before .before .before .loop .k) (c .before .before .before .before .before .before .before .args .fields) (c .before .before .field-of .result .authored .matched .text) (c .begun .result) (c .before .before .before .loop-test .taken) (c .before .before .before .before .before .before .before .pre .1) (matched (now (c .before .before .before .before .before .before .before .args .s)) (pgnIn (packOf (now (c .before .before .before .before .before .before .before .args .s))) (c .before .before .before .before .before .before .before .args .t) (c .before .before .before .before .before .before .before .args .i)) (c .before .before .before .before .loop .k) (c .before .before .field-of .result) (c .before .before .field-of .ensures) ∙ given-text (c .before .before .field-of .result .authored .matched .given) (bytesOf (now (c .before .before .before .before .before .before .before .args .s)) (c .before .before .field-of .result .authored .matched .text)) (c .before .if1 .taken)) (c .begun .ensures), (omega (arith, c .begun .ensures .4, c .before .before .before .loop-test .taken), c .begun .ensures .5))
+returns c = (c .before .before .before .before .loop .inv .1 ∙ piece-begun (now (c .before .before .before .before .before .before .before .args .s)) (pgn-at (packOf (now (c .before .before .before .before .before .before .before .args .s))) (c .before .before .before .before .before .before .before .args .t) (c .before .before .before .before .before .before .before .args .i)) (c .before .before .before .before .loop .k) (c .before .before .before .before .before .before .before .args .fields) (c .before .before .field-of .result .authored .matched .text) (c .begun .result) (c .before .before .before .loop-test .taken) (c .before .before .before .before .before .before .before .pre .1) (matched (now (c .before .before .before .before .before .before .before .args .s)) (pgn-at (packOf (now (c .before .before .before .before .before .before .before .args .s))) (c .before .before .before .before .before .before .before .args .t) (c .before .before .before .before .before .before .before .args .i)) (c .before .before .before .before .loop .k) (c .before .before .field-of .result) (c .before .before .field-of .ensures) ∙ given-text (c .before .before .field-of .result .authored .matched .given) (bytesOf (now (c .before .before .before .before .before .before .before .args .s)) (c .before .before .field-of .result .authored .matched .text)) (c .before .if1 .taken)) (c .begun .ensures), (omega (arith, c .begun .ensures .4, c .before .before .before .loop-test .taken), c .begun .ensures .5))
 
 add-k : tie.Need-add-k Inv-loop μ-loop
 add-k c = search needs
@@ -52,13 +50,13 @@ loop-less : tie.Need-loop-less Inv-loop μ-loop
 loop-less c = search needs
 
 loop-again : tie.Need-loop-again Inv-loop μ-loop
-loop-again c = (search needs, c .before .before .before .loop .inv .1 ∙ skipped (now (c .before .before .before .before .before .before .args .s)) (pgnIn (packOf (now (c .before .before .before .before .before .before .args .s))) (c .before .before .before .before .before .before .args .t) (c .before .before .before .before .before .before .args .i)) (c .before .before .before .loop .k) (c .before .before .before .before .before .before .args .fields) (c .before .field-of .result) (c .before .before .loop-test .taken) (c .before .field-of .ensures) (c .if1 .left))
+loop-again c = (search needs, c .before .before .before .loop .inv .1 ∙ skipped (now (c .before .before .before .before .before .before .args .s)) (pgn-at (packOf (now (c .before .before .before .before .before .before .args .s))) (c .before .before .before .before .before .before .args .t) (c .before .before .before .before .before .before .args .i)) (c .before .before .before .loop .k) (c .before .before .before .before .before .before .args .fields) (c .before .field-of .result) (c .before .before .loop-test .taken) (c .before .field-of .ensures) (c .if1 .left))
 
 before-requires : tie.Need-before-requires Inv-loop μ-loop
 before-requires c κs = search needs
 
 returns-2 : tie.Need-returns-2 Inv-loop μ-loop
-returns-2 c = (c .before .before .loop .inv .1 ∙ pieces-ended (pgnIn (packOf (now (c .before .before .before .before .before .args .s))) (c .before .before .before .before .before .args .t) (c .before .before .before .before .before .args .i)) (c .before .before .loop .k) (c .before .before .before .before .before .args .fields) (c .before .loop-test .left), (omega (arith, c .before2 .ensures .2), c .before2 .ensures .3))
+returns-2 c = (c .before .before .loop .inv .1 ∙ pieces-ended (pgn-at (packOf (now (c .before .before .before .before .before .args .s))) (c .before .before .before .before .before .args .t) (c .before .before .before .before .before .args .i)) (c .before .before .loop .k) (c .before .before .before .before .before .args .fields) (c .before .loop-test .left), (omega (arith, c .before2 .ensures .2), c .before2 .ensures .3))
 
 pub next-piece-spec : {M : Type 1} → statement M
 next-piece-spec =

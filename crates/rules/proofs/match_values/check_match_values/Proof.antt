@@ -2,9 +2,9 @@ use Rattle.rules.proofs.Sizes.{fields-few}
 use Rattle.rules.specs.MatchValues.{match-value-at, check-match-values}
 use Rattle.rules.proofs.Emits.{emitted-none, emitted-turn, fits-turn}
 use Rattle.rules.specs.Emit.{Emitted}
-use Rattle.pack.specs.Ready.{pgnIn}
 use Rattle.pack.specs.Meaning.{packOf}
 use Rattle.pack.specs.Notation.{concatBelow}
+use Rattle.pack.specs.Value.{pgn-at}
 use Prim.Native.Nat.{_-_, _≤_}
 use native.Mathlib.Omega.{arith}
 use mathlib.Core.Path.{_≡_, refl, _∙_}
@@ -15,7 +15,7 @@ use Rattle.rules.proofs.match_values.check_match_values.Statement.{stat
 use Rattle.rules.proofs.match_values.check_match_values.Tie as tie
 
 abbrev Inv-loop : tie.InvT-loop
-Inv-loop out₀ n s work lookups t i p fields m₀ k₀ out m k = (k ≤ fields) × (length out ≡ length out₀) × Emitted out₀ n (concatBelow (match-value-at (packOf s .lookups) t i (pgnIn (packOf s) t i)) k) out m
+Inv-loop out₀ n s work lookups t i p fields m₀ k₀ out m k = (k ≤ fields) × (length out ≡ length out₀) × Emitted out₀ n (concatBelow (match-value-at (packOf s .lookups) t i (pgn-at (packOf s) t i)) k) out m
 
 abbrev μ-loop : tie.MeasureT-loop
 μ-loop out₀ n s work lookups t i p fields m₀ k₀ out m k = fields - k
@@ -28,7 +28,7 @@ field-of-requires c κs = (c .before .before .before .before .before .pre .1, om
 
 match-value-at-requires : tie.Need-match-value-at-requires Inv-loop μ-loop
 unfolding check-match-values
-match-value-at-requires c κs = (fits-turn (match-value-at (packOf (now (c .before .before .before .before .before .before .before .args .s)) .lookups) (c .before .before .before .before .before .before .before .args .t) (c .before .before .before .before .before .before .before .args .i) (pgnIn (packOf (now (c .before .before .before .before .before .before .before .args .s))) (c .before .before .before .before .before .before .before .args .t) (c .before .before .before .before .before .before .before .args .i))) (c .before .before .before .before .before .before .before .args .g .fields) (c .before .before .before .loop .k) (c .before .before .loop-test .taken) (rw (← c .before .before .before .before .before .before .before .pre .4 .fields) at (c .before .before .before .before .before .before .before .pre .0)) (c .before .before .before .loop .inv .2), c .before .before .before .before .before .before .before .pre .1 .ready, c .before .before .before .before .before .before .before .pre .2, c .before .before .before .before .before .before .before .pre .3, c .before .field-of .ensures)
+match-value-at-requires c κs = (fits-turn (match-value-at (packOf (now (c .before .before .before .before .before .before .before .args .s)) .lookups) (c .before .before .before .before .before .before .before .args .t) (c .before .before .before .before .before .before .before .args .i) (pgn-at (packOf (now (c .before .before .before .before .before .before .before .args .s))) (c .before .before .before .before .before .before .before .args .t) (c .before .before .before .before .before .before .before .args .i))) (c .before .before .before .before .before .before .before .args .g .fields) (c .before .before .before .loop .k) (c .before .before .loop-test .taken) (rw (← c .before .before .before .before .before .before .before .pre .4 .fields) at (c .before .before .before .before .before .before .before .pre .0)) (c .before .before .before .loop .inv .2), c .before .before .before .before .before .before .before .pre .1 .ready, c .before .before .before .before .before .before .before .pre .2, c .before .before .before .before .before .before .before .pre .3, c .before .field-of .ensures)
 
 add-k : tie.Need-add-k Inv-loop μ-loop
 add-k c = omega (arith, c .before .before .before .before .before .loop-test .taken, c .before .before .before .before .before .before .before .before .before .before .pre .4 .fields, fields-few (c .before .before .before .before .before .before .before .before .before .before .pre .1))
@@ -37,14 +37,14 @@ loop-less : tie.Need-loop-less Inv-loop μ-loop
 loop-less c = search needs
 
 loop-again : tie.Need-loop-again Inv-loop μ-loop
-loop-again c = (search needs, c .before .before .match-value-at .kept .0 ∙ c .before .before .before .before .before .before .loop .inv .1, emitted-turn (match-value-at (packOf (now (c .before .before .before .before .before .before .before .before .before .before .args .s)) .lookups) (c .before .before .before .before .before .before .before .before .before .before .args .t) (c .before .before .before .before .before .before .before .before .before .before .args .i) (pgnIn (packOf (now (c .before .before .before .before .before .before .before .before .before .before .args .s))) (c .before .before .before .before .before .before .before .before .before .before .args .t) (c .before .before .before .before .before .before .before .before .before .before .args .i))) (c .before .before .before .before .before .before .loop .k) (c .before .before .before .before .before .before .loop .inv .2) (c .before .before .match-value-at .ensures))
+loop-again c = (search needs, c .before .before .match-value-at .kept .0 ∙ c .before .before .before .before .before .before .loop .inv .1, emitted-turn (match-value-at (packOf (now (c .before .before .before .before .before .before .before .before .before .before .args .s)) .lookups) (c .before .before .before .before .before .before .before .before .before .before .args .t) (c .before .before .before .before .before .before .before .before .before .before .args .i) (pgn-at (packOf (now (c .before .before .before .before .before .before .before .before .before .before .args .s))) (c .before .before .before .before .before .before .before .before .before .before .args .t) (c .before .before .before .before .before .before .before .before .before .before .args .i))) (c .before .before .before .before .before .before .loop .k) (c .before .before .before .before .before .before .loop .inv .2) (c .before .before .match-value-at .ensures))
 
 same-length : tie.Need-same-length Inv-loop μ-loop
 same-length c = c .before .loop .inv .1
 
 returns : tie.Need-returns Inv-loop μ-loop
 unfolding check-match-values
-returns c = let e : length (pgnIn (packOf (now (c .before .before .before .before .before .args .s))) (c .before .before .before .before .before .args .t) (c .before .before .before .before .before .args .i) .fields) ≡ c .before .loop .k = omega (arith, c .before .before .before .before .before .pre .4 .fields, c .before .loop .inv .0, c .loop-test .left) in rw e (c .before .loop .inv .2)
+returns c = let e : length (pgn-at (packOf (now (c .before .before .before .before .before .args .s))) (c .before .before .before .before .before .args .t) (c .before .before .before .before .before .args .i) .fields) ≡ c .before .loop .k = omega (arith, c .before .before .before .before .before .pre .4 .fields, c .before .loop .inv .0, c .loop-test .left) in rw e (c .before .loop .inv .2)
 
 pub check-match-values-spec : {M : Type 1} → statement M
 check-match-values-spec =

@@ -1,14 +1,13 @@
 use Rattle.rules.specs.MatchValues.{resolved-at, match-value-at}
-use Rattle.rules.specs.Model.{resolve-match, given, field-at}
+use Rattle.rules.specs.Model.{resolve-match, given}
 use lib.Pow.{pow-pos}
 use native.Mathlib.Decide.{decLt}
 use Rattle.rules.proofs.Emits.{emitted-none}
 use Rattle.rules.specs.Findings.{report-if, pgn-error}
 use Rattle.rules.specs.declared.Finding.{Finding}
-use Rattle.pack.specs.declared.records.FieldView.{FieldView}
-use Rattle.pack.specs.Ready.{pgnIn}
+use Rattle.pack.specs.declared.field.FieldView.{FieldView}
 use Rattle.pack.specs.Meaning.{fieldMeaning, packOf}
-use Rattle.pack.specs.Value.{Lookup, Pgn}
+use Rattle.pack.specs.Value.{Lookup, Pgn, pgn-at, field-at}
 use Rattle.pack.specs.Notation.{_<ᵇ_, _≤ᵇ_, optional}
 use mathlib.Core.Bool.{_&&_, Bool, true, false}
 use Prim.Native.Nat.{ℕ, _-_, _^_, _<_}
@@ -43,7 +42,7 @@ module _ (s : List ℕ) (ls : List Lookup) (t i k : ℕ) (p : Pgn) (f : FieldVie
     resolved x b z F y = rw (← is, ← e, h, x, y, z, less-one (2 ^ f .scaling .bits) v (pow-pos (f .scaling .bits)))
 
 returns : tie.Need-returns
-returns c = rw (unmatched (now (c .before .before .before .before .before .args .s)) (packOf (now (c .before .before .before .before .before .args .s)) .lookups) (c .before .before .before .before .before .args .t) (c .before .before .before .before .before .args .i) (c .before .before .before .before .before .args .k) (pgnIn (packOf (now (c .before .before .before .before .before .args .s))) (c .before .before .before .before .before .args .t) (c .before .before .before .before .before .args .i)) (c .before .before .before .before .before .args .f) (c .before .before .before .before .before .pre .4) (not-true (c .before .before .before .before .before .args .f .authored .matched .given) (c .if1 .taken))) (emitted-none (now (c .before .before .before .before .before .args .out)) (c .before .before .before .before .before .args .n))
+returns c = rw (unmatched (now (c .before .before .before .before .before .args .s)) (packOf (now (c .before .before .before .before .before .args .s)) .lookups) (c .before .before .before .before .before .args .t) (c .before .before .before .before .before .args .i) (c .before .before .before .before .before .args .k) (pgn-at (packOf (now (c .before .before .before .before .before .args .s))) (c .before .before .before .before .before .args .t) (c .before .before .before .before .before .args .i)) (c .before .before .before .before .before .args .f) (c .before .before .before .before .before .pre .4) (not-true (c .before .before .before .before .before .args .f .authored .matched .given) (c .if1 .taken))) (emitted-none (now (c .before .before .before .before .before .args .out)) (c .before .before .before .before .before .args .n))
 
 resolve-match-requires : tie.Need-resolve-match-requires
 resolve-match-requires c κs = (c .before .before .before .before .before .pre .1, c .before .before .before .before .before .pre .2, c .before .before .before .before .before .pre .3)
@@ -52,13 +51,13 @@ pgn-error-requires : tie.Need-pgn-error-requires
 pgn-error-requires c κs = search needs
 
 put-requires : tie.Need-put-requires
-put-requires c κs = rw (unresolved (now (c .before .before .before .before .before .before .before .before .before .before .args .s)) (packOf (now (c .before .before .before .before .before .before .before .before .before .before .args .s)) .lookups) (c .before .before .before .before .before .before .before .before .before .before .args .t) (c .before .before .before .before .before .before .before .before .before .before .args .i) (c .before .before .before .before .before .before .before .before .before .before .args .k) (pgnIn (packOf (now (c .before .before .before .before .before .before .before .before .before .before .args .s))) (c .before .before .before .before .before .before .before .before .before .before .args .t) (c .before .before .before .before .before .before .before .before .before .before .args .i)) (c .before .before .before .before .before .before .before .before .before .before .args .f) (c .before .before .before .before .before .before .before .before .before .before .pre .4) (not-false (c .before .before .before .before .before .before .before .before .before .before .args .f .authored .matched .given) (c .before .before .before .before .before .if1 .left)) (c .before .before .before .before .resolve-match .result .given) (c .before .before .before .before .resolve-match .result .value) (c .before .before .before .before .resolve-match .ensures) (not-true (c .before .before .before .before .resolve-match .result .given) (c .before .before .if2 .taken)) (c .pgn-error .result) (c .pgn-error .ensures)) at (c .before .before .before .before .before .before .before .before .before .before .pre .0)
+put-requires c κs = rw (unresolved (now (c .before .before .before .before .before .before .before .before .before .before .args .s)) (packOf (now (c .before .before .before .before .before .before .before .before .before .before .args .s)) .lookups) (c .before .before .before .before .before .before .before .before .before .before .args .t) (c .before .before .before .before .before .before .before .before .before .before .args .i) (c .before .before .before .before .before .before .before .before .before .before .args .k) (pgn-at (packOf (now (c .before .before .before .before .before .before .before .before .before .before .args .s))) (c .before .before .before .before .before .before .before .before .before .before .args .t) (c .before .before .before .before .before .before .before .before .before .before .args .i)) (c .before .before .before .before .before .before .before .before .before .before .args .f) (c .before .before .before .before .before .before .before .before .before .before .pre .4) (not-false (c .before .before .before .before .before .before .before .before .before .before .args .f .authored .matched .given) (c .before .before .before .before .before .if1 .left)) (c .before .before .before .before .resolve-match .result .given) (c .before .before .before .before .resolve-match .result .value) (c .before .before .before .before .resolve-match .ensures) (not-true (c .before .before .before .before .resolve-match .result .given) (c .before .before .if2 .taken)) (c .pgn-error .result) (c .pgn-error .ensures)) at (c .before .before .before .before .before .before .before .before .before .before .pre .0)
 
 same-length : tie.Need-same-length
 same-length c = search needs
 
 returns-2 : tie.Need-returns-2
-returns-2 c = rw (unresolved (now (c .before .before .before .before .before .before .before .before .before .before .before .before .before .args .s)) (packOf (now (c .before .before .before .before .before .before .before .before .before .before .before .before .before .args .s)) .lookups) (c .before .before .before .before .before .before .before .before .before .before .before .before .before .args .t) (c .before .before .before .before .before .before .before .before .before .before .before .before .before .args .i) (c .before .before .before .before .before .before .before .before .before .before .before .before .before .args .k) (pgnIn (packOf (now (c .before .before .before .before .before .before .before .before .before .before .before .before .before .args .s))) (c .before .before .before .before .before .before .before .before .before .before .before .before .before .args .t) (c .before .before .before .before .before .before .before .before .before .before .before .before .before .args .i)) (c .before .before .before .before .before .before .before .before .before .before .before .before .before .args .f) (c .before .before .before .before .before .before .before .before .before .before .before .before .before .pre .4) (not-false (c .before .before .before .before .before .before .before .before .before .before .before .before .before .args .f .authored .matched .given) (c .before .before .before .before .before .before .before .before .if1 .left)) (c .before .before .before .before .before .before .before .resolve-match .result .given) (c .before .before .before .before .before .before .before .resolve-match .result .value) (c .before .before .before .before .before .before .before .resolve-match .ensures) (not-true (c .before .before .before .before .before .before .before .resolve-match .result .given) (c .before .before .before .before .before .if2 .taken)) (c .before .before .before .pgn-error .result) (c .before .before .before .pgn-error .ensures)) (c .before .before .put .ensures)
+returns-2 c = rw (unresolved (now (c .before .before .before .before .before .before .before .before .before .before .before .before .before .args .s)) (packOf (now (c .before .before .before .before .before .before .before .before .before .before .before .before .before .args .s)) .lookups) (c .before .before .before .before .before .before .before .before .before .before .before .before .before .args .t) (c .before .before .before .before .before .before .before .before .before .before .before .before .before .args .i) (c .before .before .before .before .before .before .before .before .before .before .before .before .before .args .k) (pgn-at (packOf (now (c .before .before .before .before .before .before .before .before .before .before .before .before .before .args .s))) (c .before .before .before .before .before .before .before .before .before .before .before .before .before .args .t) (c .before .before .before .before .before .before .before .before .before .before .before .before .before .args .i)) (c .before .before .before .before .before .before .before .before .before .before .before .before .before .args .f) (c .before .before .before .before .before .before .before .before .before .before .before .before .before .pre .4) (not-false (c .before .before .before .before .before .before .before .before .before .before .before .before .before .args .f .authored .matched .given) (c .before .before .before .before .before .before .before .before .if1 .left)) (c .before .before .before .before .before .before .before .resolve-match .result .given) (c .before .before .before .before .before .before .before .resolve-match .result .value) (c .before .before .before .before .before .before .before .resolve-match .ensures) (not-true (c .before .before .before .before .before .before .before .resolve-match .result .given) (c .before .before .before .before .before .if2 .taken)) (c .before .before .before .pgn-error .result) (c .before .before .before .pgn-error .ensures)) (c .before .before .put .ensures)
 
 exceeds-requires : tie.Need-exceeds-requires
 exceeds-requires c κs = search needs
@@ -67,13 +66,13 @@ pgn-error-requires-2 : tie.Need-pgn-error-requires-2
 pgn-error-requires-2 c κs = search needs
 
 put-if-requires : tie.Need-put-if-requires
-put-if-requires c κs = rw (resolved (now (c .before .before .before .before .before .before .before .before .before .before .before .args .s)) (packOf (now (c .before .before .before .before .before .before .before .before .before .before .before .args .s)) .lookups) (c .before .before .before .before .before .before .before .before .before .before .before .args .t) (c .before .before .before .before .before .before .before .before .before .before .before .args .i) (c .before .before .before .before .before .before .before .before .before .before .before .args .k) (pgnIn (packOf (now (c .before .before .before .before .before .before .before .before .before .before .before .args .s))) (c .before .before .before .before .before .before .before .before .before .before .before .args .t) (c .before .before .before .before .before .before .before .before .before .before .before .args .i)) (c .before .before .before .before .before .before .before .before .before .before .before .args .f) (c .before .before .before .before .before .before .before .before .before .before .before .pre .4) (not-false (c .before .before .before .before .before .before .before .before .before .before .before .args .f .authored .matched .given) (c .before .before .before .before .before .before .if1 .left)) (c .before .before .before .before .before .resolve-match .result .given) (c .before .before .before .before .before .resolve-match .result .value) (c .before .before .before .before .before .resolve-match .ensures) (not-false (c .before .before .before .before .before .resolve-match .result .given) (c .before .before .before .if2 .left)) (c .before .before .exceeds .result) (c .before .before .exceeds .ensures) (c .pgn-error2 .result) (c .pgn-error2 .ensures)) at (c .before .before .before .before .before .before .before .before .before .before .before .pre .0)
+put-if-requires c κs = rw (resolved (now (c .before .before .before .before .before .before .before .before .before .before .before .args .s)) (packOf (now (c .before .before .before .before .before .before .before .before .before .before .before .args .s)) .lookups) (c .before .before .before .before .before .before .before .before .before .before .before .args .t) (c .before .before .before .before .before .before .before .before .before .before .before .args .i) (c .before .before .before .before .before .before .before .before .before .before .before .args .k) (pgn-at (packOf (now (c .before .before .before .before .before .before .before .before .before .before .before .args .s))) (c .before .before .before .before .before .before .before .before .before .before .before .args .t) (c .before .before .before .before .before .before .before .before .before .before .before .args .i)) (c .before .before .before .before .before .before .before .before .before .before .before .args .f) (c .before .before .before .before .before .before .before .before .before .before .before .pre .4) (not-false (c .before .before .before .before .before .before .before .before .before .before .before .args .f .authored .matched .given) (c .before .before .before .before .before .before .if1 .left)) (c .before .before .before .before .before .resolve-match .result .given) (c .before .before .before .before .before .resolve-match .result .value) (c .before .before .before .before .before .resolve-match .ensures) (not-false (c .before .before .before .before .before .resolve-match .result .given) (c .before .before .before .if2 .left)) (c .before .before .exceeds .result) (c .before .before .exceeds .ensures) (c .pgn-error2 .result) (c .pgn-error2 .ensures)) at (c .before .before .before .before .before .before .before .before .before .before .before .pre .0)
 
 same-length-2 : tie.Need-same-length-2
 same-length-2 c = search needs
 
 returns-3 : tie.Need-returns-3
-returns-3 c = rw (resolved (now (c .before .before .before .before .before .before .before .before .before .before .before .before .before .before .args .s)) (packOf (now (c .before .before .before .before .before .before .before .before .before .before .before .before .before .before .args .s)) .lookups) (c .before .before .before .before .before .before .before .before .before .before .before .before .before .before .args .t) (c .before .before .before .before .before .before .before .before .before .before .before .before .before .before .args .i) (c .before .before .before .before .before .before .before .before .before .before .before .before .before .before .args .k) (pgnIn (packOf (now (c .before .before .before .before .before .before .before .before .before .before .before .before .before .before .args .s))) (c .before .before .before .before .before .before .before .before .before .before .before .before .before .before .args .t) (c .before .before .before .before .before .before .before .before .before .before .before .before .before .before .args .i)) (c .before .before .before .before .before .before .before .before .before .before .before .before .before .before .args .f) (c .before .before .before .before .before .before .before .before .before .before .before .before .before .before .pre .4) (not-false (c .before .before .before .before .before .before .before .before .before .before .before .before .before .before .args .f .authored .matched .given) (c .before .before .before .before .before .before .before .before .before .if1 .left)) (c .before .before .before .before .before .before .before .before .resolve-match .result .given) (c .before .before .before .before .before .before .before .before .resolve-match .result .value) (c .before .before .before .before .before .before .before .before .resolve-match .ensures) (not-false (c .before .before .before .before .before .before .before .before .resolve-match .result .given) (c .before .before .before .before .before .before .if2 .left)) (c .before .before .before .before .before .exceeds .result) (c .before .before .before .before .before .exceeds .ensures) (c .before .before .before .pgn-error2 .result) (c .before .before .before .pgn-error2 .ensures)) (c .before .before .put-if .ensures)
+returns-3 c = rw (resolved (now (c .before .before .before .before .before .before .before .before .before .before .before .before .before .before .args .s)) (packOf (now (c .before .before .before .before .before .before .before .before .before .before .before .before .before .before .args .s)) .lookups) (c .before .before .before .before .before .before .before .before .before .before .before .before .before .before .args .t) (c .before .before .before .before .before .before .before .before .before .before .before .before .before .before .args .i) (c .before .before .before .before .before .before .before .before .before .before .before .before .before .before .args .k) (pgn-at (packOf (now (c .before .before .before .before .before .before .before .before .before .before .before .before .before .before .args .s))) (c .before .before .before .before .before .before .before .before .before .before .before .before .before .before .args .t) (c .before .before .before .before .before .before .before .before .before .before .before .before .before .before .args .i)) (c .before .before .before .before .before .before .before .before .before .before .before .before .before .before .args .f) (c .before .before .before .before .before .before .before .before .before .before .before .before .before .before .pre .4) (not-false (c .before .before .before .before .before .before .before .before .before .before .before .before .before .before .args .f .authored .matched .given) (c .before .before .before .before .before .before .before .before .before .if1 .left)) (c .before .before .before .before .before .before .before .before .resolve-match .result .given) (c .before .before .before .before .before .before .before .before .resolve-match .result .value) (c .before .before .before .before .before .before .before .before .resolve-match .ensures) (not-false (c .before .before .before .before .before .before .before .before .resolve-match .result .given) (c .before .before .before .before .before .before .if2 .left)) (c .before .before .before .before .before .exceeds .result) (c .before .before .before .before .before .exceeds .ensures) (c .before .before .before .pgn-error2 .result) (c .before .before .before .pgn-error2 .ensures)) (c .before .before .put-if .ensures)
 
 pub match-value-at-spec : {M : Type 1} → statement M
 match-value-at-spec =

@@ -1,7 +1,7 @@
-use Rattle.rules.specs.Model.{lookup-at, find-lookup, fieldtypes, pairs, value-named, resolve-in, resolve-name}
+use Rattle.rules.specs.Model.{find-lookup, fieldtypes, pairs, value-named, resolve-in, resolve-name}
 use Rattle.pack.specs.Meaning.{packOf}
 use Rattle.pack.specs.Items.{bytesOf}
-use Rattle.pack.specs.Value.{Bytes, Entry, Lookup, Reference}
+use Rattle.pack.specs.Value.{Bytes, Entry, Lookup, Reference, lookup-at}
 use Rattle.pack.specs.Notation.{_==_, if_then_else_, optional}
 use mathlib.Core.Option.{none, some}
 use mathlib.Core.Bool.{_||_, Bool, true, false}

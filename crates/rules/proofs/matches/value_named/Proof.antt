@@ -1,10 +1,9 @@
 use Rattle.rules.specs.Model.{value-named}
 use Rattle.rules.specs.SearchLaws.{first-turn, first-hit}
 use Rattle.rules.specs.Search.{firstBelow}
-use Rattle.pack.specs.Ready.{lookupIn}
 use Rattle.pack.specs.Meaning.{packOf}
 use Rattle.pack.specs.Items.{bytesOf}
-use Rattle.pack.specs.Value.{Entry, noEntry}
+use Rattle.pack.specs.Value.{Entry, noEntry, lookup-at}
 use Rattle.pack.specs.Notation.{_≐_}
 use mathlib.Core.Option.{none}
 use Prim.Native.Nat.{ℕ, _-_, _≤_}
@@ -20,7 +19,7 @@ use Rattle.rules.proofs.matches.value_named.Tie as tie
 
 -- whether entry e has the name
 abbrev named : List ℕ → ℕ → List ℕ → ℕ → Bool
-named s l name e = getD (lookupIn (packOf s) l .entries) e noEntry .name ≐ name
+named s l name e = getD (lookup-at (packOf s .lookups) l .entries) e noEntry .name ≐ name
 
 abbrev Inv-loop : tie.InvT-loop
 Inv-loop s work l p kind n name e₀ e = (e ≤ n) × (firstBelow (named s l (bytesOf s name)) e ≡ none)
@@ -61,7 +60,7 @@ loop-again c =
 returns-2 : tie.Need-returns-2 Inv-loop μ-loop
 unfolding value-named
 returns-2 c =
-    let e : length (lookupIn (packOf (now (c .before .before .before .before .args .s))) (c .before .before .before .before .args .l) .entries) ≡ c .before .loop .e = omega (arith, c .before .before .before .before .pre .2, c .before .loop .inv .0, c .loop-test .left) in
+    let e : length (lookup-at (packOf (now (c .before .before .before .before .args .s)) .lookups) (c .before .before .before .before .args .l) .entries) ≡ c .before .loop .e = omega (arith, c .before .before .before .before .pre .2, c .before .loop .inv .0, c .loop-test .left) in
     rw (e, c .before .loop .inv .1)
 
 pub value-named-spec : {M : Type 1} → statement M

@@ -4,7 +4,7 @@ use mathlib.Core.Option.{some}
 use Rattle.pack.specs.Value.{Pgn}
 use Rattle.pack.specs.Ready.{PgnIs}
 use Rattle.pack.specs.Meaning.{optNumber}
-use Rattle.pack.specs.declared.records.PgnView.{PgnView}
+use Rattle.pack.specs.declared.pgn.PgnView.{PgnView}
 use Prim.Native.Nat.{ℕ}
 use mathlib.Core.Path.{_≡_, ap, sym}
 use mathlib.Core.List.{List, []}

@@ -1,9 +1,8 @@
 use Rattle.rules.specs.SearchLaws.{any-turn, any-hit, sum-turn}
 use Rattle.rules.specs.Search.{anyBelow, sumBelow}
 use Rattle.rules.specs.MinLength.{lands-on-boundary}
-use Rattle.pack.specs.declared.records.FieldView.{FieldView}
-use Rattle.pack.specs.Value.{Field}
-use Rattle.pack.specs.Ready.{pgnIn, fieldIn}
+use Rattle.pack.specs.declared.field.FieldView.{FieldView}
+use Rattle.pack.specs.Value.{Field, pgn-at, field-at}
 use Rattle.pack.specs.Notation.{_==_}
 use Rattle.pack.specs.Meaning.{fieldMeaning, packOf}
 use Prim.Native.Nat.{ℕ, suc, _+_, _-_, _*_, _≤_, _<_}
@@ -20,12 +19,12 @@ use Rattle.rules.proofs.min_length.lands_on_boundary.Tie as tie
 
 -- the width of a field, and whether the fields up to it end at the boundary
 abbrev width : List ℕ → ℕ → ℕ → ℕ → ℕ
-width s t i j = fieldIn (packOf s) t i j .res-bits
+width s t i j = field-at (pgn-at (packOf s) t i) j .res-bits
 
 abbrev ends : List ℕ → ℕ → ℕ → ℕ → ℕ → Bool
 ends s t i least k = sumBelow (width s t i) (suc k) == least * 8
 
-module _ (s : List ℕ) (t i least bits k : ℕ) (v : FieldView) (is : fieldMeaning s v ≡ fieldIn (packOf s) t i k) (sum : bits ≡ sumBelow (width s t i) k) where
+module _ (s : List ℕ) (t i least bits k : ℕ) (v : FieldView) (is : fieldMeaning s v ≡ field-at (pgn-at (packOf s) t i) k) (sum : bits ≡ sumBelow (width s t i) k) where
   grown : bits + v .scaling .bits ≡ sumBelow (width s t i) k + width s t i k
   grown = let e : v .scaling .bits ≡ width s t i k = ap (λ (F : Field). F .res-bits) is in rw (sum, e)
 
@@ -58,7 +57,7 @@ add-bits c = search needs
 
 returns : tie.Need-returns Inv-loop μ-loop
 unfolding lands-on-boundary
-returns c = sym (hit (now (c .before .before .before .before .before .before .before .args .s)) (c .before .before .before .before .before .before .before .args .t) (c .before .before .before .before .before .before .before .args .i) (c .before .before .before .before .before .before .before .args .least) (c .before .before .before .before .loop .bits) (c .before .before .before .before .loop .k) (c .before .before .field-of .result) (c .before .before .field-of .ensures) (c .before .before .before .before .loop .inv .1) (length (pgnIn (packOf (now (c .before .before .before .before .before .before .before .args .s))) (c .before .before .before .before .before .before .before .args .t) (c .before .before .before .before .before .before .before .args .i) .fields)) (omega (arith, c .before .before .before .before .before .before .before .pre .1)) (c .if1 .taken))
+returns c = sym (hit (now (c .before .before .before .before .before .before .before .args .s)) (c .before .before .before .before .before .before .before .args .t) (c .before .before .before .before .before .before .before .args .i) (c .before .before .before .before .before .before .before .args .least) (c .before .before .before .before .loop .bits) (c .before .before .before .before .loop .k) (c .before .before .field-of .result) (c .before .before .field-of .ensures) (c .before .before .before .before .loop .inv .1) (length (pgn-at (packOf (now (c .before .before .before .before .before .before .before .args .s))) (c .before .before .before .before .before .before .before .args .t) (c .before .before .before .before .before .before .before .args .i) .fields)) (omega (arith, c .before .before .before .before .before .before .before .pre .1)) (c .if1 .taken))
 
 add-k : tie.Need-add-k Inv-loop μ-loop
 add-k c = search needs
@@ -71,7 +70,7 @@ loop-again c = (omega arith, grown (now (c .before .before .before .before .befo
 
 returns-2 : tie.Need-returns-2 Inv-loop μ-loop
 unfolding lands-on-boundary
-returns-2 c = let e : c .before .loop .k ≡ length (pgnIn (packOf (now (c .before .before .before .before .args .s))) (c .before .before .before .before .args .t) (c .before .before .before .before .args .i) .fields) = omega (arith, c .before .before .before .before .pre .1) in rw (← e) (sym (c .before .loop .inv .3))
+returns-2 c = let e : c .before .loop .k ≡ length (pgn-at (packOf (now (c .before .before .before .before .args .s))) (c .before .before .before .before .args .t) (c .before .before .before .before .args .i) .fields) = omega (arith, c .before .before .before .before .pre .1) in rw (← e) (sym (c .before .loop .inv .3))
 
 pub lands-on-boundary-spec : {M : Type 1} → statement M
 lands-on-boundary-spec =

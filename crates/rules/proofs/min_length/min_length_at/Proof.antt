@@ -6,7 +6,7 @@ use mathlib.Core.Bool.{not, _||_, Bool, true, false}
 use Rattle.pack.specs.Value.{Pgn}
 use Rattle.pack.specs.Ready.{PgnIs}
 use Rattle.pack.specs.Notation.{_==_, _≤ᵇ_, if_then_else_}
-use Rattle.pack.specs.declared.records.PgnView.{PgnView}
+use Rattle.pack.specs.declared.pgn.PgnView.{PgnView}
 use Prim.Native.Nat.{ℕ}
 use mathlib.Core.Path.{_≡_, ap, _∙_, sym}
 use mathlib.Core.List.{List, [], _∷_}

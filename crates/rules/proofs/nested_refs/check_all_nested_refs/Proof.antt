@@ -9,8 +9,9 @@ use mathlib.Core.List.{List}
 use lib.ListN.{length}
 use denote.Ref.{now}
 use Rattle.pack.specs.Notation.{concatBelow}
-use Rattle.pack.specs.Ready.{lookupIn, lookupPlace}
+use Rattle.pack.specs.Ready.{lookupPlace}
 use Rattle.pack.specs.Meaning.{packOf}
+use Rattle.pack.specs.Value.{lookup-at}
 use Rattle.rules.specs.declared.Finding.{Finding}
 use Rattle.rules.specs.Emit.{Emitted}
 use Rattle.rules.proofs.Emits.{emitted-none, emitted-turn, fits-turn}
@@ -19,7 +20,7 @@ use Rattle.rules.proofs.nested_refs.check_all_nested_refs.Tie as tie
 
 -- the findings of lookup l
 abbrev of-lookup : List ℕ → ℕ → List Finding
-of-lookup s l = check-nested-refs (packOf s) l (lookupIn (packOf s) l)
+of-lookup s l = check-nested-refs (packOf s) l (lookup-at (packOf s .lookups) l)
 
 abbrev Inv-loop : tie.InvT-loop
 Inv-loop out₀ n s work index count m₀ p₀ l₀ out m p l = (l ≤ count) × (p ≡ lookupPlace (packOf s) l) × (length out ≡ length out₀) × Emitted out₀ n (concatBelow (of-lookup s) l) out m

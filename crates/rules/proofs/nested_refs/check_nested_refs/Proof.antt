@@ -1,7 +1,7 @@
 use borrow.Author.Tests.{eq-eqb, ne-eqb}
-use Rattle.pack.specs.declared.records.LookupView.{LookupView}
-use Rattle.pack.specs.declared.records.EntryView.{EntryView}
-use Rattle.pack.specs.Value.{Entry, Lookup, Pack, noEntry}
+use Rattle.pack.specs.declared.lookup.LookupView.{LookupView}
+use Rattle.pack.specs.declared.entry.EntryView.{EntryView}
+use Rattle.pack.specs.Value.{Entry, Lookup, Pack, noEntry, lookup-at}
 use Rattle.pack.specs.Meaning.{entryMeaning, packOf}
 use Rattle.rules.proofs.Sizes.{entries-few}
 use Rattle.rules.specs.Model.{fieldtypes}
@@ -15,7 +15,7 @@ use mathlib.Core.List.{List, []}
 use lib.ListN.{length, getD}
 use denote.Ref.{now}
 use Rattle.pack.specs.Notation.{concatBelow, _==_}
-use Rattle.pack.specs.Ready.{LookupIs, lookupIn}
+use Rattle.pack.specs.Ready.{LookupIs}
 use Rattle.rules.specs.declared.Finding.{Finding}
 use Rattle.rules.specs.Emit.{Emitted, Fits}
 use Rattle.rules.proofs.Emits.{emitted-none, emitted-turn, fits-turn}
@@ -24,7 +24,7 @@ use Rattle.rules.proofs.nested_refs.check_nested_refs.Tie as tie
 
 -- the findings of entry e
 abbrev of-entry : List ℕ → ℕ → ℕ → List Finding
-of-entry s l e = fieldtype-entry-at (packOf s) l e (getD (lookupIn (packOf s) l .entries) e noEntry)
+of-entry s l e = fieldtype-entry-at (packOf s) l e (getD (lookup-at (packOf s .lookups) l .entries) e noEntry)
 
 module _ (s : List ℕ) (P : Pack) (L : Lookup) (v : LookupView) (is : LookupIs s L v) (l : ℕ) where
   others : (v .kind ≡ 3 → ⊥) → check-nested-refs P l L ≡ []
@@ -49,7 +49,7 @@ abbrev μ-loop : tie.MeasureT-loop
 μ-loop out₀ n s work index l p entries m₀ e₀ out m e = entries - e
 
 returns : tie.Need-returns Inv-loop μ-loop
-returns c = rw (others (now (c .before .before .before .before .before .args .s)) (packOf (now (c .before .before .before .before .before .args .s))) (lookupIn (packOf (now (c .before .before .before .before .before .args .s))) (c .before .before .before .before .before .args .l)) (c .before .before .before .before .before .args .v) (c .before .before .before .before .before .pre .2) (c .before .before .before .before .before .args .l) (c .if1 .taken)) (emitted-none (now (c .before .before .before .before .before .args .out)) (c .before .before .before .before .before .args .n))
+returns c = rw (others (now (c .before .before .before .before .before .args .s)) (packOf (now (c .before .before .before .before .before .args .s))) (lookup-at (packOf (now (c .before .before .before .before .before .args .s)) .lookups) (c .before .before .before .before .before .args .l)) (c .before .before .before .before .before .args .v) (c .before .before .before .before .before .pre .2) (c .before .before .before .before .before .args .l) (c .if1 .taken)) (emitted-none (now (c .before .before .before .before .before .args .out)) (c .before .before .before .before .before .args .n))
 
 loop-holds : tie.Need-loop-holds Inv-loop μ-loop
 loop-holds c = (search needs, refl, emitted-none (now (c .before .before .before .before .before .args .out)) (c .before .before .before .before .before .args .n))
@@ -58,7 +58,7 @@ entry-of-requires : tie.Need-entry-of-requires Inv-loop μ-loop
 entry-of-requires c κs = (c .before .before .before .before .before .before .before .pre .1, sym (c .before .before .if1 .left) ∙ ap (λ (L : Lookup). L .kind) (c .before .before .before .before .before .before .before .pre .2 .means), omega (arith, c .before .before .before .before .before .before .before .pre .2 .entries, c .loop-test .taken))
 
 fieldtype-entry-at-requires : tie.Need-fieldtype-entry-at-requires Inv-loop μ-loop
-fieldtype-entry-at-requires c κs = (asked (now (c .before .before .before .before .before .before .before .before .before .args .s)) (packOf (now (c .before .before .before .before .before .before .before .before .before .args .s))) (c .before .before .before .before .before .before .before .before .before .args .l) (c .before .before .before .loop .e) (c .before .entry-of .result) (getD (lookupIn (packOf (now (c .before .before .before .before .before .before .before .before .before .args .s))) (c .before .before .before .before .before .before .before .before .before .args .l) .entries) (c .before .before .before .loop .e) noEntry) (c .before .entry-of .ensures) (fits-turn (of-entry (now (c .before .before .before .before .before .before .before .before .before .args .s)) (c .before .before .before .before .before .before .before .before .before .args .l)) (c .before .before .before .before .before .before .before .before .before .args .v .entries) (c .before .before .before .loop .e) (c .before .before .loop-test .taken) (rw (nesting (now (c .before .before .before .before .before .before .before .before .before .args .s)) (packOf (now (c .before .before .before .before .before .before .before .before .before .args .s))) (lookupIn (packOf (now (c .before .before .before .before .before .before .before .before .before .args .s))) (c .before .before .before .before .before .before .before .before .before .args .l)) (c .before .before .before .before .before .before .before .before .before .args .v) (c .before .before .before .before .before .before .before .before .before .pre .2) (c .before .before .before .before .before .before .before .before .before .args .l) (c .before .before .before .before .if1 .left)) at (c .before .before .before .before .before .before .before .before .before .pre .0)) (c .before .before .before .loop .inv .2)), c .before .before .before .before .before .before .before .before .before .pre .1 .ready, c .before .before .before .before .before .before .before .before .before .pre .3)
+fieldtype-entry-at-requires c κs = (asked (now (c .before .before .before .before .before .before .before .before .before .args .s)) (packOf (now (c .before .before .before .before .before .before .before .before .before .args .s))) (c .before .before .before .before .before .before .before .before .before .args .l) (c .before .before .before .loop .e) (c .before .entry-of .result) (getD (lookup-at (packOf (now (c .before .before .before .before .before .before .before .before .before .args .s)) .lookups) (c .before .before .before .before .before .before .before .before .before .args .l) .entries) (c .before .before .before .loop .e) noEntry) (c .before .entry-of .ensures) (fits-turn (of-entry (now (c .before .before .before .before .before .before .before .before .before .args .s)) (c .before .before .before .before .before .before .before .before .before .args .l)) (c .before .before .before .before .before .before .before .before .before .args .v .entries) (c .before .before .before .loop .e) (c .before .before .loop-test .taken) (rw (nesting (now (c .before .before .before .before .before .before .before .before .before .args .s)) (packOf (now (c .before .before .before .before .before .before .before .before .before .args .s))) (lookup-at (packOf (now (c .before .before .before .before .before .before .before .before .before .args .s)) .lookups) (c .before .before .before .before .before .before .before .before .before .args .l)) (c .before .before .before .before .before .before .before .before .before .args .v) (c .before .before .before .before .before .before .before .before .before .pre .2) (c .before .before .before .before .before .before .before .before .before .args .l) (c .before .before .before .before .if1 .left)) at (c .before .before .before .before .before .before .before .before .before .pre .0)) (c .before .before .before .loop .inv .2)), c .before .before .before .before .before .before .before .before .before .pre .1 .ready, c .before .before .before .before .before .before .before .before .before .pre .3)
 
 add-e : tie.Need-add-e Inv-loop μ-loop
 add-e c = omega (arith, c .before .before .before .before .before .loop-test .taken, c .before .before .before .before .before .before .before .before .before .before .before .before .pre .2 .entries, entries-few (c .before .before .before .before .before .before .before .before .before .before .before .before .pre .1))
@@ -67,13 +67,13 @@ loop-less : tie.Need-loop-less Inv-loop μ-loop
 loop-less c = search needs
 
 loop-again : tie.Need-loop-again Inv-loop μ-loop
-loop-again c = (search needs, c .before .before .fieldtype-entry-at .kept .0 ∙ c .before .before .before .before .before .before .loop .inv .1, emitted-turn (of-entry (now (c .before .before .before .before .before .before .before .before .before .before .before .before .args .s)) (c .before .before .before .before .before .before .before .before .before .before .before .before .args .l)) (c .before .before .before .before .before .before .loop .e) (c .before .before .before .before .before .before .loop .inv .2) (told (now (c .before .before .before .before .before .before .before .before .before .before .before .before .args .s)) (packOf (now (c .before .before .before .before .before .before .before .before .before .before .before .before .args .s))) (c .before .before .before .before .before .before .before .before .before .before .before .before .args .l) (c .before .before .before .before .before .before .loop .e) (c .before .before .before .before .entry-of .result) (getD (lookupIn (packOf (now (c .before .before .before .before .before .before .before .before .before .before .before .before .args .s))) (c .before .before .before .before .before .before .before .before .before .before .before .before .args .l) .entries) (c .before .before .before .before .before .before .loop .e) noEntry) (c .before .before .before .before .entry-of .ensures) (c .before .before .fieldtype-entry-at .ensures)))
+loop-again c = (search needs, c .before .before .fieldtype-entry-at .kept .0 ∙ c .before .before .before .before .before .before .loop .inv .1, emitted-turn (of-entry (now (c .before .before .before .before .before .before .before .before .before .before .before .before .args .s)) (c .before .before .before .before .before .before .before .before .before .before .before .before .args .l)) (c .before .before .before .before .before .before .loop .e) (c .before .before .before .before .before .before .loop .inv .2) (told (now (c .before .before .before .before .before .before .before .before .before .before .before .before .args .s)) (packOf (now (c .before .before .before .before .before .before .before .before .before .before .before .before .args .s))) (c .before .before .before .before .before .before .before .before .before .before .before .before .args .l) (c .before .before .before .before .before .before .loop .e) (c .before .before .before .before .entry-of .result) (getD (lookup-at (packOf (now (c .before .before .before .before .before .before .before .before .before .before .before .before .args .s)) .lookups) (c .before .before .before .before .before .before .before .before .before .before .before .before .args .l) .entries) (c .before .before .before .before .before .before .loop .e) noEntry) (c .before .before .before .before .entry-of .ensures) (c .before .before .fieldtype-entry-at .ensures)))
 
 same-length : tie.Need-same-length Inv-loop μ-loop
 same-length c = c .before .loop .inv .1
 
 returns-2 : tie.Need-returns-2 Inv-loop μ-loop
-returns-2 c = let q : c .before .before .before .before .before .before .before .args .v .entries ≡ c .before .loop .e = omega (arith, c .before .loop .inv .0, c .loop-test .left) in rw (nesting (now (c .before .before .before .before .before .before .before .args .s)) (packOf (now (c .before .before .before .before .before .before .before .args .s))) (lookupIn (packOf (now (c .before .before .before .before .before .before .before .args .s))) (c .before .before .before .before .before .before .before .args .l)) (c .before .before .before .before .before .before .before .args .v) (c .before .before .before .before .before .before .before .pre .2) (c .before .before .before .before .before .before .before .args .l) (c .before .before .if1 .left), q) (c .before .loop .inv .2)
+returns-2 c = let q : c .before .before .before .before .before .before .before .args .v .entries ≡ c .before .loop .e = omega (arith, c .before .loop .inv .0, c .loop-test .left) in rw (nesting (now (c .before .before .before .before .before .before .before .args .s)) (packOf (now (c .before .before .before .before .before .before .before .args .s))) (lookup-at (packOf (now (c .before .before .before .before .before .before .before .args .s)) .lookups) (c .before .before .before .before .before .before .before .args .l)) (c .before .before .before .before .before .before .before .args .v) (c .before .before .before .before .before .before .before .pre .2) (c .before .before .before .before .before .before .before .args .l) (c .before .before .if1 .left), q) (c .before .loop .inv .2)
 
 pub check-nested-refs-spec : {M : Type 1} → statement M
 check-nested-refs-spec =

@@ -1,4 +1,4 @@
-use Rattle.pack.specs.declared.records.EntryView.{EntryView}
+use Rattle.pack.specs.declared.entry.EntryView.{EntryView}
 use Rattle.pack.specs.Value.{Pack}
 use Rattle.pack.specs.Meaning.{optBytes, entryMeaning, packOf}
 use Rattle.pack.specs.Items.{bytesOf}

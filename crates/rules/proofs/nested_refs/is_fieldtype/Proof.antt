@@ -1,4 +1,4 @@
-use Rattle.pack.specs.declared.records.FieldTypeView.{FieldTypeView}
+use Rattle.pack.specs.declared.field_type.FieldTypeView.{FieldTypeView}
 use Rattle.pack.specs.Value.{noFieldType}
 use Rattle.pack.specs.Meaning.{typeMeaning, packOf}
 use Rattle.pack.specs.Items.{bytesOf}

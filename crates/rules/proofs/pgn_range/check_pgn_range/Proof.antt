@@ -4,7 +4,7 @@ use Rattle.rules.specs.PgnRange.{ranges-of, find-range, quick-range, fou
 use Rattle.pack.specs.Value.{Pgn}
 use Rattle.pack.specs.Trees.{treeNumber, protocolOf}
 use Rattle.pack.specs.Ready.{PgnIs}
-use Rattle.pack.specs.declared.records.PgnView.{PgnView}
+use Rattle.pack.specs.declared.pgn.PgnView.{PgnView}
 use Prim.Native.Nat.{ℕ, zero, suc, _≤_, _<_}
 use native.Mathlib.Omega.{arith}
 use mathlib.Core.Path.{_≡_, refl, ap, _∙_, sym}

@@ -8,7 +8,7 @@ use mathlib.Core.Bool.{not, _&&_, _||_, Bool, true, false}
 use Rattle.pack.specs.Notation.{_==_, if_then_else_, optional}
 use Rattle.pack.specs.Value.{Pgn}
 use Rattle.pack.specs.Ready.{PgnIs}
-use Rattle.pack.specs.declared.records.PgnView.{PgnView}
+use Rattle.pack.specs.declared.pgn.PgnView.{PgnView}
 use Prim.Native.Nat.{ℕ, _%_, _≤_, _<_}
 use mathlib.Core.Path.{_≡_, refl, _∙_}
 use mathlib.Core.List.{List, [], _∷_, _++_}

@@ -1,8 +1,8 @@
 -- whether PGN i has the number
 use Rattle.rules.proofs.Sizes.{pgns-few, at-pgn, fields-few}
 use borrow.Author.Tests.{eq-eqb, ne-eqb}
-use Rattle.pack.specs.Value.{Pgn, pgns-of}
-use Rattle.pack.specs.Ready.{pgnPlace, pgnIn}
+use Rattle.pack.specs.Value.{Pgn, pgns-of, pgn-at}
+use Rattle.pack.specs.Ready.{pgnPlace}
 use Rattle.pack.proofs.Positions.{pgn-place-next}
 use Rattle.rules.specs.SearchLaws.{any-turn, any-hit}
 use Rattle.rules.specs.Search.{anyBelow}
@@ -21,7 +21,7 @@ use Rattle.rules.proofs.places.has_number.Statement.{statement}
 use Rattle.rules.proofs.places.has_number.Tie as tie
 
 abbrev numbered : List ℕ → ℕ → ℕ → ℕ → Bool
-numbered s t number i = pgnIn (packOf s) t i .pgn == number
+numbered s t number i = pgn-at (packOf s) t i .pgn == number
 
 abbrev Inv-loop : tie.InvT-loop
 Inv-loop s work t number n p₀ i₀ p i = (i ≤ n) × (p ≡ pgnPlace (packOf s) t i) × (anyBelow (numbered s t number) i ≡ false)

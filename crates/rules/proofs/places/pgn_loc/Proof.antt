@@ -1,7 +1,7 @@
 use borrow.Author.Tests.{lt-ltb, le-ltb}
-use Rattle.pack.specs.Value.{Pgn, pgns-of}
+use Rattle.pack.specs.Value.{Pgn, pgns-of, pgn-at}
 use Rattle.pack.specs.Items.{bytesOf}
-use Rattle.pack.specs.declared.records.PgnView.{PgnView}
+use Rattle.pack.specs.declared.pgn.PgnView.{PgnView}
 use Rattle.rules.proofs.Sections.{at-tree}
 use Rattle.rules.specs.PlaceText.{pgn-loc}
 use Rattle.rules.specs.Locs.{pgn-text}
@@ -12,7 +12,7 @@ use mathlib.Core.List.{List}
 use mathlib.Core.Option.{some}
 use lib.ListN.{length}
 use denote.Ref.{now}
-use Rattle.pack.specs.Ready.{PgnIs, pgnIn}
+use Rattle.pack.specs.Ready.{PgnIs}
 use Rattle.pack.specs.Meaning.{packOf}
 use borrow.Author.Needs.{needs}
 use Rattle.rules.proofs.places.pgn_loc.Statement.{statement}
@@ -47,7 +47,7 @@ pgn-of-requires : tie.Need-pgn-of-requires
 pgn-of-requires c κs = search needs
 
 returns-3 : tie.Need-returns-3
-returns-3 c = let a = at-tree (packOf (now (c .before .before .before .before .before .before .before .before .before .before .args .s))) (c .before .before .before .before .before .before .before .before .before .before .args .index) (c .before .before .before .before .before .before .before .before .before .before .pre .1) (c .before .before .before .before .before .before .before .before .before .before .args .tree) (c .before .before .before .before .before .before .before .if1 .left) (c .before .before .before .before .before .before .of-tree .result) (c .before .before .before .before .before .section .result) (c .before .before .before .before .before .before .of-tree .ensures) (c .before .before .before .before .before .section .ensures) in rw (lt-ltb (c .before .before .before .before .before .before .before .before .before .before .args .tree) 3 (c .before .before .before .before .before .before .before .if1 .left), lt-ltb (c .before .before .before .before .before .before .before .before .before .before .args .item) (length (pgns-of (packOf (now (c .before .before .before .before .before .before .before .before .before .before .args .s))) (c .before .before .before .before .before .before .before .before .before .before .args .tree))) (omega (arith, a .0, c .before .before .before .if2 .left))) (ap some (text-is (now (c .before .before .before .before .before .before .before .before .before .before .args .s)) (c .before .before .before .before .before .before .before .before .before .before .args .tree) (pgnIn (packOf (now (c .before .before .before .before .before .before .before .before .before .before .args .s))) (c .before .before .before .before .before .before .before .before .before .before .args .tree) (c .before .before .before .before .before .before .before .before .before .before .args .item)) (c .before .pgn-of .result) (c .before .pgn-of .ensures)))
+returns-3 c = let a = at-tree (packOf (now (c .before .before .before .before .before .before .before .before .before .before .args .s))) (c .before .before .before .before .before .before .before .before .before .before .args .index) (c .before .before .before .before .before .before .before .before .before .before .pre .1) (c .before .before .before .before .before .before .before .before .before .before .args .tree) (c .before .before .before .before .before .before .before .if1 .left) (c .before .before .before .before .before .before .of-tree .result) (c .before .before .before .before .before .section .result) (c .before .before .before .before .before .before .of-tree .ensures) (c .before .before .before .before .before .section .ensures) in rw (lt-ltb (c .before .before .before .before .before .before .before .before .before .before .args .tree) 3 (c .before .before .before .before .before .before .before .if1 .left), lt-ltb (c .before .before .before .before .before .before .before .before .before .before .args .item) (length (pgns-of (packOf (now (c .before .before .before .before .before .before .before .before .before .before .args .s))) (c .before .before .before .before .before .before .before .before .before .before .args .tree))) (omega (arith, a .0, c .before .before .before .if2 .left))) (ap some (text-is (now (c .before .before .before .before .before .before .before .before .before .before .args .s)) (c .before .before .before .before .before .before .before .before .before .before .args .tree) (pgn-at (packOf (now (c .before .before .before .before .before .before .before .before .before .before .args .s))) (c .before .before .before .before .before .before .before .before .before .before .args .tree) (c .before .before .before .before .before .before .before .before .before .before .args .item)) (c .before .pgn-of .result) (c .before .pgn-of .ensures)))
 
 pub pgn-loc-spec : {M : Type 1} → statement M
 pgn-loc-spec =

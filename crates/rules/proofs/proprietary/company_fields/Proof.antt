@@ -1,13 +1,12 @@
 use Rattle.rules.specs.Texts.{MANUFACTURER-CODE, RESERVED, INDUSTRY-CODE}
 use Rattle.rules.specs.Proprietary.{pair-is, company-fields}
-use Rattle.rules.specs.Model.{field-at, root-of}
+use Rattle.rules.specs.Model.{root-of}
 use mathlib.Core.Bool.{_&&_, Bool, true, false}
 use Rattle.pack.proofs.Positions.{field-ft-law}
-use Rattle.pack.specs.Value.{FieldType, Field, Pgn}
-use Rattle.pack.specs.Ready.{pgnIn, fieldIn}
+use Rattle.pack.specs.Value.{FieldType, Field, Pgn, pgn-at, field-at}
 use Rattle.pack.specs.Notation.{_==_, _≐_, _≤ᵇ_}
 use Rattle.pack.specs.Meaning.{fieldMeaning, optReference, packOf}
-use Rattle.pack.specs.declared.records.FieldView.{FieldView}
+use Rattle.pack.specs.declared.field.FieldView.{FieldView}
 use Prim.Native.Nat.{ℕ, _≤_, _<_}
 use native.Mathlib.Omega.{arith}
 use mathlib.Core.Path.{_≡_, refl, ap, _∙_, sym}
@@ -81,7 +80,7 @@ module _ (s : List ℕ) (fts : List FieldType) (P : Pgn) where
       parted ∙ at-third (3 ≤ᵇ length (P .fields)) (coded P) (spared fts P) (grouped P) (le-leb 3 (length (P .fields)) h) (rw (← a) x) (rw (← b) y) ∙ (rw (← c))
 
 returns : tie.Need-returns
-returns c = sym (few (now (c .before .before .before .args .s)) (packOf (now (c .before .before .before .args .s)) .fieldtypes) (pgnIn (packOf (now (c .before .before .before .args .s))) (c .before .before .before .args .t) (c .before .before .before .args .i)) (omega (arith, c .before .before .before .pre .1, c .if1 .taken)))
+returns c = sym (few (now (c .before .before .before .args .s)) (packOf (now (c .before .before .before .args .s)) .fieldtypes) (pgn-at (packOf (now (c .before .before .before .args .s))) (c .before .before .before .args .t) (c .before .before .before .args .i)) (omega (arith, c .before .before .before .pre .1, c .if1 .taken)))
 
 field-of-requires : tie.Need-field-of-requires
 field-of-requires c κs = (c .before .before .before .pre .0, omega (arith, c .before .before .before .pre .1, c .if1 .left))
@@ -93,16 +92,16 @@ is-pair-requires : tie.Need-is-pair-requires
 is-pair-requires c κs = search needs
 
 returns-2 : tie.Need-returns-2
-returns-2 c = sym (first (now (c .before .before .before .before .before .before .before .args .s)) (packOf (now (c .before .before .before .before .before .before .before .args .s)) .fieldtypes) (pgnIn (packOf (now (c .before .before .before .before .before .before .before .args .s))) (c .before .before .before .before .before .before .before .args .t) (c .before .before .before .before .before .before .before .args .i)) (c .before .before .before .field-of .result) (c .before .before .before .field-of .ensures) (sym (c .before .is-pair .ensures) ∙ not-true (c .before .is-pair .result) (c .if2 .taken)))
+returns-2 c = sym (first (now (c .before .before .before .before .before .before .before .args .s)) (packOf (now (c .before .before .before .before .before .before .before .args .s)) .fieldtypes) (pgn-at (packOf (now (c .before .before .before .before .before .before .before .args .s))) (c .before .before .before .before .before .before .before .args .t) (c .before .before .before .before .before .before .before .args .i)) (c .before .before .before .field-of .result) (c .before .before .before .field-of .ensures) (sym (c .before .is-pair .ensures) ∙ not-true (c .before .is-pair .result) (c .if2 .taken)))
 
 field-of-requires-2 : tie.Need-field-of-requires-2
 field-of-requires-2 c κs = (c .before .before .before .before .before .before .before .pre .0, omega (arith, c .before .before .before .before .before .before .before .pre .1, c .before .before .before .before .if1 .left))
 
 is-reserved-requires : tie.Need-is-reserved-requires
-is-reserved-requires c κs = (c .before .before .before .before .before .before .before .before .pre .0 .ready, (let e : c .field-of2 .result .ft ≡ fieldIn (packOf (now (c .before .before .before .before .before .before .before .before .args .s))) (c .before .before .before .before .before .before .before .before .args .t) (c .before .before .before .before .before .before .before .before .args .i) 1 .ft = ap (λ (F : Field). F .ft) (c .field-of2 .ensures) in omega (arith, e, field-ft-law (c .before .before .before .before .before .before .before .before .pre .0) 1 (omega (arith, c .before .before .before .before .before .before .before .before .pre .1, c .before .before .before .before .before .if1 .left)))))
+is-reserved-requires c κs = (c .before .before .before .before .before .before .before .before .pre .0 .ready, (let e : c .field-of2 .result .ft ≡ field-at (pgn-at (packOf (now (c .before .before .before .before .before .before .before .before .args .s))) (c .before .before .before .before .before .before .before .before .args .t) (c .before .before .before .before .before .before .before .before .args .i)) 1 .ft = ap (λ (F : Field). F .ft) (c .field-of2 .ensures) in omega (arith, e, field-ft-law (c .before .before .before .before .before .before .before .before .pre .0) 1 (omega (arith, c .before .before .before .before .before .before .before .before .pre .1, c .before .before .before .before .before .if1 .left)))))
 
 returns-3 : tie.Need-returns-3
-returns-3 c = sym (second (now (c .before .before .before .before .before .before .before .before .before .before .args .s)) (packOf (now (c .before .before .before .before .before .before .before .before .before .before .args .s)) .fieldtypes) (pgnIn (packOf (now (c .before .before .before .before .before .before .before .before .before .before .args .s))) (c .before .before .before .before .before .before .before .before .before .before .args .t) (c .before .before .before .before .before .before .before .before .before .before .args .i)) (c .before .before .field-of2 .result) (c .before .before .field-of2 .ensures) (sym (c .before .is-reserved .ensures) ∙ not-true (c .before .is-reserved .result) (c .if3 .taken)))
+returns-3 c = sym (second (now (c .before .before .before .before .before .before .before .before .before .before .args .s)) (packOf (now (c .before .before .before .before .before .before .before .before .before .before .args .s)) .fieldtypes) (pgn-at (packOf (now (c .before .before .before .before .before .before .before .before .before .before .args .s))) (c .before .before .before .before .before .before .before .before .before .before .args .t) (c .before .before .before .before .before .before .before .before .before .before .args .i)) (c .before .before .field-of2 .result) (c .before .before .field-of2 .ensures) (sym (c .before .is-reserved .ensures) ∙ not-true (c .before .is-reserved .result) (c .if3 .taken)))
 
 field-of-requires-3 : tie.Need-field-of-requires-3
 field-of-requires-3 c κs = (c .before .before .before .before .before .before .before .before .before .before .pre .0, omega (arith, c .before .before .before .before .before .before .before .before .before .before .pre .1, c .before .before .before .before .before .before .before .if1 .left))
@@ -114,7 +113,7 @@ is-pair-requires-2 : tie.Need-is-pair-requires-2
 is-pair-requires-2 c κs = search needs
 
 returns-4 : tie.Need-returns-4
-returns-4 c = c .is-pair2 .ensures ∙ sym (third (now (c .before .before .before .before .before .before .before .before .before .before .before .before .before .args .s)) (packOf (now (c .before .before .before .before .before .before .before .before .before .before .before .before .before .args .s)) .fieldtypes) (pgnIn (packOf (now (c .before .before .before .before .before .before .before .before .before .before .before .before .before .args .s))) (c .before .before .before .before .before .before .before .before .before .before .before .before .before .args .t) (c .before .before .before .before .before .before .before .before .before .before .before .before .before .args .i)) (c .before .before .before .before .before .before .before .before .before .field-of .result) (c .before .before .before .before .before .field-of2 .result) (c .before .before .field-of3 .result) (omega (arith, c .before .before .before .before .before .before .before .before .before .before .before .before .before .pre .1, c .before .before .before .before .before .before .before .before .before .before .if1 .left)) (c .before .before .before .before .before .before .before .before .before .field-of .ensures) (c .before .before .before .before .before .field-of2 .ensures) (c .before .before .field-of3 .ensures) (sym (c .before .before .before .before .before .before .before .is-pair .ensures) ∙ not-false (c .before .before .before .before .before .before .before .is-pair .result) (c .before .before .before .before .before .before .if2 .left)) (sym (c .before .before .before .before .is-reserved .ensures) ∙ not-false (c .before .before .before .before .is-reserved .result) (c .before .before .before .if3 .left)))
+returns-4 c = c .is-pair2 .ensures ∙ sym (third (now (c .before .before .before .before .before .before .before .before .before .before .before .before .before .args .s)) (packOf (now (c .before .before .before .before .before .before .before .before .before .before .before .before .before .args .s)) .fieldtypes) (pgn-at (packOf (now (c .before .before .before .before .before .before .before .before .before .before .before .before .before .args .s))) (c .before .before .before .before .before .before .before .before .before .before .before .before .before .args .t) (c .before .before .before .before .before .before .before .before .before .before .before .before .before .args .i)) (c .before .before .before .before .before .before .before .before .before .field-of .result) (c .before .before .before .before .before .field-of2 .result) (c .before .before .field-of3 .result) (omega (arith, c .before .before .before .before .before .before .before .before .before .before .before .before .before .pre .1, c .before .before .before .before .before .before .before .before .before .before .if1 .left)) (c .before .before .before .before .before .before .before .before .before .field-of .ensures) (c .before .before .before .before .before .field-of2 .ensures) (c .before .before .field-of3 .ensures) (sym (c .before .before .before .before .before .before .before .is-pair .ensures) ∙ not-false (c .before .before .before .before .before .before .before .is-pair .result) (c .before .before .before .before .before .before .if2 .left)) (sym (c .before .before .before .before .is-reserved .ensures) ∙ not-false (c .before .before .before .before .is-reserved .result) (c .before .before .before .if3 .left)))
 
 pub company-fields-spec : {M : Type 1} → statement M
 company-fields-spec =

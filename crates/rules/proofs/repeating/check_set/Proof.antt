@@ -6,7 +6,7 @@ use mathlib.Core.Bool.{not, _&&_, false≢true, Bool, true, false}
 use Rattle.pack.specs.Value.{Repeating}
 use Rattle.pack.specs.Notation.{_==_, if_then_else_, optional}
 use Rattle.pack.specs.Meaning.{optNumber, repeatingMeaning, optRepeating}
-use Rattle.pack.specs.declared.records.RepeatingView.{RepeatingView}
+use Rattle.pack.specs.declared.pgn.RepeatingView.{RepeatingView}
 use Prim.Native.Nat.{ℕ}
 use mathlib.Core.Path.{_≡_, refl, _∙_, sym}
 use mathlib.Core.List.{List, [], _++_}

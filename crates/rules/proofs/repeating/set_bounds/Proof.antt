@@ -3,7 +3,7 @@ use Rattle.rules.specs.Findings.{report-if, pgn-error}
 use Rattle.rules.specs.declared.Finding.{Finding}
 use Rattle.pack.specs.Notation.{_<ᵇ_}
 use Rattle.pack.specs.Meaning.{repeatingMeaning}
-use Rattle.pack.specs.declared.records.RepeatingView.{RepeatingView}
+use Rattle.pack.specs.declared.pgn.RepeatingView.{RepeatingView}
 use Prim.Native.Nat.{ℕ, _+_, _-_}
 use mathlib.Core.Path.{_≡_}
 use mathlib.Core.List.{[], _∷_}

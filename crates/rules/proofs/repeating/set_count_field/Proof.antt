@@ -5,7 +5,7 @@ use Rattle.rules.specs.declared.Finding.{Finding}
 use mathlib.Core.Bool.{_||_, Bool, true, false}
 use Rattle.pack.specs.Notation.{_==_, _≤ᵇ_}
 use Rattle.pack.specs.Meaning.{optNumber}
-use Rattle.pack.specs.declared.cursor.OptNumber.{OptNumber}
+use Rattle.pack.specs.declared.optional.OptNumber.{OptNumber}
 use Prim.Native.Nat.{ℕ}
 use mathlib.Core.Path.{_≡_}
 use mathlib.Core.List.{[]}

@@ -4,7 +4,7 @@ use Rattle.rules.specs.declared.Finding.{Finding}
 use mathlib.Core.Bool.{_&&_, false≢true, Bool, true, false}
 use Rattle.pack.specs.Notation.{_<ᵇ_, _≤ᵇ_, optional}
 use Rattle.pack.specs.Meaning.{optNumber, repeatingMeaning}
-use Rattle.pack.specs.declared.records.RepeatingView.{RepeatingView}
+use Rattle.pack.specs.declared.pgn.RepeatingView.{RepeatingView}
 use Prim.Native.Nat.{ℕ, _+_}
 use mathlib.Core.Path.{_≡_, _∙_, sym}
 use mathlib.Core.List.{[], _∷_}

@@ -3,8 +3,8 @@ use Rattle.rules.specs.Emit.{Emitted}
 use Rattle.rules.specs.ReservedIds.{reserved-id-at, check-reserved-ids}
 use Rattle.rules.specs.declared.Finding.{Finding}
 use Rattle.pack.specs.Notation.{concatBelow}
-use Rattle.pack.specs.Ready.{pgnIn, fieldIn}
 use Rattle.pack.specs.Meaning.{packOf}
+use Rattle.pack.specs.Value.{pgn-at, field-at}
 use Prim.Native.Nat.{ℕ, _-_, _≤_}
 use native.Mathlib.Omega.{arith}
 use mathlib.Core.Path.{_≡_, refl, _∙_}
@@ -16,7 +16,7 @@ use Rattle.rules.proofs.reserved_ids.check_reserved_ids.Statement.{stat
 use Rattle.rules.proofs.reserved_ids.check_reserved_ids.Tie as tie
 
 abbrev of-field : List ℕ → ℕ → ℕ → ℕ → List Finding
-of-field s t i k = reserved-id-at t i k (fieldIn (packOf s) t i k)
+of-field s t i k = reserved-id-at t i k (field-at (pgn-at (packOf s) t i) k)
 
 abbrev Inv-loop : tie.InvT-loop
 Inv-loop out₀ n s work t i p g m₀ k₀ out m k = (k ≤ g .fields) × (length out ≡ length out₀) × Emitted out₀ n (concatBelow (of-field s t i) k) out m
@@ -48,7 +48,7 @@ same-length c = search needs
 
 returns : tie.Need-returns Inv-loop μ-loop
 unfolding check-reserved-ids
-returns c = let e : c .before .before .loop .k ≡ length (pgnIn (packOf (now (c .before .before .before .before .before .before .args .s))) (c .before .before .before .before .before .before .args .t) (c .before .before .before .before .before .before .args .i) .fields) = omega (arith, c .before .before .before .before .before .before .pre .2 .fields) in rw (← e) (c .before .before .loop .inv .2)
+returns c = let e : c .before .before .loop .k ≡ length (pgn-at (packOf (now (c .before .before .before .before .before .before .args .s))) (c .before .before .before .before .before .before .args .t) (c .before .before .before .before .before .before .args .i) .fields) = omega (arith, c .before .before .before .before .before .before .pre .2 .fields) in rw (← e) (c .before .before .loop .inv .2)
 
 pub check-reserved-ids-spec : {M : Type 1} → statement M
 check-reserved-ids-spec =

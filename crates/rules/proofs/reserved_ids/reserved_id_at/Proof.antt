@@ -7,7 +7,7 @@ use Rattle.pack.specs.Value.{Field}
 use Rattle.pack.specs.Notation.{_≐_, if_then_else_}
 use Rattle.pack.specs.Meaning.{fieldMeaning}
 use Rattle.pack.specs.Items.{bytesOf}
-use Rattle.pack.specs.declared.records.FieldView.{FieldView}
+use Rattle.pack.specs.declared.field.FieldView.{FieldView}
 use Prim.Native.Nat.{ℕ}
 use mathlib.Core.Path.{_≡_, refl}
 use mathlib.Core.List.{List, []}

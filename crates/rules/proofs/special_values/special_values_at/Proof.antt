@@ -6,7 +6,7 @@ use Rattle.pack.specs.Notation.{_<ᵇ_}
 use mathlib.Core.Bool.{_||_, Bool, true, false}
 use Rattle.pack.specs.Value.{Field}
 use Rattle.pack.specs.Meaning.{fieldMeaning}
-use Rattle.pack.specs.declared.records.FieldView.{FieldView}
+use Rattle.pack.specs.declared.field.FieldView.{FieldView}
 use Prim.Native.Nat.{ℕ}
 use mathlib.Core.Path.{_≡_}
 use mathlib.Core.List.{List, []}

@@ -7,11 +7,10 @@ use mathlib.Core.Bool.{Bool, false}
 use mathlib.Core.List.{List}
 use lib.ListN.{length}
 use denote.Ref.{now}
-use Rattle.pack.specs.Value.{Field}
+use Rattle.pack.specs.Value.{Field, pgn-at, field-at}
 use Rattle.pack.specs.Items.{bytesOf}
-use Rattle.pack.specs.Ready.{pgnIn, fieldIn}
 use Rattle.pack.specs.Meaning.{packOf, fieldMeaning, optNumber}
-use Rattle.pack.specs.declared.records.FieldView.{FieldView}
+use Rattle.pack.specs.declared.field.FieldView.{FieldView}
 use Rattle.rules.specs.Search.{anyBelow}
 use Rattle.rules.specs.SearchLaws.{any-turn, any-hit}
 use Rattle.rules.specs.SpnClashes.{other-among, clash-from}
@@ -19,9 +18,9 @@ use Rattle.rules.proofs.spn_clashes.clash_from.Statement.{statement}
 use Rattle.rules.proofs.spn_clashes.clash_from.Tie as tie
 
 abbrev hit : List ℕ → ℕ → ℕ → Bool
-hit s i k = other-among (packOf s .pgns-j1939) (i + 1) (fieldIn (packOf s) 1 i k .name) (fieldIn (packOf s) 1 i k .spn)
+hit s i k = other-among (packOf s .pgns-j1939) (i + 1) (field-at (pgn-at (packOf s) 1 i) k .name) (field-at (pgn-at (packOf s) 1 i) k .spn)
 
-said : (s : List ℕ) (i k : ℕ) (v : FieldView) (r : Bool) → fieldMeaning s v ≡ fieldIn (packOf s) 1 i k
+said : (s : List ℕ) (i k : ℕ) (v : FieldView) (r : Bool) → fieldMeaning s v ≡ field-at (pgn-at (packOf s) 1 i) k
     → r ≡ other-among (packOf s .pgns-j1939) (i + 1) (bytesOf s (v .names .name)) (optNumber (v .authored .spn)) → hit s i k ≡ r
 said s i k v r y e = sym (e ∙ ap (λ (f : Field). other-among (packOf s .pgns-j1939) (i + 1) (f .name) (f .spn)) y)
 
@@ -42,7 +41,7 @@ other-among-requires c κs = (c .before .before .before .before .before .pre .1 
 
 returns : tie.Need-returns Inv-loop μ-loop
 unfolding clash-from
-returns c = sym (any-hit (hit (now (c .before .before .before .before .before .before .before .args .s)) (c .before .before .before .before .before .before .before .args .i)) (length (pgnIn (packOf (now (c .before .before .before .before .before .before .before .args .s))) 1 (c .before .before .before .before .before .before .before .args .i) .fields)) (c .before .before .before .before .loop .k) (omega (arith, c .before .before .before .before .before .before .before .pre .2, c .before .before .before .loop-test .taken)) (said (now (c .before .before .before .before .before .before .before .args .s)) (c .before .before .before .before .before .before .before .args .i) (c .before .before .before .before .loop .k) (c .before .before .field-of .result) (c .before .other-among .result) (c .before .before .field-of .ensures) (c .before .other-among .ensures) ∙ c .if1 .taken))
+returns c = sym (any-hit (hit (now (c .before .before .before .before .before .before .before .args .s)) (c .before .before .before .before .before .before .before .args .i)) (length (pgn-at (packOf (now (c .before .before .before .before .before .before .before .args .s))) 1 (c .before .before .before .before .before .before .before .args .i) .fields)) (c .before .before .before .before .loop .k) (omega (arith, c .before .before .before .before .before .before .before .pre .2, c .before .before .before .loop-test .taken)) (said (now (c .before .before .before .before .before .before .before .args .s)) (c .before .before .before .before .before .before .before .args .i) (c .before .before .before .before .loop .k) (c .before .before .field-of .result) (c .before .other-among .result) (c .before .before .field-of .ensures) (c .before .other-among .ensures) ∙ c .if1 .taken))
 
 add-k : tie.Need-add-k Inv-loop μ-loop
 add-k c = search needs
@@ -55,7 +54,7 @@ loop-again c = (search needs, any-turn (hit (now (c .before .before .before .bef
 
 returns-2 : tie.Need-returns-2 Inv-loop μ-loop
 unfolding clash-from
-returns-2 c = let e : length (pgnIn (packOf (now (c .before .before .before .before .args .s))) 1 (c .before .before .before .before .args .i) .fields) ≡ c .before .loop .k = omega (arith, c .before .before .before .before .pre .2, c .before .loop .inv .0, c .loop-test .left) in rw (e, c .before .loop .inv .1)
+returns-2 c = let e : length (pgn-at (packOf (now (c .before .before .before .before .args .s))) 1 (c .before .before .before .before .args .i) .fields) ≡ c .before .loop .k = omega (arith, c .before .before .before .before .pre .2, c .before .loop .inv .0, c .loop-test .left) in rw (e, c .before .loop .inv .1)
 
 pub clash-from-spec : {M : Type 1} → statement M
 clash-from-spec = tie.close (tie.spec Inv-loop μ-loop loop-holds field-of-requires other-among-requires returns add-k loop-less loop-again returns-2)

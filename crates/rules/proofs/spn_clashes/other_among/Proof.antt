@@ -6,9 +6,9 @@ use mathlib.Core.Path.{_≡_, refl, sym, _∙_}
 use mathlib.Core.Bool.{Bool, false}
 use mathlib.Core.List.{List}
 use denote.Ref.{now}
-use Rattle.pack.specs.Value.{Bytes}
+use Rattle.pack.specs.Value.{Bytes, pgn-at}
 use Rattle.pack.specs.Items.{bytesOf}
-use Rattle.pack.specs.Ready.{pgnIn, pgnPlace}
+use Rattle.pack.specs.Ready.{pgnPlace}
 use Rattle.pack.specs.Meaning.{packOf}
 use Rattle.pack.proofs.Positions.{pgn-place-next}
 use Rattle.rules.specs.Search.{anyBelow}
@@ -19,7 +19,7 @@ use Rattle.rules.proofs.spn_clashes.other_among.Statement.{statement}
 use Rattle.rules.proofs.spn_clashes.other_among.Tie as tie
 
 abbrev has : List ℕ → Bytes → ℕ → ℕ → Bool
-has s name spn j = other-in name spn (pgnIn (packOf s) 1 j)
+has s name spn j = other-in name spn (pgn-at (packOf s) 1 j)
 
 abbrev Inv-loop : tie.InvT-loop
 Inv-loop s work first i name spn q₀ j₀ q j = (j ≤ i + 1) × (q ≡ pgnPlace (packOf s) 1 j) × (anyBelow (has s (bytesOf s name) (spn .value)) j ≡ false)

@@ -7,9 +7,8 @@ use mathlib.Core.Bool.{Bool, false}
 use mathlib.Core.List.{List}
 use lib.ListN.{length}
 use denote.Ref.{now}
-use Rattle.pack.specs.Value.{Bytes}
+use Rattle.pack.specs.Value.{Bytes, pgn-at, field-at}
 use Rattle.pack.specs.Items.{bytesOf}
-use Rattle.pack.specs.Ready.{pgnIn, fieldIn}
 use Rattle.pack.specs.Meaning.{packOf}
 use Rattle.rules.specs.Search.{anyBelow}
 use Rattle.rules.specs.SearchLaws.{any-turn, any-hit}
@@ -18,7 +17,7 @@ use Rattle.rules.proofs.spn_clashes.other_in.Statement.{statement}
 use Rattle.rules.proofs.spn_clashes.other_in.Tie as tie
 
 abbrev other : List ℕ → Bytes → ℕ → ℕ → ℕ → Bool
-other s name spn j h = other-spn name spn (fieldIn (packOf s) 1 j h .name) (fieldIn (packOf s) 1 j h .spn)
+other s name spn j h = other-spn name spn (field-at (pgn-at (packOf s) 1 j) h .name) (field-at (pgn-at (packOf s) 1 j) h .spn)
 
 abbrev Inv-loop : tie.InvT-loop
 Inv-loop s work name spn j q fields h₀ h = (h ≤ fields) × (anyBelow (other s (bytesOf s name) spn j) h ≡ false)
@@ -34,7 +33,7 @@ other-spn-requires c κs = (c .before .before .before .before .pre .0, omega (ar
 
 returns : tie.Need-returns Inv-loop μ-loop
 unfolding other-in
-returns c = sym (any-hit (other (now (c .before .before .before .before .before .before .args .s)) (bytesOf (now (c .before .before .before .before .before .before .args .s)) (c .before .before .before .before .before .before .args .name)) (c .before .before .before .before .before .before .args .spn) (c .before .before .before .before .before .before .args .j)) (length (pgnIn (packOf (now (c .before .before .before .before .before .before .args .s))) 1 (c .before .before .before .before .before .before .args .j) .fields)) (c .before .before .before .loop .h) (omega (arith, c .before .before .before .before .before .before .pre .1, c .before .before .loop-test .taken)) (sym (c .before .other-spn .ensures) ∙ c .if1 .taken))
+returns c = sym (any-hit (other (now (c .before .before .before .before .before .before .args .s)) (bytesOf (now (c .before .before .before .before .before .before .args .s)) (c .before .before .before .before .before .before .args .name)) (c .before .before .before .before .before .before .args .spn) (c .before .before .before .before .before .before .args .j)) (length (pgn-at (packOf (now (c .before .before .before .before .before .before .args .s))) 1 (c .before .before .before .before .before .before .args .j) .fields)) (c .before .before .before .loop .h) (omega (arith, c .before .before .before .before .before .before .pre .1, c .before .before .loop-test .taken)) (sym (c .before .other-spn .ensures) ∙ c .if1 .taken))
 
 add-h : tie.Need-add-h Inv-loop μ-loop
 add-h c = search needs
@@ -47,7 +46,7 @@ loop-again c = (search needs, any-turn (other (now (c .before .before .before .b
 
 returns-2 : tie.Need-returns-2 Inv-loop μ-loop
 unfolding other-in
-returns-2 c = let e : length (pgnIn (packOf (now (c .before .before .before .before .args .s))) 1 (c .before .before .before .before .args .j) .fields) ≡ c .before .loop .h = omega (arith, c .before .before .before .before .pre .1, c .before .loop .inv .0, c .loop-test .left) in rw (e, c .before .loop .inv .1)
+returns-2 c = let e : length (pgn-at (packOf (now (c .before .before .before .before .args .s))) 1 (c .before .before .before .before .args .j) .fields) ≡ c .before .loop .h = omega (arith, c .before .before .before .before .pre .1, c .before .loop .inv .0, c .loop-test .left) in rw (e, c .before .loop .inv .1)
 
 pub other-in-spec : {M : Type 1} → statement M
 other-in-spec = tie.close (tie.spec Inv-loop μ-loop loop-holds other-spn-requires returns add-h loop-less loop-again returns-2)

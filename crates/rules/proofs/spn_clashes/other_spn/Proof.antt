@@ -6,9 +6,8 @@ use mathlib.Core.Bool.{Bool, true, false, not, _&&_}
 use mathlib.Core.Option.{Option, none, some}
 use denote.Ref.{now}
 use Rattle.pack.specs.Notation.{_==_, _≐_, optional}
-use Rattle.pack.specs.Value.{Bytes, Field}
+use Rattle.pack.specs.Value.{Bytes, Field, pgn-at, field-at}
 use Rattle.pack.specs.Items.{bytesOf}
-use Rattle.pack.specs.Ready.{fieldIn}
 use Rattle.pack.specs.Meaning.{packOf}
 use Rattle.rules.specs.SpnClashes.{other-spn}
 use Rattle.rules.proofs.spn_clashes.other_spn.Statement.{statement}
@@ -29,7 +28,7 @@ same-text-requires : tie.Need-same-text-requires
 same-text-requires c κs = search needs
 
 returns : tie.Need-returns
-returns c = sym (missed (bytesOf (now (c .before .before .before .before .before .args .s)) (c .before .before .before .before .before .args .name)) (fieldIn (packOf (now (c .before .before .before .before .before .args .s))) 1 (c .before .before .before .before .before .args .j) (c .before .before .before .before .before .args .h) .name) (c .before .before .before .before .before .args .spn) (fieldIn (packOf (now (c .before .before .before .before .before .args .s))) 1 (c .before .before .before .before .before .args .j) (c .before .before .before .before .before .args .h) .spn) (ap (λ (t : Bytes). t ≐ bytesOf (now (c .before .before .before .before .before .args .s)) (c .before .before .before .before .before .args .name)) (sym (c .before .before .field-name-of .ensures)) ∙ sym (c .before .same-text .ensures) ∙ not-true (c .before .same-text .result) (c .if1 .taken)))
+returns c = sym (missed (bytesOf (now (c .before .before .before .before .before .args .s)) (c .before .before .before .before .before .args .name)) (field-at (pgn-at (packOf (now (c .before .before .before .before .before .args .s))) 1 (c .before .before .before .before .before .args .j)) (c .before .before .before .before .before .args .h) .name) (c .before .before .before .before .before .args .spn) (field-at (pgn-at (packOf (now (c .before .before .before .before .before .args .s))) 1 (c .before .before .before .before .before .args .j)) (c .before .before .before .before .before .args .h) .spn) (ap (λ (t : Bytes). t ≐ bytesOf (now (c .before .before .before .before .before .args .s)) (c .before .before .before .before .before .args .name)) (sym (c .before .before .field-name-of .ensures)) ∙ sym (c .before .same-text .ensures) ∙ not-true (c .before .same-text .result) (c .if1 .taken)))
 
 field-of-requires : tie.Need-field-of-requires
 field-of-requires c κs = search needs
@@ -38,7 +37,7 @@ differs-requires : tie.Need-differs-requires
 differs-requires c κs = search needs
 
 returns-2 : tie.Need-returns-2
-returns-2 c = c .differs .ensures ∙ told (bytesOf (now (c .before .before .before .before .before .before .before .args .s)) (c .before .before .before .before .before .before .before .args .name)) (fieldIn (packOf (now (c .before .before .before .before .before .before .before .args .s))) 1 (c .before .before .before .before .before .before .before .args .j) (c .before .before .before .before .before .before .before .args .h) .name) (c .before .before .before .before .before .before .before .args .spn) (c .before .field-of .result .authored .spn .given) (c .before .field-of .result .authored .spn .value) (ap (λ (t : Bytes). t ≐ bytesOf (now (c .before .before .before .before .before .before .before .args .s)) (c .before .before .before .before .before .before .before .args .name)) (sym (c .before .before .before .before .field-name-of .ensures)) ∙ sym (c .before .before .before .same-text .ensures) ∙ not-false (c .before .before .before .same-text .result) (c .before .before .if1 .left)) ∙ ap (λ (G : Field). other-spn (bytesOf (now (c .before .before .before .before .before .before .before .args .s)) (c .before .before .before .before .before .before .before .args .name)) (c .before .before .before .before .before .before .before .args .spn) (fieldIn (packOf (now (c .before .before .before .before .before .before .before .args .s))) 1 (c .before .before .before .before .before .before .before .args .j) (c .before .before .before .before .before .before .before .args .h) .name) (G .spn)) (c .before .field-of .ensures)
+returns-2 c = c .differs .ensures ∙ told (bytesOf (now (c .before .before .before .before .before .before .before .args .s)) (c .before .before .before .before .before .before .before .args .name)) (field-at (pgn-at (packOf (now (c .before .before .before .before .before .before .before .args .s))) 1 (c .before .before .before .before .before .before .before .args .j)) (c .before .before .before .before .before .before .before .args .h) .name) (c .before .before .before .before .before .before .before .args .spn) (c .before .field-of .result .authored .spn .given) (c .before .field-of .result .authored .spn .value) (ap (λ (t : Bytes). t ≐ bytesOf (now (c .before .before .before .before .before .before .before .args .s)) (c .before .before .before .before .before .before .before .args .name)) (sym (c .before .before .before .before .field-name-of .ensures)) ∙ sym (c .before .before .before .same-text .ensures) ∙ not-false (c .before .before .before .same-text .result) (c .before .before .if1 .left)) ∙ ap (λ (G : Field). other-spn (bytesOf (now (c .before .before .before .before .before .before .before .args .s)) (c .before .before .before .before .before .before .before .args .name)) (c .before .before .before .before .before .before .before .args .spn) (field-at (pgn-at (packOf (now (c .before .before .before .before .before .before .before .args .s))) 1 (c .before .before .before .before .before .before .before .args .j)) (c .before .before .before .before .before .before .before .args .h) .name) (G .spn)) (c .before .field-of .ensures)
 
 pub other-spn-spec : {M : Type 1} → statement M
 other-spn-spec = tie.close (tie.spec field-name-of-requires same-text-requires returns field-of-requires differs-requires returns-2)

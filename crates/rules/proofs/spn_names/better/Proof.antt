@@ -1,6 +1,6 @@
 use borrow.Author.Tests.{lt-ltb, le-ltb, leb-true, leb-false}
-use Rattle.pack.specs.declared.records.PgnView.{PgnView}
-use Rattle.pack.specs.Value.{Pgn, noPgn}
+use Rattle.pack.specs.declared.pgn.PgnView.{PgnView}
+use Rattle.pack.specs.Value.{Pgn, noPgn, pgn-at}
 use Rattle.rules.proofs.Types.{given-is}
 use Rattle.rules.proofs.Extremes.{and-left, and-right}
 use Rattle.rules.specs.declared.spn_names.Namer.{Namer}
@@ -18,7 +18,7 @@ use mathlib.Core.Option.{Option, some}
 use lib.ListN.{getD}
 use denote.Ref.{now}
 use Rattle.pack.specs.Notation.{if_then_else_, optional, _≤ᵇ_}
-use Rattle.pack.specs.Ready.{PgnAt, PgnIs, pgnIn}
+use Rattle.pack.specs.Ready.{PgnAt, PgnIs}
 use Rattle.pack.specs.Meaning.{packOf}
 use borrow.Author.Needs.{needs}
 use Rattle.rules.proofs.spn_names.better.Statement.{statement}
@@ -42,7 +42,7 @@ number-of s i = getD (packOf s .pgns-j1939) i noPgn .pgn
 abbrev has : List ℕ → ℕ → ℕ → Bool
 has s spn i = given (spn-field (getD (packOf s .pgns-j1939) i noPgn) spn)
 
-module _ (s w : List ℕ) (spn j : ℕ) (best : Namer) (a : NamesAmong s w spn j best) (g : PgnView) (is : PgnIs s (pgnIn (packOf s) 1 j) g) where
+module _ (s w : List ℕ) (spn j : ℕ) (best : Namer) (a : NamesAmong s w spn j best) (g : PgnView) (is : PgnIs s (pgn-at (packOf s) 1 j) g) where
   g-number : g .pgn ≡ number-of s j
   g-number = ap (λ (G : Pgn). G .pgn) (is .means)
 
@@ -57,12 +57,12 @@ module _ (s w : List ℕ) (spn j : ℕ) (best : Namer) (a : NamesAmong s w spn j
       let l : number-of s (best .pgn) ≤ number-of s j = omega (arith, v, a .number u, g-number) in
       as-before (least-turn (number-of s) (has s spn) j ∙ stays (number-of s) j (best .pgn) (leastBelow (number-of s) (has s spn) j) (has s spn j) o l)
 
-  stays-unmet : (f : Bool) (x : ℕ) → optional f x ≡ spn-field (pgnIn (packOf s) 1 j) spn → f ≡ false → NamesAmong s w spn (j + 1) best
+  stays-unmet : (f : Bool) (x : ℕ) → optional f x ≡ spn-field (pgn-at (packOf s) 1 j) spn → f ≡ false → NamesAmong s w spn (j + 1) best
   stays-unmet f x h e =
       let u : has s spn j ≡ false = ap given (sym h) ∙ given-is f x ∙ e in
       as-before (least-turn (number-of s) (has s spn) j ∙ unmet (number-of s) j (leastBelow (number-of s) (has s spn) j) (has s spn j) u)
 
-  is-better : (p : ℕ) → PgnAt s w 1 j p → (best .given && (best .number ≤ᵇ g .pgn)) ≡ false → (f : Bool) (x : ℕ) → optional f x ≡ spn-field (pgnIn (packOf s) 1 j) spn → f ≡ true
+  is-better : (p : ℕ) → PgnAt s w 1 j p → (best .given && (best .number ≤ᵇ g .pgn)) ≡ false → (f : Bool) (x : ℕ) → optional f x ≡ spn-field (pgn-at (packOf s) 1 j) spn → f ≡ true
       → NamesAmong s w spn (j + 1) (record { given = true; pgn = j; place = p; number = g .pgn; field = x })
   is-better p q e f x h t =
       let u : has s spn j ≡ true = ap given (sym h) ∙ given-is f x ∙ t in

@@ -1,6 +1,6 @@
-use Rattle.pack.specs.declared.records.FieldView.{FieldView}
+use Rattle.pack.specs.declared.field.FieldView.{FieldView}
 use Rattle.pack.specs.Items.{bytesOf}
-use Rattle.pack.specs.Value.{Bytes, Field}
+use Rattle.pack.specs.Value.{Bytes, Field, pgn-at, field-at}
 use Rattle.rules.specs.Namers.{candidate-at, candidate-in}
 use Rattle.rules.specs.SearchLaws.{max-turn}
 use Rattle.rules.specs.Search.{maxBelow, larger}
@@ -14,19 +14,18 @@ use mathlib.Core.Option.{Option}
 use lib.ListN.{length}
 use denote.Ref.{now}
 use Rattle.pack.specs.Notation.{optional, _<ᵇ_, _≐_}
-use Rattle.pack.specs.Ready.{pgnIn, fieldIn}
 use Rattle.pack.specs.Meaning.{packOf, fieldMeaning, optNumber}
 use Rattle.rules.proofs.spn_names.candidate_in.Statement.{statement}
 use Rattle.rules.proofs.spn_names.candidate_in.Tie as tie
 
 abbrev cand : List ℕ → Bytes → ℕ → ℕ → ℕ → Option ℕ
-cand s name b i k = candidate-at name b (fieldIn (packOf s) 1 i k .name) (fieldIn (packOf s) 1 i k .spn)
+cand s name b i k = candidate-at name b (field-at (pgn-at (packOf s) 1 i) k .name) (field-at (pgn-at (packOf s) 1 i) k .spn)
 
 both : (name own : Bytes) (b : ℕ) (g : Bool) (v : ℕ) → optional (g && (v <ᵇ b) && (own ≐ name)) v ≡ candidate-at name b own (optional g v)
 both name own b true v = refl
 both name own b false v = refl
 
-said : (s : List ℕ) (name : Bytes) (b i k : ℕ) (v : FieldView) (h : Bool) → fieldMeaning s v ≡ fieldIn (packOf s) 1 i k
+said : (s : List ℕ) (name : Bytes) (b i k : ℕ) (v : FieldView) (h : Bool) → fieldMeaning s v ≡ field-at (pgn-at (packOf s) 1 i) k
     → h ≡ (v .authored .spn .given && (v .authored .spn .value <ᵇ b) && (bytesOf s (v .names .name) ≐ name)) → optional h (v .authored .spn .value) ≡ cand s name b i k
 said s name b i k v h is e =
     ap (λ (x : Bool). optional x (v .authored .spn .value)) e ∙ both name (bytesOf s (v .names .name)) b (v .authored .spn .given) (v .authored .spn .value)
@@ -63,7 +62,7 @@ loop-again c =
 
 returns : tie.Need-returns Inv-loop μ-loop
 unfolding candidate-in
-returns c = let e : length (pgnIn (packOf (now (c .before .before .before .before .args .s))) 1 (c .before .before .before .before .args .i) .fields) ≡ c .before .loop .k = omega (arith, c .before .before .before .before .pre .1, c .before .loop .inv .0, c .loop-test .left) in c .before .loop .inv .1 ∙ ap (maxBelow (cand (now (c .before .before .before .before .args .s)) (bytesOf (now (c .before .before .before .before .args .s)) (c .before .before .before .before .args .name)) (c .before .before .before .before .args .b) (c .before .before .before .before .args .i))) (sym e)
+returns c = let e : length (pgn-at (packOf (now (c .before .before .before .before .args .s))) 1 (c .before .before .before .before .args .i) .fields) ≡ c .before .loop .k = omega (arith, c .before .before .before .before .pre .1, c .before .loop .inv .0, c .loop-test .left) in c .before .loop .inv .1 ∙ ap (maxBelow (cand (now (c .before .before .before .before .args .s)) (bytesOf (now (c .before .before .before .before .args .s)) (c .before .before .before .before .args .name)) (c .before .before .before .before .args .b) (c .before .before .before .before .args .i))) (sym e)
 
 pub candidate-in-spec : {M : Type 1} → statement M
 candidate-in-spec =

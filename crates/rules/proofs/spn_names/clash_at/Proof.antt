@@ -1,5 +1,5 @@
 use Rattle.pack.specs.Meaning.{pgnMeaning, packOf}
-use Rattle.pack.specs.declared.records.PgnView.{PgnView}
+use Rattle.pack.specs.declared.pgn.PgnView.{PgnView}
 use Rattle.pack.specs.Value.{Pgn, noPgn}
 use Rattle.rules.specs.SpnNames.{clash-at}
 use Rattle.rules.specs.PlaceText.{pgn-loc}

@@ -1,5 +1,5 @@
-use Rattle.pack.specs.declared.records.FieldView.{FieldView}
-use Rattle.pack.specs.Value.{Pgn, Field}
+use Rattle.pack.specs.declared.field.FieldView.{FieldView}
+use Rattle.pack.specs.Value.{Pgn, Field, pgn-at, field-at}
 use Rattle.rules.specs.SpnNames.{spn-from, least-spn-in}
 use Rattle.rules.specs.SearchLaws.{min-turn}
 use Rattle.rules.specs.Search.{minBelow, smaller}
@@ -13,19 +13,18 @@ use mathlib.Core.Option.{Option}
 use lib.ListN.{length}
 use denote.Ref.{now}
 use Rattle.pack.specs.Notation.{optional, _≤ᵇ_}
-use Rattle.pack.specs.Ready.{pgnIn, fieldIn}
 use Rattle.pack.specs.Meaning.{packOf, fieldMeaning, optNumber}
 use Rattle.rules.proofs.spn_names.least_spn_in.Statement.{statement}
 use Rattle.rules.proofs.spn_names.least_spn_in.Tie as tie
 
 abbrev from : List ℕ → ℕ → ℕ → ℕ → Option ℕ
-from s b i k = spn-from (packOf s .pgns-j1939) b (fieldIn (packOf s) 1 i k .spn)
+from s b i k = spn-from (packOf s .pgns-j1939) b (field-at (pgn-at (packOf s) 1 i) k .spn)
 
 both : (pgns : List Pgn) (b : ℕ) (g : Bool) (v : ℕ) → optional (g && (b ≤ᵇ v)) v ≡ spn-from pgns b (optional g v)
 both pgns b true v = refl
 both pgns b false v = refl
 
-said : (s : List ℕ) (b i k : ℕ) (v : FieldView) (h : Bool) → fieldMeaning s v ≡ fieldIn (packOf s) 1 i k → h ≡ (v .authored .spn .given && (b ≤ᵇ v .authored .spn .value)) → optional h (v .authored .spn .value) ≡ from s b i k
+said : (s : List ℕ) (b i k : ℕ) (v : FieldView) (h : Bool) → fieldMeaning s v ≡ field-at (pgn-at (packOf s) 1 i) k → h ≡ (v .authored .spn .given && (b ≤ᵇ v .authored .spn .value)) → optional h (v .authored .spn .value) ≡ from s b i k
 said s b i k v h is e =
     ap (λ (x : Bool). optional x (v .authored .spn .value)) e ∙ both (packOf s .pgns-j1939) b (v .authored .spn .given) (v .authored .spn .value)
     ∙ ap (λ (F : Field). spn-from (packOf s .pgns-j1939) b (F .spn)) is
@@ -61,7 +60,7 @@ loop-again c =
 
 returns : tie.Need-returns Inv-loop μ-loop
 unfolding least-spn-in
-returns c = let e : length (pgnIn (packOf (now (c .before .before .before .before .args .s))) 1 (c .before .before .before .before .args .i) .fields) ≡ c .before .loop .k = omega (arith, c .before .before .before .before .pre .1, c .before .loop .inv .0, c .loop-test .left) in c .before .loop .inv .1 ∙ ap (minBelow (from (now (c .before .before .before .before .args .s)) (c .before .before .before .before .args .b) (c .before .before .before .before .args .i))) (sym e)
+returns c = let e : length (pgn-at (packOf (now (c .before .before .before .before .args .s))) 1 (c .before .before .before .before .args .i) .fields) ≡ c .before .loop .k = omega (arith, c .before .before .before .before .pre .1, c .before .loop .inv .0, c .loop-test .left) in c .before .loop .inv .1 ∙ ap (minBelow (from (now (c .before .before .before .before .args .s)) (c .before .before .before .before .args .b) (c .before .before .before .before .args .i))) (sym e)
 
 pub least-spn-in-spec : {M : Type 1} → statement M
 least-spn-in-spec =

@@ -1,4 +1,4 @@
-use Rattle.pack.specs.declared.records.PgnView.{PgnView}
+use Rattle.pack.specs.declared.pgn.PgnView.{PgnView}
 use Rattle.pack.specs.Items.{bytesOf}
 use Rattle.pack.specs.Meaning.{pgnMeaning}
 use Rattle.rules.specs.PlaceText.{pgn-loc}

@@ -1,5 +1,5 @@
-use Rattle.pack.specs.declared.records.FieldView.{FieldView}
-use Rattle.pack.specs.Value.{Field}
+use Rattle.pack.specs.declared.field.FieldView.{FieldView}
+use Rattle.pack.specs.Value.{Field, pgn-at, field-at}
 use Rattle.rules.specs.SpnNames.{is-number, spn-field}
 use Rattle.rules.specs.Search.{firstBelow}
 use Rattle.rules.specs.SearchLaws.{first-turn, first-hit}
@@ -12,16 +12,15 @@ use mathlib.Core.List.{List}
 use mathlib.Core.Option.{none}
 use lib.ListN.{length}
 use denote.Ref.{now}
-use Rattle.pack.specs.Ready.{pgnIn, fieldIn}
 use Rattle.pack.specs.Meaning.{packOf, fieldMeaning, optNumber}
 use Rattle.rules.proofs.spn_names.spn_field.Statement.{statement}
 use Rattle.rules.proofs.spn_names.spn_field.Tie as tie
 
 -- whether field k carries the SPN
 abbrev carries : List ℕ → ℕ → ℕ → ℕ → Bool
-carries s spn j k = is-number (fieldIn (packOf s) 1 j k .spn) spn
+carries s spn j k = is-number (field-at (pgn-at (packOf s) 1 j) k .spn) spn
 
-told : (s : List ℕ) (spn j k : ℕ) (v : FieldView) (b d : Bool) → fieldMeaning s v ≡ fieldIn (packOf s) 1 j k → b ≡ is-number (optNumber (v .authored .spn)) spn → b ≡ d → carries s spn j k ≡ d
+told : (s : List ℕ) (spn j k : ℕ) (v : FieldView) (b d : Bool) → fieldMeaning s v ≡ field-at (pgn-at (packOf s) 1 j) k → b ≡ is-number (optNumber (v .authored .spn)) spn → b ≡ d → carries s spn j k ≡ d
 told s spn j k v b d is e t = ap (λ (F : Field). is-number (F .spn) spn) (sym is) ∙ sym e ∙ t
 
 abbrev Inv-loop : tie.InvT-loop
@@ -41,7 +40,7 @@ is-number-requires c κs = search needs
 
 returns : tie.Need-returns Inv-loop μ-loop
 unfolding spn-field
-returns c = sym (first-hit (carries (now (c .before .before .before .before .before .before .before .args .s)) (c .before .before .before .before .before .before .before .args .spn) (c .before .before .before .before .before .before .before .args .j)) (length (pgnIn (packOf (now (c .before .before .before .before .before .before .before .args .s))) 1 (c .before .before .before .before .before .before .before .args .j) .fields)) (c .before .before .before .before .loop .k) (omega (arith, c .before .before .before .loop-test .taken, c .before .before .before .before .before .before .before .pre .1)) (c .before .before .before .before .loop .inv .1) (told (now (c .before .before .before .before .before .before .before .args .s)) (c .before .before .before .before .before .before .before .args .spn) (c .before .before .before .before .before .before .before .args .j) (c .before .before .before .before .loop .k) (c .before .before .field-of .result) (c .before .is-number .result) true (c .before .before .field-of .ensures) (c .before .is-number .ensures) (c .if1 .taken)))
+returns c = sym (first-hit (carries (now (c .before .before .before .before .before .before .before .args .s)) (c .before .before .before .before .before .before .before .args .spn) (c .before .before .before .before .before .before .before .args .j)) (length (pgn-at (packOf (now (c .before .before .before .before .before .before .before .args .s))) 1 (c .before .before .before .before .before .before .before .args .j) .fields)) (c .before .before .before .before .loop .k) (omega (arith, c .before .before .before .loop-test .taken, c .before .before .before .before .before .before .before .pre .1)) (c .before .before .before .before .loop .inv .1) (told (now (c .before .before .before .before .before .before .before .args .s)) (c .before .before .before .before .before .before .before .args .spn) (c .before .before .before .before .before .before .before .args .j) (c .before .before .before .before .loop .k) (c .before .before .field-of .result) (c .before .is-number .result) true (c .before .before .field-of .ensures) (c .before .is-number .ensures) (c .if1 .taken)))
 
 add-k : tie.Need-add-k Inv-loop μ-loop
 add-k c = search needs
@@ -56,7 +55,7 @@ loop-again c =
 
 returns-2 : tie.Need-returns-2 Inv-loop μ-loop
 unfolding spn-field
-returns-2 c = let e : length (pgnIn (packOf (now (c .before .before .before .before .args .s))) 1 (c .before .before .before .before .args .j) .fields) ≡ c .before .loop .k = omega (arith, c .before .before .before .before .pre .1, c .before .loop .inv .0, c .loop-test .left) in sym (ap (firstBelow (carries (now (c .before .before .before .before .args .s)) (c .before .before .before .before .args .spn) (c .before .before .before .before .args .j))) e ∙ c .before .loop .inv .1)
+returns-2 c = let e : length (pgn-at (packOf (now (c .before .before .before .before .args .s))) 1 (c .before .before .before .before .args .j) .fields) ≡ c .before .loop .k = omega (arith, c .before .before .before .before .pre .1, c .before .loop .inv .0, c .loop-test .left) in sym (ap (firstBelow (carries (now (c .before .before .before .before .args .s)) (c .before .before .before .before .args .spn) (c .before .before .before .before .args .j))) e ∙ c .before .loop .inv .1)
 
 pub spn-field-spec : {M : Type 1} → statement M
 spn-field-spec =

@@ -8,9 +8,8 @@ use mathlib.Core.List.{List}
 use lib.ListN.{length}
 use denote.Ref.{now}
 use Rattle.pack.specs.Notation.{concatBelow}
-use Rattle.pack.specs.Ready.{pgnIn, fieldIn}
 use Rattle.pack.specs.Meaning.{packOf}
-use Rattle.pack.specs.Value.{pgns-of}
+use Rattle.pack.specs.Value.{pgns-of, pgn-at, field-at}
 use Rattle.rules.specs.declared.Finding.{Finding}
 use Rattle.rules.specs.Emit.{Emitted}
 use Rattle.rules.proofs.Emits.{emitted-none, emitted-turn, fits-turn}
@@ -18,7 +17,7 @@ use Rattle.rules.proofs.spns.check_scalings.Statement.{statement}
 use Rattle.rules.proofs.spns.check_scalings.Tie as tie
 
 abbrev of-field : List ℕ → ℕ → ℕ → List Finding
-of-field s i k = spn-at (pgns-of (packOf s) 1) i k (fieldIn (packOf s) 1 i k .spn)
+of-field s i k = spn-at (pgns-of (packOf s) 1) i k (field-at (pgn-at (packOf s) 1 i) k .spn)
 
 abbrev Inv-loop : tie.InvT-loop
 Inv-loop out₀ n s work first i p g m₀ k₀ out m k = (k ≤ g .fields) × (length out ≡ length out₀) × Emitted out₀ n (concatBelow (of-field s i) k) out m
@@ -50,7 +49,7 @@ same-length c = search needs
 
 returns : tie.Need-returns Inv-loop μ-loop
 unfolding check-scalings
-returns c = let e : c .before .before .loop .k ≡ length (pgnIn (packOf (now (c .before .before .before .before .before .before .args .s))) 1 (c .before .before .before .before .before .before .args .i) .fields) = omega (arith, c .before .before .before .before .before .before .pre .3 .fields) in rw (← e) (c .before .before .loop .inv .2)
+returns c = let e : c .before .before .loop .k ≡ length (pgn-at (packOf (now (c .before .before .before .before .before .before .args .s))) 1 (c .before .before .before .before .before .before .args .i) .fields) = omega (arith, c .before .before .before .before .before .before .pre .3 .fields) in rw (← e) (c .before .before .loop .inv .2)
 
 pub check-scalings-spec : {M : Type 1} → statement M
 check-scalings-spec =

@@ -1,6 +1,6 @@
 -- the three parts
 use Rattle.pack.specs.declared.load.Section.{Section}
-use Rattle.pack.specs.Value.{Pack, pgns-of}
+use Rattle.pack.specs.Value.{Pack, pgns-of, pgn-at}
 use Rattle.rules.specs.Spns.{spns-elsewhere, check-scalings, check-spns}
 use native.Mathlib.Omega.{arith}
 use Prim.Native.Nat.{ℕ}
@@ -9,7 +9,6 @@ use mathlib.Core.List.{List, _++_}
 use lib.ListN.{length}
 use denote.Ref.{now}
 use Rattle.pack.specs.Notation.{concatBelow}
-use Rattle.pack.specs.Ready.{pgnIn}
 use Rattle.pack.specs.Meaning.{packOf}
 use Rattle.rules.specs.declared.Finding.{Finding}
 use Rattle.rules.proofs.Emits.{emitted-append, fits-left, fits-right}
@@ -18,10 +17,10 @@ use Rattle.rules.proofs.spns.check_spns.Statement.{statement}
 use Rattle.rules.proofs.spns.check_spns.Tie as tie
 
 abbrev elsewhere-in : Pack → ℕ → List Finding
-elsewhere-in P t = concatBelow (λ i. spns-elsewhere t i (pgnIn P t i)) (length (pgns-of P t))
+elsewhere-in P t = concatBelow (λ i. spns-elsewhere t i (pgn-at P t i)) (length (pgns-of P t))
 
 abbrev scalings-in : Pack → List Finding
-scalings-in P = concatBelow (λ i. check-scalings (pgns-of P 1) i (pgnIn P 1 i)) (length (pgns-of P 1))
+scalings-in P = concatBelow (λ i. check-scalings (pgns-of P 1) i (pgn-at P 1 i)) (length (pgns-of P 1))
 
 section-requires : tie.Need-section-requires
 section-requires c κs = search needs

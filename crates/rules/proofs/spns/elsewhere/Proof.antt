@@ -1,5 +1,5 @@
 -- the findings of PGN i
-use Rattle.pack.specs.Ready.{pgnPlace, pgnIn}
+use Rattle.pack.specs.Ready.{pgnPlace}
 use Rattle.pack.proofs.Positions.{pgn-place-next}
 use Rattle.rules.proofs.Sizes.{at-pgn, fields-few, pgns-few}
 use Rattle.rules.specs.Spns.{spns-elsewhere}
@@ -12,6 +12,7 @@ use lib.ListN.{length}
 use denote.Ref.{now}
 use Rattle.pack.specs.Notation.{concatBelow}
 use Rattle.pack.specs.Meaning.{packOf}
+use Rattle.pack.specs.Value.{pgn-at}
 use Rattle.rules.specs.declared.Finding.{Finding}
 use Rattle.rules.specs.Emit.{Emitted}
 use Rattle.rules.proofs.Emits.{emitted-none, emitted-turn, fits-turn}
@@ -19,7 +20,7 @@ use Rattle.rules.proofs.spns.elsewhere.Statement.{statement}
 use Rattle.rules.proofs.spns.elsewhere.Tie as tie
 
 abbrev of-pgn : List ℕ → ℕ → ℕ → List Finding
-of-pgn s t i = spns-elsewhere t i (pgnIn (packOf s) t i)
+of-pgn s t i = spns-elsewhere t i (pgn-at (packOf s) t i)
 
 abbrev Inv-loop : tie.InvT-loop
 Inv-loop out₀ n s work t count m₀ p₀ i₀ out m p i = (i ≤ count) × (p ≡ pgnPlace (packOf s) t i) × (length out ≡ length out₀) × Emitted out₀ n (concatBelow (of-pgn s t) i) out m

@@ -4,9 +4,9 @@ use mathlib.Core.Bool.{false≢true, Bool, true, false}
 use native.Mathlib.Decide.{ℕ-discrete}
 use Rattle.rules.proofs.Sizes.{fields-few, pgns-few}
 use Rattle.pack.proofs.Positions.{pgn-place-next}
-use Rattle.pack.specs.declared.records.FieldView.{FieldView}
-use Rattle.pack.specs.Ready.{pgnPlace, Ready, PgnAt, pgnIn, fieldIn}
-use Rattle.pack.specs.Value.{Pack, Field, pgns-of, noPgn}
+use Rattle.pack.specs.declared.field.FieldView.{FieldView}
+use Rattle.pack.specs.Ready.{pgnPlace, Ready, PgnAt}
+use Rattle.pack.specs.Value.{Pack, Field, pgns-of, noPgn, pgn-at, field-at}
 use Rattle.rules.specs.Model.{given}
 use Rattle.rules.specs.Spns.{first-seen}
 use Rattle.rules.specs.SpnNames.{is-number, spn-field}
@@ -25,35 +25,35 @@ use Rattle.rules.proofs.spns.first_seen.Statement.{statement}
 use Rattle.rules.proofs.spns.first_seen.Tie as tie
 
 abbrev carries : Pack → ℕ → ℕ → ℕ → Bool
-carries P spn j h = is-number (fieldIn P 1 j h .spn) spn
+carries P spn j h = is-number (field-at (pgn-at P 1 j) h .spn) spn
 
 abbrev carried : Pack → ℕ → ℕ → Bool
 carried P spn j = given (spn-field (getD (pgns-of P 1) j noPgn) spn)
 
-told : (P : Pack) (s : List ℕ) (spn j h : ℕ) (v : FieldView) (b d : Bool) → fieldMeaning s v ≡ fieldIn P 1 j h → b ≡ is-number (optNumber (v .authored .spn)) spn → b ≡ d → carries P spn j h ≡ d
+told : (P : Pack) (s : List ℕ) (spn j h : ℕ) (v : FieldView) (b d : Bool) → fieldMeaning s v ≡ field-at (pgn-at P 1 j) h → b ≡ is-number (optNumber (v .authored .spn)) spn → b ≡ d → carries P spn j h ≡ d
 told P s spn j h v b d is e t = ap (λ (F : Field). is-number (F .spn) spn) (sym is) ∙ sym e ∙ t
 
-missed : (P : Pack) (spn j n h : ℕ) → n ≡ length (pgnIn P 1 j .fields) → h ≤ n → n ≤ h → firstBelow (carries P spn j) h ≡ none → spn-field (pgnIn P 1 j) spn ≡ none
+missed : (P : Pack) (spn j n h : ℕ) → n ≡ length (pgn-at P 1 j .fields) → h ≤ n → n ≤ h → firstBelow (carries P spn j) h ≡ none → spn-field (pgn-at P 1 j) spn ≡ none
 unfolding spn-field
-missed P spn j n h e u v m = let q : length (pgnIn P 1 j .fields) ≡ h = omega arith in ap (firstBelow (carries P spn j)) q ∙ m
+missed P spn j n h e u v m = let q : length (pgn-at P 1 j .fields) ≡ h = omega arith in ap (firstBelow (carries P spn j)) q ∙ m
 
 -- PGN i carries it, so the search does not go beyond
-before : (P : Pack) (spn i k j : ℕ) → k < length (pgnIn P 1 i .fields) → fieldIn P 1 i k .spn ≡ some spn → j ≤ i → spn-field (pgnIn P 1 j) spn ≡ none → j < i
+before : (P : Pack) (spn i k j : ℕ) → k < length (pgn-at P 1 i .fields) → field-at (pgn-at P 1 i) k .spn ≡ some spn → j ≤ i → spn-field (pgn-at P 1 j) spn ≡ none → j < i
 unfolding spn-field
 before P spn i k j h e l m = go (ℕ-discrete j i)
   where
     go : Dec (j ≡ i) → j < i
     go (yes q) =
-        let u : firstBelow (carries P spn i) (length (pgnIn P 1 i .fields)) ≡ none = ap (λ (x : ℕ). spn-field (pgnIn P 1 x) spn) (sym q) ∙ m in
+        let u : firstBelow (carries P spn i) (length (pgn-at P 1 i .fields)) ≡ none = ap (λ (x : ℕ). spn-field (pgn-at P 1 x) spn) (sym q) ∙ m in
         let hit : carries P spn i k ≡ true = ap (λ (x : Option ℕ). is-number x spn) e ∙ eq-eqb spn spn refl in
-        absurd (false≢true (sym (first-misses (carries P spn i) (length (pgnIn P 1 i .fields)) u k h) ∙ hit))
+        absurd (false≢true (sym (first-misses (carries P spn i) (length (pgn-at P 1 i .fields)) u k h) ∙ hit))
     go (no q) = omega arith
 
-found : (P : Pack) (spn j h n : ℕ) → n ≡ length (pgnIn P 1 j .fields) → h < n → firstBelow (carries P spn j) h ≡ none → carries P spn j h ≡ true → spn-field (pgnIn P 1 j) spn ≡ some h
+found : (P : Pack) (spn j h n : ℕ) → n ≡ length (pgn-at P 1 j .fields) → h < n → firstBelow (carries P spn j) h ≡ none → carries P spn j h ≡ true → spn-field (pgn-at P 1 j) spn ≡ some h
 unfolding spn-field
-found P spn j h n e l m t = first-hit (carries P spn j) (length (pgnIn P 1 j .fields)) h (omega arith) m t
+found P spn j h n e l m t = first-hit (carries P spn j) (length (pgn-at P 1 j .fields)) h (omega arith) m t
 
-seen-first : (P : Pack) (spn j h : ℕ) → j < length (pgns-of P 1) → firstBelow (carried P spn) j ≡ none → spn-field (pgnIn P 1 j) spn ≡ some h → first-seen (pgns-of P 1) spn ≡ some j
+seen-first : (P : Pack) (spn j h : ℕ) → j < length (pgns-of P 1) → firstBelow (carried P spn) j ≡ none → spn-field (pgn-at P 1 j) spn ≡ some h → first-seen (pgns-of P 1) spn ≡ some j
 unfolding first-seen
 seen-first P spn j h l m e = first-hit (carried P spn) (length (pgns-of P 1)) j l m (ap given e)
 

@@ -1,5 +1,5 @@
 -- the findings of PGN i
-use Rattle.pack.specs.Ready.{pgnPlace, pgnIn}
+use Rattle.pack.specs.Ready.{pgnPlace}
 use Rattle.pack.proofs.Positions.{pgn-place-next}
 use Rattle.rules.proofs.Sizes.{at-pgn, fields-few, pgns-few}
 use Rattle.rules.specs.Spns.{check-scalings}
@@ -12,7 +12,7 @@ use lib.ListN.{length}
 use denote.Ref.{now}
 use Rattle.pack.specs.Notation.{concatBelow}
 use Rattle.pack.specs.Meaning.{packOf}
-use Rattle.pack.specs.Value.{pgns-of}
+use Rattle.pack.specs.Value.{pgns-of, pgn-at}
 use Rattle.rules.specs.declared.Finding.{Finding}
 use Rattle.rules.specs.Emit.{Emitted}
 use Rattle.rules.proofs.Emits.{emitted-none, emitted-turn, fits-turn}
@@ -20,7 +20,7 @@ use Rattle.rules.proofs.spns.scalings.Statement.{statement}
 use Rattle.rules.proofs.spns.scalings.Tie as tie
 
 abbrev of-pgn : List ℕ → ℕ → List Finding
-of-pgn s i = check-scalings (pgns-of (packOf s) 1) i (pgnIn (packOf s) 1 i)
+of-pgn s i = check-scalings (pgns-of (packOf s) 1) i (pgn-at (packOf s) 1 i)
 
 abbrev Inv-loop : tie.InvT-loop
 Inv-loop out₀ n s work count first m₀ p₀ i₀ out m p i = (i ≤ count) × (p ≡ pgnPlace (packOf s) 1 i) × (length out ≡ length out₀) × Emitted out₀ n (concatBelow (of-pgn s) i) out m

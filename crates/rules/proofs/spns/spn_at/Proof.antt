@@ -1,7 +1,7 @@
 -- the rule at a field, said of the view
 use borrow.Author.Tests.{lt-ltb, le-ltb}
 use Rattle.pack.specs.Value.{Pgn, Field, pgns-of}
-use Rattle.pack.specs.declared.records.FieldView.{FieldView}
+use Rattle.pack.specs.declared.field.FieldView.{FieldView}
 use Rattle.rules.specs.Spns.{first-seen, unlike-first, spn-at}
 use Prim.Native.Nat.{ℕ, _≤_, _<_}
 use mathlib.Core.Path.{_≡_}

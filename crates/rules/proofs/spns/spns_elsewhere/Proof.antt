@@ -1,6 +1,6 @@
 -- the findings of field k
-use Rattle.pack.specs.Value.{Field}
-use Rattle.pack.specs.declared.records.FieldView.{FieldView}
+use Rattle.pack.specs.Value.{Field, pgn-at, field-at}
+use Rattle.pack.specs.declared.field.FieldView.{FieldView}
 use Rattle.rules.proofs.Types.{given-is}
 use Rattle.rules.specs.Model.{given}
 use Rattle.rules.specs.Spns.{spns-elsewhere}
@@ -12,7 +12,6 @@ use mathlib.Core.List.{List}
 use lib.ListN.{length}
 use denote.Ref.{now}
 use Rattle.pack.specs.Notation.{concatBelow}
-use Rattle.pack.specs.Ready.{pgnIn, fieldIn}
 use Rattle.pack.specs.Meaning.{packOf, fieldMeaning}
 use Rattle.rules.specs.declared.Finding.{Finding}
 use Rattle.rules.specs.Emit.{Emitted}
@@ -22,11 +21,11 @@ use Rattle.rules.proofs.spns.spns_elsewhere.Statement.{statement}
 use Rattle.rules.proofs.spns.spns_elsewhere.Tie as tie
 
 abbrev of-field : List ℕ → ℕ → ℕ → ℕ → List Finding
-of-field s t i k = report-if (given (fieldIn (packOf s) t i k .spn)) (pgn-error 42 1 t i k 0)
+of-field s t i k = report-if (given (field-at (pgn-at (packOf s) t i) k .spn)) (pgn-error 42 1 t i k 0)
 
-said : (s : List ℕ) (t i k : ℕ) (f : FieldView) (F : Finding) → fieldMeaning s f ≡ fieldIn (packOf s) t i k → F ≡ pgn-error 42 1 t i k 0 → of-field s t i k ≡ report-if (f .authored .spn .given) F
+said : (s : List ℕ) (t i k : ℕ) (f : FieldView) (F : Finding) → fieldMeaning s f ≡ field-at (pgn-at (packOf s) t i) k → F ≡ pgn-error 42 1 t i k 0 → of-field s t i k ≡ report-if (f .authored .spn .given) F
 said s t i k f F is q =
-    let e : given (fieldIn (packOf s) t i k .spn) ≡ f .authored .spn .given = ap (λ (X : Field). given (X .spn)) (sym is) ∙ given-is (f .authored .spn .given) (f .authored .spn .value) in
+    let e : given (field-at (pgn-at (packOf s) t i) k .spn) ≡ f .authored .spn .given = ap (λ (X : Field). given (X .spn)) (sym is) ∙ given-is (f .authored .spn .given) (f .authored .spn .value) in
     rw (q, e)
 
 abbrev Inv-loop : tie.InvT-loop
@@ -62,7 +61,7 @@ same-length c = search needs
 
 returns : tie.Need-returns Inv-loop μ-loop
 unfolding spns-elsewhere
-returns c = let e : c .before .before .loop .k ≡ length (pgnIn (packOf (now (c .before .before .before .before .before .before .args .s))) (c .before .before .before .before .before .before .args .t) (c .before .before .before .before .before .before .args .i) .fields) = omega (arith, c .before .before .before .before .before .before .pre .2 .fields) in rw (← e) (c .before .before .loop .inv .2)
+returns c = let e : c .before .before .loop .k ≡ length (pgn-at (packOf (now (c .before .before .before .before .before .before .args .s))) (c .before .before .before .before .before .before .args .t) (c .before .before .before .before .before .before .args .i) .fields) = omega (arith, c .before .before .before .before .before .before .pre .2 .fields) in rw (← e) (c .before .before .loop .inv .2)
 
 pub spns-elsewhere-spec : {M : Type 1} → statement M
 spns-elsewhere-spec =

@@ -1,8 +1,8 @@
 -- the first that carries it is field h of PGN j
 use lib.Ieee.{ofBits, binary64, eq}
 use Rattle.pack.specs.Meaning.{optBytes, packOf, fieldMeaning}
-use Rattle.pack.specs.Value.{Pack, Field, pgns-of}
-use Rattle.pack.specs.declared.records.FieldView.{FieldView}
+use Rattle.pack.specs.Value.{Pack, Field, pgns-of, pgn-at, field-at}
+use Rattle.pack.specs.declared.field.FieldView.{FieldView}
 use Rattle.rules.specs.declared.spns.Scaling.{Scaling}
 use Rattle.rules.specs.Floats.{float-eq}
 use Rattle.rules.specs.SearchLaws.{first-is}
@@ -16,7 +16,6 @@ use mathlib.Core.Option.{some}
 use lib.ListN.{length}
 use denote.Ref.{now}
 use Rattle.pack.specs.Notation.{optional, _==_}
-use Rattle.pack.specs.Ready.{pgnIn, fieldIn}
 use Rattle.rules.specs.declared.Finding.{Finding}
 use Rattle.rules.specs.Findings.{report-if, pgn-error}
 use Rattle.rules.proofs.Emits.{emitted-none}
@@ -24,19 +23,19 @@ use borrow.Author.Needs.{needs}
 use Rattle.rules.proofs.spns.unlike_first.Statement.{statement}
 use Rattle.rules.proofs.spns.unlike_first.Tie as tie
 
-module _ (P : Pack) (i k spn j h : ℕ) (seen : first-seen (pgns-of P 1) spn ≡ some j) (field : spn-field (pgnIn P 1 j) spn ≡ some h) (b : Bool) (at : b ≡ ((j == i) && (h == k))) where
+module _ (P : Pack) (i k spn j h : ℕ) (seen : first-seen (pgns-of P 1) spn ≡ some j) (field : spn-field (pgn-at P 1 j) spn ≡ some h) (b : Bool) (at : b ≡ ((j == i) && (h == k))) where
   itself : b ≡ true → unlike-first (pgns-of P 1) i k spn (first-seen (pgns-of P 1) spn) ≡ []
   unfolding unlike-first unlike-field
   itself e = rw (seen, field, ← at, e)
 
-  another : b ≡ false → (a : Bool) → a ≡ same-scaling (fieldIn P 1 j h) (fieldIn P 1 i k) → (F : Finding) → F ≡ pgn-error 42 3 1 i k j
+  another : b ≡ false → (a : Bool) → a ≡ same-scaling (field-at (pgn-at P 1 j) h) (field-at (pgn-at P 1 i) k) → (F : Finding) → F ≡ pgn-error 42 3 1 i k j
       → unlike-first (pgns-of P 1) i k spn (first-seen (pgns-of P 1) spn) ≡ report-if (not a) F
   unfolding unlike-first unlike-field
   another e a d F q = rw (seen, field, ← at, e, d, q)
 
-  field-of-it : h < length (pgnIn P 1 j .fields)
+  field-of-it : h < length (pgn-at P 1 j .fields)
   unfolding spn-field
-  field-of-it = first-is (λ x. is-number (fieldIn P 1 j x .spn) spn) (length (pgnIn P 1 j .fields)) h field .0
+  field-of-it = first-is (λ x. is-number (field-at (pgn-at P 1 j) x .spn) spn) (length (pgn-at P 1 j .fields)) h field .0
 
 -- scalings compared as the code does
 abbrev compared : List ℕ → Scaling → Scaling → Bool

@@ -1,9 +1,9 @@
 use Rattle.rules.specs.SearchLaws.{first-turn, first-hit}
 use Rattle.rules.specs.Search.{firstBelow}
-use Rattle.pack.specs.Ready.{fieldIn}
 use Rattle.pack.specs.Meaning.{packOf}
 use Rattle.pack.specs.Items.{bytesOf}
 use Rattle.pack.specs.Notation.{_≐_}
+use Rattle.pack.specs.Value.{pgn-at, field-at}
 use mathlib.Core.Option.{none}
 use Prim.Native.Nat.{ℕ, _-_, _≤_}
 use native.Mathlib.Omega.{arith}
@@ -17,7 +17,7 @@ use Rattle.rules.proofs.targets.first_with_id.Tie as tie
 
 -- whether field j has the id
 abbrev has : List ℕ → ℕ → ℕ → List ℕ → ℕ → Bool
-has s t i id j = fieldIn (packOf s) t i j .id ≐ id
+has s t i id j = field-at (pgn-at (packOf s) t i) j .id ≐ id
 
 abbrev Inv-loop : tie.InvT-loop
 Inv-loop s work t i p n id j₀ j = (j ≤ n) × (firstBelow (has s t i (bytesOf s id)) j ≡ none)

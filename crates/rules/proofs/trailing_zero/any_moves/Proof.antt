@@ -1,8 +1,8 @@
 use Rattle.rules.specs.SearchLaws.{any-turn, any-hit}
 use Rattle.rules.specs.Search.{anyBelow}
-use Rattle.pack.specs.Ready.{fieldIn}
 use Rattle.pack.specs.Meaning.{packOf}
 use Rattle.pack.specs.Notation.{_==_}
+use Rattle.pack.specs.Value.{pgn-at, field-at}
 use mathlib.Core.Bool.{_||_, Bool, false}
 use Prim.Native.Nat.{ℕ, _-_, _≤_}
 use native.Mathlib.Omega.{arith}
@@ -15,7 +15,7 @@ use Rattle.rules.proofs.trailing_zero.any_moves.Tie as tie
 
 -- whether field k moves what follows it
 abbrev moving : List ℕ → ℕ → ℕ → ℕ → Bool
-moving s t i k = (fieldIn (packOf s) t i k .res-bits == 0) || fieldIn (packOf s) t i k .proprietary
+moving s t i k = (field-at (pgn-at (packOf s) t i) k .res-bits == 0) || field-at (pgn-at (packOf s) t i) k .proprietary
 
 abbrev Inv-loop : tie.InvT-loop
 Inv-loop s work t i p n k₀ k = (k ≤ n) × (anyBelow (moving s t i) k ≡ false)

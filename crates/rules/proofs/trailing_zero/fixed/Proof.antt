@@ -1,11 +1,10 @@
 use Rattle.rules.specs.TrailingZero.{starts-behind, fixed}
 use Rattle.rules.specs.Search.{anyBelow}
 use Rattle.rules.proofs.Sizes.{fields-few}
-use Rattle.rules.specs.Model.{field-at}
-use Rattle.pack.specs.declared.records.PgnView.{PgnView}
-use Rattle.pack.specs.Ready.{PgnIs, pgnIn}
+use Rattle.pack.specs.declared.pgn.PgnView.{PgnView}
+use Rattle.pack.specs.Ready.{PgnIs}
 use Rattle.pack.specs.Meaning.{optRepeating, packOf}
-use Rattle.pack.specs.Value.{Pgn}
+use Rattle.pack.specs.Value.{Pgn, pgn-at, field-at}
 use Rattle.pack.specs.Notation.{_==_}
 use mathlib.Core.Bool.{not, _&&_, _||_, Bool}
 use Prim.Native.Nat.{ℕ, _+_}
@@ -27,7 +26,7 @@ any-moves-requires : tie.Need-any-moves-requires
 any-moves-requires c κs = (c .before .before .pre .0, omega (arith, c .before .before .pre .2))
 
 returns : tie.Need-returns
-returns c = rw (said (now (c .before .before .before .before .args .s)) (pgnIn (packOf (now (c .before .before .before .before .args .s))) (c .before .before .before .before .args .t) (c .before .before .before .before .args .i)) (c .before .before .before .before .args .g) (c .before .before .before .before .pre .1) (c .before .before .before .before .args .j) (c .before .any-moves .result) _ _ (c .before .any-moves .ensures) refl refl, c .if1 .taken)
+returns c = rw (said (now (c .before .before .before .before .args .s)) (pgn-at (packOf (now (c .before .before .before .before .args .s))) (c .before .before .before .before .args .t) (c .before .before .before .before .args .i)) (c .before .before .before .before .args .g) (c .before .before .before .before .pre .1) (c .before .before .before .before .args .j) (c .before .any-moves .result) _ _ (c .before .any-moves .ensures) refl refl, c .if1 .taken)
 
 add-order : tie.Need-add-order
 add-order c = omega (arith, c .before .before .before .before .pre .2, fields-few (c .before .before .before .before .pre .0))
@@ -39,10 +38,10 @@ starts-behind-requires-2 : tie.Need-starts-behind-requires-2
 starts-behind-requires-2 c κs = search needs
 
 returns-2 : tie.Need-returns-2
-returns-2 c = rw (said (now (c .before .before .before .before .before .before .before .args .s)) (pgnIn (packOf (now (c .before .before .before .before .before .before .before .args .s))) (c .before .before .before .before .before .before .before .args .t) (c .before .before .before .before .before .before .before .args .i)) (c .before .before .before .before .before .before .before .args .g) (c .before .before .before .before .before .before .before .pre .1) (c .before .before .before .before .before .before .before .args .j) (c .before .before .before .before .any-moves .result) (c .before .before .starts-behind .result) (c .starts-behind2 .result) (c .before .before .before .before .any-moves .ensures) (c .before .before .starts-behind .ensures) (c .starts-behind2 .ensures), c .before .before .before .if1 .left, c .before .if2 .taken)
+returns-2 c = rw (said (now (c .before .before .before .before .before .before .before .args .s)) (pgn-at (packOf (now (c .before .before .before .before .before .before .before .args .s))) (c .before .before .before .before .before .before .before .args .t) (c .before .before .before .before .before .before .before .args .i)) (c .before .before .before .before .before .before .before .args .g) (c .before .before .before .before .before .before .before .pre .1) (c .before .before .before .before .before .before .before .args .j) (c .before .before .before .before .any-moves .result) (c .before .before .starts-behind .result) (c .starts-behind2 .result) (c .before .before .before .before .any-moves .ensures) (c .before .before .starts-behind .ensures) (c .starts-behind2 .ensures), c .before .before .before .if1 .left, c .before .if2 .taken)
 
 returns-3 : tie.Need-returns-3
-returns-3 c = rw (said (now (c .before .before .before .before .before .before .args .s)) (pgnIn (packOf (now (c .before .before .before .before .before .before .args .s))) (c .before .before .before .before .before .before .args .t) (c .before .before .before .before .before .before .args .i)) (c .before .before .before .before .before .before .args .g) (c .before .before .before .before .before .before .pre .1) (c .before .before .before .before .before .before .args .j) (c .before .before .before .any-moves .result) (c .before .starts-behind .result) _ (c .before .before .before .any-moves .ensures) (c .before .starts-behind .ensures) refl, c .before .before .if1 .left, c .if2 .left)
+returns-3 c = rw (said (now (c .before .before .before .before .before .before .args .s)) (pgn-at (packOf (now (c .before .before .before .before .before .before .args .s))) (c .before .before .before .before .before .before .args .t) (c .before .before .before .before .before .before .args .i)) (c .before .before .before .before .before .before .args .g) (c .before .before .before .before .before .before .pre .1) (c .before .before .before .before .before .before .args .j) (c .before .before .before .any-moves .result) (c .before .starts-behind .result) _ (c .before .before .before .any-moves .ensures) (c .before .starts-behind .ensures) refl, c .before .before .if1 .left, c .if2 .left)
 
 pub fixed-spec : {M : Type 1} → statement M
 fixed-spec =

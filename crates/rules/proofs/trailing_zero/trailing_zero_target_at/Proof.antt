@@ -1,13 +1,12 @@
 use Rattle.rules.specs.TrailingZero.{fixed, unsigned-integer, trailing-zero-target-at}
 use Rattle.pack.proofs.Positions.{field-ft-law}
-use Rattle.pack.specs.declared.cursor.OptNumber.{OptNumber}
-use Rattle.rules.specs.Model.{given, field-at}
+use Rattle.pack.specs.declared.optional.OptNumber.{OptNumber}
+use Rattle.rules.specs.Model.{given}
 use Rattle.rules.specs.Findings.{report-if, pgn-error}
 use Rattle.rules.specs.declared.Finding.{Finding}
-use Rattle.pack.specs.declared.records.FieldView.{FieldView}
-use Rattle.pack.specs.Ready.{pgnIn}
+use Rattle.pack.specs.declared.field.FieldView.{FieldView}
 use Rattle.pack.specs.Meaning.{optNumber, fieldMeaning, packOf}
-use Rattle.pack.specs.Value.{FieldType, Field, Pgn}
+use Rattle.pack.specs.Value.{FieldType, Field, Pgn, pgn-at, field-at}
 use mathlib.Core.Bool.{not, Bool, true, false}
 use Prim.Native.Nat.{ℕ, _≤_, _<_}
 use native.Mathlib.Omega.{arith}
@@ -42,25 +41,25 @@ pgn-error-requires : tie.Need-pgn-error-requires
 pgn-error-requires c κs = search needs
 
 put-requires : tie.Need-put-requires
-put-requires c κs = rw (absent (now (c .before .before .before .before .before .before .before .args .s)) (packOf (now (c .before .before .before .before .before .before .before .args .s)) .fieldtypes) (c .before .before .before .before .before .before .before .args .t) (c .before .before .before .before .before .before .before .args .i) (c .before .before .before .before .before .before .before .args .k) (pgnIn (packOf (now (c .before .before .before .before .before .before .before .args .s))) (c .before .before .before .before .before .before .before .args .t) (c .before .before .before .before .before .before .before .args .i)) (c .before .before .before .before .before .before .before .args .j) (not-true (c .before .before .before .before .before .before .before .args .j .given) (c .before .before .if1 .taken)) (c .pgn-error .result) (c .pgn-error .ensures)) at (c .before .before .before .before .before .before .before .pre .0)
+put-requires c κs = rw (absent (now (c .before .before .before .before .before .before .before .args .s)) (packOf (now (c .before .before .before .before .before .before .before .args .s)) .fieldtypes) (c .before .before .before .before .before .before .before .args .t) (c .before .before .before .before .before .before .before .args .i) (c .before .before .before .before .before .before .before .args .k) (pgn-at (packOf (now (c .before .before .before .before .before .before .before .args .s))) (c .before .before .before .before .before .before .before .args .t) (c .before .before .before .before .before .before .before .args .i)) (c .before .before .before .before .before .before .before .args .j) (not-true (c .before .before .before .before .before .before .before .args .j .given) (c .before .before .if1 .taken)) (c .pgn-error .result) (c .pgn-error .ensures)) at (c .before .before .before .before .before .before .before .pre .0)
 
 same-length : tie.Need-same-length
 same-length c = search needs
 
 returns : tie.Need-returns
-returns c = rw (absent (now (c .before .before .before .before .before .before .before .before .before .before .args .s)) (packOf (now (c .before .before .before .before .before .before .before .before .before .before .args .s)) .fieldtypes) (c .before .before .before .before .before .before .before .before .before .before .args .t) (c .before .before .before .before .before .before .before .before .before .before .args .i) (c .before .before .before .before .before .before .before .before .before .before .args .k) (pgnIn (packOf (now (c .before .before .before .before .before .before .before .before .before .before .args .s))) (c .before .before .before .before .before .before .before .before .before .before .args .t) (c .before .before .before .before .before .before .before .before .before .before .args .i)) (c .before .before .before .before .before .before .before .before .before .before .args .j) (not-true (c .before .before .before .before .before .before .before .before .before .before .args .j .given) (c .before .before .before .before .before .if1 .taken)) (c .before .before .before .pgn-error .result) (c .before .before .before .pgn-error .ensures)) (c .before .before .put .ensures)
+returns c = rw (absent (now (c .before .before .before .before .before .before .before .before .before .before .args .s)) (packOf (now (c .before .before .before .before .before .before .before .before .before .before .args .s)) .fieldtypes) (c .before .before .before .before .before .before .before .before .before .before .args .t) (c .before .before .before .before .before .before .before .before .before .before .args .i) (c .before .before .before .before .before .before .before .before .before .before .args .k) (pgn-at (packOf (now (c .before .before .before .before .before .before .before .before .before .before .args .s))) (c .before .before .before .before .before .before .before .before .before .before .args .t) (c .before .before .before .before .before .before .before .before .before .before .args .i)) (c .before .before .before .before .before .before .before .before .before .before .args .j) (not-true (c .before .before .before .before .before .before .before .before .before .before .args .j .given) (c .before .before .before .before .before .if1 .taken)) (c .before .before .before .pgn-error .result) (c .before .before .before .pgn-error .ensures)) (c .before .before .put .ensures)
 
 pgn-error-requires-2 : tie.Need-pgn-error-requires-2
 pgn-error-requires-2 c κs = search needs
 
 put-requires-2 : tie.Need-put-requires-2
-put-requires-2 c κs = rw (later (now (c .before .before .before .before .before .before .before .before .before .args .s)) (packOf (now (c .before .before .before .before .before .before .before .before .before .args .s)) .fieldtypes) (c .before .before .before .before .before .before .before .before .before .args .t) (c .before .before .before .before .before .before .before .before .before .args .i) (c .before .before .before .before .before .before .before .before .before .args .k) (pgnIn (packOf (now (c .before .before .before .before .before .before .before .before .before .args .s))) (c .before .before .before .before .before .before .before .before .before .args .t) (c .before .before .before .before .before .before .before .before .before .args .i)) (c .before .before .before .before .before .before .before .before .before .args .j) (not-false (c .before .before .before .before .before .before .before .before .before .args .j .given) (c .before .before .before .before .if1 .left)) (c .before .before .if2 .taken) (c .pgn-error2 .result) (c .pgn-error2 .ensures)) at (c .before .before .before .before .before .before .before .before .before .pre .0)
+put-requires-2 c κs = rw (later (now (c .before .before .before .before .before .before .before .before .before .args .s)) (packOf (now (c .before .before .before .before .before .before .before .before .before .args .s)) .fieldtypes) (c .before .before .before .before .before .before .before .before .before .args .t) (c .before .before .before .before .before .before .before .before .before .args .i) (c .before .before .before .before .before .before .before .before .before .args .k) (pgn-at (packOf (now (c .before .before .before .before .before .before .before .before .before .args .s))) (c .before .before .before .before .before .before .before .before .before .args .t) (c .before .before .before .before .before .before .before .before .before .args .i)) (c .before .before .before .before .before .before .before .before .before .args .j) (not-false (c .before .before .before .before .before .before .before .before .before .args .j .given) (c .before .before .before .before .if1 .left)) (c .before .before .if2 .taken) (c .pgn-error2 .result) (c .pgn-error2 .ensures)) at (c .before .before .before .before .before .before .before .before .before .pre .0)
 
 same-length-2 : tie.Need-same-length-2
 same-length-2 c = search needs
 
 returns-2 : tie.Need-returns-2
-returns-2 c = rw (later (now (c .before .before .before .before .before .before .before .before .before .before .before .before .args .s)) (packOf (now (c .before .before .before .before .before .before .before .before .before .before .before .before .args .s)) .fieldtypes) (c .before .before .before .before .before .before .before .before .before .before .before .before .args .t) (c .before .before .before .before .before .before .before .before .before .before .before .before .args .i) (c .before .before .before .before .before .before .before .before .before .before .before .before .args .k) (pgnIn (packOf (now (c .before .before .before .before .before .before .before .before .before .before .before .before .args .s))) (c .before .before .before .before .before .before .before .before .before .before .before .before .args .t) (c .before .before .before .before .before .before .before .before .before .before .before .before .args .i)) (c .before .before .before .before .before .before .before .before .before .before .before .before .args .j) (not-false (c .before .before .before .before .before .before .before .before .before .before .before .before .args .j .given) (c .before .before .before .before .before .before .before .if1 .left)) (c .before .before .before .before .before .if2 .taken) (c .before .before .before .pgn-error2 .result) (c .before .before .before .pgn-error2 .ensures)) (c .before .before .put2 .ensures)
+returns-2 c = rw (later (now (c .before .before .before .before .before .before .before .before .before .before .before .before .args .s)) (packOf (now (c .before .before .before .before .before .before .before .before .before .before .before .before .args .s)) .fieldtypes) (c .before .before .before .before .before .before .before .before .before .before .before .before .args .t) (c .before .before .before .before .before .before .before .before .before .before .before .before .args .i) (c .before .before .before .before .before .before .before .before .before .before .before .before .args .k) (pgn-at (packOf (now (c .before .before .before .before .before .before .before .before .before .before .before .before .args .s))) (c .before .before .before .before .before .before .before .before .before .before .before .before .args .t) (c .before .before .before .before .before .before .before .before .before .before .before .before .args .i)) (c .before .before .before .before .before .before .before .before .before .before .before .before .args .j) (not-false (c .before .before .before .before .before .before .before .before .before .before .before .before .args .j .given) (c .before .before .before .before .before .before .before .if1 .left)) (c .before .before .before .before .before .if2 .taken) (c .before .before .before .pgn-error2 .result) (c .before .before .before .pgn-error2 .ensures)) (c .before .before .put2 .ensures)
 
 fixed-requires : tie.Need-fixed-requires
 fixed-requires c κs = (c .before .before .before .before .before .before .before .pre .1, c .before .before .before .before .before .before .before .pre .2, omega (arith, c .before .before .before .before .before .before .before .pre .2 .fields, c .before .before .before .before .before .before .before .pre .3, c .if2 .left))
@@ -69,13 +68,13 @@ pgn-error-requires-3 : tie.Need-pgn-error-requires-3
 pgn-error-requires-3 c κs = search needs
 
 put-requires-3 : tie.Need-put-requires-3
-put-requires-3 c κs = rw (loose (now (c .before .before .before .before .before .before .before .before .before .before .before .args .s)) (packOf (now (c .before .before .before .before .before .before .before .before .before .before .before .args .s)) .fieldtypes) (c .before .before .before .before .before .before .before .before .before .before .before .args .t) (c .before .before .before .before .before .before .before .before .before .before .before .args .i) (c .before .before .before .before .before .before .before .before .before .before .before .args .k) (pgnIn (packOf (now (c .before .before .before .before .before .before .before .before .before .before .before .args .s))) (c .before .before .before .before .before .before .before .before .before .before .before .args .t) (c .before .before .before .before .before .before .before .before .before .before .before .args .i)) (c .before .before .before .before .before .before .before .before .before .before .before .args .j) (not-false (c .before .before .before .before .before .before .before .before .before .before .before .args .j .given) (c .before .before .before .before .before .before .if1 .left)) (c .before .before .before .before .if2 .left) (c .before .before .before .fixed .result) (c .before .before .before .fixed .ensures) (not-true (c .before .before .before .fixed .result) (c .before .before .if3 .taken)) (c .pgn-error3 .result) (c .pgn-error3 .ensures)) at (c .before .before .before .before .before .before .before .before .before .before .before .pre .0)
+put-requires-3 c κs = rw (loose (now (c .before .before .before .before .before .before .before .before .before .before .before .args .s)) (packOf (now (c .before .before .before .before .before .before .before .before .before .before .before .args .s)) .fieldtypes) (c .before .before .before .before .before .before .before .before .before .before .before .args .t) (c .before .before .before .before .before .before .before .before .before .before .before .args .i) (c .before .before .before .before .before .before .before .before .before .before .before .args .k) (pgn-at (packOf (now (c .before .before .before .before .before .before .before .before .before .before .before .args .s))) (c .before .before .before .before .before .before .before .before .before .before .before .args .t) (c .before .before .before .before .before .before .before .before .before .before .before .args .i)) (c .before .before .before .before .before .before .before .before .before .before .before .args .j) (not-false (c .before .before .before .before .before .before .before .before .before .before .before .args .j .given) (c .before .before .before .before .before .before .if1 .left)) (c .before .before .before .before .if2 .left) (c .before .before .before .fixed .result) (c .before .before .before .fixed .ensures) (not-true (c .before .before .before .fixed .result) (c .before .before .if3 .taken)) (c .pgn-error3 .result) (c .pgn-error3 .ensures)) at (c .before .before .before .before .before .before .before .before .before .before .before .pre .0)
 
 same-length-3 : tie.Need-same-length-3
 same-length-3 c = search needs
 
 returns-3 : tie.Need-returns-3
-returns-3 c = rw (loose (now (c .before .before .before .before .before .before .before .before .before .before .before .before .before .before .args .s)) (packOf (now (c .before .before .before .before .before .before .before .before .before .before .before .before .before .before .args .s)) .fieldtypes) (c .before .before .before .before .before .before .before .before .before .before .before .before .before .before .args .t) (c .before .before .before .before .before .before .before .before .before .before .before .before .before .before .args .i) (c .before .before .before .before .before .before .before .before .before .before .before .before .before .before .args .k) (pgnIn (packOf (now (c .before .before .before .before .before .before .before .before .before .before .before .before .before .before .args .s))) (c .before .before .before .before .before .before .before .before .before .before .before .before .before .before .args .t) (c .before .before .before .before .before .before .before .before .before .before .before .before .before .before .args .i)) (c .before .before .before .before .before .before .before .before .before .before .before .before .before .before .args .j) (not-false (c .before .before .before .before .before .before .before .before .before .before .before .before .before .before .args .j .given) (c .before .before .before .before .before .before .before .before .before .if1 .left)) (c .before .before .before .before .before .before .before .if2 .left) (c .before .before .before .before .before .before .fixed .result) (c .before .before .before .before .before .before .fixed .ensures) (not-true (c .before .before .before .before .before .before .fixed .result) (c .before .before .before .before .before .if3 .taken)) (c .before .before .before .pgn-error3 .result) (c .before .before .before .pgn-error3 .ensures)) (c .before .before .put3 .ensures)
+returns-3 c = rw (loose (now (c .before .before .before .before .before .before .before .before .before .before .before .before .before .before .args .s)) (packOf (now (c .before .before .before .before .before .before .before .before .before .before .before .before .before .before .args .s)) .fieldtypes) (c .before .before .before .before .before .before .before .before .before .before .before .before .before .before .args .t) (c .before .before .before .before .before .before .before .before .before .before .before .before .before .before .args .i) (c .before .before .before .before .before .before .before .before .before .before .before .before .before .before .args .k) (pgn-at (packOf (now (c .before .before .before .before .before .before .before .before .before .before .before .before .before .before .args .s))) (c .before .before .before .before .before .before .before .before .before .before .before .before .before .before .args .t) (c .before .before .before .before .before .before .before .before .before .before .before .before .before .before .args .i)) (c .before .before .before .before .before .before .before .before .before .before .before .before .before .before .args .j) (not-false (c .before .before .before .before .before .before .before .before .before .before .before .before .before .before .args .j .given) (c .before .before .before .before .before .before .before .before .before .if1 .left)) (c .before .before .before .before .before .before .before .if2 .left) (c .before .before .before .before .before .before .fixed .result) (c .before .before .before .before .before .before .fixed .ensures) (not-true (c .before .before .before .before .before .before .fixed .result) (c .before .before .before .before .before .if3 .taken)) (c .before .before .before .pgn-error3 .result) (c .before .before .before .pgn-error3 .ensures)) (c .before .before .put3 .ensures)
 
 field-of-requires : tie.Need-field-of-requires
 field-of-requires c κs = (c .before .before .before .before .before .before .before .before .before .pre .1, omega (arith, c .before .before .before .before .before .before .before .before .before .pre .2 .fields, c .before .before .before .before .before .before .before .before .before .pre .3, c .before .before .if2 .left))
@@ -87,13 +86,13 @@ pgn-error-requires-4 : tie.Need-pgn-error-requires-4
 pgn-error-requires-4 c κs = search needs
 
 put-if-requires : tie.Need-put-if-requires
-put-if-requires c κs = rw (earlier (now (c .before .before .before .before .before .before .before .before .before .before .before .before .before .args .s)) (packOf (now (c .before .before .before .before .before .before .before .before .before .before .before .before .before .args .s)) .fieldtypes) (c .before .before .before .before .before .before .before .before .before .before .before .before .before .args .t) (c .before .before .before .before .before .before .before .before .before .before .before .before .before .args .i) (c .before .before .before .before .before .before .before .before .before .before .before .before .before .args .k) (pgnIn (packOf (now (c .before .before .before .before .before .before .before .before .before .before .before .before .before .args .s))) (c .before .before .before .before .before .before .before .before .before .before .before .before .before .args .t) (c .before .before .before .before .before .before .before .before .before .before .before .before .before .args .i)) (c .before .before .before .before .before .before .before .before .before .before .before .before .before .args .j) (not-false (c .before .before .before .before .before .before .before .before .before .before .before .before .before .args .j .given) (c .before .before .before .before .before .before .before .before .if1 .left)) (c .before .before .before .before .before .before .if2 .left) (c .before .before .before .before .before .fixed .result) (c .before .before .before .before .before .fixed .ensures) (not-false (c .before .before .before .before .before .fixed .result) (c .before .before .before .before .if3 .left)) (c .before .before .before .field-of .result) (c .before .before .before .field-of .ensures) (c .before .before .unsigned-integer .result) (c .before .before .unsigned-integer .ensures) (c .pgn-error4 .result) (c .pgn-error4 .ensures)) at (c .before .before .before .before .before .before .before .before .before .before .before .before .before .pre .0)
+put-if-requires c κs = rw (earlier (now (c .before .before .before .before .before .before .before .before .before .before .before .before .before .args .s)) (packOf (now (c .before .before .before .before .before .before .before .before .before .before .before .before .before .args .s)) .fieldtypes) (c .before .before .before .before .before .before .before .before .before .before .before .before .before .args .t) (c .before .before .before .before .before .before .before .before .before .before .before .before .before .args .i) (c .before .before .before .before .before .before .before .before .before .before .before .before .before .args .k) (pgn-at (packOf (now (c .before .before .before .before .before .before .before .before .before .before .before .before .before .args .s))) (c .before .before .before .before .before .before .before .before .before .before .before .before .before .args .t) (c .before .before .before .before .before .before .before .before .before .before .before .before .before .args .i)) (c .before .before .before .before .before .before .before .before .before .before .before .before .before .args .j) (not-false (c .before .before .before .before .before .before .before .before .before .before .before .before .before .args .j .given) (c .before .before .before .before .before .before .before .before .if1 .left)) (c .before .before .before .before .before .before .if2 .left) (c .before .before .before .before .before .fixed .result) (c .before .before .before .before .before .fixed .ensures) (not-false (c .before .before .before .before .before .fixed .result) (c .before .before .before .before .if3 .left)) (c .before .before .before .field-of .result) (c .before .before .before .field-of .ensures) (c .before .before .unsigned-integer .result) (c .before .before .unsigned-integer .ensures) (c .pgn-error4 .result) (c .pgn-error4 .ensures)) at (c .before .before .before .before .before .before .before .before .before .before .before .before .before .pre .0)
 
 same-length-4 : tie.Need-same-length-4
 same-length-4 c = search needs
 
 returns-4 : tie.Need-returns-4
-returns-4 c = rw (earlier (now (c .before .before .before .before .before .before .before .before .before .before .before .before .before .before .before .before .args .s)) (packOf (now (c .before .before .before .before .before .before .before .before .before .before .before .before .before .before .before .before .args .s)) .fieldtypes) (c .before .before .before .before .before .before .before .before .before .before .before .before .before .before .before .before .args .t) (c .before .before .before .before .before .before .before .before .before .before .before .before .before .before .before .before .args .i) (c .before .before .before .before .before .before .before .before .before .before .before .before .before .before .before .before .args .k) (pgnIn (packOf (now (c .before .before .before .before .before .before .before .before .before .before .before .before .before .before .before .before .args .s))) (c .before .before .before .before .before .before .before .before .before .before .before .before .before .before .before .before .args .t) (c .before .before .before .before .before .before .before .before .before .before .before .before .before .before .before .before .args .i)) (c .before .before .before .before .before .before .before .before .before .before .before .before .before .before .before .before .args .j) (not-false (c .before .before .before .before .before .before .before .before .before .before .before .before .before .before .before .before .args .j .given) (c .before .before .before .before .before .before .before .before .before .before .before .if1 .left)) (c .before .before .before .before .before .before .before .before .before .if2 .left) (c .before .before .before .before .before .before .before .before .fixed .result) (c .before .before .before .before .before .before .before .before .fixed .ensures) (not-false (c .before .before .before .before .before .before .before .before .fixed .result) (c .before .before .before .before .before .before .before .if3 .left)) (c .before .before .before .before .before .before .field-of .result) (c .before .before .before .before .before .before .field-of .ensures) (c .before .before .before .before .before .unsigned-integer .result) (c .before .before .before .before .before .unsigned-integer .ensures) (c .before .before .before .pgn-error4 .result) (c .before .before .before .pgn-error4 .ensures)) (c .before .before .put-if .ensures)
+returns-4 c = rw (earlier (now (c .before .before .before .before .before .before .before .before .before .before .before .before .before .before .before .before .args .s)) (packOf (now (c .before .before .before .before .before .before .before .before .before .before .before .before .before .before .before .before .args .s)) .fieldtypes) (c .before .before .before .before .before .before .before .before .before .before .before .before .before .before .before .before .args .t) (c .before .before .before .before .before .before .before .before .before .before .before .before .before .before .before .before .args .i) (c .before .before .before .before .before .before .before .before .before .before .before .before .before .before .before .before .args .k) (pgn-at (packOf (now (c .before .before .before .before .before .before .before .before .before .before .before .before .before .before .before .before .args .s))) (c .before .before .before .before .before .before .before .before .before .before .before .before .before .before .before .before .args .t) (c .before .before .before .before .before .before .before .before .before .before .before .before .before .before .before .before .args .i)) (c .before .before .before .before .before .before .before .before .before .before .before .before .before .before .before .before .args .j) (not-false (c .before .before .before .before .before .before .before .before .before .before .before .before .before .before .before .before .args .j .given) (c .before .before .before .before .before .before .before .before .before .before .before .if1 .left)) (c .before .before .before .before .before .before .before .before .before .if2 .left) (c .before .before .before .before .before .before .before .before .fixed .result) (c .before .before .before .before .before .before .before .before .fixed .ensures) (not-false (c .before .before .before .before .before .before .before .before .fixed .result) (c .before .before .before .before .before .before .before .if3 .left)) (c .before .before .before .before .before .before .field-of .result) (c .before .before .before .before .before .before .field-of .ensures) (c .before .before .before .before .before .unsigned-integer .result) (c .before .before .before .before .before .unsigned-integer .ensures) (c .before .before .before .pgn-error4 .result) (c .before .before .before .pgn-error4 .ensures)) (c .before .before .put-if .ensures)
 
 pub trailing-zero-target-at-spec : {M : Type 1} → statement M
 trailing-zero-target-at-spec =

@@ -1,6 +1,6 @@
 use Rattle.rules.proofs.Types.{integer-is}
-use Rattle.pack.specs.declared.records.FieldTypeView.{FieldTypeView}
-use Rattle.pack.specs.declared.records.FieldView.{FieldView}
+use Rattle.pack.specs.declared.field_type.FieldTypeView.{FieldTypeView}
+use Rattle.pack.specs.declared.field.FieldView.{FieldView}
 use Rattle.pack.specs.Meaning.{packOf, fieldMeaning, typeMeaning}
 use Rattle.pack.specs.Items.{bytesOf}
 use Rattle.rules.specs.Model.{fieldtype-of}

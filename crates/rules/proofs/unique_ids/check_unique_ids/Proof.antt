@@ -2,12 +2,13 @@ use Rattle.rules.proofs.Sizes.{at-pgn, fields-few, pgns-few}
 use Rattle.rules.specs.UniqueIds.{same-id-as, unique-field-ids, check-unique-ids}
 use Rattle.rules.specs.Search.{latestBelow}
 use Rattle.pack.proofs.Positions.{pgn-place-next}
-use Rattle.pack.specs.Ready.{pgnPlace, pgnIn}
+use Rattle.pack.specs.Ready.{pgnPlace}
 use Rattle.rules.proofs.Emits.{emitted-none, emitted-turn, fits-turn}
 use Rattle.rules.specs.Emit.{Emitted}
 use Rattle.rules.specs.declared.Finding.{Finding}
 use Rattle.pack.specs.Meaning.{packOf}
 use Rattle.pack.specs.Notation.{_≐_, concatBelow}
+use Rattle.pack.specs.Value.{pgn-at}
 use Prim.Native.Nat.{ℕ, _-_, _≤_}
 use native.Mathlib.Omega.{arith}
 use mathlib.Core.Path.{_≡_, refl, _∙_}
@@ -20,7 +21,7 @@ use Rattle.rules.proofs.unique_ids.check_unique_ids.Tie as tie
 
 -- the findings of PGN i
 abbrev of-pgn : List ℕ → ℕ → ℕ → List Finding
-of-pgn s t i = same-id-as t i (latestBelow (λ j. pgnIn (packOf s) t j .id ≐ pgnIn (packOf s) t i .id) i) ++ unique-field-ids t i (pgnIn (packOf s) t i)
+of-pgn s t i = same-id-as t i (latestBelow (λ j. pgn-at (packOf s) t j .id ≐ pgn-at (packOf s) t i .id) i) ++ unique-field-ids t i (pgn-at (packOf s) t i)
 
 abbrev Inv-loop : tie.InvT-loop
 Inv-loop out₀ n s work t count first m₀ p₀ i₀ out m p i = (i ≤ count) × (p ≡ pgnPlace (packOf s) t i) × (length out ≡ length out₀) × Emitted out₀ n (concatBelow (of-pgn s t) i) out m

@@ -2,10 +2,10 @@ use Rattle.rules.proofs.Sizes.{at-pgn, fields-few}
 use Rattle.rules.specs.SearchLaws.{latest-turn}
 use Rattle.rules.specs.Search.{latestBelow}
 use Rattle.pack.proofs.Positions.{pgn-room, pgn-place-next}
-use Rattle.pack.specs.Ready.{pgnPlace, pgnIn}
+use Rattle.pack.specs.Ready.{pgnPlace}
 use Rattle.pack.specs.Meaning.{optNumber, packOf}
 use Rattle.pack.specs.Items.{bytesOf}
-use Rattle.pack.specs.Value.{Pgn}
+use Rattle.pack.specs.Value.{Pgn, pgn-at}
 use Rattle.pack.specs.Notation.{_≐_}
 use mathlib.Core.Bool.{Bool}
 use Prim.Native.Nat.{ℕ, _-_, _≤_}
@@ -19,7 +19,7 @@ use Rattle.rules.proofs.unique_ids.latest_holder.Tie as tie
 
 -- whether PGN j has the id
 abbrev has : List ℕ → ℕ → List ℕ → ℕ → Bool
-has s t id j = pgnIn (packOf s) t j .id ≐ id
+has s t id j = pgn-at (packOf s) t j .id ≐ id
 
 abbrev Inv-loop : tie.InvT-loop
 Inv-loop s work t first n id found₀ p₀ j₀ found p j = (j ≤ n) × (p ≡ pgnPlace (packOf s) t j) × (optNumber found ≡ latestBelow (has s t (bytesOf s id)) j)

@@ -4,10 +4,9 @@ use Rattle.rules.proofs.Emits.{emitted-none}
 use Rattle.rules.specs.Model.{given}
 use Rattle.rules.specs.Findings.{pgn-error}
 use Rattle.rules.specs.declared.Finding.{Finding}
-use Rattle.pack.specs.Ready.{pgnIn}
 use Rattle.pack.specs.Meaning.{packOf}
 use Rattle.pack.specs.Items.{bytesOf}
-use Rattle.pack.specs.Value.{Pgn}
+use Rattle.pack.specs.Value.{Pgn, pgn-at}
 use Rattle.pack.specs.Notation.{_≐_, optional}
 use mathlib.Core.Option.{Option}
 use mathlib.Core.Bool.{Bool, true, false}
@@ -30,8 +29,8 @@ module _ (t i : ℕ) (o : Option ℕ) (b : Bool) (v : ℕ) (e : optional b v ≡
   other h F y = rw (← e, h, y)
 
 -- the latest earlier holder of the id, said of the view
-held : (s : List ℕ) (t i : ℕ) (id : List ℕ) → id ≡ pgnIn (packOf s) t i .id → latestBelow (λ j. pgnIn (packOf s) t j .id ≐ id) i ≡ latestBelow (λ j. pgnIn (packOf s) t j .id ≐ pgnIn (packOf s) t i .id) i
-held s t i id e = ap (λ (x : List ℕ). latestBelow (λ j. pgnIn (packOf s) t j .id ≐ x) i) e
+held : (s : List ℕ) (t i : ℕ) (id : List ℕ) → id ≡ pgn-at (packOf s) t i .id → latestBelow (λ j. pgn-at (packOf s) t j .id ≐ id) i ≡ latestBelow (λ j. pgn-at (packOf s) t j .id ≐ pgn-at (packOf s) t i .id) i
+held s t i id e = ap (λ (x : List ℕ). latestBelow (λ j. pgn-at (packOf s) t j .id ≐ x) i) e
 
 latest-holder-requires : tie.Need-latest-holder-requires
 latest-holder-requires c κs = (c .before .before .before .pre .1, c .before .before .before .pre .2, c .before .before .before .pre .3, c .before .before .before .pre .4)

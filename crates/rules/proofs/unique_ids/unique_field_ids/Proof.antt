@@ -6,10 +6,10 @@ use Rattle.rules.specs.Model.{given}
 use Rattle.rules.specs.Findings.{report-if, pgn-error}
 use Rattle.rules.specs.Emit.{Emitted}
 use Rattle.rules.specs.declared.Finding.{Finding}
-use Rattle.pack.specs.Ready.{pgnIn, fieldIn}
 use Rattle.pack.specs.Meaning.{packOf}
 use Rattle.pack.specs.Items.{bytesOf}
 use Rattle.pack.specs.Notation.{_≐_, optional, concatBelow}
+use Rattle.pack.specs.Value.{pgn-at, field-at}
 use mathlib.Core.Option.{Option, none, some}
 use mathlib.Core.Bool.{_||_, Bool, true, false}
 use Prim.Native.Nat.{ℕ, zero, suc, _-_, _≤_}
@@ -37,11 +37,11 @@ given-is false a = refl
 
 -- the findings of field k
 abbrev of-field : List ℕ → ℕ → ℕ → ℕ → List Finding
-of-field s t i k = report-if (anyBelow (λ j. fieldIn (packOf s) t i j .id ≐ fieldIn (packOf s) t i k .id) k) (pgn-error 21 2 t i k 0)
+of-field s t i k = report-if (anyBelow (λ j. field-at (pgn-at (packOf s) t i) j .id ≐ field-at (pgn-at (packOf s) t i) k .id) k) (pgn-error 21 2 t i k 0)
 
-said : (s : List ℕ) (t i k : ℕ) (id : List ℕ) (b : Bool) (v : ℕ) (F : Finding) → id ≡ fieldIn (packOf s) t i k .id → optional b v ≡ firstBelow (λ j. fieldIn (packOf s) t i j .id ≐ id) k → F ≡ pgn-error 21 2 t i k 0
+said : (s : List ℕ) (t i k : ℕ) (id : List ℕ) (b : Bool) (v : ℕ) (F : Finding) → id ≡ field-at (pgn-at (packOf s) t i) k .id → optional b v ≡ firstBelow (λ j. field-at (pgn-at (packOf s) t i) j .id ≐ id) k → F ≡ pgn-error 21 2 t i k 0
     → of-field s t i k ≡ report-if b F
-said s t i k id b v F x y z = rw (z, ← x, any-first (λ j. fieldIn (packOf s) t i j .id ≐ id) k, ← y, given-is b v)
+said s t i k id b v F x y z = rw (z, ← x, any-first (λ j. field-at (pgn-at (packOf s) t i) j .id ≐ id) k, ← y, given-is b v)
 
 abbrev Inv-loop : tie.InvT-loop
 Inv-loop out₀ n s work t i p fields m₀ k₀ out m k = (k ≤ fields) × (length out ≡ length out₀) × Emitted out₀ n (concatBelow (of-field s t i) k) out m
@@ -79,7 +79,7 @@ same-length c = c .before .loop .inv .1
 
 returns : tie.Need-returns Inv-loop μ-loop
 unfolding unique-field-ids
-returns c = let e : length (pgnIn (packOf (now (c .before .before .before .before .before .args .s))) (c .before .before .before .before .before .args .t) (c .before .before .before .before .before .args .i) .fields) ≡ c .before .loop .k = omega (arith, c .before .before .before .before .before .pre .2, c .before .loop .inv .0, c .loop-test .left) in rw e (c .before .loop .inv .2)
+returns c = let e : length (pgn-at (packOf (now (c .before .before .before .before .before .args .s))) (c .before .before .before .before .before .args .t) (c .before .before .before .before .before .args .i) .fields) ≡ c .before .loop .k = omega (arith, c .before .before .before .before .before .pre .2, c .before .loop .inv .0, c .loop-test .left) in rw e (c .before .loop .inv .2)
 
 pub unique-field-ids-spec : {M : Type 1} → statement M
 unique-field-ids-spec =

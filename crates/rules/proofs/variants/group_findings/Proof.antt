@@ -1,4 +1,4 @@
-use Rattle.pack.specs.Ready.{pgnPlace, pgnIn}
+use Rattle.pack.specs.Ready.{pgnPlace}
 use Rattle.pack.proofs.Positions.{pgn-place-next}
 use Rattle.rules.specs.Variants.{in-group, has-match, variant-at, matchless, group-findings}
 use Rattle.rules.specs.Search.{countBelow}
@@ -15,7 +15,7 @@ use lib.ListN.{length}
 use denote.Ref.{now}
 use Rattle.pack.specs.Notation.{concatBelow, _<ᵇ_}
 use Rattle.pack.specs.Meaning.{packOf}
-use Rattle.pack.specs.Value.{pgns-of}
+use Rattle.pack.specs.Value.{pgns-of, pgn-at}
 use Rattle.rules.specs.declared.Finding.{Finding}
 use Rattle.rules.specs.Emit.{Emitted}
 use Rattle.rules.specs.Findings.{report-if, group-error}
@@ -29,7 +29,7 @@ of-pgn s t number = variant-at t (pgns-of (packOf s) t) number
 
 -- whether PGN i is of the group and has no match
 abbrev lacks : List ℕ → ℕ → ℕ → ℕ → Bool
-lacks s t number i = in-group t (pgns-of (packOf s) t) number i && not (has-match (pgnIn (packOf s) t i) (length (pgnIn (packOf s) t i .fields)))
+lacks s t number i = in-group t (pgns-of (packOf s) t) number i && not (has-match (pgn-at (packOf s) t i) (length (pgn-at (packOf s) t i .fields)))
 
 whole : (s : List ℕ) (t number i w : ℕ) (F : Finding) → length (pgns-of (packOf s) t) ≡ i → w ≡ countBelow (lacks s t number) i → F ≡ group-error 20 2 t number w
     → group-findings t (pgns-of (packOf s) t) (some number) ≡ concatBelow (of-pgn s t number) i ++ report-if (1 <ᵇ w) F

@@ -1,4 +1,4 @@
-use Rattle.pack.specs.Ready.{pgnPlace, pgnIn}
+use Rattle.pack.specs.Ready.{pgnPlace}
 use Rattle.pack.proofs.Positions.{pgn-place-next}
 use Rattle.rules.specs.Variants.{in-group, duplicates}
 use Rattle.rules.specs.Search.{latestBelow}
@@ -12,13 +12,13 @@ use mathlib.Core.Bool.{Bool, _&&_}
 use mathlib.Core.List.{List}
 use denote.Ref.{now}
 use Rattle.pack.specs.Meaning.{packOf, optNumber}
-use Rattle.pack.specs.Value.{pgns-of}
+use Rattle.pack.specs.Value.{pgns-of, pgn-at}
 use Rattle.rules.proofs.variants.latest_duplicate.Statement.{statement}
 use Rattle.rules.proofs.variants.latest_duplicate.Tie as tie
 
 -- whether PGN j is of the group and a duplicate of PGN i
 abbrev copies : List ℕ → ℕ → ℕ → ℕ → ℕ → Bool
-copies s t number i j = in-group t (pgns-of (packOf s) t) number j && duplicates (pgnIn (packOf s) t j) (pgnIn (packOf s) t i)
+copies s t number i j = in-group t (pgns-of (packOf s) t) number j && duplicates (pgn-at (packOf s) t j) (pgn-at (packOf s) t i)
 
 abbrev Inv-loop : tie.InvT-loop
 Inv-loop s work t first number i p n found₀ q₀ j₀ found q j = (j ≤ i) × (q ≡ pgnPlace (packOf s) t j) × (optNumber found ≡ latestBelow (copies s t number i) j)

@@ -1,6 +1,6 @@
-use Rattle.pack.specs.declared.records.PgnView.{PgnView}
-use Rattle.pack.specs.Value.{Pgn, pgns-of}
-use Rattle.pack.specs.Ready.{pgnPlace, PgnIs, pgnIn}
+use Rattle.pack.specs.declared.pgn.PgnView.{PgnView}
+use Rattle.pack.specs.Value.{Pgn, pgns-of, pgn-at}
+use Rattle.pack.specs.Ready.{pgnPlace, PgnIs}
 use Rattle.pack.proofs.Positions.{pgn-place-next}
 use Rattle.rules.specs.Variants.{least-group}
 use Rattle.rules.specs.Search.{minBelow}
@@ -28,7 +28,7 @@ said : (s : List ℕ) (p : Pgn) (b : ℕ) (g : PgnView) (hit : Bool) → PgnIs s
 said s p b g hit is e = ap (λ (x : Pgn). counts x b) (sym (is .means)) ∙ ap (λ (x : Bool). optional x (g .pgn)) (sym e)
 
 abbrev Inv-loop : tie.InvT-loop
-Inv-loop s work t b count found₀ p₀ i₀ found p i = (i ≤ count) × (p ≡ pgnPlace (packOf s) t i) × (optNumber found ≡ minBelow (λ i. counts (pgnIn (packOf s) t i) b) i)
+Inv-loop s work t b count found₀ p₀ i₀ found p i = (i ≤ count) × (p ≡ pgnPlace (packOf s) t i) × (optNumber found ≡ minBelow (λ i. counts (pgn-at (packOf s) t i) b) i)
 
 abbrev μ-loop : tie.MeasureT-loop
 μ-loop s work t b count found₀ p₀ i₀ found p i = count - i
@@ -61,7 +61,7 @@ loop-less : tie.Need-loop-less Inv-loop μ-loop
 loop-less c = search needs
 
 loop-again : tie.Need-loop-again Inv-loop μ-loop
-loop-again c = (search needs, omega (arith, pgn-place-next (packOf (now (c .before .before .before .before .before .before .before .before .args .s))) (c .before .before .before .before .before .before .before .before .args .t) (c .before .before .before .before .before .loop .i), c .before .before .before .pgn-of .ensures .fields, c .before .before .before .before .before .loop .inv .1), c .before .smaller .ensures ∙ (rw (min-turn (λ i. counts (pgnIn (packOf (now (c .before .before .before .before .before .before .before .before .args .s))) (c .before .before .before .before .before .before .before .before .args .t) i) (c .before .before .before .before .before .before .before .before .args .b)) (c .before .before .before .before .before .loop .i), said (now (c .before .before .before .before .before .before .before .before .args .s)) (pgnIn (packOf (now (c .before .before .before .before .before .before .before .before .args .s))) (c .before .before .before .before .before .before .before .before .args .t) (c .before .before .before .before .before .loop .i)) (c .before .before .before .before .before .before .before .before .args .b) (c .before .before .before .pgn-of .result) (c .before .before .from-number .result) (c .before .before .before .pgn-of .ensures) (c .before .before .from-number .ensures), c .before .before .before .before .before .loop .inv .2)))
+loop-again c = (search needs, omega (arith, pgn-place-next (packOf (now (c .before .before .before .before .before .before .before .before .args .s))) (c .before .before .before .before .before .before .before .before .args .t) (c .before .before .before .before .before .loop .i), c .before .before .before .pgn-of .ensures .fields, c .before .before .before .before .before .loop .inv .1), c .before .smaller .ensures ∙ (rw (min-turn (λ i. counts (pgn-at (packOf (now (c .before .before .before .before .before .before .before .before .args .s))) (c .before .before .before .before .before .before .before .before .args .t) i) (c .before .before .before .before .before .before .before .before .args .b)) (c .before .before .before .before .before .loop .i), said (now (c .before .before .before .before .before .before .before .before .args .s)) (pgn-at (packOf (now (c .before .before .before .before .before .before .before .before .args .s))) (c .before .before .before .before .before .before .before .before .args .t) (c .before .before .before .before .before .loop .i)) (c .before .before .before .before .before .before .before .before .args .b) (c .before .before .before .pgn-of .result) (c .before .before .from-number .result) (c .before .before .before .pgn-of .ensures) (c .before .before .from-number .ensures), c .before .before .before .before .before .loop .inv .2)))
 
 returns : tie.Need-returns Inv-loop μ-loop
 unfolding least-group

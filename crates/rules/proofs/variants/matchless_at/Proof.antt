@@ -5,9 +5,8 @@ use mathlib.Core.Path.{sym, _∙_, ap}
 use mathlib.Core.Bool.{not}
 use lib.ListN.{length}
 use denote.Ref.{now}
-use Rattle.pack.specs.Ready.{pgnIn}
 use Rattle.pack.specs.Meaning.{packOf}
-use Rattle.pack.specs.Value.{pgns-of}
+use Rattle.pack.specs.Value.{pgns-of, pgn-at}
 use borrow.Author.Needs.{needs}
 use Rattle.rules.proofs.variants.matchless_at.Statement.{statement}
 use Rattle.rules.proofs.variants.matchless_at.Tie as tie
@@ -16,13 +15,13 @@ in-group-requires : tie.Need-in-group-requires
 in-group-requires c κs = search needs
 
 returns : tie.Need-returns
-returns c = outside (in-group (c .before .before .before .before .args .t) (pgns-of (packOf (now (c .before .before .before .before .args .s))) (c .before .before .before .before .args .t)) (c .before .before .before .before .args .number) (c .before .before .before .before .args .i)) (not (has-match (pgnIn (packOf (now (c .before .before .before .before .args .s))) (c .before .before .before .before .args .t) (c .before .before .before .before .args .i)) (length (pgnIn (packOf (now (c .before .before .before .before .args .s))) (c .before .before .before .before .args .t) (c .before .before .before .before .args .i) .fields)))) (in-group-is (now (c .before .before .before .before .args .s)) (c .before .before .before .before .args .t) (c .before .before .before .before .args .number) (c .before .before .before .before .args .i) (c .before .before .before .before .args .g) (c .before .before .before .before .pre .1) ∙ sym (c .before .in-group .ensures) ∙ not-true (c .before .in-group .result) (c .if1 .taken))
+returns c = outside (in-group (c .before .before .before .before .args .t) (pgns-of (packOf (now (c .before .before .before .before .args .s))) (c .before .before .before .before .args .t)) (c .before .before .before .before .args .number) (c .before .before .before .before .args .i)) (not (has-match (pgn-at (packOf (now (c .before .before .before .before .args .s))) (c .before .before .before .before .args .t) (c .before .before .before .before .args .i)) (length (pgn-at (packOf (now (c .before .before .before .before .args .s))) (c .before .before .before .before .args .t) (c .before .before .before .before .args .i) .fields)))) (in-group-is (now (c .before .before .before .before .args .s)) (c .before .before .before .before .args .t) (c .before .before .before .before .args .number) (c .before .before .before .before .args .i) (c .before .before .before .before .args .g) (c .before .before .before .before .pre .1) ∙ sym (c .before .in-group .ensures) ∙ not-true (c .before .in-group .result) (c .if1 .taken))
 
 has-match-requires : tie.Need-has-match-requires
 has-match-requires c κs = (c .before .before .before .before .pre .0, c .before .before .before .before .pre .1 .fields)
 
 returns-2 : tie.Need-returns-2
-returns-2 c = within (in-group (c .before .before .before .before .before .args .t) (pgns-of (packOf (now (c .before .before .before .before .before .args .s))) (c .before .before .before .before .before .args .t)) (c .before .before .before .before .before .args .number) (c .before .before .before .before .before .args .i)) (not (has-match (pgnIn (packOf (now (c .before .before .before .before .before .args .s))) (c .before .before .before .before .before .args .t) (c .before .before .before .before .before .args .i)) (length (pgnIn (packOf (now (c .before .before .before .before .before .args .s))) (c .before .before .before .before .before .args .t) (c .before .before .before .before .before .args .i) .fields)))) (not (c .has-match .result)) (in-group-is (now (c .before .before .before .before .before .args .s)) (c .before .before .before .before .before .args .t) (c .before .before .before .before .before .args .number) (c .before .before .before .before .before .args .i) (c .before .before .before .before .before .args .g) (c .before .before .before .before .before .pre .1) ∙ sym (c .before .before .in-group .ensures) ∙ not-false (c .before .before .in-group .result) (c .before .if1 .left)) (ap not (c .has-match .ensures ∙ ap (has-match (pgnIn (packOf (now (c .before .before .before .before .before .args .s))) (c .before .before .before .before .before .args .t) (c .before .before .before .before .before .args .i))) (c .before .before .before .before .before .pre .1 .fields)))
+returns-2 c = within (in-group (c .before .before .before .before .before .args .t) (pgns-of (packOf (now (c .before .before .before .before .before .args .s))) (c .before .before .before .before .before .args .t)) (c .before .before .before .before .before .args .number) (c .before .before .before .before .before .args .i)) (not (has-match (pgn-at (packOf (now (c .before .before .before .before .before .args .s))) (c .before .before .before .before .before .args .t) (c .before .before .before .before .before .args .i)) (length (pgn-at (packOf (now (c .before .before .before .before .before .args .s))) (c .before .before .before .before .before .args .t) (c .before .before .before .before .before .args .i) .fields)))) (not (c .has-match .result)) (in-group-is (now (c .before .before .before .before .before .args .s)) (c .before .before .before .before .before .args .t) (c .before .before .before .before .before .args .number) (c .before .before .before .before .before .args .i) (c .before .before .before .before .before .args .g) (c .before .before .before .before .before .pre .1) ∙ sym (c .before .before .in-group .ensures) ∙ not-false (c .before .before .in-group .result) (c .before .if1 .left)) (ap not (c .has-match .ensures ∙ ap (has-match (pgn-at (packOf (now (c .before .before .before .before .before .args .s))) (c .before .before .before .before .before .args .t) (c .before .before .before .before .before .args .i))) (c .before .before .before .before .before .pre .1 .fields)))
 
 pub matchless-at-spec : {M : Type 1} → statement M
 matchless-at-spec = tie.close (tie.spec in-group-requires returns has-match-requires returns-2)

@@ -1,10 +1,10 @@
 use Rattle.walk.proofs.Parts.{target-below}
 use Rattle.walk.specs.Held.{bit-length-held}
 use Rattle.walk.specs.Layout.{layout, sets-hold}
-use Rattle.rules.specs.Model.{field-at, target}
+use Rattle.rules.specs.Model.{target}
 use Rattle.rules.proofs.Sizes.{fields-few}
 use Rattle.pack.specs.Items.{bytesOf}
-use Rattle.pack.specs.Value.{Bytes, Field, Pgn}
+use Rattle.pack.specs.Value.{Bytes, Field, Pgn, pgn-at, field-at}
 use native.Mathlib.Numerals.{add-one}
 use borrow.Author.Tests.{not-true, not-false}
 use native.Mathlib.Omega.{arith}
@@ -14,7 +14,6 @@ use mathlib.Core.Bool.{Bool, true}
 use mathlib.Core.Option.{Option, none, some}
 use denote.Ref.{now}
 use Rattle.pack.specs.Notation.{optional}
-use Rattle.pack.specs.Ready.{pgnIn}
 use Rattle.pack.specs.Meaning.{packOf, fieldMeaning}
 use borrow.Author.Needs.{needs}
 use Rattle.walk.proofs.held.bit_length_held.Statement.{statement}
@@ -38,7 +37,7 @@ module _ (p : Pgn) (k : ℕ) (F : Field) (is : F ≡ field-at p k) where
     known t h = rw (named (some id) x, h, bit-length-held)
 
 returns : tie.Need-returns
-returns c = sym (nothing (pgnIn (packOf (now (c .before .before .before .before .before .args .s))) (c .before .before .before .before .before .args .t) (c .before .before .before .before .before .args .i)) (c .before .before .before .before .before .args .k) (fieldMeaning (now (c .before .before .before .before .before .args .s)) (c .before .before .before .before .before .args .f)) (c .before .before .before .before .before .pre .3) (ap (λ (b : Bool). optional b (bytesOf (now (c .before .before .before .before .before .args .s)) (c .before .before .before .before .before .args .f .links .length .text))) (not-true (c .before .before .before .before .before .args .f .links .length .given) (c .if1 .taken))))
+returns c = sym (nothing (pgn-at (packOf (now (c .before .before .before .before .before .args .s))) (c .before .before .before .before .before .args .t) (c .before .before .before .before .before .args .i)) (c .before .before .before .before .before .args .k) (fieldMeaning (now (c .before .before .before .before .before .args .s)) (c .before .before .before .before .before .args .f)) (c .before .before .before .before .before .pre .3) (ap (λ (b : Bool). optional b (bytesOf (now (c .before .before .before .before .before .args .s)) (c .before .before .before .before .before .args .f .links .length .text))) (not-true (c .before .before .before .before .before .args .f .links .length .given) (c .if1 .taken))))
 
 target-requires : tie.Need-target-requires
 target-requires c κs = search needs
@@ -46,7 +45,7 @@ target-requires c κs = search needs
 returns-2 : tie.Need-returns-2
 returns-2 c =
     let id = bytesOf (now (c .before .before .before .before .before .before .before .before .args .s)) (c .before .before .before .before .before .before .before .before .args .f .links .length .text) in
-    sym (unknown (pgnIn (packOf (now (c .before .before .before .before .before .before .before .before .args .s))) (c .before .before .before .before .before .before .before .before .args .t) (c .before .before .before .before .before .before .before .before .args .i)) (c .before .before .before .before .before .before .before .before .args .k) (fieldMeaning (now (c .before .before .before .before .before .before .before .before .args .s)) (c .before .before .before .before .before .before .before .before .args .f)) (c .before .before .before .before .before .before .before .before .pre .3) id (ap (λ (b : Bool). optional b id) (not-false (c .before .before .before .before .before .before .before .before .args .f .links .length .given) (c .before .before .before .if1 .left))) (sym (c .before .before .target .ensures) ∙ ap (λ (b : Bool). optional b (c .before .before .target .result .value)) (not-true (c .before .before .target .result .given) (c .if2 .taken))))
+    sym (unknown (pgn-at (packOf (now (c .before .before .before .before .before .before .before .before .args .s))) (c .before .before .before .before .before .before .before .before .args .t) (c .before .before .before .before .before .before .before .before .args .i)) (c .before .before .before .before .before .before .before .before .args .k) (fieldMeaning (now (c .before .before .before .before .before .before .before .before .args .s)) (c .before .before .before .before .before .before .before .before .args .f)) (c .before .before .before .before .before .before .before .before .pre .3) id (ap (λ (b : Bool). optional b id) (not-false (c .before .before .before .before .before .before .before .before .args .f .links .length .given) (c .before .before .before .if1 .left))) (sym (c .before .before .target .ensures) ∙ ap (λ (b : Bool). optional b (c .before .before .target .result .value)) (not-true (c .before .before .target .result .given) (c .if2 .taken))))
 
 order-requires : tie.Need-order-requires
 order-requires c κs = omega (arith, c .before .before .before .before .before .before .before .before .pre .2, fields-few (c .before .before .before .before .before .before .before .before .pre .0))
@@ -54,17 +53,17 @@ order-requires c κs = omega (arith, c .before .before .before .before .before .
 order-requires-2 : tie.Need-order-requires-2
 order-requires-2 c κs =
     let e = sym (c .before .before .before .target .ensures) ∙ ap (λ (b : Bool). optional b (c .before .before .before .target .result .value)) (not-false (c .before .before .before .target .result .given) (c .before .if2 .left)) in
-    omega (arith, target-below (pgnIn (packOf (now (c .before .before .before .before .before .before .before .before .before .args .s))) (c .before .before .before .before .before .before .before .before .before .args .t) (c .before .before .before .before .before .before .before .before .before .args .i)) (bytesOf (now (c .before .before .before .before .before .before .before .before .before .args .s)) (c .before .before .before .before .before .before .before .before .before .args .f .links .length .text)) (c .before .before .before .target .result .value) e, fields-few (c .before .before .before .before .before .before .before .before .before .pre .0))
+    omega (arith, target-below (pgn-at (packOf (now (c .before .before .before .before .before .before .before .before .before .args .s))) (c .before .before .before .before .before .before .before .before .before .args .t) (c .before .before .before .before .before .before .before .before .before .args .i)) (bytesOf (now (c .before .before .before .before .before .before .before .before .before .args .s)) (c .before .before .before .before .before .before .before .before .before .args .f .links .length .text)) (c .before .before .before .target .result .value) e, fields-few (c .before .before .before .before .before .before .before .before .before .pre .0))
 
 sets-hold-requires : tie.Need-sets-hold-requires
 sets-hold-requires c κs = search needs
 
 returns-3 : tie.Need-returns-3
 returns-3 c =
-    let L = layout (pgnIn (packOf (now (c .before .before .before .before .before .before .before .before .before .before .before .args .s))) (c .before .before .before .before .before .before .before .before .before .before .before .args .t) (c .before .before .before .before .before .before .before .before .before .before .before .args .i)) in
+    let L = layout (pgn-at (packOf (now (c .before .before .before .before .before .before .before .before .before .before .before .args .s))) (c .before .before .before .before .before .before .before .before .before .before .before .args .t) (c .before .before .before .before .before .before .before .before .before .before .before .args .i)) in
     let id = bytesOf (now (c .before .before .before .before .before .before .before .before .before .before .before .args .s)) (c .before .before .before .before .before .before .before .before .before .before .before .args .f .links .length .text) in
     let e = sym (c .before .before .before .before .before .target .ensures) ∙ ap (λ (b : Bool). optional b (c .before .before .before .before .before .target .result .value)) (not-false (c .before .before .before .before .before .target .result .given) (c .before .before .before .if2 .left)) in
-    c .sets-hold .ensures L (c .before .before .before .before .before .before .before .before .before .before .before .pre .1) ∙ (λ j. sets-hold L ((c .before .order2 .ensures ∙ add-one (c .before .before .before .before .before .target .result .value)) j) ((c .before .before .order .ensures ∙ add-one (c .before .before .before .before .before .before .before .before .before .before .before .args .k)) j)) ∙ sym (known (pgnIn (packOf (now (c .before .before .before .before .before .before .before .before .before .before .before .args .s))) (c .before .before .before .before .before .before .before .before .before .before .before .args .t) (c .before .before .before .before .before .before .before .before .before .before .before .args .i)) (c .before .before .before .before .before .before .before .before .before .before .before .args .k) (fieldMeaning (now (c .before .before .before .before .before .before .before .before .before .before .before .args .s)) (c .before .before .before .before .before .before .before .before .before .before .before .args .f)) (c .before .before .before .before .before .before .before .before .before .before .before .pre .3) id (ap (λ (b : Bool). optional b id) (not-false (c .before .before .before .before .before .before .before .before .before .before .before .args .f .links .length .given) (c .before .before .before .before .before .before .if1 .left))) (c .before .before .before .before .before .target .result .value) e)
+    c .sets-hold .ensures L (c .before .before .before .before .before .before .before .before .before .before .before .pre .1) ∙ (λ j. sets-hold L ((c .before .order2 .ensures ∙ add-one (c .before .before .before .before .before .target .result .value)) j) ((c .before .before .order .ensures ∙ add-one (c .before .before .before .before .before .before .before .before .before .before .before .args .k)) j)) ∙ sym (known (pgn-at (packOf (now (c .before .before .before .before .before .before .before .before .before .before .before .args .s))) (c .before .before .before .before .before .before .before .before .before .before .before .args .t) (c .before .before .before .before .before .before .before .before .before .before .before .args .i)) (c .before .before .before .before .before .before .before .before .before .before .before .args .k) (fieldMeaning (now (c .before .before .before .before .before .before .before .before .before .before .before .args .s)) (c .before .before .before .before .before .before .before .before .before .before .before .args .f)) (c .before .before .before .before .before .before .before .before .before .before .before .pre .3) id (ap (λ (b : Bool). optional b id) (not-false (c .before .before .before .before .before .before .before .before .before .before .before .args .f .links .length .given) (c .before .before .before .before .before .before .if1 .left))) (c .before .before .before .before .before .target .result .value) e)
 
 pub bit-length-held-spec : {M : Type 1} → statement M
 bit-length-held-spec =

@@ -1,7 +1,7 @@
 use Rattle.walk.proofs.Tests.{every-turn, every-missed}
 use Rattle.walk.specs.Held.{bit-length-held}
-use Rattle.walk.specs.Layout.{everyBelow}
 use Rattle.rules.proofs.Sizes.{fields-few}
+use Rattle.rules.specs.Search.{everyBelow}
 use borrow.Author.Tests.{not-true, not-false}
 use borrow.Author.Needs.{needs}
 use native.Mathlib.Omega.{arith}
@@ -10,13 +10,13 @@ use mathlib.Core.Path.{_≡_, refl, sym, _∙_, ap}
 use mathlib.Core.Bool.{true}
 use lib.ListN.{length}
 use denote.Ref.{now}
-use Rattle.pack.specs.Ready.{pgnIn}
 use Rattle.pack.specs.Meaning.{packOf}
+use Rattle.pack.specs.Value.{pgn-at}
 use Rattle.walk.proofs.held.bit_lengths_held.Statement.{statement}
 use Rattle.walk.proofs.held.bit_lengths_held.Tie as tie
 
 abbrev Inv-loop : tie.InvT-loop
-Inv-loop s work t i p sets fields k₀ k = (k ≤ fields) × (everyBelow (bit-length-held (pgnIn (packOf s) t i)) k ≡ true)
+Inv-loop s work t i p sets fields k₀ k = (k ≤ fields) × (everyBelow (bit-length-held (pgn-at (packOf s) t i)) k ≡ true)
 
 abbrev μ-loop : tie.MeasureT-loop
 μ-loop s work t i p sets fields k₀ k = fields - k
@@ -31,7 +31,7 @@ bit-length-held-requires : tie.Need-bit-length-held-requires Inv-loop μ-loop
 bit-length-held-requires c κs = (c .before .before .before .before .before .pre .0, c .before .before .before .before .before .pre .1, omega (arith, c .before .before .before .before .before .pre .1 .fields, c .before .loop-test .taken), c .field-of .ensures)
 
 returns : tie.Need-returns Inv-loop μ-loop
-returns c = sym (every-missed (bit-length-held (pgnIn (packOf (now (c .before .before .before .before .before .before .before .args .s))) (c .before .before .before .before .before .before .before .args .t) (c .before .before .before .before .before .before .before .args .i))) (length (pgnIn (packOf (now (c .before .before .before .before .before .before .before .args .s))) (c .before .before .before .before .before .before .before .args .t) (c .before .before .before .before .before .before .before .args .i) .fields)) (c .before .before .before .before .loop .k) (omega (arith, c .before .before .before .before .before .before .before .pre .1 .fields, c .before .before .before .loop-test .taken)) (sym (c .before .bit-length-held .ensures) ∙ not-true (c .before .bit-length-held .result) (c .if1 .taken)))
+returns c = sym (every-missed (bit-length-held (pgn-at (packOf (now (c .before .before .before .before .before .before .before .args .s))) (c .before .before .before .before .before .before .before .args .t) (c .before .before .before .before .before .before .before .args .i))) (length (pgn-at (packOf (now (c .before .before .before .before .before .before .before .args .s))) (c .before .before .before .before .before .before .before .args .t) (c .before .before .before .before .before .before .before .args .i) .fields)) (c .before .before .before .before .loop .k) (omega (arith, c .before .before .before .before .before .before .before .pre .1 .fields, c .before .before .before .loop-test .taken)) (sym (c .before .bit-length-held .ensures) ∙ not-true (c .before .bit-length-held .result) (c .if1 .taken)))
 
 add-k : tie.Need-add-k Inv-loop μ-loop
 add-k c = omega (arith, c .before .before .before .loop-test .taken, c .before .before .before .before .before .before .before .pre .1 .fields, fields-few (c .before .before .before .before .before .before .before .pre .0))
@@ -40,12 +40,12 @@ loop-less : tie.Need-loop-less Inv-loop μ-loop
 loop-less c = search needs
 
 loop-again : tie.Need-loop-again Inv-loop μ-loop
-loop-again c = (search needs, every-turn (bit-length-held (pgnIn (packOf (now (c .before .before .before .before .before .before .before .args .s))) (c .before .before .before .before .before .before .before .args .t) (c .before .before .before .before .before .before .before .args .i))) (c .before .before .before .before .loop .k) ∙ (rw (c .before .before .before .before .loop .inv .1) (sym (c .before .bit-length-held .ensures) ∙ not-false (c .before .bit-length-held .result) (c .if1 .left))))
+loop-again c = (search needs, every-turn (bit-length-held (pgn-at (packOf (now (c .before .before .before .before .before .before .before .args .s))) (c .before .before .before .before .before .before .before .args .t) (c .before .before .before .before .before .before .before .args .i))) (c .before .before .before .before .loop .k) ∙ (rw (c .before .before .before .before .loop .inv .1) (sym (c .before .bit-length-held .ensures) ∙ not-false (c .before .bit-length-held .result) (c .if1 .left))))
 
 returns-2 : tie.Need-returns-2 Inv-loop μ-loop
 returns-2 c =
-    let q : length (pgnIn (packOf (now (c .before .before .before .before .args .s))) (c .before .before .before .before .args .t) (c .before .before .before .before .args .i) .fields) ≡ c .before .loop .k = omega (arith, c .before .before .before .before .pre .1 .fields, c .before .loop .inv .0, c .loop-test .left) in
-    sym (ap (everyBelow (bit-length-held (pgnIn (packOf (now (c .before .before .before .before .args .s))) (c .before .before .before .before .args .t) (c .before .before .before .before .args .i)))) q ∙ c .before .loop .inv .1)
+    let q : length (pgn-at (packOf (now (c .before .before .before .before .args .s))) (c .before .before .before .before .args .t) (c .before .before .before .before .args .i) .fields) ≡ c .before .loop .k = omega (arith, c .before .before .before .before .pre .1 .fields, c .before .loop .inv .0, c .loop-test .left) in
+    sym (ap (everyBelow (bit-length-held (pgn-at (packOf (now (c .before .before .before .before .args .s))) (c .before .before .before .before .args .t) (c .before .before .before .before .args .i)))) q ∙ c .before .loop .inv .1)
 
 pub bit-lengths-held-spec : {M : Type 1} → statement M
 bit-lengths-held-spec =

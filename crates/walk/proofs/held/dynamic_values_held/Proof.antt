@@ -2,10 +2,11 @@ use Rattle.walk.proofs.Parts.{value-held}
 use Rattle.walk.proofs.Tests.{every-turn, every-missed}
 use Rattle.walk.specs.Held.{dynamic-value-held}
 use Rattle.walk.specs.Stops.{lacks-length}
-use Rattle.walk.specs.Layout.{layout, everyBelow}
+use Rattle.walk.specs.Layout.{layout}
 use Rattle.walk.specs.ByPlace.{placed}
 use Rattle.rules.proofs.Sizes.{fields-few}
-use Rattle.pack.specs.Value.{Pgn, Pack}
+use Rattle.rules.specs.Search.{everyBelow}
+use Rattle.pack.specs.Value.{Pgn, Pack, pgn-at}
 use borrow.Author.Needs.{needs}
 use native.Mathlib.Omega.{arith}
 use Prim.Native.Nat.{ℕ, suc, _-_, _≤_}
@@ -13,7 +14,6 @@ use mathlib.Core.Path.{_≡_, refl, sym, _∙_, ap}
 use mathlib.Core.Bool.{Bool, true, false, not}
 use lib.ListN.{length}
 use denote.Ref.{now}
-use Rattle.pack.specs.Ready.{pgnIn}
 use Rattle.pack.specs.Meaning.{packOf}
 use Rattle.walk.proofs.held.dynamic_values_held.Statement.{statement}
 use Rattle.walk.proofs.held.dynamic_values_held.Tie as tie
@@ -23,7 +23,7 @@ unfolding dynamic-value-held
 said P p k r b e h = value-held P p (layout p) k ∙ ap not (sym e ∙ h)
 
 abbrev Inv-loop : tie.InvT-loop
-Inv-loop s work t i p sets fields k₀ k = (k ≤ fields) × (everyBelow (dynamic-value-held (packOf s) (pgnIn (packOf s) t i)) k ≡ true)
+Inv-loop s work t i p sets fields k₀ k = (k ≤ fields) × (everyBelow (dynamic-value-held (packOf s) (pgn-at (packOf s) t i)) k ≡ true)
 
 abbrev μ-loop : tie.MeasureT-loop
 μ-loop s work t i p sets fields k₀ k = fields - k
@@ -38,7 +38,7 @@ lacks-length-requires : tie.Need-lacks-length-requires Inv-loop μ-loop
 lacks-length-requires c κs = (c .before .before .before .before .before .pre .0, c .before .before .before .before .before .pre .1, omega (arith, c .before .before .before .before .before .pre .1 .fields, c .before .loop-test .taken), c .field-of .ensures)
 
 returns : tie.Need-returns Inv-loop μ-loop
-returns c = sym (every-missed (dynamic-value-held (packOf (now (c .before .before .before .before .before .before .before .args .s))) (pgnIn (packOf (now (c .before .before .before .before .before .before .before .args .s))) (c .before .before .before .before .before .before .before .args .t) (c .before .before .before .before .before .before .before .args .i))) (length (pgnIn (packOf (now (c .before .before .before .before .before .before .before .args .s))) (c .before .before .before .before .before .before .before .args .t) (c .before .before .before .before .before .before .before .args .i) .fields)) (c .before .before .before .before .loop .k) (omega (arith, c .before .before .before .before .before .before .before .pre .1 .fields, c .before .before .before .loop-test .taken)) (said (packOf (now (c .before .before .before .before .before .before .before .args .s))) (pgnIn (packOf (now (c .before .before .before .before .before .before .before .args .s))) (c .before .before .before .before .before .before .before .args .t) (c .before .before .before .before .before .before .before .args .i)) (c .before .before .before .before .loop .k) (c .before .lacks-length .result) true (c .before .lacks-length .ensures) (c .if1 .taken)))
+returns c = sym (every-missed (dynamic-value-held (packOf (now (c .before .before .before .before .before .before .before .args .s))) (pgn-at (packOf (now (c .before .before .before .before .before .before .before .args .s))) (c .before .before .before .before .before .before .before .args .t) (c .before .before .before .before .before .before .before .args .i))) (length (pgn-at (packOf (now (c .before .before .before .before .before .before .before .args .s))) (c .before .before .before .before .before .before .before .args .t) (c .before .before .before .before .before .before .before .args .i) .fields)) (c .before .before .before .before .loop .k) (omega (arith, c .before .before .before .before .before .before .before .pre .1 .fields, c .before .before .before .loop-test .taken)) (said (packOf (now (c .before .before .before .before .before .before .before .args .s))) (pgn-at (packOf (now (c .before .before .before .before .before .before .before .args .s))) (c .before .before .before .before .before .before .before .args .t) (c .before .before .before .before .before .before .before .args .i)) (c .before .before .before .before .loop .k) (c .before .lacks-length .result) true (c .before .lacks-length .ensures) (c .if1 .taken)))
 
 add-k : tie.Need-add-k Inv-loop μ-loop
 add-k c = omega (arith, c .before .before .before .loop-test .taken, c .before .before .before .before .before .before .before .pre .1 .fields, fields-few (c .before .before .before .before .before .before .before .pre .0))
@@ -47,12 +47,12 @@ loop-less : tie.Need-loop-less Inv-loop μ-loop
 loop-less c = search needs
 
 loop-again : tie.Need-loop-again Inv-loop μ-loop
-loop-again c = (search needs, every-turn (dynamic-value-held (packOf (now (c .before .before .before .before .before .before .before .args .s))) (pgnIn (packOf (now (c .before .before .before .before .before .before .before .args .s))) (c .before .before .before .before .before .before .before .args .t) (c .before .before .before .before .before .before .before .args .i))) (c .before .before .before .before .loop .k) ∙ (rw (c .before .before .before .before .loop .inv .1) (said (packOf (now (c .before .before .before .before .before .before .before .args .s))) (pgnIn (packOf (now (c .before .before .before .before .before .before .before .args .s))) (c .before .before .before .before .before .before .before .args .t) (c .before .before .before .before .before .before .before .args .i)) (c .before .before .before .before .loop .k) (c .before .lacks-length .result) false (c .before .lacks-length .ensures) (c .if1 .left))))
+loop-again c = (search needs, every-turn (dynamic-value-held (packOf (now (c .before .before .before .before .before .before .before .args .s))) (pgn-at (packOf (now (c .before .before .before .before .before .before .before .args .s))) (c .before .before .before .before .before .before .before .args .t) (c .before .before .before .before .before .before .before .args .i))) (c .before .before .before .before .loop .k) ∙ (rw (c .before .before .before .before .loop .inv .1) (said (packOf (now (c .before .before .before .before .before .before .before .args .s))) (pgn-at (packOf (now (c .before .before .before .before .before .before .before .args .s))) (c .before .before .before .before .before .before .before .args .t) (c .before .before .before .before .before .before .before .args .i)) (c .before .before .before .before .loop .k) (c .before .lacks-length .result) false (c .before .lacks-length .ensures) (c .if1 .left))))
 
 returns-2 : tie.Need-returns-2 Inv-loop μ-loop
 returns-2 c =
-    let q : length (pgnIn (packOf (now (c .before .before .before .before .args .s))) (c .before .before .before .before .args .t) (c .before .before .before .before .args .i) .fields) ≡ c .before .loop .k = omega (arith, c .before .before .before .before .pre .1 .fields, c .before .loop .inv .0, c .loop-test .left) in
-    sym (ap (everyBelow (dynamic-value-held (packOf (now (c .before .before .before .before .args .s))) (pgnIn (packOf (now (c .before .before .before .before .args .s))) (c .before .before .before .before .args .t) (c .before .before .before .before .args .i)))) q ∙ c .before .loop .inv .1)
+    let q : length (pgn-at (packOf (now (c .before .before .before .before .args .s))) (c .before .before .before .before .args .t) (c .before .before .before .before .args .i) .fields) ≡ c .before .loop .k = omega (arith, c .before .before .before .before .pre .1 .fields, c .before .loop .inv .0, c .loop-test .left) in
+    sym (ap (everyBelow (dynamic-value-held (packOf (now (c .before .before .before .before .args .s))) (pgn-at (packOf (now (c .before .before .before .before .args .s))) (c .before .before .before .before .args .t) (c .before .before .before .before .args .i)))) q ∙ c .before .loop .inv .1)
 
 pub dynamic-values-held-spec : {M : Type 1} → statement M
 dynamic-values-held-spec =

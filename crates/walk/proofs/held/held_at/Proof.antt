@@ -1,17 +1,17 @@
 use Rattle.walk.proofs.TwoSets.{shares-two}
 use Rattle.walk.specs.Held.{shares-held, count-fields-held, bit-length-held, dynamic-value-held, held}
-use Rattle.walk.specs.Layout.{layout, everyBelow}
-use Rattle.pack.specs.Value.{Pgn, Pack}
+use Rattle.walk.specs.Layout.{layout}
+use Rattle.pack.specs.Value.{Pgn, Pack, pgn-at}
 use borrow.Author.Tests.{not-true, not-false}
 use mathlib.Core.Path.{_≡_, sym, _∙_, ap}
 use mathlib.Core.Bool.{Bool, true, false, not}
 use lib.ListN.{length}
 use denote.Ref.{now}
-use Rattle.pack.specs.Ready.{pgnIn}
 use Rattle.pack.specs.Meaning.{packOf}
 use borrow.Author.Needs.{needs}
 use Rattle.walk.proofs.held.held_at.Statement.{statement}
 use Rattle.walk.proofs.held.held_at.Tie as tie
+use Rattle.rules.specs.Search.{everyBelow}
 
 module _ (P : Pack) (p : Pgn) (a : Bool) (ea : shares-held (layout p) ≡ not a) where
   shared : a ≡ true → false ≡ held P p
@@ -36,25 +36,25 @@ clash-requires : tie.Need-clash-requires
 clash-requires c κs = search needs
 
 returns : tie.Need-returns
-returns c = shared (packOf (now (c .before .before .before .before .args .s))) (pgnIn (packOf (now (c .before .before .before .before .args .s))) (c .before .before .before .before .args .t) (c .before .before .before .before .args .i)) (c .before .clash .result) (shares-two (c .before .before .before .before .pre .1) ∙ ap not (sym (c .before .clash .ensures (layout (pgnIn (packOf (now (c .before .before .before .before .args .s))) (c .before .before .before .before .args .t) (c .before .before .before .before .args .i))) (c .before .before .before .before .pre .1)))) (c .if1 .taken)
+returns c = shared (packOf (now (c .before .before .before .before .args .s))) (pgn-at (packOf (now (c .before .before .before .before .args .s))) (c .before .before .before .before .args .t) (c .before .before .before .before .args .i)) (c .before .clash .result) (shares-two (c .before .before .before .before .pre .1) ∙ ap not (sym (c .before .clash .ensures (layout (pgn-at (packOf (now (c .before .before .before .before .args .s))) (c .before .before .before .before .args .t) (c .before .before .before .before .args .i))) (c .before .before .before .before .pre .1)))) (c .if1 .taken)
 
 count-fields-held-requires : tie.Need-count-fields-held-requires
 count-fields-held-requires c κs = search needs
 
 returns-2 : tie.Need-returns-2
-returns-2 c = uncounted (packOf (now (c .before .before .before .before .before .before .args .s))) (pgnIn (packOf (now (c .before .before .before .before .before .before .args .s))) (c .before .before .before .before .before .before .args .t) (c .before .before .before .before .before .before .args .i)) (c .before .before .before .clash .result) (shares-two (c .before .before .before .before .before .before .pre .1) ∙ ap not (sym (c .before .before .before .clash .ensures (layout (pgnIn (packOf (now (c .before .before .before .before .before .before .args .s))) (c .before .before .before .before .before .before .args .t) (c .before .before .before .before .before .before .args .i))) (c .before .before .before .before .before .before .pre .1)))) (c .before .before .if1 .left) (c .before .count-fields-held .result) (c .before .count-fields-held .ensures (layout (pgnIn (packOf (now (c .before .before .before .before .before .before .args .s))) (c .before .before .before .before .before .before .args .t) (c .before .before .before .before .before .before .args .i))) (c .before .before .before .before .before .before .pre .1)) (not-true (c .before .count-fields-held .result) (c .if2 .taken))
+returns-2 c = uncounted (packOf (now (c .before .before .before .before .before .before .args .s))) (pgn-at (packOf (now (c .before .before .before .before .before .before .args .s))) (c .before .before .before .before .before .before .args .t) (c .before .before .before .before .before .before .args .i)) (c .before .before .before .clash .result) (shares-two (c .before .before .before .before .before .before .pre .1) ∙ ap not (sym (c .before .before .before .clash .ensures (layout (pgn-at (packOf (now (c .before .before .before .before .before .before .args .s))) (c .before .before .before .before .before .before .args .t) (c .before .before .before .before .before .before .args .i))) (c .before .before .before .before .before .before .pre .1)))) (c .before .before .if1 .left) (c .before .count-fields-held .result) (c .before .count-fields-held .ensures (layout (pgn-at (packOf (now (c .before .before .before .before .before .before .args .s))) (c .before .before .before .before .before .before .args .t) (c .before .before .before .before .before .before .args .i))) (c .before .before .before .before .before .before .pre .1)) (not-true (c .before .count-fields-held .result) (c .if2 .taken))
 
 bit-lengths-held-requires : tie.Need-bit-lengths-held-requires
 bit-lengths-held-requires c κs = search needs
 
 returns-3 : tie.Need-returns-3
-returns-3 c = unmeasured (packOf (now (c .before .before .before .before .before .before .before .before .args .s))) (pgnIn (packOf (now (c .before .before .before .before .before .before .before .before .args .s))) (c .before .before .before .before .before .before .before .before .args .t) (c .before .before .before .before .before .before .before .before .args .i)) (c .before .before .before .before .before .clash .result) (shares-two (c .before .before .before .before .before .before .before .before .pre .1) ∙ ap not (sym (c .before .before .before .before .before .clash .ensures (layout (pgnIn (packOf (now (c .before .before .before .before .before .before .before .before .args .s))) (c .before .before .before .before .before .before .before .before .args .t) (c .before .before .before .before .before .before .before .before .args .i))) (c .before .before .before .before .before .before .before .before .pre .1)))) (c .before .before .before .before .if1 .left) (c .before .before .before .count-fields-held .result) (c .before .before .before .count-fields-held .ensures (layout (pgnIn (packOf (now (c .before .before .before .before .before .before .before .before .args .s))) (c .before .before .before .before .before .before .before .before .args .t) (c .before .before .before .before .before .before .before .before .args .i))) (c .before .before .before .before .before .before .before .before .pre .1)) (not-false (c .before .before .before .count-fields-held .result) (c .before .before .if2 .left)) (c .before .bit-lengths-held .result) (c .before .bit-lengths-held .ensures) (not-true (c .before .bit-lengths-held .result) (c .if3 .taken))
+returns-3 c = unmeasured (packOf (now (c .before .before .before .before .before .before .before .before .args .s))) (pgn-at (packOf (now (c .before .before .before .before .before .before .before .before .args .s))) (c .before .before .before .before .before .before .before .before .args .t) (c .before .before .before .before .before .before .before .before .args .i)) (c .before .before .before .before .before .clash .result) (shares-two (c .before .before .before .before .before .before .before .before .pre .1) ∙ ap not (sym (c .before .before .before .before .before .clash .ensures (layout (pgn-at (packOf (now (c .before .before .before .before .before .before .before .before .args .s))) (c .before .before .before .before .before .before .before .before .args .t) (c .before .before .before .before .before .before .before .before .args .i))) (c .before .before .before .before .before .before .before .before .pre .1)))) (c .before .before .before .before .if1 .left) (c .before .before .before .count-fields-held .result) (c .before .before .before .count-fields-held .ensures (layout (pgn-at (packOf (now (c .before .before .before .before .before .before .before .before .args .s))) (c .before .before .before .before .before .before .before .before .args .t) (c .before .before .before .before .before .before .before .before .args .i))) (c .before .before .before .before .before .before .before .before .pre .1)) (not-false (c .before .before .before .count-fields-held .result) (c .before .before .if2 .left)) (c .before .bit-lengths-held .result) (c .before .bit-lengths-held .ensures) (not-true (c .before .bit-lengths-held .result) (c .if3 .taken))
 
 dynamic-values-held-requires : tie.Need-dynamic-values-held-requires
 dynamic-values-held-requires c κs = search needs
 
 returns-4 : tie.Need-returns-4
-returns-4 c = measured (packOf (now (c .before .before .before .before .before .before .before .before .before .args .s))) (pgnIn (packOf (now (c .before .before .before .before .before .before .before .before .before .args .s))) (c .before .before .before .before .before .before .before .before .before .args .t) (c .before .before .before .before .before .before .before .before .before .args .i)) (c .before .before .before .before .before .before .clash .result) (shares-two (c .before .before .before .before .before .before .before .before .before .pre .1) ∙ ap not (sym (c .before .before .before .before .before .before .clash .ensures (layout (pgnIn (packOf (now (c .before .before .before .before .before .before .before .before .before .args .s))) (c .before .before .before .before .before .before .before .before .before .args .t) (c .before .before .before .before .before .before .before .before .before .args .i))) (c .before .before .before .before .before .before .before .before .before .pre .1)))) (c .before .before .before .before .before .if1 .left) (c .before .before .before .before .count-fields-held .result) (c .before .before .before .before .count-fields-held .ensures (layout (pgnIn (packOf (now (c .before .before .before .before .before .before .before .before .before .args .s))) (c .before .before .before .before .before .before .before .before .before .args .t) (c .before .before .before .before .before .before .before .before .before .args .i))) (c .before .before .before .before .before .before .before .before .before .pre .1)) (not-false (c .before .before .before .before .count-fields-held .result) (c .before .before .before .if2 .left)) (c .before .before .bit-lengths-held .result) (c .before .before .bit-lengths-held .ensures) (not-false (c .before .before .bit-lengths-held .result) (c .before .if3 .left)) (c .dynamic-values-held .result) (c .dynamic-values-held .ensures)
+returns-4 c = measured (packOf (now (c .before .before .before .before .before .before .before .before .before .args .s))) (pgn-at (packOf (now (c .before .before .before .before .before .before .before .before .before .args .s))) (c .before .before .before .before .before .before .before .before .before .args .t) (c .before .before .before .before .before .before .before .before .before .args .i)) (c .before .before .before .before .before .before .clash .result) (shares-two (c .before .before .before .before .before .before .before .before .before .pre .1) ∙ ap not (sym (c .before .before .before .before .before .before .clash .ensures (layout (pgn-at (packOf (now (c .before .before .before .before .before .before .before .before .before .args .s))) (c .before .before .before .before .before .before .before .before .before .args .t) (c .before .before .before .before .before .before .before .before .before .args .i))) (c .before .before .before .before .before .before .before .before .before .pre .1)))) (c .before .before .before .before .before .if1 .left) (c .before .before .before .before .count-fields-held .result) (c .before .before .before .before .count-fields-held .ensures (layout (pgn-at (packOf (now (c .before .before .before .before .before .before .before .before .before .args .s))) (c .before .before .before .before .before .before .before .before .before .args .t) (c .before .before .before .before .before .before .before .before .before .args .i))) (c .before .before .before .before .before .before .before .before .before .pre .1)) (not-false (c .before .before .before .before .count-fields-held .result) (c .before .before .before .if2 .left)) (c .before .before .bit-lengths-held .result) (c .before .before .bit-lengths-held .ensures) (not-false (c .before .before .bit-lengths-held .result) (c .before .if3 .left)) (c .dynamic-values-held .result) (c .dynamic-values-held .ensures)
 
 pub held-at-spec : {M : Type 1} → statement M
 held-at-spec =

@@ -1,5 +1,5 @@
 use Rattle.pack.proofs.SetSums.{SetFits, pgn-sets-law}
-use Rattle.pack.specs.declared.records.OptRepeating.{OptRepeating}
+use Rattle.pack.specs.declared.pgn.OptRepeating.{OptRepeating}
 use Rattle.pack.specs.Meaning.{repeatingMeaning, optRepeating}
 use Rattle.pack.specs.Value.{Repeating, Pgn}
 use native.Mathlib.Omega.{arith}

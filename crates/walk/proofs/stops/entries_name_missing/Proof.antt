@@ -2,7 +2,7 @@ use Rattle.walk.specs.Stops.{names-missing, entries-name-missing}
 use Rattle.rules.specs.SearchLaws.{any-turn, any-hit}
 use Rattle.rules.specs.Search.{anyBelow}
 use Rattle.pack.specs.Meaning.{entryMeaning, packOf}
-use Rattle.pack.specs.declared.records.EntryView.{EntryView}
+use Rattle.pack.specs.declared.entry.EntryView.{EntryView}
 use borrow.Author.Needs.{needs}
 use native.Mathlib.Omega.{arith}
 use Prim.Native.Nat.{ℕ, _-_, _≤_}
@@ -12,16 +12,15 @@ use mathlib.Core.List.{List}
 use lib.ListN.{length, getD}
 use denote.Ref.{now}
 use Rattle.pack.specs.Notation.{_==_}
-use Rattle.pack.specs.Ready.{lookupIn}
-use Rattle.pack.specs.Value.{noEntry}
+use Rattle.pack.specs.Value.{noEntry, lookup-at}
 use Rattle.walk.proofs.stops.entries_name_missing.Statement.{statement}
 use Rattle.walk.proofs.stops.entries_name_missing.Tie as tie
 
 -- whether entry e of lookup l is for the reading and names something missing
 abbrev hits : List ℕ → ℕ → ℕ → ℕ → Bool
-hits s l reading e = (getD (lookupIn (packOf s) l .entries) e noEntry .value == reading) && names-missing (packOf s) (getD (lookupIn (packOf s) l .entries) e noEntry)
+hits s l reading e = (getD (lookup-at (packOf s .lookups) l .entries) e noEntry .value == reading) && names-missing (packOf s) (getD (lookup-at (packOf s .lookups) l .entries) e noEntry)
 
-said : (s : List ℕ) (l reading e : ℕ) (v : EntryView) (r : Bool) → entryMeaning s v ≡ getD (lookupIn (packOf s) l .entries) e noEntry → r ≡ ((v .value == reading) && names-missing (packOf s) (entryMeaning s v)) → hits s l reading e ≡ r
+said : (s : List ℕ) (l reading e : ℕ) (v : EntryView) (r : Bool) → entryMeaning s v ≡ getD (lookup-at (packOf s .lookups) l .entries) e noEntry → r ≡ ((v .value == reading) && names-missing (packOf s) (entryMeaning s v)) → hits s l reading e ≡ r
 said s l reading e v r y h = sym (h ∙ (λ j. (y j .value == reading) && names-missing (packOf s) (y j)))
 
 abbrev Inv-loop : tie.InvT-loop
@@ -43,7 +42,7 @@ returns : tie.Need-returns Inv-loop μ-loop
 unfolding entries-name-missing
 returns c =
     let h = said (now (c .before .before .before .before .before .before .before .args .s)) (c .before .before .before .before .before .before .before .args .l) (c .before .before .before .before .before .before .before .args .reading) (c .before .before .before .before .loop .e) (c .before .before .entry-of .result) (c .before .entry-names-missing .result) (c .before .before .entry-of .ensures) (c .before .entry-names-missing .ensures) in
-    sym (any-hit (hits (now (c .before .before .before .before .before .before .before .args .s)) (c .before .before .before .before .before .before .before .args .l) (c .before .before .before .before .before .before .before .args .reading)) (length (lookupIn (packOf (now (c .before .before .before .before .before .before .before .args .s))) (c .before .before .before .before .before .before .before .args .l) .entries)) (c .before .before .before .before .loop .e) (omega (arith, c .before .before .before .before .before .before .before .pre .2, c .before .before .before .loop-test .taken)) (h ∙ c .if1 .taken))
+    sym (any-hit (hits (now (c .before .before .before .before .before .before .before .args .s)) (c .before .before .before .before .before .before .before .args .l) (c .before .before .before .before .before .before .before .args .reading)) (length (lookup-at (packOf (now (c .before .before .before .before .before .before .before .args .s)) .lookups) (c .before .before .before .before .before .before .before .args .l) .entries)) (c .before .before .before .before .loop .e) (omega (arith, c .before .before .before .before .before .before .before .pre .2, c .before .before .before .loop-test .taken)) (h ∙ c .if1 .taken))
 
 add-e : tie.Need-add-e Inv-loop μ-loop
 add-e c = search needs
@@ -59,7 +58,7 @@ loop-again c =
 returns-2 : tie.Need-returns-2 Inv-loop μ-loop
 unfolding entries-name-missing
 returns-2 c =
-    let q : length (lookupIn (packOf (now (c .before .before .before .before .args .s))) (c .before .before .before .before .args .l) .entries) ≡ c .before .loop .e = omega (arith, c .before .before .before .before .pre .2, c .before .loop .inv .0, c .loop-test .left) in
+    let q : length (lookup-at (packOf (now (c .before .before .before .before .args .s)) .lookups) (c .before .before .before .before .args .l) .entries) ≡ c .before .loop .e = omega (arith, c .before .before .before .before .pre .2, c .before .loop .inv .0, c .loop-test .left) in
     rw (q, c .before .loop .inv .1)
 
 pub entries-name-missing-spec : {M : Type 1} → statement M

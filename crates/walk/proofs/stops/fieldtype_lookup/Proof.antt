@@ -1,10 +1,10 @@
-use Rattle.pack.specs.declared.records.LookupView.{LookupView}
+use Rattle.pack.specs.declared.lookup.LookupView.{LookupView}
 use Rattle.walk.specs.StopParts.{Named}
 use Rattle.walk.specs.Stops.{entries-name-missing, lookup-names-missing, reference-names-missing}
-use Rattle.rules.specs.Model.{lookup-at, find-lookup, fieldtypes}
+use Rattle.rules.specs.Model.{find-lookup, fieldtypes}
 use Rattle.pack.specs.Meaning.{optReference, packOf}
 use Rattle.pack.specs.Items.{bytesOf}
-use Rattle.pack.specs.Value.{Lookup, Reference, Pack}
+use Rattle.pack.specs.Value.{Lookup, Reference, Pack, lookup-at}
 use mathlib.Core.Bool.{false≢true, Bool, true, false}
 use borrow.Author.Tests.{not-true, not-false, eq-eqb, ne-eqb}
 use Prim.Native.Nat.{ℕ}

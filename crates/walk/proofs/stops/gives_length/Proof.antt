@@ -6,8 +6,8 @@ use Prim.Native.Nat.{ℕ, suc}
 use mathlib.Core.Path.{_≡_, sym, _∙_, ap}
 use mathlib.Core.Bool.{Bool, true, false, _&&_}
 use denote.Ref.{now}
-use Rattle.pack.specs.Ready.{pgnIn, fieldIn}
 use Rattle.pack.specs.Meaning.{packOf}
+use Rattle.pack.specs.Value.{pgn-at, field-at}
 use borrow.Author.Needs.{needs}
 use Rattle.walk.proofs.stops.gives_length.Statement.{statement}
 use Rattle.walk.proofs.stops.gives_length.Tie as tie
@@ -29,15 +29,15 @@ length-source-at-requires c κs = search needs
 
 returns : tie.Need-returns
 returns c =
-    let L = layout (pgnIn (packOf (now (c .before .before .before .before .before .before .args .s))) (c .before .before .before .before .before .before .args .t) (c .before .before .before .before .before .before .args .i)) in
+    let L = layout (pgn-at (packOf (now (c .before .before .before .before .before .before .args .s))) (c .before .before .before .before .before .before .args .t) (c .before .before .before .before .before .before .args .i)) in
     let e : sets-hold L (suc (c .before .before .before .before .before .before .args .j)) (c .before .before .before .before .before .before .args .o .0) ≡ true = ap (λ (n : ℕ). sets-hold L n (c .before .before .before .before .before .before .args .o .0)) (sym (c .before .before .before .order .ensures ∙ add-one (c .before .before .before .before .before .before .args .j))) ∙ sym (c .before .before .sets-hold .ensures L (c .before .before .before .before .before .before .pre .1)) ∙ c .before .if1 .taken in
-    both (length-source (packOf (now (c .before .before .before .before .before .before .args .s)) .fieldtypes) (fieldIn (packOf (now (c .before .before .before .before .before .before .args .s))) (c .before .before .before .before .before .before .args .t) (c .before .before .before .before .before .before .args .i) (c .before .before .before .before .before .before .args .j))) (sets-hold L (suc (c .before .before .before .before .before .before .args .j)) (c .before .before .before .before .before .before .args .o .0)) (c .length-source-at .result) e (c .length-source-at .ensures)
+    both (length-source (packOf (now (c .before .before .before .before .before .before .args .s)) .fieldtypes) (field-at (pgn-at (packOf (now (c .before .before .before .before .before .before .args .s))) (c .before .before .before .before .before .before .args .t) (c .before .before .before .before .before .before .args .i)) (c .before .before .before .before .before .before .args .j))) (sets-hold L (suc (c .before .before .before .before .before .before .args .j)) (c .before .before .before .before .before .before .args .o .0)) (c .length-source-at .result) e (c .length-source-at .ensures)
 
 returns-2 : tie.Need-returns-2
 returns-2 c =
-    let L = layout (pgnIn (packOf (now (c .before .before .before .before .before .args .s))) (c .before .before .before .before .before .args .t) (c .before .before .before .before .before .args .i)) in
+    let L = layout (pgn-at (packOf (now (c .before .before .before .before .before .args .s))) (c .before .before .before .before .before .args .t) (c .before .before .before .before .before .args .i)) in
     let e : sets-hold L (suc (c .before .before .before .before .before .args .j)) (c .before .before .before .before .before .args .o .0) ≡ false = ap (λ (n : ℕ). sets-hold L n (c .before .before .before .before .before .args .o .0)) (sym (c .before .before .order .ensures ∙ add-one (c .before .before .before .before .before .args .j))) ∙ sym (c .before .sets-hold .ensures L (c .before .before .before .before .before .pre .1)) ∙ c .if1 .left in
-    off (length-source (packOf (now (c .before .before .before .before .before .args .s)) .fieldtypes) (fieldIn (packOf (now (c .before .before .before .before .before .args .s))) (c .before .before .before .before .before .args .t) (c .before .before .before .before .before .args .i) (c .before .before .before .before .before .args .j))) (sets-hold L (suc (c .before .before .before .before .before .args .j)) (c .before .before .before .before .before .args .o .0)) e
+    off (length-source (packOf (now (c .before .before .before .before .before .args .s)) .fieldtypes) (field-at (pgn-at (packOf (now (c .before .before .before .before .before .args .s))) (c .before .before .before .before .before .args .t) (c .before .before .before .before .before .args .i)) (c .before .before .before .before .before .args .j))) (sets-hold L (suc (c .before .before .before .before .before .args .j)) (c .before .before .before .before .before .args .o .0)) e
 
 pub gives-length-spec : {M : Type 1} → statement M
 gives-length-spec =

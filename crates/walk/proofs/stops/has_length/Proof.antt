@@ -12,17 +12,17 @@ use mathlib.Core.Path.{_≡_, refl, sym, _∙_, ap}
 use mathlib.Core.Bool.{Bool, false, _&&_}
 use mathlib.Core.List.{List}
 use denote.Ref.{now}
-use Rattle.pack.specs.Ready.{pgnIn, fieldIn}
 use Rattle.pack.specs.Meaning.{packOf}
+use Rattle.pack.specs.Value.{pgn-at, field-at}
 use Rattle.walk.proofs.stops.has_length.Statement.{statement}
 use Rattle.walk.proofs.stops.has_length.Tie as tie
 
 abbrev found : List ℕ → ℕ → ℕ → ℕ → ℕ → Bool
-found s t i k = gives (packOf s) (pgnIn (packOf s) t i) (layout (pgnIn (packOf s) t i)) k
+found s t i k = gives (packOf s) (pgn-at (packOf s) t i) (layout (pgn-at (packOf s) t i)) k
 
 said : (s : List ℕ) (t i k j own : ℕ) (r : Bool) → own ≡ k + 1
-    → r ≡ (length-source (packOf s .fieldtypes) (fieldIn (packOf s) t i j) && sets-hold (layout (pgnIn (packOf s) t i)) (suc j) own) → found s t i k j ≡ r
-said s t i k j own r o h = sym (h ∙ ap (λ (n : ℕ). length-source (packOf s .fieldtypes) (fieldIn (packOf s) t i j) && sets-hold (layout (pgnIn (packOf s) t i)) (suc j) n) (o ∙ add-one k))
+    → r ≡ (length-source (packOf s .fieldtypes) (field-at (pgn-at (packOf s) t i) j) && sets-hold (layout (pgn-at (packOf s) t i)) (suc j) own) → found s t i k j ≡ r
+said s t i k j own r o h = sym (h ∙ ap (λ (n : ℕ). length-source (packOf s .fieldtypes) (field-at (pgn-at (packOf s) t i) j) && sets-hold (layout (pgn-at (packOf s) t i)) (suc j) n) (o ∙ add-one k))
 
 abbrev Inv-loop : tie.InvT-loop
 Inv-loop s work t i p sets k own j₀ j = (j ≤ k) × (anyBelow (found s t i k) j ≡ false)

@@ -1,5 +1,4 @@
 use Rattle.pack.specs.Meaning.{packOf, fieldMeaning}
-use Rattle.pack.specs.Ready.{pgnIn}
 use denote.Ref.{now}
 use mathlib.Core.Path.{refl, sym, _∙_, ap}
 use Prim.Native.Nat.{suc}
@@ -10,6 +9,7 @@ use Rattle.walk.specs.ByPlace.{placed}
 use Rattle.walk.specs.StopParts.{stop-number}
 use Rattle.walk.proofs.Parts.{by-field, by-reading, by-need, named-reading, and-not-parts}
 use Rattle.pack.specs.Notation.{_==_}
+use Rattle.pack.specs.Value.{pgn-at}
 use borrow.Author.Needs.{needs}
 use Rattle.walk.proofs.stops.judge.Statement.{statement}
 use Rattle.walk.proofs.stops.judge.Tie as tie
@@ -21,7 +21,7 @@ field-stop-requires : tie.Need-field-stop-requires
 field-stop-requires c κs = search needs
 
 returns : tie.Need-returns
-returns c = (by-field (packOf (now (c .before .before .before .before .before .args .s))) (pgnIn (packOf (now (c .before .before .before .before .before .args .s))) (c .before .before .before .before .before .args .t) (c .before .before .before .before .before .args .i)) (placed (layout (pgnIn (packOf (now (c .before .before .before .before .before .args .s))) (c .before .before .before .before .before .args .t) (c .before .before .before .before .before .args .i))) (suc (c .before .before .before .before .before .args .k))) (c .before .before .before .before .before .args .k) (c .before .before .before .before .before .args .reading) (fieldMeaning (now (c .before .before .before .before .before .args .s)) (c .before .before .field-of .result)) (c .before .before .field-of .ensures) (c .before .field-stop .result) (c .if1 .taken) (c .before .field-stop .ensures), λ h. absurd (false≢true h))
+returns c = (by-field (packOf (now (c .before .before .before .before .before .args .s))) (pgn-at (packOf (now (c .before .before .before .before .before .args .s))) (c .before .before .before .before .before .args .t) (c .before .before .before .before .before .args .i)) (placed (layout (pgn-at (packOf (now (c .before .before .before .before .before .args .s))) (c .before .before .before .before .before .args .t) (c .before .before .before .before .before .args .i))) (suc (c .before .before .before .before .before .args .k))) (c .before .before .before .before .before .args .k) (c .before .before .before .before .before .args .reading) (fieldMeaning (now (c .before .before .before .before .before .args .s)) (c .before .before .field-of .result)) (c .before .before .field-of .ensures) (c .before .field-stop .result) (c .if1 .taken) (c .before .field-stop .ensures), λ h. absurd (false≢true h))
 
 fieldtype-lookup-requires : tie.Need-fieldtype-lookup-requires
 fieldtype-lookup-requires c κs = search needs
@@ -30,7 +30,7 @@ lookup-names-missing-requires : tie.Need-lookup-names-missing-requires
 lookup-names-missing-requires c κs = search needs
 
 returns-2 : tie.Need-returns-2
-returns-2 c = (by-reading (packOf (now (c .before .before .before .before .before .before .before .before .args .s))) (pgnIn (packOf (now (c .before .before .before .before .before .before .before .before .args .s))) (c .before .before .before .before .before .before .before .before .args .t) (c .before .before .before .before .before .before .before .before .args .i)) (placed (layout (pgnIn (packOf (now (c .before .before .before .before .before .before .before .before .args .s))) (c .before .before .before .before .before .before .before .before .args .t) (c .before .before .before .before .before .before .before .before .args .i))) (suc (c .before .before .before .before .before .before .before .before .args .k))) (c .before .before .before .before .before .before .before .before .args .k) (c .before .before .before .before .before .before .before .before .args .reading) (fieldMeaning (now (c .before .before .before .before .before .before .before .before .args .s)) (c .before .before .before .before .before .field-of .result)) (c .before .before .before .before .before .field-of .ensures) (c .before .before .before .before .field-stop .result) (c .before .before .before .if1 .left) (c .before .before .before .before .field-stop .ensures) (c .before .lookup-names-missing .result) (named-reading (c .before .before .fieldtype-lookup .ensures) (c .before .before .before .before .before .before .before .before .args .reading) (c .before .lookup-names-missing .result) (c .before .lookup-names-missing .ensures)) (c .if2 .taken), λ h. absurd (false≢true h))
+returns-2 c = (by-reading (packOf (now (c .before .before .before .before .before .before .before .before .args .s))) (pgn-at (packOf (now (c .before .before .before .before .before .before .before .before .args .s))) (c .before .before .before .before .before .before .before .before .args .t) (c .before .before .before .before .before .before .before .before .args .i)) (placed (layout (pgn-at (packOf (now (c .before .before .before .before .before .before .before .before .args .s))) (c .before .before .before .before .before .before .before .before .args .t) (c .before .before .before .before .before .before .before .before .args .i))) (suc (c .before .before .before .before .before .before .before .before .args .k))) (c .before .before .before .before .before .before .before .before .args .k) (c .before .before .before .before .before .before .before .before .args .reading) (fieldMeaning (now (c .before .before .before .before .before .before .before .before .args .s)) (c .before .before .before .before .before .field-of .result)) (c .before .before .before .before .before .field-of .ensures) (c .before .before .before .before .field-stop .result) (c .before .before .before .if1 .left) (c .before .before .before .before .field-stop .ensures) (c .before .lookup-names-missing .result) (named-reading (c .before .before .fieldtype-lookup .ensures) (c .before .before .before .before .before .before .before .before .args .reading) (c .before .lookup-names-missing .result) (c .before .lookup-names-missing .ensures)) (c .if2 .taken), λ h. absurd (false≢true h))
 
 need-stop-requires : tie.Need-need-stop-requires
 need-stop-requires c κs = search needs
@@ -41,8 +41,8 @@ and-not-requires c κs = search needs
 returns-3 : tie.Need-returns-3
 returns-3 c =
     let q = and-not-parts (c .before .need-stop .result == 0) (c .before .before .before .before .fieldtype-lookup .result .given) in (
-      by-need (packOf (now (c .before .before .before .before .before .before .before .before .before .before .args .s))) (pgnIn (packOf (now (c .before .before .before .before .before .before .before .before .before .before .args .s))) (c .before .before .before .before .before .before .before .before .before .before .args .t) (c .before .before .before .before .before .before .before .before .before .before .args .i)) (placed (layout (pgnIn (packOf (now (c .before .before .before .before .before .before .before .before .before .before .args .s))) (c .before .before .before .before .before .before .before .before .before .before .args .t) (c .before .before .before .before .before .before .before .before .before .before .args .i))) (suc (c .before .before .before .before .before .before .before .before .before .before .args .k))) (c .before .before .before .before .before .before .before .before .before .before .args .k) (c .before .before .before .before .before .before .before .before .before .before .args .reading) (fieldMeaning (now (c .before .before .before .before .before .before .before .before .before .before .args .s)) (c .before .before .before .before .before .before .before .field-of .result)) (c .before .before .before .before .before .before .before .field-of .ensures) (c .before .before .before .before .before .before .field-stop .result) (c .before .before .before .before .before .if1 .left) (c .before .before .before .before .before .before .field-stop .ensures) (c .before .before .before .lookup-names-missing .result) (named-reading (c .before .before .before .before .fieldtype-lookup .ensures) (c .before .before .before .before .before .before .before .before .before .before .args .reading) (c .before .before .before .lookup-names-missing .result) (c .before .before .before .lookup-names-missing .ensures)) (c .before .before .if2 .left) (c .before .need-stop .result) (c .before .need-stop .ensures),
-      λ h other. let a = q (sym (c .and-not .ensures) ∙ h) in sym (by-need (packOf (now (c .before .before .before .before .before .before .before .before .before .before .args .s))) (pgnIn (packOf (now (c .before .before .before .before .before .before .before .before .before .before .args .s))) (c .before .before .before .before .before .before .before .before .before .before .args .t) (c .before .before .before .before .before .before .before .before .before .before .args .i)) (placed (layout (pgnIn (packOf (now (c .before .before .before .before .before .before .before .before .before .before .args .s))) (c .before .before .before .before .before .before .before .before .before .before .args .t) (c .before .before .before .before .before .before .before .before .before .before .args .i))) (suc (c .before .before .before .before .before .before .before .before .before .before .args .k))) (c .before .before .before .before .before .before .before .before .before .before .args .k) other (fieldMeaning (now (c .before .before .before .before .before .before .before .before .before .before .args .s)) (c .before .before .before .before .before .before .before .field-of .result)) (c .before .before .before .before .before .before .before .field-of .ensures) (c .before .before .before .before .before .before .field-stop .result) (c .before .before .before .before .before .if1 .left) (c .before .before .before .before .before .before .field-stop .ensures) false (sym (c .before .before .before .before .fieldtype-lookup .ensures .none (a .1) other)) refl (c .before .need-stop .result) (c .before .need-stop .ensures)) ∙ ap stop-number (eqb-true (c .before .need-stop .result) 0 (a .0)),
+      by-need (packOf (now (c .before .before .before .before .before .before .before .before .before .before .args .s))) (pgn-at (packOf (now (c .before .before .before .before .before .before .before .before .before .before .args .s))) (c .before .before .before .before .before .before .before .before .before .before .args .t) (c .before .before .before .before .before .before .before .before .before .before .args .i)) (placed (layout (pgn-at (packOf (now (c .before .before .before .before .before .before .before .before .before .before .args .s))) (c .before .before .before .before .before .before .before .before .before .before .args .t) (c .before .before .before .before .before .before .before .before .before .before .args .i))) (suc (c .before .before .before .before .before .before .before .before .before .before .args .k))) (c .before .before .before .before .before .before .before .before .before .before .args .k) (c .before .before .before .before .before .before .before .before .before .before .args .reading) (fieldMeaning (now (c .before .before .before .before .before .before .before .before .before .before .args .s)) (c .before .before .before .before .before .before .before .field-of .result)) (c .before .before .before .before .before .before .before .field-of .ensures) (c .before .before .before .before .before .before .field-stop .result) (c .before .before .before .before .before .if1 .left) (c .before .before .before .before .before .before .field-stop .ensures) (c .before .before .before .lookup-names-missing .result) (named-reading (c .before .before .before .before .fieldtype-lookup .ensures) (c .before .before .before .before .before .before .before .before .before .before .args .reading) (c .before .before .before .lookup-names-missing .result) (c .before .before .before .lookup-names-missing .ensures)) (c .before .before .if2 .left) (c .before .need-stop .result) (c .before .need-stop .ensures),
+      λ h other. let a = q (sym (c .and-not .ensures) ∙ h) in sym (by-need (packOf (now (c .before .before .before .before .before .before .before .before .before .before .args .s))) (pgn-at (packOf (now (c .before .before .before .before .before .before .before .before .before .before .args .s))) (c .before .before .before .before .before .before .before .before .before .before .args .t) (c .before .before .before .before .before .before .before .before .before .before .args .i)) (placed (layout (pgn-at (packOf (now (c .before .before .before .before .before .before .before .before .before .before .args .s))) (c .before .before .before .before .before .before .before .before .before .before .args .t) (c .before .before .before .before .before .before .before .before .before .before .args .i))) (suc (c .before .before .before .before .before .before .before .before .before .before .args .k))) (c .before .before .before .before .before .before .before .before .before .before .args .k) other (fieldMeaning (now (c .before .before .before .before .before .before .before .before .before .before .args .s)) (c .before .before .before .before .before .before .before .field-of .result)) (c .before .before .before .before .before .before .before .field-of .ensures) (c .before .before .before .before .before .before .field-stop .result) (c .before .before .before .before .before .if1 .left) (c .before .before .before .before .before .before .field-stop .ensures) false (sym (c .before .before .before .before .fieldtype-lookup .ensures .none (a .1) other)) refl (c .before .need-stop .result) (c .before .need-stop .ensures)) ∙ ap stop-number (eqb-true (c .before .need-stop .result) 0 (a .0)),
     )
 
 pub judge-spec : {M : Type 1} → statement M

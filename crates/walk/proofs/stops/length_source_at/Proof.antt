@@ -1,10 +1,9 @@
 use Rattle.rules.specs.DynamicLength.{length-source}
 use Rattle.pack.proofs.Positions.{field-ft-law}
-use Rattle.pack.specs.Value.{Field}
+use Rattle.pack.specs.Value.{Field, pgn-at, field-at}
 use native.Mathlib.Omega.{arith}
 use mathlib.Core.Path.{_≡_, ap}
 use denote.Ref.{now}
-use Rattle.pack.specs.Ready.{fieldIn}
 use Rattle.pack.specs.Meaning.{packOf}
 use borrow.Author.Needs.{needs}
 use Rattle.walk.proofs.stops.length_source_at.Statement.{statement}
@@ -15,7 +14,7 @@ field-of-requires c κs = search needs
 
 root-of-requires : tie.Need-root-of-requires
 root-of-requires c κs =
-    let e : c .field-of .result .ft ≡ fieldIn (packOf (now (c .before .before .before .args .s))) (c .before .before .before .args .t) (c .before .before .before .args .i) (c .before .before .before .args .j) .ft = ap (λ (F : Field). F .ft) (c .field-of .ensures) in
+    let e : c .field-of .result .ft ≡ field-at (pgn-at (packOf (now (c .before .before .before .args .s))) (c .before .before .before .args .t) (c .before .before .before .args .i)) (c .before .before .before .args .j) .ft = ap (λ (F : Field). F .ft) (c .field-of .ensures) in
     (c .before .before .before .pre .0 .ready, omega (arith, e, field-ft-law (c .before .before .before .pre .0) (c .before .before .before .args .j) (c .before .before .before .pre .1)))
 
 length-source-requires : tie.Need-length-source-requires

@@ -1,5 +1,5 @@
 use Rattle.walk.specs.Stops.{is-missing, name-of, lookup-missing}
-use Rattle.pack.specs.declared.records.OptReference.{OptReference}
+use Rattle.pack.specs.declared.field.OptReference.{OptReference}
 use Rattle.pack.specs.Meaning.{optReference, packOf}
 use Rattle.pack.specs.Items.{bytesOf}
 use Prim.Native.Nat.{ℕ}

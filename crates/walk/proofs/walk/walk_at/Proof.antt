@@ -1,5 +1,5 @@
 use Rattle.pack.specs.Meaning.{packOf}
-use Rattle.pack.specs.Ready.{pgnIn}
+use Rattle.pack.specs.Value.{pgn-at}
 use denote.Ref.{now}
 use lib.ListN.{replicate}
 use mathlib.Core.Bool.{false}
@@ -20,13 +20,13 @@ stop-1-requires : tie.Need-stop-1-requires
 stop-1-requires c κs = search needs
 
 returns : tie.Need-returns
-returns c = let a = stopped-1 (packOf (now (c .before .before .before .before .before .before .args .s))) (pgnIn (packOf (now (c .before .before .before .before .before .before .args .s))) (c .before .before .before .before .before .before .args .t) (c .before .before .before .before .before .before .args .i)) (now (c .before .before .before .before .before .before .args .readings)) (now (c .before .before .before .before .before .before .args .visits)) (sym (c .before .stop-1 .ensures (layout (pgnIn (packOf (now (c .before .before .before .before .before .before .args .s))) (c .before .before .before .before .before .before .args .t) (c .before .before .before .before .before .before .args .i))) (c .before .before .before .before .before .before .pre .2)) ∙ c .if1 .taken) in (a .answer, a .out)
+returns c = let a = stopped-1 (packOf (now (c .before .before .before .before .before .before .args .s))) (pgn-at (packOf (now (c .before .before .before .before .before .before .args .s))) (c .before .before .before .before .before .before .args .t) (c .before .before .before .before .before .before .args .i)) (now (c .before .before .before .before .before .before .args .readings)) (now (c .before .before .before .before .before .before .args .visits)) (sym (c .before .stop-1 .ensures (layout (pgn-at (packOf (now (c .before .before .before .before .before .before .args .s))) (c .before .before .before .before .before .before .args .t) (c .before .before .before .before .before .before .args .i))) (c .before .before .before .before .before .before .pre .2)) ∙ c .if1 .taken) in (a .answer, a .out)
 
 slice-aggregate-walk-on : tie.Need-slice-aggregate-walk-on
 slice-aggregate-walk-on c = search needs
 
 walk-on-requires : tie.Need-walk-on-requires
-walk-on-requires c κs = (c .before .before .before .before .before .before .before .before .pre .0, c .before .before .before .before .before .before .before .before .pre .1, c .before .before .before .before .before .before .before .before .pre .2, harmless-clear (packOf (now (c .before .before .before .before .before .before .before .before .args .s))) (pgnIn (packOf (now (c .before .before .before .before .before .before .before .before .args .s))) (c .before .before .before .before .before .before .before .before .args .t) (c .before .before .before .before .before .before .before .before .args .i)) (replicate 256 false) (clear-replicate 256), sym (c .before .before .before .stop-1 .ensures (layout (pgnIn (packOf (now (c .before .before .before .before .before .before .before .before .args .s))) (c .before .before .before .before .before .before .before .before .args .t) (c .before .before .before .before .before .before .before .before .args .i))) (c .before .before .before .before .before .before .before .before .pre .2)) ∙ c .before .before .if1 .left, c .before .before .before .before .before .before .before .before .pre .3)
+walk-on-requires c κs = (c .before .before .before .before .before .before .before .before .pre .0, c .before .before .before .before .before .before .before .before .pre .1, c .before .before .before .before .before .before .before .before .pre .2, harmless-clear (packOf (now (c .before .before .before .before .before .before .before .before .args .s))) (pgn-at (packOf (now (c .before .before .before .before .before .before .before .before .args .s))) (c .before .before .before .before .before .before .before .before .args .t) (c .before .before .before .before .before .before .before .before .args .i)) (replicate 256 false) (clear-replicate 256), sym (c .before .before .before .stop-1 .ensures (layout (pgn-at (packOf (now (c .before .before .before .before .before .before .before .before .args .s))) (c .before .before .before .before .before .before .before .before .args .t) (c .before .before .before .before .before .before .before .before .args .i))) (c .before .before .before .before .before .before .before .before .pre .2)) ∙ c .before .before .if1 .left, c .before .before .before .before .before .before .before .before .pre .3)
 
 same-length : tie.Need-same-length
 same-length c = search needs

@@ -1,9 +1,9 @@
-use Rattle.pack.specs.declared.records.FieldItem.{FieldItem}
-use Rattle.pack.specs.declared.records.LinksItem.{LinksItem}
-use Rattle.pack.specs.declared.records.AuthoredItem.{AuthoredItem}
-use Rattle.pack.specs.declared.records.ScalingItem.{ScalingItem}
-use Rattle.pack.specs.declared.records.FieldFlags.{FieldFlags}
-use Rattle.pack.specs.declared.records.NamesItem.{NamesItem}
+use Rattle.pack.specs.declared.field.FieldItem.{FieldItem}
+use Rattle.pack.specs.declared.field.LinksItem.{LinksItem}
+use Rattle.pack.specs.declared.field.AuthoredItem.{AuthoredItem}
+use Rattle.pack.specs.declared.field.ScalingItem.{ScalingItem}
+use Rattle.pack.specs.declared.field.FieldFlags.{FieldFlags}
+use Rattle.pack.specs.declared.field.NamesItem.{NamesItem}
 use Rattle.pack.specs.declared.cursor.NumberItem.{NumberItem}
 use Rattle.pack.specs.declared.cursor.Cursor.{Cursor}
 use Rattle.pack.specs.Records.{namesAt, fieldFlags, scalingAt, authoredAt, linksAt, fieldAt}

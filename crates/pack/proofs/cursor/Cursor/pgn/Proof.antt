@@ -1,6 +1,6 @@
-use Rattle.pack.specs.declared.records.PgnItem.{PgnItem}
-use Rattle.pack.specs.declared.records.OptRepeatingItem.{OptRepeatingItem}
-use Rattle.pack.specs.declared.cursor.OptNumberItem.{OptNumberItem}
+use Rattle.pack.specs.declared.pgn.PgnItem.{PgnItem}
+use Rattle.pack.specs.declared.pgn.OptRepeatingItem.{OptRepeatingItem}
+use Rattle.pack.specs.declared.optional.OptNumberItem.{OptNumberItem}
 use Rattle.pack.specs.declared.cursor.TextItem.{TextItem}
 use Rattle.pack.specs.declared.cursor.NumberItem.{NumberItem}
 use Rattle.pack.specs.declared.cursor.Cursor.{Cursor}

@@ -1,0 +1,146 @@
+// Optional items: a mark, 0 or 1, then the item if 1.
+ghost use mathlib.Core.Path.{_≡_};
+ghost use Rattle.pack.specs.Items.{optTextAt, optNumberAt, optFloatAt, optBytesAt, optSumAt, someNumber, noNumber};
+use crate::cursor::Cursor;
+use crate::cursor::NumberItem;
+use crate::text::OptText;
+use crate::text::Text;
+
+pub struct OptNumber {
+    pub given: bool,
+    pub value: u32,
+}
+
+// An optional float, by its 64-bit pattern.
+pub struct OptFloat {
+    pub given: bool,
+    pub pattern: u64,
+}
+
+pub struct OptTextItem {
+    pub value: OptText,
+    pub next: Cursor,
+}
+
+pub struct OptNumberItem {
+    pub value: OptNumber,
+    pub next: Cursor,
+}
+
+pub struct OptFloatItem {
+    pub value: OptFloat,
+    pub next: Cursor,
+}
+
+fn some_number(n: NumberItem) -> OptNumberItem
+    ensures { λ r. ⌜ r ≡ someNumber n ⌝ }
+{
+    let d = n.next;
+    OptNumberItem {
+        value: OptNumber {
+            given: true,
+            value: n.value,
+        },
+        next: d,
+    }
+}
+
+fn no_number(c: Cursor) -> OptNumberItem
+    ensures { λ r. ⌜ r ≡ noNumber c ⌝ }
+{
+    OptNumberItem {
+        value: OptNumber {
+            given: false,
+            value: 0,
+        },
+        next: c,
+    }
+}
+
+impl Cursor {
+    pub fn opt_text(self, s: &[u8]) -> OptTextItem
+        ensures { λ r. ⌜ r ≡ optTextAt (now (s .entry)) self ⌝ }
+    {
+        let m = self.mark(s);
+        let c = m.next;
+        if m.value {
+            let t = c.text(s);
+            let text = t.value;
+            let d = t.next;
+            return OptTextItem {
+                value: OptText { given: true, text },
+                next: d,
+            };
+        }
+        OptTextItem {
+            value: OptText {
+                given: false,
+                text: Text { start: 0, len: 0 },
+            },
+            next: c,
+        }
+    }
+
+    pub fn opt_number(self, s: &[u8]) -> OptNumberItem
+        ensures { λ r. ⌜ r ≡ optNumberAt (now (s .entry)) self ⌝ }
+    {
+        let m = self.mark(s);
+        let c = m.next;
+        if m.value {
+            let n = c.number(s);
+            return some_number(n);
+        }
+        no_number(c)
+    }
+
+    // An optional length in bytes whose bits are counted in 32 bits.
+    pub fn opt_bytes(self, s: &[u8]) -> OptNumberItem
+        ensures { λ r. ⌜ r ≡ optBytesAt (now (s .entry)) self ⌝ }
+    {
+        let m = self.mark(s);
+        let c = m.next;
+        if m.value {
+            let n = c.bytes(s);
+            return some_number(n);
+        }
+        no_number(c)
+    }
+
+    // An optional number that completes a sum whose other part is `other`.
+    pub fn opt_sum(self, s: &[u8], other: u32) -> OptNumberItem
+        ensures { λ r. ⌜ r ≡ optSumAt other (now (s .entry)) self ⌝ }
+    {
+        let m = self.mark(s);
+        let c = m.next;
+        if m.value {
+            let n = c.sum(s, other);
+            return some_number(n);
+        }
+        no_number(c)
+    }
+
+    pub fn opt_float(self, s: &[u8]) -> OptFloatItem
+        ensures { λ r. ⌜ r ≡ optFloatAt (now (s .entry)) self ⌝ }
+    {
+        let m = self.mark(s);
+        let c = m.next;
+        if m.value {
+            let f = c.float(s);
+            let d = f.next;
+            return OptFloatItem {
+                value: OptFloat {
+                    given: true,
+                    pattern: f.value,
+                },
+                next: d,
+            };
+        }
+        OptFloatItem {
+            value: OptFloat {
+                given: false,
+                pattern: 0,
+            },
+            next: c,
+        }
+    }
+}
