@@ -3,6 +3,7 @@ pub mod Stores
 pub mod Places
 pub mod Whole
 pub mod Loading
+pub mod Told
 pub mod Free
 pub mod Tables
 pub mod Clean

@@ -4,7 +4,7 @@ ghost use mathlib.Core.Path.{_≡_};
 ghost use Prim.Native.Nat.{_≤_, _<_};
 ghost use lib.ListN.{length, set};
 ghost use Rattle.pack.specs.Format.{types, typeOffsets, entries, entryOffsets, lookupNext, lookupRecords, lookups, lookupOffsets, fields, fieldOffsets, pgnNext, pgnRecords, pgns, pgnOffsets};
-ghost use Rattle.pack.specs.Load.{refusalNumber, refusalDetail, loaded, workAfter};
+ghost use Rattle.pack.specs.Load.{refusalNumber, refusalDetail, Loads};
 ghost use Rattle.pack.specs.Placing.{Room, Placing, LookupPlacing, TreePlacing, Walking, counted};
 use crate::cursor::Cursor;
 use crate::text::OptText;
@@ -328,8 +328,7 @@ fn place_all(s: &[u8], work: &mut [u32]) -> Walked
 }
 
 pub fn load(pack: &[u8], work: &mut [u32]) -> Loaded
-    ensures { λ r. ⌜ r ≡ loaded (now (pack .entry)) (length (now (work .entry))) ⌝ }
-    ensures { λ r. ⌜ now (work .exit) ≡ workAfter (now (pack .entry)) (now (work .entry)) ⌝ }
+    ensures { λ r. ⌜ Loads (now (pack .entry)) (now (work .entry)) (now (work .exit)) r ⌝ }
 {
     if MOST_BYTES < pack.len() {
         return Loaded::Refused(Refusal::TooLong);

@@ -1,6 +1,8 @@
 // The three trees, and a field's index and order.
 ghost use mathlib.Core.Path.{_≡_};
+ghost use mathlib.Core.Bool.{_&&_};
 ghost use Prim.Native.Nat.{_+_, _<_};
+ghost use Rattle.pack.specs.Notation.{_<ᵇ_, _≤ᵇ_};
 ghost use Rattle.pack.specs.Trees.{treeNumber, protocolOf, prefixOf, sectionOf};
 use crate::load::Index;
 use crate::load::Section;
@@ -89,4 +91,21 @@ impl FieldIndex {
     {
         FieldOrder(self.0 + 1)
     }
+}
+
+// Whether an order comes before another. Sets compare orders by this and by `among` alone.
+pub fn precedes(a: FieldOrder, b: FieldOrder) -> bool
+    ensures { λ r. ⌜ r ≡ (a .0 <ᵇ b .0) ⌝ }
+{
+    a.0 < b.0
+}
+
+// Whether an order is one of so many from `start` on.
+pub fn among(order: FieldOrder, start: FieldOrder, count: u32) -> bool
+    ensures { λ r. ⌜ r ≡ ((start .0 ≤ᵇ order .0) && (order .0 <ᵇ start .0 + count)) ⌝ }
+{
+    if precedes(order, start) {
+        return false;
+    }
+    order.0 - start.0 < count
 }

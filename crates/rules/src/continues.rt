@@ -23,7 +23,6 @@ use crate::floats::ZERO;
 use crate::floats::float_eq;
 use crate::model::is_text;
 use crate::model::value_bits;
-use crate::repeating::precedes;
 use crate::searches::counted;
 use crate::targets::first_with_id;
 use crate::targets::integer;
@@ -33,7 +32,9 @@ use pack::of::type_of;
 use pack::optional::OptFloat;
 use pack::pgn::OptRepeating;
 use pack::pgn::PgnView;
+use pack::protocol::FieldIndex;
 use pack::protocol::FieldOrder;
+use pack::protocol::among;
 use pack::text::Text;
 use pack::text::text_is;
 
@@ -44,10 +45,7 @@ pub fn holds_order(set: OptRepeating, order: FieldOrder) -> bool
     if !set.given {
         return false;
     }
-    if precedes(order, FieldOrder(set.set.start)) {
-        return false;
-    }
-    order.0 - set.set.start < set.set.count
+    among(order, FieldOrder(set.set.start), set.set.count)
 }
 
 // The set of field k: 2, 1, or 0 for none.
@@ -55,11 +53,11 @@ fn set_of(g: PgnView, k: u32) -> u32
     requires { ⌜ k < 4294967295 ⌝ }
     ensures { λ r. ⌜ r ≡ (if holds-order (optRepeating (g .repeating2)) (k + 1) then 2 else if holds-order (optRepeating (g .repeating1)) (k + 1) then 1 else 0) ⌝ }
 {
-    let order = k + 1;
-    if holds_order(g.repeating2, FieldOrder(order)) {
+    let order = FieldIndex(k).order();
+    if holds_order(g.repeating2, order) {
         return 2;
     }
-    if holds_order(g.repeating1, FieldOrder(order)) {
+    if holds_order(g.repeating1, order) {
         return 1;
     }
     0

@@ -16,12 +16,7 @@ use pack::pgn::OptRepeating;
 use pack::pgn::PgnView;
 use pack::pgn::RepeatingView;
 use pack::protocol::FieldOrder;
-
-pub fn precedes(a: FieldOrder, b: FieldOrder) -> bool
-    ensures { λ r. ⌜ r ≡ (a .0 <ᵇ b .0) ⌝ }
-{
-    a.0 < b.0
-}
+use pack::protocol::precedes;
 
 // A countField that is none, or not before the set.
 fn misplaced(counter: FieldOrder, start: FieldOrder) -> bool
@@ -30,7 +25,7 @@ fn misplaced(counter: FieldOrder, start: FieldOrder) -> bool
     if counter.0 == 0 {
         return true;
     }
-    start.0 <= counter.0
+    !precedes(counter, start)
 }
 
 // No countField, or one before the order.

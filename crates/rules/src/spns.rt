@@ -4,12 +4,13 @@ ghost use mathlib.Core.Bool.{true, _&&_};
 ghost use mathlib.Core.Option.{some};
 ghost use Prim.Native.Nat.{_<_};
 ghost use lib.ListN.{length};
-ghost use lib.Ieee.{ofBits, binary64, eq};
+ghost use lib.Ieee.{ofBits, binary64};
 ghost use Rattle.pack.specs.Notation.{_==_, concatBelow};
 ghost use Rattle.pack.specs.Value.{pgns-of, pgn-at, field-at};
 ghost use Rattle.pack.specs.Meaning.{optBytes, fieldMeaning, packOf};
 ghost use Rattle.pack.specs.Ready.{Ready, PgnAt, PgnIs, treePlace, IndexIs};
 ghost use Rattle.rules.specs.Emit.{Emitted, Fits};
+ghost use Rattle.rules.specs.Floats.{float-eq};
 ghost use Rattle.rules.specs.SpnNames.{spn-field};
 ghost use Rattle.rules.specs.Spns.{spns-elsewhere, same-unit, first-seen, unlike-first, spn-at, check-scalings, check-spns};
 use crate::emit::pgn_error;
@@ -76,9 +77,11 @@ fn same_unit(s: &[u8], a: OptText, b: OptText) -> bool
 }
 
 // `==` of the Rust's tuple: a NaN differs from itself.
-fn same_scaling(s: &[u8], a: Scaling, b: Scaling) -> bool
-    ensures { λ r. ⌜ r ≡ ((a .width == b .width) && eq (a .resolution) (b .resolution) && eq (a .offset) (b .offset) && same-unit (optBytes (now (s .entry)) (a .unit)) (optBytes (now (s .entry)) (b .unit))) ⌝ }
+fn same_scaling(s: &[u8], v: ScalingView, w: ScalingView) -> bool
+    ensures { λ r. ⌜ r ≡ ((v .bits == w .bits) && float-eq (v .resolution) (w .resolution) && float-eq (v .offset) (w .offset) && same-unit (optBytes (now (s .entry)) (v .unit)) (optBytes (now (s .entry)) (w .unit))) ⌝ }
 {
+    let a = scaling_of(v);
+    let b = scaling_of(w);
     if a.width == b.width {
         if a.resolution == b.resolution {
             if a.offset == b.offset {
@@ -144,7 +147,7 @@ fn unlike_first(
         return n;
     }
     let g = field_of(s, work, 1, seen.pgn, seen.place, seen.field);
-    let alike = same_scaling(s, scaling_of(g.scaling), scaling_of(f.scaling));
+    let alike = same_scaling(s, g.scaling, f.scaling);
     put_if(out, n, !alike, pgn_error(42, 3, 1, i, k, seen.pgn))
 }
 

@@ -10,13 +10,13 @@ ghost use Rattle.pack.specs.Value.{pgn-at, field-at};
 ghost use Rattle.rules.specs.Emit.{Emitted, Fits};
 ghost use Rattle.rules.specs.Search.{anyBelow};
 ghost use Rattle.rules.specs.TrailingZero.{starts-behind, fixed, unsigned-integer, trailing-zero-target-at, trailing-zero-at, check-trailing-zero-is-digit};
+use crate::bools::and_not;
 use crate::emit::pgn_error;
 use crate::emit::put;
 use crate::emit::put_if;
 use crate::floats::ONE;
 use crate::floats::ZERO;
 use crate::floats::float_eq;
-use crate::repeating::precedes;
 use crate::targets::integer;
 use crate::targets::target;
 use pack::field::FieldView;
@@ -25,17 +25,17 @@ use pack::of::type_of;
 use pack::optional::OptNumber;
 use pack::pgn::OptRepeating;
 use pack::pgn::PgnView;
+use pack::protocol::FieldIndex;
 use pack::protocol::FieldOrder;
+use pack::protocol::precedes;
 use pack::text::text_is;
 
 // The set, if any, starts behind the order.
 fn starts_behind(set: OptRepeating, order: FieldOrder) -> bool
     ensures { λ r. ⌜ r ≡ starts-behind (optRepeating set) (order .0) ⌝ }
 {
-    if set.given {
-        return precedes(order, FieldOrder(set.set.start));
-    }
-    true
+    let ahead = precedes(order, FieldOrder(set.set.start));
+    !and_not(set.given, ahead)
 }
 
 // A variable-width field, or a proprietary one that may be absent.
@@ -72,9 +72,9 @@ fn fixed(s: &[u8], work: &[u32], t: u32, i: u32, p: usize, g: PgnView, j: u32) -
     if any_moves(s, work, t, i, p, j) {
         return false;
     }
-    let order = j + 1;
-    if starts_behind(g.repeating1, FieldOrder(order)) {
-        return starts_behind(g.repeating2, FieldOrder(order));
+    let order = FieldIndex(j).order();
+    if starts_behind(g.repeating1, order) {
+        return starts_behind(g.repeating2, order);
     }
     false
 }

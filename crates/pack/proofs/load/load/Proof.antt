@@ -1,3 +1,4 @@
+use Rattle.pack.proofs.Told.{promised}
 use Rattle.pack.proofs.Loading.{too-long, input-refused, work-short, loads}
 use Rattle.pack.specs.declared.load.Index.{Index}
 use Rattle.pack.specs.Load.{indexOf}
@@ -17,7 +18,7 @@ none [] e = refl
 none (x ∷ xs) e = absurd (omega arith)
 
 returns : tie.Need-returns
-returns c = let a = too-long (now (c .before .before .before .args .pack)) (now (c .before .before .before .args .work)) (c .if1 .taken) in (a .answer, a .work)
+returns c = let a = too-long (now (c .before .before .before .args .pack)) (now (c .before .before .before .args .work)) (c .if1 .taken) in promised _ _ _ _ (a .answer) (a .work)
 
 slice-relend-prefix-place-all : tie.Need-slice-relend-prefix-place-all
 slice-relend-prefix-place-all c = search needs
@@ -38,7 +39,7 @@ returns-2 c =
     let x : c .before .before .before .before .before .place-all .last .1 .0 ++ w ≡ w = rw (none (c .before .before .before .before .before .place-all .last .1 .0) (c .before .before .before .before .before .place-all .kept .1 .0)) in
     let e = c .before .before .before .before .before .place-all .ensures .end in
     let a = input-refused s w (omega arith) (rw (← e) (c .if2 .taken)) in
-    ((rw e (a .answer)), x ∙ a .work)
+    promised _ _ _ _ (rw e (a .answer)) (x ∙ a .work)
 
 same-length-2 : tie.Need-same-length-2
 same-length-2 c = search needs
@@ -52,7 +53,7 @@ returns-3 c =
     let z : packEnd s .refused ≡ 0 = rw (← c .before .before .before .before .before .before .before .before .place-all .ensures .end) (c .before .before .before .if2 .left) in
     let n : c .before .before .before .before .before .before .before .before .place-all .result .index .records ≡ length (offsets s) = ap (λ (i : Index). i .records) (c .before .before .before .before .before .before .before .before .place-all .ensures .index z) in
     let a = work-short s w (omega arith) z (rw (x, n) at (c .if3 .taken)) in
-    ((rw n (a .answer)), x ∙ a .work)
+    promised _ _ _ _ (rw n (a .answer)) (x ∙ a .work)
 
 place-all-requires-2 : tie.Need-place-all-requires-2
 place-all-requires-2 c κs = search needs
@@ -69,7 +70,7 @@ returns-4 c =
     let z : packEnd s .refused ≡ 0 = rw (← c .before .before .before .before .before .before .before .before .before .before .before .before .place-all .ensures .end) (c .before .before .before .before .before .before .before .if2 .left) in
     let n : c .before .before .before .before .before .before .before .before .before .before .before .before .place-all .result .index .records ≡ length (offsets s) = ap (λ (i : Index). i .records) (c .before .before .before .before .before .before .before .before .before .before .before .before .place-all .ensures .index z) in
     let a = loads s w (c .before .before .before .before .before .before .before .before .before .before .before .before .before .before .if1 .left) z (rw (x, n) at (c .before .before .before .before .if3 .left)) in
-    ((rw (c .before .before .before .before .before .before .before .before .before .before .before .before .place-all .ensures .index z) (a .answer)), (rw x at (c .before .before .place-all2 .ensures .work z)) ∙ a .work)
+    promised _ _ _ _ (rw (c .before .before .before .before .before .before .before .before .before .before .before .before .place-all .ensures .index z) (a .answer)) ((rw x at (c .before .before .place-all2 .ensures .work z)) ∙ a .work)
 
 pub load-spec : {M : Type 1} → statement M
 load-spec =
