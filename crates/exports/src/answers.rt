@@ -1,6 +1,10 @@
 // Answers as numbers.
 ghost use mathlib.Core.Path.{_≡_};
-ghost use Rattle.exports.specs.Answers.{loadNumber, loadAnswer, checkNumber, checkAnswer, placeNumber, placeAnswer, endNumber, walkNumber, walkAnswer, heldNumber, yesNumber, heldAnswer};
+ghost use Rattle.exports.specs.Answers.{filled};
+ghost use Rattle.pack.specs.Load.{load-answer};
+ghost use Rattle.rules.specs.Checked.{check-answer};
+ghost use Rattle.rules.specs.PlaceCall.{place-answer};
+ghost use Rattle.walk.specs.WalkCall.{ending-number, walk-answer, yes-number, held-answer};
 use pack::load::Loaded;
 use rules::check::Checked;
 use rules::place_text::Placed;
@@ -9,7 +13,7 @@ use walk::walk::HeldAnswer;
 use walk::walk::Walked;
 
 pub fn load_number(l: Loaded) -> u32
-    ensures { λ n. ⌜ n ≡ loadNumber l ⌝ }
+    ensures { λ n. ⌜ n ≡ load-answer l .number ⌝ }
 {
     match l {
         Loaded::Refused(r) => r.number(),
@@ -18,7 +22,7 @@ pub fn load_number(l: Loaded) -> u32
 }
 
 pub fn load_answer(l: Loaded) -> [u64; 11]
-    ensures { λ a. ⌜ a ≡ loadAnswer l ⌝ }
+    ensures { λ a. ⌜ a ≡ filled 11 (load-answer l .values) ⌝ }
 {
     match l {
         Loaded::Refused(r) => [r.detail() as u64, 0, 0, 0, 0, 0, 0, 0, 0, 0, 0],
@@ -39,7 +43,7 @@ pub fn load_answer(l: Loaded) -> [u64; 11]
 }
 
 pub fn check_number(c: Checked) -> u32
-    ensures { λ n. ⌜ n ≡ checkNumber c ⌝ }
+    ensures { λ n. ⌜ n ≡ check-answer c .number ⌝ }
 {
     match c {
         Checked::Refused(r) => r.number(),
@@ -51,7 +55,7 @@ pub fn check_number(c: Checked) -> u32
 }
 
 pub fn check_answer(c: Checked) -> [u64; 2]
-    ensures { λ a. ⌜ a ≡ checkAnswer c ⌝ }
+    ensures { λ a. ⌜ a ≡ filled 2 (check-answer c .values) ⌝ }
 {
     match c {
         Checked::Refused(r) => [r.detail() as u64, 0],
@@ -60,7 +64,7 @@ pub fn check_answer(c: Checked) -> [u64; 2]
 }
 
 pub fn place_number(p: Placed) -> u32
-    ensures { λ n. ⌜ n ≡ placeNumber p ⌝ }
+    ensures { λ n. ⌜ n ≡ place-answer p .number ⌝ }
 {
     match p {
         Placed::Refused(r) => r.number(),
@@ -69,7 +73,7 @@ pub fn place_number(p: Placed) -> u32
 }
 
 pub fn place_answer(p: Placed) -> [u64; 1]
-    ensures { λ a. ⌜ a ≡ placeAnswer p ⌝ }
+    ensures { λ a. ⌜ a ≡ filled 1 (place-answer p .values) ⌝ }
 {
     match p {
         Placed::Refused(r) => [r.detail() as u64],
@@ -78,7 +82,7 @@ pub fn place_answer(p: Placed) -> [u64; 1]
 }
 
 fn end_number(e: End) -> u64
-    ensures { λ n. ⌜ n ≡ endNumber e ⌝ }
+    ensures { λ n. ⌜ n ≡ ending-number e ⌝ }
 {
     match e {
         End::Whole => 0,
@@ -88,7 +92,7 @@ fn end_number(e: End) -> u64
 }
 
 pub fn walk_number(w: Walked) -> u32
-    ensures { λ n. ⌜ n ≡ walkNumber w ⌝ }
+    ensures { λ n. ⌜ n ≡ walk-answer w .number ⌝ }
 {
     match w {
         Walked::Refused(r) => r.number(),
@@ -97,7 +101,7 @@ pub fn walk_number(w: Walked) -> u32
 }
 
 pub fn walk_answer(w: Walked) -> [u64; 2]
-    ensures { λ a. ⌜ a ≡ walkAnswer w ⌝ }
+    ensures { λ a. ⌜ a ≡ filled 2 (walk-answer w .values) ⌝ }
 {
     match w {
         Walked::Refused(r) => [r.detail() as u64, 0],
@@ -106,7 +110,7 @@ pub fn walk_answer(w: Walked) -> [u64; 2]
 }
 
 pub fn held_number(h: HeldAnswer) -> u32
-    ensures { λ n. ⌜ n ≡ heldNumber h ⌝ }
+    ensures { λ n. ⌜ n ≡ held-answer h .number ⌝ }
 {
     match h {
         HeldAnswer::Refused(r) => r.number(),
@@ -115,13 +119,13 @@ pub fn held_number(h: HeldAnswer) -> u32
 }
 
 fn yes_or_no(b: bool) -> u64
-    ensures { λ n. ⌜ n ≡ yesNumber b ⌝ }
+    ensures { λ n. ⌜ n ≡ yes-number b ⌝ }
 {
     if b { 1 } else { 0 }
 }
 
 pub fn held_answer(h: HeldAnswer) -> [u64; 1]
-    ensures { λ a. ⌜ a ≡ heldAnswer h ⌝ }
+    ensures { λ a. ⌜ a ≡ filled 1 (held-answer h .values) ⌝ }
 {
     match h {
         HeldAnswer::Refused(r) => [r.detail() as u64],

@@ -1,11 +1,11 @@
 // The calls as a Rust or C program makes them: numbers and slices alone. Each answers 01's refusal number, 0 where there is none.
 ghost use mathlib.Core.Path.{_≡_};
 ghost use lib.ListN.{length};
-ghost use Rattle.pack.specs.Load.{loaded, workAfter};
-ghost use Rattle.exports.specs.Answers.{loadNumber, loadAnswer, checkNumber, checkAnswer, placeNumber, placeAnswer, walkNumber, walkAnswer, heldNumber, heldAnswer};
-ghost use Rattle.rules.specs.Checked.{checked, findingsAfter};
-ghost use Rattle.rules.specs.PlaceCall.{placed, textAfter};
-ghost use Rattle.walk.specs.WalkCall.{walked, visitsAfter, held-told};
+ghost use Rattle.pack.specs.Load.{load-tells, workAfter};
+ghost use Rattle.exports.specs.Answers.{filled};
+ghost use Rattle.rules.specs.Checked.{check-tells, findingsAfter};
+ghost use Rattle.rules.specs.PlaceCall.{place-tells, textAfter};
+ghost use Rattle.walk.specs.WalkCall.{walk-tells, visitsAfter, held-tells};
 use crate::answers::check_answer;
 use crate::answers::check_number;
 use crate::answers::held_answer;
@@ -28,8 +28,8 @@ mod answers;
 // three trees in turn the count and the work position of the first.
 #[no_mangle]
 pub extern "C" fn sarwymp_load(pack: &[u8], work: &mut [u32], answer: &mut [u64; 11]) -> u32
-    ensures number { λ r. ⌜ r ≡ loadNumber (loaded (now (pack .entry)) (length (now (work .entry)))) ⌝ }
-    ensures numbers { λ r. ⌜ now (answer .exit) ≡ loadAnswer (loaded (now (pack .entry)) (length (now (work .entry)))) ⌝ }
+    ensures number { λ r. ⌜ r ≡ load-tells (now (pack .entry)) (length (now (work .entry))) .number ⌝ }
+    ensures numbers { λ r. ⌜ now (answer .exit) ≡ filled 11 (load-tells (now (pack .entry)) (length (now (work .entry))) .values) ⌝ }
     ensures work { λ r. ⌜ now (work .exit) ≡ workAfter (now (pack .entry)) (now (work .entry)) ⌝ }
 {
     let l = load(pack, work);
@@ -45,8 +45,8 @@ pub extern "C" fn sarwymp_check(
     findings: &mut [u32],
     answer: &mut [u64; 2],
 ) -> u32
-    ensures number { λ r. ⌜ r ≡ checkNumber (checked (now (pack .entry)) (length (now (work .entry))) (length (now (findings .entry)))) ⌝ }
-    ensures numbers { λ r. ⌜ now (answer .exit) ≡ checkAnswer (checked (now (pack .entry)) (length (now (work .entry))) (length (now (findings .entry)))) ⌝ }
+    ensures number { λ r. ⌜ r ≡ check-tells (now (pack .entry)) (length (now (work .entry))) (length (now (findings .entry))) .number ⌝ }
+    ensures numbers { λ r. ⌜ now (answer .exit) ≡ filled 2 (check-tells (now (pack .entry)) (length (now (work .entry))) (length (now (findings .entry))) .values) ⌝ }
     ensures work { λ r. ⌜ now (work .exit) ≡ workAfter (now (pack .entry)) (now (work .entry)) ⌝ }
     ensures findings { λ r. ⌜ now (findings .exit) ≡ findingsAfter (now (pack .entry)) (length (now (work .entry))) (now (findings .entry)) ⌝ }
 {
@@ -66,8 +66,8 @@ pub extern "C" fn sarwymp_place_text(
     text: &mut [u8],
     answer: &mut [u64; 1],
 ) -> u32
-    ensures number { λ r. ⌜ r ≡ placeNumber (placed (now (pack .entry)) (length (now (work .entry))) place tree item (length (now (text .entry)))) ⌝ }
-    ensures numbers { λ r. ⌜ now (answer .exit) ≡ placeAnswer (placed (now (pack .entry)) (length (now (work .entry))) place tree item (length (now (text .entry)))) ⌝ }
+    ensures number { λ r. ⌜ r ≡ place-tells (now (pack .entry)) (length (now (work .entry))) place tree item (length (now (text .entry))) .number ⌝ }
+    ensures numbers { λ r. ⌜ now (answer .exit) ≡ filled 1 (place-tells (now (pack .entry)) (length (now (work .entry))) place tree item (length (now (text .entry))) .values) ⌝ }
     ensures work { λ r. ⌜ now (work .exit) ≡ workAfter (now (pack .entry)) (now (work .entry)) ⌝ }
     ensures text { λ r. ⌜ now (text .exit) ≡ textAfter (now (pack .entry)) (length (now (work .entry))) place tree item (now (text .entry)) ⌝ }
 {
@@ -88,8 +88,8 @@ pub extern "C" fn sarwymp_walk(
     visits: &mut [u32],
     answer: &mut [u64; 2],
 ) -> u32
-    ensures number { λ r. ⌜ r ≡ walkNumber (walked (now (pack .entry)) (length (now (work .entry))) tree pgn (now (readings .entry)) (length (now (visits .entry)))) ⌝ }
-    ensures numbers { λ r. ⌜ now (answer .exit) ≡ walkAnswer (walked (now (pack .entry)) (length (now (work .entry))) tree pgn (now (readings .entry)) (length (now (visits .entry)))) ⌝ }
+    ensures number { λ r. ⌜ r ≡ walk-tells (now (pack .entry)) (length (now (work .entry))) tree pgn (now (readings .entry)) (length (now (visits .entry))) .number ⌝ }
+    ensures numbers { λ r. ⌜ now (answer .exit) ≡ filled 2 (walk-tells (now (pack .entry)) (length (now (work .entry))) tree pgn (now (readings .entry)) (length (now (visits .entry))) .values) ⌝ }
     ensures work { λ r. ⌜ now (work .exit) ≡ workAfter (now (pack .entry)) (now (work .entry)) ⌝ }
     ensures visits { λ r. ⌜ now (visits .exit) ≡ visitsAfter (now (pack .entry)) (length (now (work .entry))) tree pgn (now (readings .entry)) (now (visits .entry)) ⌝ }
 {
@@ -107,8 +107,8 @@ pub extern "C" fn sarwymp_held(
     pgn: u32,
     answer: &mut [u64; 1],
 ) -> u32
-    ensures number { λ r. ⌜ r ≡ heldNumber (held-told (now (pack .entry)) (length (now (work .entry))) tree pgn) ⌝ }
-    ensures numbers { λ r. ⌜ now (answer .exit) ≡ heldAnswer (held-told (now (pack .entry)) (length (now (work .entry))) tree pgn) ⌝ }
+    ensures number { λ r. ⌜ r ≡ held-tells (now (pack .entry)) (length (now (work .entry))) tree pgn .number ⌝ }
+    ensures numbers { λ r. ⌜ now (answer .exit) ≡ filled 1 (held-tells (now (pack .entry)) (length (now (work .entry))) tree pgn .values) ⌝ }
     ensures work { λ r. ⌜ now (work .exit) ≡ workAfter (now (pack .entry)) (now (work .entry)) ⌝ }
 {
     let h = held(pack, work, tree, pgn);

@@ -8,6 +8,7 @@ use lib.ListN.{length}
 use Rattle.pack.specs.Notation.{_<ᵇ_, _≤ᵇ_, _==_, if_then_else_}
 use Rattle.pack.specs.Format.{packEnd, offsets}
 use Rattle.pack.specs.Load.{Answer, refusal-answer, after, load-answer, mostBytes, verdict, indexOf, loaded, load-tells, workAfter, Loads, refusalNumber}
+use Rattle.pack.specs.declared.load.Index.{Index}
 use Rattle.pack.specs.declared.load.Refusal.{Refusal}
 use Rattle.pack.specs.declared.load.Loaded.{Loaded}
 use Rattle.pack.specs.declared.load.Loaded.the-variants.{Refused, Accepted}
@@ -49,5 +50,5 @@ numbered s m r e = go (mostBytes <ᵇ length s) refl (packEnd s .refused == 0) r
 pub after-refused : (s : List ℕ) (m : ℕ) (r : Refusal) → loaded s m ≡ Refused r → (rest : Answer) → refusal-answer r ≡ after (load-tells s m) rest
 after-refused s m r e rest = rw (← load-told s m, e, numbered s m r e)
 
-pub after-accepted : (s : List ℕ) (m : ℕ) → (load-tells s m .number == 0) ≡ true → (rest : Answer) → rest ≡ after (load-tells s m) rest
-after-accepted s m e rest = rw e
+pub after-accepted : (s : List ℕ) (m : ℕ) (i : Index) → loaded s m ≡ Accepted i → (rest : Answer) → rest ≡ after (load-tells s m) rest
+after-accepted s m i e rest = rw (← load-told s m, e)

@@ -2,14 +2,14 @@
 -- answer and text buffer, of a text that may be in the pack
 use Prim.Native.Nat.{ℕ, _+_, _≤_, _<_}
 use native.Mathlib.Omega.{arith}
-use mathlib.Core.Path.{_≡_, refl, _∙_}
+use mathlib.Core.Path.{_≡_, refl, ap, _∙_}
 use mathlib.Core.Bool.{Bool, true, false}
 use mathlib.Core.List.{List, [], _∷_, _++_}
-use mathlib.Core.Option.{Option}
+use mathlib.Core.Option.{Option, none, some}
 use lib.ListN.{length}
 use borrow.Author.Tests.{le-leb, lt-leb}
-use Rattle.pack.specs.Notation.{optional}
-use Rattle.pack.specs.Load.{loaded}
+use Rattle.pack.specs.Notation.{_≤ᵇ_, optional}
+use Rattle.pack.specs.Load.{Answer, loaded, workAfter}
 use Rattle.pack.specs.Meaning.{packOf}
 use Rattle.pack.specs.Placing.{Stored}
 use Rattle.pack.specs.Value.{Bytes}
@@ -17,10 +17,12 @@ use Rattle.pack.specs.declared.load.Index.{Index}
 use Rattle.pack.specs.declared.load.Refusal.{Refusal}
 use Rattle.pack.specs.declared.load.Refusal.the-variants.{Absent, Place}
 use Rattle.pack.proofs.Stores.{sets-over}
-use Rattle.rules.specs.PlaceCall.{named, placed, textLeft, textAfter}
+use Rattle.pack.proofs.Told.{after-refused, after-accepted}
+use Rattle.rules.specs.PlaceCall.{named, placed, textLeft, textAfter, place-answer, text-tells, place-tells, Places}
 use Rattle.rules.specs.PlaceText.{place-text}
 use Rattle.rules.specs.declared.place_text.Placed.{Placed}
 use Rattle.rules.specs.declared.place_text.Placed.the-variants.{Refused, Written}
+use Rattle.pack.specs.declared.load.Loaded.{Loaded}
 use Rattle.pack.specs.declared.load.Loaded.the-variants as load
 
 pub record Named (o : Option Bytes) (w : List ℕ) (r : Placed) (w′ : List ℕ) : Type 0 where
@@ -55,3 +57,32 @@ module _ (s : List ℕ) (m place t item : ℕ) (w : List ℕ) where
       → w′ ≡ textLeft (named (place-text (packOf s) place t item) (length w)) (place-text (packOf s) place t item) w → Answered s m place t item w r w′
   unfolding placed textAfter
   is-loaded i e r w′ a b = record { answer = (rw e a); text = (rw e b) }
+
+named-told : (o : Option Bytes) (n : ℕ) → place-answer (named o n) ≡ text-tells o n
+named-told none n = refl
+named-told (some b) n = go (length b ≤ᵇ n) refl
+  where
+    go : (t : Bool) → (length b ≤ᵇ n) ≡ t → place-answer (named (some b) n) ≡ text-tells (some b) n
+    go true e = rw e
+    go false e = rw e
+
+place-told : (s : List ℕ) (m place t item n : ℕ) → place-answer (placed s m place t item n) ≡ place-tells s m place t item n
+unfolding placed place-tells
+place-told s m place t item n = go (loaded s m) refl
+  where
+    rest : Answer
+    rest = text-tells (place-text (packOf s) place t item) n
+
+    go : (l : Loaded) → loaded s m ≡ l → place-answer (placed s m place t item n) ≡ place-tells s m place t item n
+    go (load.Refused r) e = rw e (after-refused s m r e rest)
+    go (load.Accepted i) e = rw e (named-told (place-text (packOf s) place t item) n ∙ after-accepted s m i e rest)
+
+pub promised : (s : List ℕ) (place t item : ℕ) (w o w′ o′ : List ℕ) (r : Placed) → Answered s (length w) place t item o r o′ → w′ ≡ workAfter s w
+    → Places s place t item w o w′ o′ r
+promised s place t item w o w′ o′ r a e =
+    record {
+      answer = a .answer;
+      told = ap place-answer (a .answer) ∙ place-told s (length w) place t item (length o);
+      work = e;
+      text = a .text;
+    }

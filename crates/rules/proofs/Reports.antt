@@ -7,16 +7,18 @@ use mathlib.Core.List.{List, [], _∷_, _++_}
 use lib.ListN.{length, getD, take, drop, length-append}
 use lib.Seq.{sets, length-sets, take-append-seam}
 use borrow.Author.Tests.{le-leb, lt-leb}
-use Rattle.pack.specs.Notation.{_==_, if_then_else_}
-use Rattle.pack.specs.Load.{loaded, over}
+use Rattle.pack.specs.Notation.{_≤ᵇ_, _==_, if_then_else_}
+use Rattle.pack.specs.Load.{Answer, loaded, over, workAfter}
 use Rattle.pack.specs.Meaning.{packOf}
 use Rattle.pack.specs.declared.load.Index.{Index}
+use Rattle.pack.specs.declared.load.Loaded.{Loaded}
 use Rattle.pack.specs.declared.load.Loaded.the-variants as load
 use Rattle.pack.specs.declared.load.Refusal.{Refusal}
 use Rattle.pack.specs.declared.load.Refusal.the-variants.{Findings}
 use Rattle.pack.proofs.Stores.{sets-append, sets-over}
+use Rattle.pack.proofs.Told.{after-refused, after-accepted}
 use Rattle.rules.specs.declared.Finding.{Finding}
-use Rattle.rules.specs.Checked.{all-numbers, judged, checked, findingsLeft, findingsAfter}
+use Rattle.rules.specs.Checked.{all-numbers, judged, checked, findingsLeft, findingsAfter, check-answer, findings-tell, check-tells, Checks}
 use Rattle.rules.specs.Check.{check}
 use Rattle.rules.specs.declared.check.Checked.{Checked}
 use Rattle.rules.specs.declared.check.Checked.the-variants.{Refused, Reported}
@@ -114,3 +116,25 @@ pub is-loaded : (s w o : List ℕ) (i : Index) {r : Checked} {o′ : List ℕ} �
     → r ≡ judged (check (packOf s)) (length o) → o′ ≡ findingsLeft (judged (check (packOf s)) (length o)) (all-numbers (check (packOf s))) o → Answers s w o r o′
 unfolding checked findingsAfter
 is-loaded s w o i e x y = record { answer = rw e x; out = rw e y }
+
+judged-told : (fs : List Finding) (n : ℕ) → check-answer (judged fs n) ≡ findings-tell fs n
+judged-told fs n = go (8 * length fs ≤ᵇ n) refl
+  where
+    go : (b : Bool) → (8 * length fs ≤ᵇ n) ≡ b → check-answer (judged fs n) ≡ findings-tell fs n
+    go true e = rw e
+    go false e = rw e
+
+check-told : (s : List ℕ) (m n : ℕ) → check-answer (checked s m n) ≡ check-tells s m n
+unfolding checked check-tells
+check-told s m n = go (loaded s m) refl
+  where
+    rest : Answer
+    rest = findings-tell (check (packOf s)) n
+
+    go : (l : Loaded) → loaded s m ≡ l → check-answer (checked s m n) ≡ check-tells s m n
+    go (load.Refused r) e = rw e (after-refused s m r e rest)
+    go (load.Accepted i) e = rw e (judged-told (check (packOf s)) n ∙ after-accepted s m i e rest)
+
+pub promised : (s w o w′ o′ : List ℕ) (r : Checked) → Answers s w o r o′ → w′ ≡ workAfter s w → Checks s w o w′ o′ r
+promised s w o w′ o′ r a e =
+    record { answer = a .answer; told = ap check-answer (a .answer) ∙ check-told s (length w) (length o); work = e; findings = a .out }

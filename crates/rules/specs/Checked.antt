@@ -1,9 +1,10 @@
 -- What the call `check` answers, and what it leaves in the findings buffer.
 use Prim.Native.Nat.{ℕ, _*_}
+use mathlib.Core.Path.{_≡_}
 use mathlib.Core.List.{List, [], _∷_, _++_}
 use lib.ListN.{length}
 use Rattle.pack.specs.Notation.{_≤ᵇ_, if_then_else_}
-use Rattle.pack.specs.Load.{loaded, over}
+use Rattle.pack.specs.Load.{Answer, refuses, gives, after, refusal-answer, loaded, load-tells, over, workAfter}
 use Rattle.pack.specs.Meaning.{packOf}
 use Rattle.pack.specs.declared.load.Loaded.{Loaded}
 use Rattle.pack.specs.declared.load.Loaded.the-variants as load
@@ -40,3 +41,24 @@ findingsLeft (Reported n e) front o = over front o
 
 unfoldable pub findingsAfter : List ℕ → (m : ℕ) → List ℕ → List ℕ
 findingsAfter s m o = findingsLeft (checked s m (length o)) (all-numbers (check (packOf s))) o
+
+-- ---- the same in 01's numbers
+
+-- for each case of the answer its number and values: the numbers of findings and of errors
+abbrev pub check-answer : Checked → Answer
+check-answer (Refused r) = refusal-answer r
+check-answer (Reported n e) = gives (n ∷ e ∷ [])
+
+-- 22: "findings buffer below 8 numbers a finding"; the detail is "the length needed"
+abbrev pub findings-tell : List Finding → ℕ → Answer
+findings-tell fs n = if 8 * length fs ≤ᵇ n then gives (length fs ∷ errors fs ∷ []) else refuses 22 (8 * length fs)
+
+unfoldable pub check-tells : List ℕ → (m n : ℕ) → Answer
+check-tells s m n = after (load-tells s m) (findings-tell (check (packOf s)) n)
+
+-- What `check` promises: its answer r, and the work and findings buffers, w and o before, w′ and o′ after.
+pub record Checks (s w o w′ o′ : List ℕ) (r : Checked) : Type 0 where
+  pub answer : r ≡ checked s (length w) (length o)
+  pub told : check-answer r ≡ check-tells s (length w) (length o)
+  pub work : w′ ≡ workAfter s w
+  pub findings : o′ ≡ findingsAfter s (length w) o

@@ -1,10 +1,11 @@
 -- What the place text call answers, and what it leaves in the text buffer.
 use Prim.Native.Nat.{ℕ}
-use mathlib.Core.List.{List}
+use mathlib.Core.Path.{_≡_}
+use mathlib.Core.List.{List, [], _∷_}
 use mathlib.Core.Option.{Option, none, some}
 use lib.ListN.{length}
 use Rattle.pack.specs.Notation.{_≤ᵇ_, if_then_else_}
-use Rattle.pack.specs.Load.{loaded, over}
+use Rattle.pack.specs.Load.{Answer, refuses, gives, after, refusal-answer, loaded, load-tells, over, workAfter}
 use Rattle.pack.specs.Meaning.{packOf}
 use Rattle.pack.specs.Value.{Bytes}
 use Rattle.pack.specs.declared.load.Loaded.{Loaded}
@@ -40,3 +41,25 @@ textLeft (Written n) (some b) o = over b o
 
 unfoldable pub textAfter : List ℕ → (m place tree item : ℕ) → List ℕ → List ℕ
 textAfter s m place t item o = textLeft (placed s m place t item (length o)) (place-text (packOf s) place t item) o
+
+-- ---- the same in 01's numbers
+
+-- for each case of the answer its number and values: the length of the text
+abbrev pub place-answer : Placed → Answer
+place-answer (Refused r) = refusal-answer r
+place-answer (Written n) = gives (n ∷ [])
+
+-- 23, then 24 with "the length needed"
+abbrev pub text-tells : Option Bytes → ℕ → Answer
+text-tells none n = refuses 23 0
+text-tells (some b) n = if length b ≤ᵇ n then gives (length b ∷ []) else refuses 24 (length b)
+
+unfoldable pub place-tells : List ℕ → (m place tree item n : ℕ) → Answer
+place-tells s m place t item n = after (load-tells s m) (text-tells (place-text (packOf s) place t item) n)
+
+-- What the place text call promises: its answer r, and the work and text buffers, w and o before, w′ and o′ after.
+pub record Places (s : List ℕ) (place t item : ℕ) (w o w′ o′ : List ℕ) (r : Placed) : Type 0 where
+  pub answer : r ≡ placed s (length w) place t item (length o)
+  pub told : place-answer r ≡ place-tells s (length w) place t item (length o)
+  pub work : w′ ≡ workAfter s w
+  pub text : o′ ≡ textAfter s (length w) place t item o

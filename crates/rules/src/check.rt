@@ -3,11 +3,11 @@ ghost use mathlib.Core.Path.{_≡_};
 ghost use Prim.Native.Nat.{_+_, _*_, _≤_};
 ghost use lib.ListN.{length, getD, take};
 ghost use Rattle.pack.specs.Notation.{_==_, if_then_else_};
-ghost use Rattle.pack.specs.Load.{over, workAfter};
+ghost use Rattle.pack.specs.Load.{over};
 ghost use Rattle.pack.specs.Meaning.{packOf};
 ghost use Rattle.pack.specs.Ready.{Ready, IndexIs};
 ghost use Rattle.rules.specs.Check.{check};
-ghost use Rattle.rules.specs.Checked.{all-numbers, judged, checked, findingsLeft, findingsAfter};
+ghost use Rattle.rules.specs.Checked.{all-numbers, judged, findingsLeft, Checks};
 ghost use Rattle.rules.specs.Emit.{Emitted, Fits};
 ghost use Rattle.rules.specs.Search.{countBelow};
 use crate::fieldtypes::check_fieldtypes;
@@ -121,9 +121,7 @@ fn report(pack: &[u8], work: &[u32], findings: &mut [u32], index: Index) -> Chec
 }
 
 pub fn check(pack: &[u8], work: &mut [u32], findings: &mut [u32]) -> Checked
-    ensures { λ r. ⌜ r ≡ checked (now (pack .entry)) (length (now (work .entry))) (length (now (findings .entry))) ⌝ }
-    ensures { λ r. ⌜ now (work .exit) ≡ workAfter (now (pack .entry)) (now (work .entry)) ⌝ }
-    ensures { λ r. ⌜ now (findings .exit) ≡ findingsAfter (now (pack .entry)) (length (now (work .entry))) (now (findings .entry)) ⌝ }
+    ensures { λ r. ⌜ Checks (now (pack .entry)) (now (work .entry)) (now (findings .entry)) (now (work .exit)) (now (findings .exit)) r ⌝ }
 {
     match load(pack, work) {
         Loaded::Refused(refusal) => Checked::Refused(refusal),

@@ -248,7 +248,7 @@ fn continues_at(
 }
 
 // R43: a `continues:` field adds high bits to an earlier, plain integer field of the same record, at a fixed distance from it.
-pub fn check_continues(
+pub(crate) fn check_continues(
     out: &mut [u32],
     n: usize,
     s: &[u8],

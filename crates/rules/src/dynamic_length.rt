@@ -68,7 +68,7 @@ fn dynamic_length_at(
 
 // R06: DYNAMIC_FIELD_VALUE needs an earlier length source; overhead only on length fields; dynamicFieldLength only on
 // DYNAMIC_FIELD_LENGTH fields.
-pub fn check_dynamic_length(
+pub(crate) fn check_dynamic_length(
     out: &mut [u32],
     n: usize,
     s: &[u8],

@@ -1,47 +1,47 @@
 ghost use mathlib.Core.Path.{_≡_};
 ghost use Rattle.rules.specs.Proprietary.{is-manufacturer-pgn};
 
-pub mod bit_length_field;
+mod bit_length_field;
 pub mod bools;
-pub mod bytes_out;
+mod bytes_out;
 pub mod check;
 pub mod continues;
-pub mod digits;
+mod digits;
 pub mod dynamic_length;
-pub mod emit;
-pub mod field_count;
-pub mod field_type_overrides;
-pub mod fieldtypes;
-pub mod floats;
-pub mod frame_length;
-pub mod locs;
-pub mod lookup_marks;
-pub mod lookup_names;
-pub mod lookup_uses;
-pub mod lookup_wiring;
+mod emit;
+mod field_count;
+mod field_type_overrides;
+mod fieldtypes;
+mod floats;
+mod frame_length;
+mod locs;
+mod lookup_marks;
+mod lookup_names;
+mod lookup_uses;
+mod lookup_wiring;
 pub mod lookups;
-pub mod match_keys;
-pub mod match_values;
+mod match_keys;
+mod match_values;
 pub mod matches;
-pub mod min_length;
+mod min_length;
 pub mod model;
 pub mod nested_refs;
-pub mod pgn_range;
+mod pgn_range;
 pub mod place_text;
 pub mod places;
-pub mod proprietary;
-pub mod repeating;
-pub mod reserved_ids;
-pub mod searches;
-pub mod special_values;
-pub mod spn_clashes;
-pub mod spn_names;
-pub mod spns;
+mod proprietary;
+mod repeating;
+mod reserved_ids;
+mod searches;
+mod special_values;
+mod spn_clashes;
+mod spn_names;
+mod spns;
 pub mod targets;
-pub mod trailing_zero;
-pub mod trees;
-pub mod unique_ids;
-pub mod variants;
+mod trailing_zero;
+mod trees;
+mod unique_ids;
+mod variants;
 pub mod widths;
 
 // A finding's eight numbers.
@@ -57,7 +57,7 @@ pub struct Finding {
 }
 
 // pgn.h IS_MANUFACTURER_PGN()
-pub fn is_manufacturer_pgn(pgn: u32) -> bool
+fn is_manufacturer_pgn(pgn: u32) -> bool
     ensures { λ r. ⌜ r ≡ is-manufacturer-pgn pgn ⌝ }
 {
     if pgn < 0xff00 {

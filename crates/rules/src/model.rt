@@ -23,7 +23,7 @@ pub fn root_of(s: &[u8], work: &[u32], ft: u32) -> Text
 }
 
 // Whether a text is given and is that one.
-pub fn is_text(s: &[u8], o: OptText, t: Text) -> bool
+pub(crate) fn is_text(s: &[u8], o: OptText, t: Text) -> bool
     ensures { λ r. ⌜ r ≡ is-text (optBytes (now (s .entry)) o) (bytesOf (now (s .entry)) t) ⌝ }
 {
     if o.given {
@@ -33,7 +33,7 @@ pub fn is_text(s: &[u8], o: OptText, t: Text) -> bool
 }
 
 // "its own bits plus any bits a later field continues it with"
-pub fn value_bits(s: &[u8], f: FieldView) -> u64
+pub(crate) fn value_bits(s: &[u8], f: FieldView) -> u64
     ensures { λ r. ⌜ r ≡ value-bits (fieldMeaning (now (s .entry)) f) ⌝ }
 {
     let own = f.scaling.bits as u64;

@@ -107,7 +107,7 @@ fn check_nested_refs(
 }
 
 // Every lookup.
-pub fn check_all_nested_refs(
+pub(crate) fn check_all_nested_refs(
     out: &mut [u32],
     n: usize,
     s: &[u8],

@@ -1,10 +1,9 @@
 // The place text call.
 ghost use mathlib.Core.Path.{_≡_};
 ghost use lib.ListN.{length};
-ghost use Rattle.pack.specs.Load.{workAfter};
 ghost use Rattle.pack.specs.Meaning.{packOf};
 ghost use Rattle.pack.specs.Ready.{Ready, IndexIs};
-ghost use Rattle.rules.specs.PlaceCall.{named, placed, textLeft, textAfter};
+ghost use Rattle.rules.specs.PlaceCall.{named, textLeft, Places};
 ghost use Rattle.rules.specs.PlaceText.{place-text};
 use crate::locs::put_loc;
 use crate::places::find_loc;
@@ -54,9 +53,7 @@ pub fn place_text(
     item: u32,
     text: &mut [u8],
 ) -> Placed
-    ensures { λ r. ⌜ r ≡ placed (now (pack .entry)) (length (now (work .entry))) place tree item (length (now (text .entry))) ⌝ }
-    ensures { λ r. ⌜ now (work .exit) ≡ workAfter (now (pack .entry)) (now (work .entry)) ⌝ }
-    ensures { λ r. ⌜ now (text .exit) ≡ textAfter (now (pack .entry)) (length (now (work .entry))) place tree item (now (text .entry)) ⌝ }
+    ensures { λ r. ⌜ Places (now (pack .entry)) place tree item (now (work .entry)) (now (text .entry)) (now (work .exit)) (now (text .exit)) r ⌝ }
 {
     match load(pack, work) {
         Loaded::Refused(refusal) => Placed::Refused(refusal),

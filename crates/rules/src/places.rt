@@ -18,7 +18,7 @@ use pack::of::pgn_of;
 use pack::protocol::Protocol;
 
 // The text of a place, if it is in the pack.
-pub struct FoundLoc {
+pub(crate) struct FoundLoc {
     pub given: bool,
     pub loc: Loc,
 }
@@ -147,7 +147,14 @@ fn group_loc(s: &[u8], work: &[u32], index: Index, tree: u32, item: u32) -> Foun
 }
 
 // "The place text call names a finding by place, tree and item"
-pub fn find_loc(s: &[u8], work: &[u32], index: Index, place: u32, tree: u32, item: u32) -> FoundLoc
+pub(crate) fn find_loc(
+    s: &[u8],
+    work: &[u32],
+    index: Index,
+    place: u32,
+    tree: u32,
+    item: u32,
+) -> FoundLoc
     requires { ⌜ Ready (now s) (now work) × IndexIs (packOf (now s)) index ⌝ }
     ensures { λ r. ⌜ optional (r .given) (loc-text (now (s .entry)) (r .loc)) ≡ place-text (packOf (now (s .entry))) place tree item ⌝ }
 {

@@ -19,7 +19,7 @@ use pack::text::same_text;
 use pack::text::text_is;
 
 // The first of n fields of PGN i of tree t, which is at p, with that id.
-pub fn first_with_id(
+pub(crate) fn first_with_id(
     s: &[u8],
     work: &[u32],
     t: u32,
@@ -57,7 +57,7 @@ pub fn target(s: &[u8], work: &[u32], t: u32, i: u32, p: usize, n: u32, id: Text
 }
 
 // `integer`: NUMBER or LOOKUP, by the root's name of a field type.
-pub fn integer(s: &[u8], v: FieldTypeView) -> bool
+pub(crate) fn integer(s: &[u8], v: FieldTypeView) -> bool
     ensures { λ r. ⌜ r ≡ ((bytesOf (now (s .entry)) (v .root) ≐ NUMBER) || (bytesOf (now (s .entry)) (v .root) ≐ LOOKUP)) ⌝ }
 {
     if text_is(s, v.root, b"NUMBER") {

@@ -1,4 +1,5 @@
-use Rattle.exports.specs.Answers.{heldNumber, heldAnswer}
+use Rattle.exports.specs.Answers.{filled}
+use Rattle.pack.specs.Load.{Answer}
 use mathlib.Core.Path.{_∙_, ap}
 use borrow.Author.Needs.{needs}
 use Rattle.exports.proofs.sarwymp_held.Statement.{statement}
@@ -17,7 +18,11 @@ same-length : tie.Need-same-length
 same-length c = search needs
 
 returns : tie.Need-returns
-returns c = (c .held-number .ensures ∙ ap heldNumber (c .before .before .before .before .held .ensures .0), (c .before .held-answer .ensures ∙ ap heldAnswer (c .before .before .before .before .held .ensures .0), c .before .before .before .before .held .ensures .1))
+returns c =
+    let call = c .before .before .before .before .held .ensures in (
+      c .held-number .ensures ∙ ap (λ (a : Answer). a .number) (call .told),
+      (c .before .held-answer .ensures ∙ ap (λ (a : Answer). filled 1 (a .values)) (call .told), call .work),
+    )
 
 pub sarwymp-held-spec : {M : Type 1} → statement M
 sarwymp-held-spec =

@@ -1,5 +1,6 @@
 -- `sarwymp_load` meets its contract: what `load` ensures, carried through the two functions of its answer.
-use Rattle.exports.specs.Answers.{loadNumber, loadAnswer}
+use Rattle.exports.specs.Answers.{filled}
+use Rattle.pack.specs.Load.{Answer}
 use mathlib.Core.Path.{_∙_, ap}
 use borrow.Author.Needs.{needs}
 use Rattle.exports.proofs.sarwymp_load.Statement.{statement}
@@ -19,8 +20,10 @@ same-length c = search needs
 
 returns : tie.Need-returns
 returns c =
-    let load = c .before .before .before .before .load in
-    (c .load-number .ensures ∙ ap loadNumber (load .ensures .0), (c .before .load-answer .ensures ∙ ap loadAnswer (load .ensures .0), load .ensures .1))
+    let call = c .before .before .before .before .load .ensures in (
+      c .load-number .ensures ∙ ap (λ (a : Answer). a .number) (call .told),
+      (c .before .load-answer .ensures ∙ ap (λ (a : Answer). filled 11 (a .values)) (call .told), call .work),
+    )
 
 pub sarwymp-load-spec : {M : Type 1} → statement M
 sarwymp-load-spec =

@@ -1,4 +1,5 @@
-use Rattle.exports.specs.Answers.{placeNumber, placeAnswer}
+use Rattle.exports.specs.Answers.{filled}
+use Rattle.pack.specs.Load.{Answer}
 use mathlib.Core.Path.{_∙_, ap}
 use borrow.Author.Needs.{needs}
 use Rattle.exports.proofs.sarwymp_place_text.Statement.{statement}
@@ -20,7 +21,11 @@ same-length-2 : tie.Need-same-length-2
 same-length-2 c = search needs
 
 returns : tie.Need-returns
-returns c = (c .place-number .ensures ∙ ap placeNumber (c .before .before .before .before .before .before .place-text .ensures .0), (c .before .place-answer .ensures ∙ ap placeAnswer (c .before .before .before .before .before .before .place-text .ensures .0), (c .before .before .before .before .before .before .place-text .ensures .1 .0, c .before .before .before .before .before .before .place-text .ensures .1 .1)))
+returns c =
+    let call = c .before .before .before .before .before .before .place-text .ensures in (
+      c .place-number .ensures ∙ ap (λ (a : Answer). a .number) (call .told),
+      (c .before .place-answer .ensures ∙ ap (λ (a : Answer). filled 1 (a .values)) (call .told), (call .work, call .text)),
+    )
 
 pub sarwymp-place-text-spec : {M : Type 1} → statement M
 sarwymp-place-text-spec =

@@ -1,4 +1,5 @@
-use Rattle.exports.specs.Answers.{walkNumber, walkAnswer}
+use Rattle.exports.specs.Answers.{filled}
+use Rattle.pack.specs.Load.{Answer}
 use mathlib.Core.Path.{_∙_, ap}
 use borrow.Author.Needs.{needs}
 use Rattle.exports.proofs.sarwymp_walk.Statement.{statement}
@@ -20,7 +21,11 @@ same-length-2 : tie.Need-same-length-2
 same-length-2 c = search needs
 
 returns : tie.Need-returns
-returns c = (c .walk-number .ensures ∙ ap walkNumber (c .before .before .before .before .before .before .walk .ensures .0), (c .before .walk-answer .ensures ∙ ap walkAnswer (c .before .before .before .before .before .before .walk .ensures .0), (c .before .before .before .before .before .before .walk .ensures .1 .0, c .before .before .before .before .before .before .walk .ensures .1 .1)))
+returns c =
+    let call = c .before .before .before .before .before .before .walk .ensures in (
+      c .walk-number .ensures ∙ ap (λ (a : Answer). a .number) (call .told),
+      (c .before .walk-answer .ensures ∙ ap (λ (a : Answer). filled 2 (a .values)) (call .told), (call .work, call .visits)),
+    )
 
 pub sarwymp-walk-spec : {M : Type 1} → statement M
 sarwymp-walk-spec =

@@ -1,5 +1,5 @@
 use Rattle.pack.proofs.Accepted.{load-law, index-law}
-use Rattle.rules.proofs.Reports.{not-loaded, is-loaded}
+use Rattle.rules.proofs.Reports.{not-loaded, is-loaded, promised}
 use mathlib.Core.Path.{sym, _∙_}
 use denote.Ref.{now}
 use borrow.Author.Needs.{needs}
@@ -16,13 +16,13 @@ enum-known-index : tie.Need-enum-known-index
 enum-known-index c = search needs
 
 report-requires : tie.Need-report-requires
-report-requires c κs = let l = load-law (now (c .before .before .before .before .before .before .before .before .before .before .before .before .args .pack)) (now (c .before .before .before .before .before .before .before .before .before .before .before .before .args .work)) (c .before .before .before .index .given .0 .0) (sym (c .before .before .before .before .before .before .before .load .ensures .0) ∙ c .before .before .before .index .given .1) in (rw (c .before .before .before .before .before .before .before .load .ensures .1) (l .0), rw (l .1) (index-law (now (c .before .before .before .before .before .before .before .before .before .before .before .before .args .pack))))
+report-requires c κs = let l = load-law (now (c .before .before .before .before .before .before .before .before .before .before .before .before .args .pack)) (now (c .before .before .before .before .before .before .before .before .before .before .before .before .args .work)) (c .before .before .before .index .given .0 .0) (sym (c .before .before .before .before .before .before .before .load .ensures .answer) ∙ c .before .before .before .index .given .1) in (rw (c .before .before .before .before .before .before .before .load .ensures .work) (l .0), rw (l .1) (index-law (now (c .before .before .before .before .before .before .before .before .before .before .before .before .args .pack))))
 
 same-length : tie.Need-same-length
 same-length c = search needs
 
 returns : tie.Need-returns
-returns c = let a = not-loaded (now (c .before .before .before .before .before .before .before .before .before .before .args .pack)) (now (c .before .before .before .before .before .before .before .before .before .before .args .work)) (now (c .before .before .before .before .before .before .before .before .before .before .args .findings)) (c .before .refusal .given .0 .0) (sym (c .before .before .before .before .before .load .ensures .0) ∙ c .before .refusal .given .1) in (a .answer, (c .before .before .before .before .before .load .ensures .1, a .out))
+returns c = let a = not-loaded (now (c .before .before .before .before .before .before .before .before .before .before .args .pack)) (now (c .before .before .before .before .before .before .before .before .before .before .args .work)) (now (c .before .before .before .before .before .before .before .before .before .before .args .findings)) (c .before .refusal .given .0 .0) (sym (c .before .before .before .before .before .load .ensures .answer) ∙ c .before .refusal .given .1) in promised _ _ _ _ _ _ a (c .before .before .before .before .before .load .ensures .work)
 
 same-length-2 : tie.Need-same-length-2
 same-length-2 c = search needs
@@ -31,7 +31,7 @@ same-length-3 : tie.Need-same-length-3
 same-length-3 c = search needs
 
 returns-2 : tie.Need-returns-2
-returns-2 c = let a = is-loaded (now (c .before .before .before .before .before .before .before .before .before .before .before .before .before .before .before .args .pack)) (now (c .before .before .before .before .before .before .before .before .before .before .before .before .before .before .before .args .work)) (now (c .before .before .before .before .before .before .before .before .before .before .before .before .before .before .before .args .findings)) (c .before .before .before .before .before .before .index .given .0 .0) (sym (c .before .before .before .before .before .before .before .before .before .before .load .ensures .0) ∙ c .before .before .before .before .before .before .index .given .1) (c .before .before .report .ensures .0) (c .before .before .report .ensures .1) in (a .answer, (c .before .before .before .before .before .before .before .before .before .before .load .ensures .1, a .out))
+returns-2 c = let a = is-loaded (now (c .before .before .before .before .before .before .before .before .before .before .before .before .before .before .before .args .pack)) (now (c .before .before .before .before .before .before .before .before .before .before .before .before .before .before .before .args .work)) (now (c .before .before .before .before .before .before .before .before .before .before .before .before .before .before .before .args .findings)) (c .before .before .before .before .before .before .index .given .0 .0) (sym (c .before .before .before .before .before .before .before .before .before .before .load .ensures .answer) ∙ c .before .before .before .before .before .before .index .given .1) (c .before .before .report .ensures .0) (c .before .before .report .ensures .1) in promised _ _ _ _ _ _ a (c .before .before .before .before .before .before .before .before .before .before .load .ensures .work)
 
 pub check-spec : {M : Type 1} → statement M
 check-spec =

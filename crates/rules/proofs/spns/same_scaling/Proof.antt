@@ -1,22 +1,104 @@
+use Rattle.rules.specs.Spns.{same-unit}
+use Rattle.rules.specs.Floats.{float-eq}
+use Rattle.rules.specs.declared.spns.Scaling.{Scaling}
+use Rattle.pack.specs.declared.field.ScalingView.{ScalingView}
+use Rattle.pack.specs.Meaning.{optBytes}
+use Rattle.pack.specs.Notation.{_==_}
 use borrow.Author.Tests.{eq-eqb, ne-eqb}
+use denote.Ref.{now}
+use mathlib.Core.List.{List}
+use mathlib.Core.Bool.{Bool, _&&_}
+use mathlib.Core.Path.{_≡_, _∙_}
+use lib.Ieee.{ofBits, binary64, eq}
+use Prim.Native.Nat.{ℕ}
 use borrow.Author.Needs.{needs}
 use Rattle.rules.proofs.spns.same_scaling.Statement.{statement}
 use Rattle.rules.proofs.spns.same_scaling.Tie as tie
+use Rattle.rules.proofs.spns.same_scaling.Reads as reads
+use Rattle.rules.proofs.spns.same_scaling.Lts as lts
+use Rattle.rules.proofs.spns.same_unit.Reads as same-unit-reads
+use Rattle.rules.proofs.spns.scaling_of.Reads as scaling-of-reads
 
+-- src/spns.rt:83:9
+-- scalings compared as the code does
+abbrev compared : List ℕ → Scaling → Scaling → Bool
+compared s x y =
+    (x .width == y .width) && eq (x .resolution) (y .resolution) && eq (x .offset) (y .offset) && same-unit (optBytes s (x .unit)) (optBytes s (y .unit))
+
+abbrev scaling : ScalingView → Scaling
+scaling v = record { width = v .bits; resolution = ofBits binary64 (v .resolution); offset = ofBits binary64 (v .offset); unit = v .unit }
+
+-- of the views' patterns
+of-views : (s : List ℕ) (v w : ScalingView) (a b : Scaling) → a ≡ scaling v → b ≡ scaling w → (r : Bool) → r ≡ compared s a b
+    → r
+    ≡ ((v .bits == w .bits)
+    && float-eq (v .resolution) (w .resolution)
+    && float-eq (v .offset) (w .offset)
+    && same-unit (optBytes s (v .unit)) (optBytes s (w .unit)))
+unfolding float-eq
+of-views s v w a b p q r e = e ∙ (λ j. compared s (p j) (q j))
+
+scaling-of-requires : tie.Need-scaling-of-requires
+scaling-of-requires c κs = search needs
+
+-- src/spns.rt:84:9
+scaling-of-requires-2 : tie.Need-scaling-of-requires-2
+scaling-of-requires-2 c κs = search needs
+
+-- src/spns.rt:88:17
 same-unit-requires : tie.Need-same-unit-requires
 same-unit-requires c κs = search needs
 
+-- src/spns.rt:88:17
 returns : tie.Need-returns
-returns c = rw (eq-eqb _ _ (c .before .before .before .before .before .before .before .if1 .taken), c .before .before .before .before .if2 .taken, c .before .if3 .taken) (c .same-unit .ensures)
+returns c =
+    let back12 = c .before .before .before .before .before .before .before .before .before .before .before .before in
+    let start = back12 .before in
+    let scaling-of = c .before .before .before .before .before .before .before .before .before .before .before .scaling-of in
+    let scaling-of2 = c .before .before .before .before .before .before .before .before .before .before .scaling-of2 in
+    let if1 = c .before .before .before .before .before .before .before .if1 in
+    let if2 = c .before .before .before .before .if2 in
+    of-views (now (start .args .s)) (start .args .v) (start .args .w) (scaling-of .result) (scaling-of2 .result) (scaling-of .ensures) (scaling-of2 .ensures) _
+    (rw (eq-eqb _ _ (if1 .taken), if2 .taken, c .before .if3 .taken) (c .same-unit .ensures))
 
+-- src/spns.rt:90:13
 returns-2 : tie.Need-returns-2
-returns-2 c = rw (eq-eqb _ _ (c .before .before .before .before .before .before .if1 .taken), c .before .before .before .if2 .taken, c .if3 .left)
+returns-2 c =
+    let start = c .before .before .before .before .before .before .before .before .before .before .before .before in
+    let scaling-of = c .before .before .before .before .before .before .before .before .before .before .scaling-of in
+    let scaling-of2 = c .before .before .before .before .before .before .before .before .before .scaling-of2 in
+    let if1 = c .before .before .before .before .before .before .if1 in
+    let if2 = c .before .before .before .if2 in
+    of-views (now (start .args .s)) (start .args .v) (start .args .w) (scaling-of .result) (scaling-of2 .result) (scaling-of .ensures) (scaling-of2 .ensures) _
+    (rw (eq-eqb _ _ (if1 .taken), if2 .taken, c .if3 .left))
 
+-- src/spns.rt:92:9
 returns-3 : tie.Need-returns-3
-returns-3 c = rw (eq-eqb _ _ (c .before .before .before .if1 .taken), c .if2 .left)
+returns-3 c =
+    let start = c .before .before .before .before .before .before .before .before .before in
+    let scaling-of = c .before .before .before .before .before .before .before .scaling-of in
+    let scaling-of2 = c .before .before .before .before .before .before .scaling-of2 in
+    let if1 = c .before .before .before .if1 in
+    of-views (now (start .args .s)) (start .args .v) (start .args .w) (scaling-of .result) (scaling-of2 .result) (scaling-of .ensures) (scaling-of2 .ensures) _
+    (rw (eq-eqb _ _ (if1 .taken), c .if2 .left))
 
+-- src/spns.rt:80:1
 returns-4 : tie.Need-returns-4
-returns-4 c = rw (ne-eqb _ _ (c .if1 .left))
+returns-4 c =
+    let start = c .before .before .before .before .before .before in
+    let scaling-of = c .before .before .before .before .scaling-of in
+    let scaling-of2 = c .before .before .before .scaling-of2 in
+    of-views (now (start .args .s)) (start .args .v) (start .args .w) (scaling-of .result) (scaling-of2 .result) (scaling-of .ensures) (scaling-of2 .ensures) _
+    (rw (ne-eqb _ _ (c .if1 .left)))
 
 pub same-scaling-spec : {M : Type 1} → statement M
-same-scaling-spec = tie.close (tie.spec same-unit-requires returns returns-2 returns-3 returns-4)
+same-scaling-spec =
+    tie.close
+    (tie.spec
+    scaling-of-requires
+    scaling-of-requires-2
+    same-unit-requires
+    returns
+    returns-2
+    returns-3
+    returns-4)

@@ -1,28 +1,36 @@
--- the first that carries it is field h of PGN j
-use lib.Ieee.{ofBits, binary64, eq}
-use Rattle.pack.specs.Meaning.{optBytes, packOf, fieldMeaning}
-use Rattle.pack.specs.Value.{Pack, Field, pgns-of, pgn-at, field-at}
-use Rattle.pack.specs.declared.field.FieldView.{FieldView}
-use Rattle.rules.specs.declared.spns.Scaling.{Scaling}
-use Rattle.rules.specs.Floats.{float-eq}
-use Rattle.rules.specs.SearchLaws.{first-is}
-use Rattle.rules.specs.SpnNames.{is-number, spn-field}
-use Rattle.rules.specs.Spns.{same-unit, same-scaling, first-seen, unlike-field, unlike-first}
-use Prim.Native.Nat.{ℕ, _<_}
-use mathlib.Core.Path.{_≡_, sym, _∙_, ap}
-use mathlib.Core.Bool.{Bool, true, false, not, _&&_}
-use mathlib.Core.List.{List, []}
-use mathlib.Core.Option.{some}
-use lib.ListN.{length}
-use denote.Ref.{now}
-use Rattle.pack.specs.Notation.{optional, _==_}
-use Rattle.rules.specs.declared.Finding.{Finding}
-use Rattle.rules.specs.Findings.{report-if, pgn-error}
 use Rattle.rules.proofs.Emits.{emitted-none}
+use Rattle.rules.specs.Findings.{report-if, pgn-error}
+use Rattle.rules.specs.declared.Finding.{Finding}
+use Rattle.pack.specs.Notation.{optional, _==_}
+use denote.Ref.{now}
+use lib.ListN.{length}
+use mathlib.Core.Option.{some}
+use mathlib.Core.List.{List, []}
+use mathlib.Core.Bool.{Bool, true, false, not, _&&_}
+use mathlib.Core.Path.{_≡_, sym, _∙_, ap}
+use Prim.Native.Nat.{ℕ, _<_}
+use Rattle.rules.specs.Spns.{same-unit, same-scaling, first-seen, unlike-field, unlike-first}
+use Rattle.rules.specs.SpnNames.{is-number, spn-field}
+use Rattle.rules.specs.SearchLaws.{first-is}
+use Rattle.rules.specs.Floats.{float-eq}
+use Rattle.pack.specs.declared.field.ScalingView.{ScalingView}
+use Rattle.pack.specs.declared.field.FieldView.{FieldView}
+use Rattle.pack.specs.Value.{Pack, Field, pgns-of, pgn-at, field-at}
+use Rattle.pack.specs.Meaning.{optBytes, packOf, fieldMeaning}
 use borrow.Author.Needs.{needs}
 use Rattle.rules.proofs.spns.unlike_first.Statement.{statement}
 use Rattle.rules.proofs.spns.unlike_first.Tie as tie
+use Rattle.rules.proofs.spns.unlike_first.Reads as reads
+use Rattle.rules.proofs.spns.unlike_first.Lts as lts
+use Rattle.pack.proofs.of.field_of.Reads as field-of-reads
+use Rattle.rules.proofs.emit.pgn_error.Reads as pgn-error-reads
+use Rattle.rules.proofs.emit.put_if.Reads as put-if-reads
+use Rattle.rules.proofs.spns.first_seen.Reads as first-seen-reads
+use Rattle.rules.proofs.spns.is_at.Reads as is-at-reads
+use Rattle.rules.proofs.spns.same_scaling.Reads as same-scaling-reads
 
+-- src/spns.rt:145:9
+-- the first that carries it is field h of PGN j
 module _ (P : Pack) (i k spn j h : ℕ) (seen : first-seen (pgns-of P 1) spn ≡ some j) (field : spn-field (pgn-at P 1 j) spn ≡ some h) (b : Bool) (at : b ≡ ((j == i) && (h == k))) where
   itself : b ≡ true → unlike-first (pgns-of P 1) i k spn (first-seen (pgns-of P 1) spn) ≡ []
   unfolding unlike-first unlike-field
@@ -37,53 +45,96 @@ module _ (P : Pack) (i k spn j h : ℕ) (seen : first-seen (pgns-of P 1) spn ≡
   unfolding spn-field
   field-of-it = first-is (λ x. is-number (field-at (pgn-at P 1 j) x .spn) spn) (length (pgn-at P 1 j .fields)) h field .0
 
--- scalings compared as the code does
-abbrev compared : List ℕ → Scaling → Scaling → Bool
-compared s x y = (x .width == y .width) && eq (x .resolution) (y .resolution) && eq (x .offset) (y .offset) && same-unit (optBytes s (x .unit)) (optBytes s (y .unit))
+-- views compared as the code does
+abbrev compared : List ℕ → ScalingView → ScalingView → Bool
+compared s v w =
+    (v .bits == w .bits)
+    && float-eq (v .resolution) (w .resolution)
+    && float-eq (v .offset) (w .offset)
+    && same-unit (optBytes s (v .unit)) (optBytes s (w .unit))
 
-abbrev scaling : FieldView → Scaling
-scaling v = record { width = v .scaling .bits; resolution = ofBits binary64 (v .scaling .resolution); offset = ofBits binary64 (v .scaling .offset); unit = v .scaling .unit }
-
-alike : (s : List ℕ) (g f : FieldView) (G F : Field) → fieldMeaning s g ≡ G → fieldMeaning s f ≡ F → (x y : Scaling) → x ≡ scaling g → y ≡ scaling f → (a : Bool) → a ≡ compared s x y → a ≡ same-scaling G F
-unfolding same-scaling float-eq
-alike s g f G F p q x y u v a h = h ∙ (λ j. compared s (u j) (v j)) ∙ (λ j. same-scaling (p j) (q j))
+alike : (s : List ℕ) (g f : FieldView) (G F : Field) → fieldMeaning s g ≡ G → fieldMeaning s f ≡ F
+    → (a : Bool) → a ≡ compared s (g .scaling) (f .scaling) → a ≡ same-scaling G F
+unfolding same-scaling
+alike s g f G F p q a h = h ∙ (λ j. same-scaling (p j) (q j))
 
 -- the field's SPN, read
 carried : (s : List ℕ) (f : FieldView) (F : Field) → fieldMeaning s f ≡ F → f .authored .spn .given ≡ true → F .spn ≡ some (f .authored .spn .value)
 carried s f F is e = ap (λ (X : Field). X .spn) (sym is) ∙ ap (λ (b : Bool). optional b (f .authored .spn .value)) e
 
 first-seen-requires : tie.Need-first-seen-requires
-first-seen-requires c κs = (c .before .before .before .pre .1, c .before .before .before .pre .2, c .before .before .before .pre .3, c .before .before .before .pre .4, carried (now (c .before .before .before .args .s)) (c .before .before .before .args .f) _ (c .before .before .before .pre .5) (c .before .before .before .pre .6))
+first-seen-requires c κs =
+    let start = c .before .before .before in
+    (start .pre .1, start .pre .2, start .pre .3, start .pre .4, carried (now (start .args .s)) (start .args .f) _ (start .pre .5) (start .pre .6))
 
+-- src/spns.rt:146:8
 is-at-requires : tie.Need-is-at-requires
 is-at-requires c κs = search needs
 
+-- src/spns.rt:147:9
 returns : tie.Need-returns
-returns c = rw (itself (packOf (now (c .before .before .before .before .before .before .args .s))) (c .before .before .before .before .before .before .args .i) (c .before .before .before .before .before .before .args .k) (c .before .before .before .before .before .before .args .f .authored .spn .value) (c .before .before .first-seen .result .pgn) (c .before .before .first-seen .result .field) (c .before .before .first-seen .ensures .0) (c .before .before .first-seen .ensures .1) (c .before .is-at .result) (c .before .is-at .ensures) (c .if1 .taken)) (emitted-none (now (c .before .before .before .before .before .before .args .out)) (c .before .before .before .before .before .before .args .n))
+returns c =
+    let start = c .before .before .before .before .before .before in
+    let first-seen-call = c .before .before .first-seen in
+    rw (itself (packOf (now (start .args .s))) (start .args .i) (start .args .k) (start .args .f .authored .spn .value) (first-seen-call .result .pgn)
+    (first-seen-call .result .field) (first-seen-call .ensures .0) (first-seen-call .ensures .1) (c .before .is-at .result) (c .before .is-at .ensures)
+    (c .if1 .taken)) (emitted-none (now (start .args .out)) (start .args .n))
 
+-- src/spns.rt:149:9
 field-of-requires : tie.Need-field-of-requires
-field-of-requires c κs = (c .before .before .first-seen .ensures .2, field-of-it (packOf (now (c .before .before .before .before .before .before .args .s))) (c .before .before .before .before .before .before .args .i) (c .before .before .before .before .before .before .args .k) (c .before .before .before .before .before .before .args .f .authored .spn .value) (c .before .before .first-seen .result .pgn) (c .before .before .first-seen .result .field) (c .before .before .first-seen .ensures .0) (c .before .before .first-seen .ensures .1) (c .before .is-at .result) (c .before .is-at .ensures))
+field-of-requires c κs =
+    let start = c .before .before .before .before .before .before in
+    let first-seen-call = c .before .before .first-seen in (
+      first-seen-call .ensures .2,
+      field-of-it (packOf (now (start .args .s))) (start .args .i) (start .args .k) (start .args .f .authored .spn .value) (first-seen-call .result .pgn)
+          (first-seen-call .result .field) (first-seen-call .ensures .0) (first-seen-call .ensures .1) (c .before .is-at .result) (c .before .is-at .ensures),
+    )
 
-scaling-of-requires : tie.Need-scaling-of-requires
-scaling-of-requires c κs = search needs
-
-scaling-of-requires-2 : tie.Need-scaling-of-requires-2
-scaling-of-requires-2 c κs = search needs
-
+-- src/spns.rt:150:9
 same-scaling-requires : tie.Need-same-scaling-requires
 same-scaling-requires c κs = search needs
 
+-- src/spns.rt:151:28
 pgn-error-requires : tie.Need-pgn-error-requires
 pgn-error-requires c κs = search needs
 
+-- src/spns.rt:151:5
 put-if-requires : tie.Need-put-if-requires
-put-if-requires c κs = rw (another (packOf (now (c .before .before .before .before .before .before .before .before .before .before .before .before .args .s))) (c .before .before .before .before .before .before .before .before .before .before .before .before .args .i) (c .before .before .before .before .before .before .before .before .before .before .before .before .args .k) (c .before .before .before .before .before .before .before .before .before .before .before .before .args .f .authored .spn .value) (c .before .before .before .before .before .before .before .before .first-seen .result .pgn) (c .before .before .before .before .before .before .before .before .first-seen .result .field) (c .before .before .before .before .before .before .before .before .first-seen .ensures .0) (c .before .before .before .before .before .before .before .before .first-seen .ensures .1) (c .before .before .before .before .before .before .before .is-at .result) (c .before .before .before .before .before .before .before .is-at .ensures) (c .before .before .before .before .before .before .if1 .left) (c .before .before .same-scaling .result) (alike (now (c .before .before .before .before .before .before .before .before .before .before .before .before .args .s)) (c .before .before .before .before .before .field-of .result) (c .before .before .before .before .before .before .before .before .before .before .before .before .args .f) _ _ (c .before .before .before .before .before .field-of .ensures) (c .before .before .before .before .before .before .before .before .before .before .before .before .pre .5) (c .before .before .before .before .scaling-of .result) (c .before .before .before .scaling-of2 .result) (c .before .before .before .before .scaling-of .ensures) (c .before .before .before .scaling-of2 .ensures) (c .before .before .same-scaling .result) (c .before .before .same-scaling .ensures)) (c .pgn-error .result) (c .pgn-error .ensures)) at (c .before .before .before .before .before .before .before .before .before .before .before .before .pre .0)
+put-if-requires c κs =
+    let start = c .before .before .before .before .before .before .before .before .before .before in
+    let first-seen-call = c .before .before .before .before .before .before .first-seen in
+    let is-at = c .before .before .before .before .before .is-at in
+    let if1 = c .before .before .before .before .if1 in
+    let field-of = c .before .before .before .field-of in
+    let same-scaling-call = c .before .before .same-scaling in
+    let s = now (start .args .s) in
+    let same = alike s (field-of .result) (start .args .f) _ _ (field-of .ensures) (start .pre .5) (same-scaling-call .result) (same-scaling-call .ensures) in
+    let reported = another (packOf s) (start .args .i) (start .args .k) (start .args .f .authored .spn .value) (first-seen-call .result .pgn)
+    (first-seen-call .result .field) (first-seen-call .ensures .0) (first-seen-call .ensures .1) (is-at .result) (is-at .ensures) (if1 .left)
+    (same-scaling-call .result) same (c .pgn-error .result) (c .pgn-error .ensures) in
+    rw reported at (start .pre .0)
 
+-- src/spns.rt:132:1
 same-length : tie.Need-same-length
 same-length c = search needs
 
+-- src/spns.rt:132:1
 returns-2 : tie.Need-returns-2
-returns-2 c = rw (another (packOf (now (c .before .before .before .before .before .before .before .before .before .before .before .before .before .before .before .args .s))) (c .before .before .before .before .before .before .before .before .before .before .before .before .before .before .before .args .i) (c .before .before .before .before .before .before .before .before .before .before .before .before .before .before .before .args .k) (c .before .before .before .before .before .before .before .before .before .before .before .before .before .before .before .args .f .authored .spn .value) (c .before .before .before .before .before .before .before .before .before .before .before .first-seen .result .pgn) (c .before .before .before .before .before .before .before .before .before .before .before .first-seen .result .field) (c .before .before .before .before .before .before .before .before .before .before .before .first-seen .ensures .0) (c .before .before .before .before .before .before .before .before .before .before .before .first-seen .ensures .1) (c .before .before .before .before .before .before .before .before .before .before .is-at .result) (c .before .before .before .before .before .before .before .before .before .before .is-at .ensures) (c .before .before .before .before .before .before .before .before .before .if1 .left) (c .before .before .before .before .before .same-scaling .result) (alike (now (c .before .before .before .before .before .before .before .before .before .before .before .before .before .before .before .args .s)) (c .before .before .before .before .before .before .before .before .field-of .result) (c .before .before .before .before .before .before .before .before .before .before .before .before .before .before .before .args .f) _ _ (c .before .before .before .before .before .before .before .before .field-of .ensures) (c .before .before .before .before .before .before .before .before .before .before .before .before .before .before .before .pre .5) (c .before .before .before .before .before .before .before .scaling-of .result) (c .before .before .before .before .before .before .scaling-of2 .result) (c .before .before .before .before .before .before .before .scaling-of .ensures) (c .before .before .before .before .before .before .scaling-of2 .ensures) (c .before .before .before .before .before .same-scaling .result) (c .before .before .before .before .before .same-scaling .ensures)) (c .before .before .before .pgn-error .result) (c .before .before .before .pgn-error .ensures)) (c .before .before .put-if .ensures)
+returns-2 c =
+    let back12 = c .before .before .before .before .before .before .before .before .before .before .before .before in
+    let start = back12 .before in
+    let first-seen-call = c .before .before .before .before .before .before .before .before .before .first-seen in
+    let is-at = c .before .before .before .before .before .before .before .before .is-at in
+    let if1 = c .before .before .before .before .before .before .before .if1 in
+    let field-of = c .before .before .before .before .before .before .field-of in
+    let same-scaling-call = c .before .before .before .before .before .same-scaling in
+    let pgn-error-call = c .before .before .before .pgn-error in
+    let s = now (start .args .s) in
+    let same = alike s (field-of .result) (start .args .f) _ _ (field-of .ensures) (start .pre .5) (same-scaling-call .result) (same-scaling-call .ensures) in
+    let reported = another (packOf s) (start .args .i) (start .args .k) (start .args .f .authored .spn .value) (first-seen-call .result .pgn)
+    (first-seen-call .result .field) (first-seen-call .ensures .0) (first-seen-call .ensures .1) (is-at .result) (is-at .ensures) (if1 .left)
+    (same-scaling-call .result) same (pgn-error-call .result) (pgn-error-call .ensures) in
+    rw reported (c .before .before .put-if .ensures)
 
 pub unlike-first-spec : {M : Type 1} → statement M
 unlike-first-spec =
@@ -93,8 +144,6 @@ unlike-first-spec =
     is-at-requires
     returns
     field-of-requires
-    scaling-of-requires
-    scaling-of-requires-2
     same-scaling-requires
     pgn-error-requires
     put-if-requires

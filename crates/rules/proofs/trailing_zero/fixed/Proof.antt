@@ -1,47 +1,96 @@
-use Rattle.rules.specs.TrailingZero.{starts-behind, fixed}
-use Rattle.rules.specs.Search.{anyBelow}
-use Rattle.rules.proofs.Sizes.{fields-few}
-use Rattle.pack.specs.declared.pgn.PgnView.{PgnView}
-use Rattle.pack.specs.Ready.{PgnIs}
-use Rattle.pack.specs.Meaning.{optRepeating, packOf}
-use Rattle.pack.specs.Value.{Pgn, pgn-at, field-at}
-use Rattle.pack.specs.Notation.{_==_}
-use mathlib.Core.Bool.{not, _&&_, _||_, Bool}
-use Prim.Native.Nat.{ℕ, _+_}
-use native.Mathlib.Omega.{arith}
-use mathlib.Core.Path.{_≡_, refl, ap}
-use mathlib.Core.List.{List}
-use borrow.Author.Needs.{needs}
 use denote.Ref.{now}
+use mathlib.Core.List.{List}
+use mathlib.Core.Path.{_≡_, refl, ap, _∙_}
+use native.Mathlib.Omega.{arith}
+use Prim.Native.Nat.{ℕ, _+_}
+use mathlib.Core.Bool.{not, _&&_, _||_, Bool}
+use Rattle.pack.specs.Notation.{_==_}
+use Rattle.pack.specs.Value.{Pgn, pgn-at, field-at}
+use Rattle.pack.specs.Meaning.{optRepeating, packOf}
+use Rattle.pack.specs.Ready.{PgnIs}
+use Rattle.pack.specs.declared.pgn.PgnView.{PgnView}
+use Rattle.rules.proofs.Sizes.{fields-few}
+use Rattle.rules.specs.Search.{anyBelow}
+use Rattle.rules.specs.TrailingZero.{starts-behind, fixed}
+use borrow.Author.Needs.{needs}
 use Rattle.rules.proofs.trailing_zero.fixed.Statement.{statement}
 use Rattle.rules.proofs.trailing_zero.fixed.Tie as tie
+use Rattle.rules.proofs.trailing_zero.fixed.Reads as reads
+use Rattle.rules.proofs.trailing_zero.fixed.Lts as lts
+use Rattle.pack.proofs.protocol.FieldIndex.order.Reads as order-reads
+use Rattle.rules.proofs.trailing_zero.any_moves.Reads as any-moves-reads
+use Rattle.rules.proofs.trailing_zero.starts_behind.Reads as starts-behind-reads
 
+-- src/trailing_zero.rt:72:8
 -- said of the view
-said : (s : List ℕ) (p : Pgn) (g : PgnView) → PgnIs s p g → (j : ℕ) (a b c : Bool) → a ≡ anyBelow (λ k. (field-at p k .res-bits == 0) || field-at p k .proprietary) j
-    → b ≡ starts-behind (optRepeating (g .repeating1)) (j + 1) → c ≡ starts-behind (optRepeating (g .repeating2)) (j + 1) → fixed p j ≡ (not a && b && c)
+said : (s : List ℕ) (p : Pgn) (g : PgnView) → PgnIs s p g → (j : ℕ) (a b c : Bool)
+    → a ≡ anyBelow (λ k. (field-at p k .res-bits == 0) || field-at p k .proprietary) j → b ≡ starts-behind (optRepeating (g .repeating1)) (j + 1)
+    → c ≡ starts-behind (optRepeating (g .repeating2)) (j + 1) → fixed p j ≡ (not a && b && c)
 unfolding fixed
 said s p g is j a b c x y z = rw (x, y, z, ap (λ (G : Pgn). G .repeating1) (is .means), ap (λ (G : Pgn). G .repeating2) (is .means))
 
 any-moves-requires : tie.Need-any-moves-requires
-any-moves-requires c κs = (c .before .before .pre .0, omega (arith, c .before .before .pre .2))
+any-moves-requires c κs =
+    let start = c .before .before in
+    (start .pre .0, omega (arith, start .pre .2))
 
+-- src/trailing_zero.rt:73:9
 returns : tie.Need-returns
-returns c = rw (said (now (c .before .before .before .before .args .s)) (pgn-at (packOf (now (c .before .before .before .before .args .s))) (c .before .before .before .before .args .t) (c .before .before .before .before .args .i)) (c .before .before .before .before .args .g) (c .before .before .before .before .pre .1) (c .before .before .before .before .args .j) (c .before .any-moves .result) _ _ (c .before .any-moves .ensures) refl refl, c .if1 .taken)
+returns c =
+    let start = c .before .before .before .before in
+    let s = now (start .args .s) in
+    rw (
+      said s (pgn-at (packOf s) (start .args .t) (start .args .i)) (start .args .g) (start .pre .1) (start .args .j) (c .before .any-moves .result) _ _
+          (c .before .any-moves .ensures) refl refl,
+      c .if1 .taken,
+    )
 
-add-order : tie.Need-add-order
-add-order c = omega (arith, c .before .before .before .before .pre .2, fields-few (c .before .before .before .before .pre .0))
+-- src/trailing_zero.rt:75:9
+order-requires : tie.Need-order-requires
+order-requires c κs =
+    let start = c .before .before .before .before in
+    omega (arith, start .pre .2, fields-few (start .pre .0))
 
+-- src/trailing_zero.rt:76:8
 starts-behind-requires : tie.Need-starts-behind-requires
 starts-behind-requires c κs = search needs
 
+-- src/trailing_zero.rt:77:9
 starts-behind-requires-2 : tie.Need-starts-behind-requires-2
 starts-behind-requires-2 c κs = search needs
 
+-- src/trailing_zero.rt:77:9
 returns-2 : tie.Need-returns-2
-returns-2 c = rw (said (now (c .before .before .before .before .before .before .before .args .s)) (pgn-at (packOf (now (c .before .before .before .before .before .before .before .args .s))) (c .before .before .before .before .before .before .before .args .t) (c .before .before .before .before .before .before .before .args .i)) (c .before .before .before .before .before .before .before .args .g) (c .before .before .before .before .before .before .before .pre .1) (c .before .before .before .before .before .before .before .args .j) (c .before .before .before .before .any-moves .result) (c .before .before .starts-behind .result) (c .starts-behind2 .result) (c .before .before .before .before .any-moves .ensures) (c .before .before .starts-behind .ensures) (c .starts-behind2 .ensures), c .before .before .before .if1 .left, c .before .if2 .taken)
+returns-2 c =
+    let start = c .before .before .before .before .before .before .before .before in
+    let any-moves = c .before .before .before .before .before .any-moves in
+    let if1 = c .before .before .before .before .if1 in
+    let order = c .before .before .before .order in
+    let starts-behind-call = c .before .before .starts-behind in
+    let g = start .args .g in let s = now (start .args .s) in
+    let behind-1 = starts-behind-call .ensures ∙ ap (starts-behind (optRepeating (g .repeating1))) (order .ensures) in
+    let behind-2 = c .starts-behind2 .ensures ∙ ap (starts-behind (optRepeating (g .repeating2))) (order .ensures) in
+    rw (
+      said s (pgn-at (packOf s) (start .args .t) (start .args .i)) g (start .pre .1) (start .args .j) (any-moves .result) (starts-behind-call .result)
+          (c .starts-behind2 .result) (any-moves .ensures) behind-1 behind-2,
+      if1 .left,
+      c .before .if2 .taken,
+    )
 
+-- src/trailing_zero.rt:68:1
 returns-3 : tie.Need-returns-3
-returns-3 c = rw (said (now (c .before .before .before .before .before .before .args .s)) (pgn-at (packOf (now (c .before .before .before .before .before .before .args .s))) (c .before .before .before .before .before .before .args .t) (c .before .before .before .before .before .before .args .i)) (c .before .before .before .before .before .before .args .g) (c .before .before .before .before .before .before .pre .1) (c .before .before .before .before .before .before .args .j) (c .before .before .before .any-moves .result) (c .before .starts-behind .result) _ (c .before .before .before .any-moves .ensures) (c .before .starts-behind .ensures) refl, c .before .before .if1 .left, c .if2 .left)
+returns-3 c =
+    let start = c .before .before .before .before .before .before .before in
+    let any-moves = c .before .before .before .before .any-moves in
+    let if1 = c .before .before .before .if1 in
+    let g = start .args .g in let s = now (start .args .s) in
+    let behind-1 = c .before .starts-behind .ensures ∙ ap (starts-behind (optRepeating (g .repeating1))) (c .before .before .order .ensures) in
+    rw (
+      said s (pgn-at (packOf s) (start .args .t) (start .args .i)) g (start .pre .1) (start .args .j) (any-moves .result) (c .before .starts-behind .result) _
+          (any-moves .ensures) behind-1 refl,
+      if1 .left,
+      c .if2 .left,
+    )
 
 pub fixed-spec : {M : Type 1} → statement M
 fixed-spec =
@@ -49,7 +98,7 @@ fixed-spec =
     (tie.spec
     any-moves-requires
     returns
-    add-order
+    order-requires
     starts-behind-requires
     starts-behind-requires-2
     returns-2
