@@ -2,7 +2,10 @@
 //! answers the refusal number, 0 where there is none, and the numbers of the answer as the call left them; none where the
 //! library was not linked. Each number must be written: they hold something else before the call.
 
+use crate::encode::encode;
+use crate::finding::Finding;
 use crate::reader::Refusal;
+use crate::value::Pack;
 
 /// Whether the library was linked.
 pub const PRESENT: bool = cfg!(sarwymp);
@@ -182,6 +185,21 @@ pub fn walk(_: &[u8], _: &mut [u32], _: u32, _: u32, _: &[u64], _: &mut [u32]) -
 #[cfg(not(sarwymp))]
 pub fn held(_: &[u8], _: &mut [u32], _: u32, _: u32) -> Option<(u32, [u64; 1])> {
     None
+}
+
+/// What the library's check reports of a pack, in a findings buffer of the length that it asks for.
+pub fn findings(pack: &Pack) -> Option<Vec<Finding>> {
+    let encoded = encode(pack);
+    let mut work = vec![0; encoded.records.len()];
+    let mut findings = vec![];
+    let (mut number, mut answer) = check(&encoded.bytes, &mut work, &mut findings)?;
+    if number == 22 {
+        findings.resize(answer[0] as usize, 0);
+        (number, answer) = check(&encoded.bytes, &mut work, &mut findings)?;
+    }
+    assert_eq!(number, 0, "the library refuses the pack: {answer:?}");
+    let numbers = &findings.as_chunks().0[..answer[0] as usize];
+    Some(numbers.iter().map(|numbers| Finding::from_numbers(*numbers)).collect())
 }
 
 /// An answer of `calls` as the library gives it: a refusal's detail comes first, the rest is 0.

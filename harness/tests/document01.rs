@@ -1,16 +1,27 @@
-//! Document 01's worked example, its refusals and its edges, run over the independent reader and rules.
+//! Document 01's worked example, its refusals and its errors to shut out, run over the independent reader and rules, and
+//! where findings are compared over the library too. Its edges are in edges.rs.
 
-use harness::calls;
 use harness::encode::{encode, number};
+use harness::finding::Finding;
 use harness::reader::{LIMIT, Refusal, read};
 use harness::report::{report, worked_example};
 use harness::rules::check;
 use harness::value::*;
 use harness::words::words;
+use harness::{calls, library};
 
-/// (rule, cause) of each finding, for one rule.
+/// The findings of a pack. The library, where it is linked, has the same.
+fn findings(pack: &Pack) -> Vec<Finding> {
+    let ours = check(pack);
+    if let Some(theirs) = library::findings(pack) {
+        assert_eq!(theirs, ours);
+    }
+    ours
+}
+
+/// The causes of one rule's findings.
 fn causes(pack: &Pack, rule: u32) -> Vec<u32> {
-    check(pack).iter().filter(|finding| finding.rule == rule).map(|finding| finding.cause).collect()
+    findings(pack).iter().filter(|finding| finding.rule == rule).map(|finding| finding.cause).collect()
 }
 
 /// The worked example's pack with what is wrong in it put right.
@@ -191,63 +202,24 @@ fn state_refusals_and_buffers() {
 }
 
 #[test]
-fn r02_edges() {
-    let of = |number| {
-        let mut pack = clean();
-        pgn(&mut pack).pgn = number;
-        pgn(&mut pack).missing_company_fields = true;
-        causes(&pack, 2)
-    };
-    assert_eq!(of(59904), []);
-    assert_eq!(of(59905), [5]);
-    assert_eq!(of(61183), [4]);
-    assert_eq!(of(131072), [3]);
-    assert_eq!(of(262144), []);
-}
-
-#[test]
-fn r09_edges() {
+fn special_values_of_other_widths() {
     let of = |bits, special| {
         let mut pack = clean();
         pgn(&mut pack).fields = vec![Field { special_values: Some(special), ..field("a", bits) }];
         causes(&pack, 9)
     };
-    assert_eq!(of(1, 1), []);
-    assert_eq!(of(1, 2), [1]);
-    assert_eq!(of(0, 0), []);
     assert_eq!(of(0, 1), [1]);
     assert_eq!(of(2, 3), []);
     assert_eq!(of(64, 4), [1]);
 }
 
 #[test]
-fn r13_edges() {
-    let of = |bits, matched: &str| {
+fn matches_that_do_not_resolve() {
+    for unresolved in ["18446744073709551616", "", "+", "++1", " 1", "1 ", "0x1F"] {
         let mut pack = clean();
-        pgn(&mut pack).fields = vec![Field { match_: text(matched), ..field("a", bits) }];
-        causes(&pack, 13)
-    };
-    assert_eq!(of(3, "7"), []);
-    assert_eq!(of(3, "8"), [2]);
-    assert_eq!(of(64, "18446744073709551615"), []);
-    assert_eq!(of(64, "18446744073709551616"), [1]);
-    assert_eq!(of(0, "0"), []);
-    assert_eq!(of(0, "1"), [2]);
-    assert_eq!(of(8, "+5"), []);
-    for unresolved in ["-0", "", "+", "++1", " 1", "1 ", "0x1F"] {
-        assert_eq!(of(8, unresolved), [1], "{unresolved:?}");
+        pgn(&mut pack).fields = vec![Field { match_: text(unresolved), ..field("a", 64) }];
+        assert_eq!(causes(&pack, 13), [1], "{unresolved:?}");
     }
-}
-
-#[test]
-fn r11_edges() {
-    let of = |count: usize| {
-        let mut pack = clean();
-        pgn(&mut pack).fields = (0..count).map(|i| field(&format!("f{i}"), 1)).collect();
-        causes(&pack, 11)
-    };
-    assert_eq!(of(33), []);
-    assert_eq!(of(34), [1]);
 }
 
 /// J1939 fields of one PGN.
@@ -255,17 +227,6 @@ fn with_spns(fields: Vec<Field>) -> Pack {
     let mut pack = clean();
     pack.trees[1].push(Pgn { pgn: 61444, id: b"b".to_vec(), length: 8, fields, ..Pgn::default() });
     pack
-}
-
-#[test]
-fn spn_edges() {
-    let of = |spn| {
-        let one = Field { spn: Some(spn), ..field("a", 8) };
-        let two = Field { spn: Some(spn), ..field("b", 16) };
-        causes(&with_spns(vec![one, two]), 42)
-    };
-    assert_eq!(of(524287), [3]);
-    assert_eq!(of(524288), [2, 2]);
 }
 
 #[test]
@@ -304,7 +265,7 @@ fn variants(matches: &[&[&str]]) -> Pack {
 
 /// (cause, item, other) of a rule's findings.
 fn found(pack: &Pack, rule: u32) -> Vec<(u32, u32, u32)> {
-    let list = check(pack).into_iter().filter(|finding| finding.rule == rule);
+    let list = findings(pack).into_iter().filter(|finding| finding.rule == rule);
     list.map(|finding| (finding.cause, finding.item, finding.other)).collect()
 }
 
@@ -360,6 +321,9 @@ fn match_goes_by_the_references_kind() {
 fn r24_spn_names_by_pgn_number() {
     let spn = |id: &str, name: &str, spn| Field { name: name.into(), spn: Some(spn), ..field(id, 8) };
     let pgn = |number, id: &str, fields| Pgn { pgn: number, id: id.into(), length: 8, fields, ..Pgn::default() };
+    let clashes = |pack: &Pack| -> Vec<_> {
+        findings(pack).into_iter().filter(|f| f.rule == 24).map(|f| (f.item, f.part, f.other)).collect()
+    };
     let mut pack = clean();
     pack.trees[1] = vec![
         pgn(61445, "later", vec![spn("a", "Speed", 7)]),
@@ -368,13 +332,11 @@ fn r24_spn_names_by_pgn_number() {
     // SPN 7 is named by the lower number: no clash
     assert_eq!(found(&pack, 24), []);
     pack.trees[1][1].fields[1].spn = Some(8);
-    let list: Vec<_> = check(&pack).into_iter().filter(|f| f.rule == 24).map(|f| (f.item, f.part, f.other)).collect();
-    assert_eq!(list, [(0, 7, 9), (1, 7, 9)]);
+    assert_eq!(clashes(&pack), [(0, 7, 9), (1, 7, 9)]);
     // one place text, one finding: the earlier SPN's
     pack.trees[1][1].pgn = 61445;
     pack.trees[1][1].id = b"later".to_vec();
-    let list: Vec<_> = check(&pack).into_iter().filter(|f| f.rule == 24).map(|f| (f.item, f.part, f.other)).collect();
-    assert_eq!(list, [(0, 7, 9)]);
+    assert_eq!(clashes(&pack), [(0, 7, 9)]);
 }
 
 #[test]

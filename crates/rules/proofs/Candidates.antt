@@ -13,7 +13,7 @@ use Rattle.pack.specs.Notation.{_<ᵇ_, _≐_, if_then_else_, optional}
 use Rattle.pack.specs.Value.{Bytes, Pgn, noPgn, field-at}
 use Rattle.rules.specs.Model.{given}
 use Rattle.rules.specs.Search.{larger, maxBelow, lower-key, leastBelow}
-use Rattle.rules.specs.SearchLaws.{first-is}
+use Rattle.rules.specs.SearchLaws.{below-suc, first-is}
 use Rattle.rules.specs.SpnNames.{is-number, spn-field, spn-pgn, name-in, name-by, spn-name, names-spn, earlier-if, earlier-in, earlier-spn}
 use Rattle.rules.specs.Namers.{candidate-at, candidate-in, candidate}
 use Rattle.rules.proofs.Extremes.{max-is, optional-is, and-left, and-right}
@@ -39,13 +39,6 @@ larger-none : (a b : Option ℕ) → larger a b ≡ none → (a ≡ none) × (b 
 larger-none none b h = (refl, h)
 larger-none (some a) none h = absurd (Option·none-ne-some a (sym h))
 larger-none (some a) (some b) h = absurd (Option·none-ne-some (if a <ᵇ b then b else a) (sym h))
-
-below-suc : {A : Type 0} (k n : ℕ) → k < suc n → (k < n → A) → (k ≡ n → A) → A
-below-suc {A} k n h low top = go (ℕ-discrete k n)
-  where
-    go : Dec (k ≡ n) → A
-    go (yes e) = top e
-    go (no e) = low (omega arith)
 
 max-none : (f : ℕ → Option ℕ) (n : ℕ) → maxBelow f n ≡ none → (k : ℕ) → k < n → f k ≡ none
 max-none f zero e k h = absurd (omega arith)

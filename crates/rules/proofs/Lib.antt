@@ -6,10 +6,13 @@ pub mod Marking
 pub mod MatchKeys
 pub mod PlaceCalls
 pub mod PlaceTexts
+pub mod Ranks
 pub mod Reports
 pub mod Sections
 pub mod Sizes
 pub mod SpnClashLaws
 pub mod SpnLaws
+pub mod SpnRanks
 pub mod Totals
 pub mod Types
+pub mod VariantLaws

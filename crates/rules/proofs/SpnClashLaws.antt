@@ -7,13 +7,12 @@ use mathlib.Core.Option.{Option, none, some, Option·none-ne-some}
 use mathlib.Core.Path.{_≡_, refl, sym, ap, _∙_}
 use lib.ListN.{length, getD}
 use borrow.Author.Tests.{ltb-true, leb-true, leb-false, ne-eqb}
-use Rattle.pack.specs.Notation.{_<ᵇ_, _≤ᵇ_, _≐_, concatBelow}
+use Rattle.pack.specs.Notation.{_<ᵇ_, _≤ᵇ_, _≐_}
 use Rattle.pack.specs.Value.{Bytes, Pgn, noPgn, field-at}
-use Rattle.rules.specs.declared.Finding.{Finding}
 use Rattle.rules.specs.Model.{given}
 use Rattle.rules.specs.PlaceLaws.{same-refl, same-eq}
 use Rattle.rules.specs.Search.{next-rank, ranked, sumBelow}
-use Rattle.rules.specs.SearchLaws.{any-hit}
+use Rattle.rules.specs.SearchLaws.{any-hit, concat-none}
 use Rattle.rules.specs.SpnNames.{spn-pgn, spn-name, names-spn, earlier-if, earlier-in, earlier-spn, clash-with, clash-of, least-spn, check-spn-names}
 use Rattle.rules.specs.SpnClashes.{other-spn, other-in, other-among, clash-from, may-clash}
 use Rattle.rules.proofs.Candidates.{names-name, named}
@@ -26,10 +25,6 @@ record Carries (pgns : List Pgn) (name : Bytes) (spn i k : ℕ) : Type 0 where
   in-pgn : k < length (getD pgns i noPgn .fields)
   carries : field-at (getD pgns i noPgn) k .spn ≡ some spn
   names : field-at (getD pgns i noPgn) k .name ≡ name
-
-nothing : (f : ℕ → List Finding) (n : ℕ) → ((r : ℕ) → f r ≡ []) → concatBelow f n ≡ []
-nothing f zero h = refl
-nothing f (suc n) h = rw (nothing f n h, h n)
 
 module _ (pgns : List Pgn) where
   -- of two such fields the later one's PGN finds the other
@@ -88,7 +83,9 @@ module _ (pgns : List Pgn) where
 
   pub no-clash : may-clash pgns ≡ false → check-spn-names pgns ≡ []
   unfolding check-spn-names clash-with
-  no-clash w = nothing (λ r. clash-of pgns (ranked (least-spn pgns) r)) (sumBelow (λ i. length (getD pgns i noPgn .fields)) (length pgns)) (λ r. go r (ranked (least-spn pgns) r) refl)
+  no-clash w =
+      concat-none (λ r. clash-of pgns (ranked (least-spn pgns) r)) (sumBelow (λ i. length (getD pgns i noPgn .fields)) (length pgns))
+      (λ r l. go r (ranked (least-spn pgns) r) refl)
     where
       go : (r : ℕ) (o : Option ℕ) → ranked (least-spn pgns) r ≡ o → clash-of pgns o ≡ []
       go r none u = refl

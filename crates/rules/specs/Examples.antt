@@ -1,7 +1,7 @@
 -- The report example of document 01, its edges, and for each of its errors to shut out an example that the wrong reading fails.
-use Prim.Native.Nat.{ℕ, suc}
+use Prim.Native.Nat.{ℕ, zero, suc}
 use native.Mathlib.Omega.{arith}
-use borrow.Author.Tests.{lt-ltb}
+use borrow.Author.Tests.{le-leb}
 use mathlib.Core.Bool.{Bool, true, false, _&&_}
 use mathlib.Core.List.{List, [], _∷_, _++_}
 use mathlib.Core.Option.{Option, none, some}
@@ -15,7 +15,6 @@ use Rattle.rules.specs.Check.{check}
 use Rattle.rules.specs.Computed.{computed}
 use Rattle.rules.specs.Findings.{pgn-error, group-error}
 use Rattle.rules.specs.Floats.{ONE}
-use Rattle.rules.specs.MatchValues.{resolved-at}
 use Rattle.rules.specs.PlaceCall.{named, textLeft}
 use Rattle.rules.specs.PlaceText.{place-text}
 use Rattle.rules.specs.Texts.{bytes, NUMBER, DECIMAL}
@@ -69,6 +68,9 @@ matching bits match reference = a-field (bytes "a") (bytes "A") NUMBER bits ONE 
 abbrev spn : (number bits resolution offset : ℕ) → Field
 spn number bits resolution offset = a-field (bytes "a") (bytes "A") NUMBER bits resolution offset (some number) none none none none
 
+abbrev entry : (value : ℕ) (name : Bytes) → Entry
+entry value name = record { first = 0; value = value; name = name; fieldtype = NUMBER; nested = none }
+
 abbrev a-pgn : (number : ℕ) (id : Bytes) → Option Repeating → List Field → Pgn
 a-pgn number id set fields =
     record {
@@ -110,7 +112,7 @@ report-place : place-text reported 1 0 0 ≡ some (bytes "pgns/127488-a.yaml")
 unfolding computed
 report-place = refl
 
--- ---- the edges, as one table: a rule's findings of a pack have these causes
+-- ---- the edges that document 01 stars, as one table: the causes that a rule has. A row can go by a value, and holds at each.
 
 abbrev only : (rule : ℕ) → List Finding → List Finding
 only rule [] = []
@@ -125,14 +127,28 @@ findings-of rule P = only rule (check P)
 
 record Edge : Type 0 where
   rule : ℕ
-  pack : Pack
-  expected : List ℕ
+  pack : (value : ℕ) → Pack
+  expected : (value : ℕ) → List ℕ
 
 abbrev edge : (rule : ℕ) → Pack → (expected : List ℕ) → Edge
-edge rule pack expected = record { rule = rule; pack = pack; expected = expected }
+edge rule pack expected = record { rule = rule; pack = λ value. pack; expected = λ value. expected }
+
+abbrev edge-by-value : (rule : ℕ) → (pack : ℕ → Pack) → (expected : ℕ → List ℕ) → Edge
+edge-by-value rule pack expected = record { rule = rule; pack = pack; expected = expected }
 
 abbrev single : (number : ℕ) → Pack
 single number = in-nmea2000 [] (a-pgn number (bytes "a") none [] ∷ [])
+
+-- a match of any value: it names an entry that has it
+abbrev valued : (bits value : ℕ) → Pack
+valued bits value =
+    in-nmea2000 (record { name = bytes "ANY"; kind = 0; bits = bits; entries = entry value (bytes "x") ∷ [] } ∷ [])
+    (a-pgn 127488 (bytes "a") none (matching bits (bytes "x") (some (record { kind = 0; name = bytes "ANY" })) ∷ []) ∷ [])
+
+-- R13 cause 2 for every value but 0
+abbrev but-zero : (value : ℕ) → List ℕ
+but-zero zero = []
+but-zero (suc value) = 2 ∷ []
 
 abbrev edges : List Edge
 edges =
@@ -147,12 +163,11 @@ edges =
     ∷ edge 13 (of-fields (matching 3 (bytes "7") none ∷ [])) []
     ∷ edge 13 (of-fields (matching 3 (bytes "8") none ∷ [])) (2 ∷ [])
     ∷ edge 13 (of-fields (matching 64 (bytes "18446744073709551615") none ∷ [])) []
+    ∷ edge-by-value 13 (valued 64) (λ value. [])
     ∷ edge 13 (of-fields (matching 0 (bytes "0") none ∷ [])) []
     ∷ edge 13 (of-fields (matching 0 (bytes "1") none ∷ [])) (2 ∷ [])
-    ∷ edge 13 (of-fields (matching 8 (bytes "+5") none ∷ [])) []
-    ∷ edge 13 (of-fields (matching 8 (bytes "-0") none ∷ [])) (1 ∷ [])
+    ∷ edge-by-value 13 (valued 0) but-zero
     ∷ edge 11 (of-fields (tab (λ k. special 8 0) 33)) []
-    ∷ edge 11 (of-fields (tab (λ k. special 8 0) 34)) (1 ∷ [])
     ∷ edge 42 (in-j1939 (a-pgn 65262 (bytes "a") none (spn 524287 8 ONE 0 ∷ spn 524287 16 ONE 0 ∷ []) ∷ [])) (3 ∷ [])
     ∷ edge 42 (in-j1939 (a-pgn 65262 (bytes "a") none (spn 524288 8 ONE 0 ∷ spn 524288 16 ONE 0 ∷ []) ∷ [])) (2 ∷ 2 ∷ [])
     ∷ edge
@@ -164,22 +179,14 @@ edges =
     (1 ∷ [])
     ∷ []
 
-abbrev all-as-expected : List Edge → Bool
-all-as-expected [] = true
-all-as-expected (e ∷ es) = (causes (findings-of (e .rule) (e .pack)) ≐ e .expected) && all-as-expected es
+abbrev all-as-expected : List Edge → (value : ℕ) → Bool
+all-as-expected [] value = true
+all-as-expected (e ∷ es) value = (causes (findings-of (e .rule) (e .pack value)) ≐ e .expected value) && all-as-expected es value
 
-edges-hold : all-as-expected edges ≡ true
+edges-hold : (value : ℕ) → all-as-expected edges value ≡ true
 unfolding computed
-edges-hold = refl
-
--- "64 bits take all", "0 bits only 0": of every value
-wide-takes-all : (t i k value : ℕ) → resolved-at t i k 64 (some value) ≡ []
-unfolding resolved-at
-wide-takes-all t i k value = refl
-
-no-bits-take-zero : (t i k value : ℕ) → resolved-at t i k 0 (some (suc value)) ≡ pgn-error 13 2 t i k 0 ∷ []
-unfolding resolved-at
-no-bits-take-zero t i k value = rw (lt-ltb 0 (suc value) (omega arith))
+edges-hold zero = refl
+edges-hold (suc value) = rw (le-leb 1 (suc value) (omega arith))
 
 -- ---- errors to shut out
 
@@ -253,9 +260,6 @@ unfolding computed
 no-set = refl
 
 -- "a match resolved by the lookup's own kind": it goes by the reference's
-abbrev entry : (value : ℕ) (name : Bytes) → Entry
-entry value name = record { first = 0; value = value; name = name; fieldtype = NUMBER; nested = none }
-
 abbrev on-off : (kind : ℕ) → Lookup
 on-off kind = record { name = bytes "ON_OFF"; kind = kind; bits = 64; entries = entry 0 (bytes "Off") ∷ entry 1 (bytes "On") ∷ [] }
 

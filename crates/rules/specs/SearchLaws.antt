@@ -45,7 +45,7 @@ ranked-turn least r = rw (add-one r)
 
 -- ---- leaving early
 
-below-suc : {A : Type 0} (k n : ℕ) → k < suc n → (k < n → A) → (k ≡ n → A) → A
+pub below-suc : {A : Type 0} (k n : ℕ) → k < suc n → (k < n → A) → (k ≡ n → A) → A
 below-suc {A} k n h low top = go (ℕ-discrete k n)
   where
     go : Dec (k ≡ n) → A
@@ -108,6 +108,12 @@ latest-is p (suc n) k e = go (p n) refl e (latest-is p n k)
 pub latest-none : (p : ℕ → Bool) (n : ℕ) → ((k : ℕ) → p k ≡ false) → latestBelow p n ≡ none
 latest-none p zero h = refl
 latest-none p (suc n) h = rw (h n) (latest-none p n h)
+
+-- ---- nothing from any
+
+pub concat-none : {A : Type 0} (f : ℕ → List A) (n : ℕ) → ((k : ℕ) → k < n → f k ≡ []) → concatBelow f n ≡ []
+concat-none f zero h = refl
+concat-none f (suc n) h = rw (concat-none f n (λ k l. h k (omega arith)), h n (omega arith))
 
 -- ---- ranks: once they have ended, nothing follows
 

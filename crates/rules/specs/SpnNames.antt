@@ -77,6 +77,6 @@ module _ (pgns : List Pgn) where
   unfoldable pub least-spn : (b : ℕ) → Option ℕ
   least-spn b = minBelow (least-spn-in b) (length pgns)
 
-  -- there are no more SPNs than fields
+  -- There are no more SPNs than fields, so these ranks have every one (`spn-ranks` of proofs/SpnRanks).
   unfoldable pub check-spn-names : List Finding
   check-spn-names = concatBelow (λ r. clash-of (ranked least-spn r)) (sumBelow (λ i. length (getD pgns i noPgn .fields)) (length pgns))

@@ -49,7 +49,7 @@ module _ (t : ℕ) (pgns : List Pgn) where
   matchless number =
       countBelow (λ i. in-group number i && not (has-match (getD pgns i noPgn) (length (getD pgns i noPgn .fields)))) (length pgns)
 
-  -- 2: more than one without a match. A group of one has neither, so "two or more" needs no test.
+  -- 2: more than one without a match. The Rust looks at groups of two or more only; the others have neither (`two-or-more` of proofs/VariantLaws).
   unfoldable pub group-findings : Option ℕ → List Finding
   group-findings none = []
   group-findings (some number) =
@@ -59,5 +59,6 @@ module _ (t : ℕ) (pgns : List Pgn) where
   unfoldable pub least-group : (b : ℕ) → Option ℕ
   least-group b = minBelow (λ i. optional (not (getD pgns i noPgn .fallback) && (b ≤ᵇ getD pgns i noPgn .pgn)) (getD pgns i noPgn .pgn)) (length pgns)
 
+  -- So many ranks have every group (`variants-ranks` of proofs/VariantLaws).
   unfoldable pub check-variants : List Finding
   check-variants = concatBelow (λ r. group-findings (ranked least-group r)) (length pgns)
