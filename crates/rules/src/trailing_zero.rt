@@ -10,7 +10,6 @@ ghost use Rattle.pack.specs.Value.{pgn-at, field-at};
 ghost use Rattle.rules.specs.Emit.{Emitted, Fits};
 ghost use Rattle.rules.specs.Search.{anyBelow};
 ghost use Rattle.rules.specs.TrailingZero.{starts-behind, fixed, unsigned-integer, trailing-zero-target-at, trailing-zero-at, check-trailing-zero-is-digit};
-use crate::bools::and_not;
 use crate::emit::pgn_error;
 use crate::emit::put;
 use crate::emit::put_if;
@@ -30,12 +29,21 @@ use pack::protocol::FieldOrder;
 use pack::protocol::precedes;
 use pack::text::text_is;
 
+// A set counts where it is given, empty or not.
+fn counts(set: OptRepeating) -> bool
+    ensures { λ r. ⌜ r ≡ set .given ⌝ }
+{
+    set.given
+}
+
 // The set, if any, starts behind the order.
 fn starts_behind(set: OptRepeating, order: FieldOrder) -> bool
     ensures { λ r. ⌜ r ≡ starts-behind (optRepeating set) (order .0) ⌝ }
 {
-    let ahead = precedes(order, FieldOrder(set.set.start));
-    !and_not(set.given, ahead)
+    if counts(set) {
+        return precedes(order, FieldOrder(set.set.start));
+    }
+    true
 }
 
 // A variable-width field, or a proprietary one that may be absent.

@@ -8,11 +8,7 @@ use Prim.Native.Nat.{ℕ, _<_}
 use borrow.Author.Needs.{needs}
 use Rattle.rules.proofs.repeating.misplaced.Statement.{statement}
 use Rattle.rules.proofs.repeating.misplaced.Tie as tie
-use Rattle.rules.proofs.repeating.misplaced.Reads as reads
-use Rattle.rules.proofs.repeating.misplaced.Lts as lts
-use Rattle.pack.proofs.protocol.precedes.Reads as precedes-reads
 
--- src/repeating.rt:26:9
 not-before : (a b : ℕ) → not (a <ᵇ b) ≡ (b ≤ᵇ a)
 not-before a b = go (decLt a b)
   where
@@ -23,11 +19,9 @@ not-before a b = go (decLt a b)
 returns : tie.Need-returns
 returns c = rw (eq-eqb _ _ (c .if1 .taken))
 
--- src/repeating.rt:28:6
 precedes-requires : tie.Need-precedes-requires
 precedes-requires c κs = search needs
 
--- src/repeating.rt:22:1
 returns-2 : tie.Need-returns-2
 returns-2 c =
     let start = c .before .before .before in

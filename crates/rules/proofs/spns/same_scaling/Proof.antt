@@ -7,19 +7,14 @@ use Rattle.pack.specs.Notation.{_==_}
 use borrow.Author.Tests.{eq-eqb, ne-eqb}
 use denote.Ref.{now}
 use mathlib.Core.List.{List}
-use mathlib.Core.Bool.{Bool, _&&_}
+use mathlib.Core.Bool.{Bool, true, false, _&&_}
 use mathlib.Core.Path.{_≡_, _∙_}
 use lib.Ieee.{ofBits, binary64, eq}
 use Prim.Native.Nat.{ℕ}
 use borrow.Author.Needs.{needs}
 use Rattle.rules.proofs.spns.same_scaling.Statement.{statement}
 use Rattle.rules.proofs.spns.same_scaling.Tie as tie
-use Rattle.rules.proofs.spns.same_scaling.Reads as reads
-use Rattle.rules.proofs.spns.same_scaling.Lts as lts
-use Rattle.rules.proofs.spns.same_unit.Reads as same-unit-reads
-use Rattle.rules.proofs.spns.scaling_of.Reads as scaling-of-reads
 
--- src/spns.rt:83:9
 -- scalings compared as the code does
 abbrev compared : List ℕ → Scaling → Scaling → Bool
 compared s x y =
@@ -38,18 +33,31 @@ of-views : (s : List ℕ) (v w : ScalingView) (a b : Scaling) → a ≡ scaling 
 unfolding float-eq
 of-views s v w a b p q r e = e ∙ (λ j. compared s (p j) (q j))
 
+-- the four ends of the comparison
+module _ (s : List ℕ) (a b : Scaling) where
+  other-width : (a .width ≡ b .width → ⊥) → false ≡ compared s a b
+  other-width w = rw (ne-eqb _ _ w)
+
+  module _ (w : a .width ≡ b .width) where
+    other-resolution : eq (a .resolution) (b .resolution) ≡ false → false ≡ compared s a b
+    other-resolution r = rw (eq-eqb _ _ w, r)
+
+    other-offset : eq (a .resolution) (b .resolution) ≡ true → eq (a .offset) (b .offset) ≡ false → false ≡ compared s a b
+    other-offset r o = rw (eq-eqb _ _ w, r, o)
+
+    by-unit : eq (a .resolution) (b .resolution) ≡ true → eq (a .offset) (b .offset) ≡ true
+        → (u : Bool) → u ≡ same-unit (optBytes s (a .unit)) (optBytes s (b .unit)) → u ≡ compared s a b
+    by-unit r o u e = rw (eq-eqb _ _ w, r, o) e
+
 scaling-of-requires : tie.Need-scaling-of-requires
 scaling-of-requires c κs = search needs
 
--- src/spns.rt:84:9
 scaling-of-requires-2 : tie.Need-scaling-of-requires-2
 scaling-of-requires-2 c κs = search needs
 
--- src/spns.rt:88:17
 same-unit-requires : tie.Need-same-unit-requires
 same-unit-requires c κs = search needs
 
--- src/spns.rt:88:17
 returns : tie.Need-returns
 returns c =
     let back12 = c .before .before .before .before .before .before .before .before .before .before .before .before in
@@ -59,9 +67,8 @@ returns c =
     let if1 = c .before .before .before .before .before .before .before .if1 in
     let if2 = c .before .before .before .before .if2 in
     of-views (now (start .args .s)) (start .args .v) (start .args .w) (scaling-of .result) (scaling-of2 .result) (scaling-of .ensures) (scaling-of2 .ensures) _
-    (rw (eq-eqb _ _ (if1 .taken), if2 .taken, c .before .if3 .taken) (c .same-unit .ensures))
+    (by-unit (now (start .args .s)) (scaling-of .result) (scaling-of2 .result) (if1 .taken) (if2 .taken) (c .before .if3 .taken) _ (c .same-unit .ensures))
 
--- src/spns.rt:90:13
 returns-2 : tie.Need-returns-2
 returns-2 c =
     let start = c .before .before .before .before .before .before .before .before .before .before .before .before in
@@ -70,9 +77,8 @@ returns-2 c =
     let if1 = c .before .before .before .before .before .before .if1 in
     let if2 = c .before .before .before .if2 in
     of-views (now (start .args .s)) (start .args .v) (start .args .w) (scaling-of .result) (scaling-of2 .result) (scaling-of .ensures) (scaling-of2 .ensures) _
-    (rw (eq-eqb _ _ (if1 .taken), if2 .taken, c .if3 .left))
+    (other-offset (now (start .args .s)) (scaling-of .result) (scaling-of2 .result) (if1 .taken) (if2 .taken) (c .if3 .left))
 
--- src/spns.rt:92:9
 returns-3 : tie.Need-returns-3
 returns-3 c =
     let start = c .before .before .before .before .before .before .before .before .before in
@@ -80,16 +86,15 @@ returns-3 c =
     let scaling-of2 = c .before .before .before .before .before .before .scaling-of2 in
     let if1 = c .before .before .before .if1 in
     of-views (now (start .args .s)) (start .args .v) (start .args .w) (scaling-of .result) (scaling-of2 .result) (scaling-of .ensures) (scaling-of2 .ensures) _
-    (rw (eq-eqb _ _ (if1 .taken), c .if2 .left))
+    (other-resolution (now (start .args .s)) (scaling-of .result) (scaling-of2 .result) (if1 .taken) (c .if2 .left))
 
--- src/spns.rt:80:1
 returns-4 : tie.Need-returns-4
 returns-4 c =
     let start = c .before .before .before .before .before .before in
     let scaling-of = c .before .before .before .before .scaling-of in
     let scaling-of2 = c .before .before .before .scaling-of2 in
     of-views (now (start .args .s)) (start .args .v) (start .args .w) (scaling-of .result) (scaling-of2 .result) (scaling-of .ensures) (scaling-of2 .ensures) _
-    (rw (ne-eqb _ _ (c .if1 .left)))
+    (other-width (now (start .args .s)) (scaling-of .result) (scaling-of2 .result) (c .if1 .left))
 
 pub same-scaling-spec : {M : Type 1} → statement M
 same-scaling-spec =

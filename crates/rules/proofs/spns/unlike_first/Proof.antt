@@ -20,23 +20,17 @@ use Rattle.pack.specs.Meaning.{optBytes, packOf, fieldMeaning}
 use borrow.Author.Needs.{needs}
 use Rattle.rules.proofs.spns.unlike_first.Statement.{statement}
 use Rattle.rules.proofs.spns.unlike_first.Tie as tie
-use Rattle.rules.proofs.spns.unlike_first.Reads as reads
-use Rattle.rules.proofs.spns.unlike_first.Lts as lts
-use Rattle.pack.proofs.of.field_of.Reads as field-of-reads
-use Rattle.rules.proofs.emit.pgn_error.Reads as pgn-error-reads
-use Rattle.rules.proofs.emit.put_if.Reads as put-if-reads
-use Rattle.rules.proofs.spns.first_seen.Reads as first-seen-reads
-use Rattle.rules.proofs.spns.is_at.Reads as is-at-reads
-use Rattle.rules.proofs.spns.same_scaling.Reads as same-scaling-reads
 
--- src/spns.rt:145:9
 -- the first that carries it is field h of PGN j
-module _ (P : Pack) (i k spn j h : ℕ) (seen : first-seen (pgns-of P 1) spn ≡ some j) (field : spn-field (pgn-at P 1 j) spn ≡ some h) (b : Bool) (at : b ≡ ((j == i) && (h == k))) where
+module _
+    (P : Pack) (i k spn j h : ℕ) (seen : first-seen (pgns-of P 1) spn ≡ some j) (field : spn-field (pgn-at P 1 j) spn ≡ some h)
+    (b : Bool) (at : b ≡ ((j == i) && (h == k))) where
   itself : b ≡ true → unlike-first (pgns-of P 1) i k spn (first-seen (pgns-of P 1) spn) ≡ []
   unfolding unlike-first unlike-field
   itself e = rw (seen, field, ← at, e)
 
-  another : b ≡ false → (a : Bool) → a ≡ same-scaling (field-at (pgn-at P 1 j) h) (field-at (pgn-at P 1 i) k) → (F : Finding) → F ≡ pgn-error 42 3 1 i k j
+  another : b ≡ false → (a : Bool) → a ≡ same-scaling (field-at (pgn-at P 1 j) h) (field-at (pgn-at P 1 i) k)
+      → (F : Finding) → F ≡ pgn-error 42 3 1 i k j
       → unlike-first (pgns-of P 1) i k spn (first-seen (pgns-of P 1) spn) ≡ report-if (not a) F
   unfolding unlike-first unlike-field
   another e a d F q = rw (seen, field, ← at, e, d, q)
@@ -67,11 +61,9 @@ first-seen-requires c κs =
     let start = c .before .before .before in
     (start .pre .1, start .pre .2, start .pre .3, start .pre .4, carried (now (start .args .s)) (start .args .f) _ (start .pre .5) (start .pre .6))
 
--- src/spns.rt:146:8
 is-at-requires : tie.Need-is-at-requires
 is-at-requires c κs = search needs
 
--- src/spns.rt:147:9
 returns : tie.Need-returns
 returns c =
     let start = c .before .before .before .before .before .before in
@@ -80,7 +72,6 @@ returns c =
     (first-seen-call .result .field) (first-seen-call .ensures .0) (first-seen-call .ensures .1) (c .before .is-at .result) (c .before .is-at .ensures)
     (c .if1 .taken)) (emitted-none (now (start .args .out)) (start .args .n))
 
--- src/spns.rt:149:9
 field-of-requires : tie.Need-field-of-requires
 field-of-requires c κs =
     let start = c .before .before .before .before .before .before in
@@ -90,15 +81,12 @@ field-of-requires c κs =
           (first-seen-call .result .field) (first-seen-call .ensures .0) (first-seen-call .ensures .1) (c .before .is-at .result) (c .before .is-at .ensures),
     )
 
--- src/spns.rt:150:9
 same-scaling-requires : tie.Need-same-scaling-requires
 same-scaling-requires c κs = search needs
 
--- src/spns.rt:151:28
 pgn-error-requires : tie.Need-pgn-error-requires
 pgn-error-requires c κs = search needs
 
--- src/spns.rt:151:5
 put-if-requires : tie.Need-put-if-requires
 put-if-requires c κs =
     let start = c .before .before .before .before .before .before .before .before .before .before in
@@ -114,11 +102,9 @@ put-if-requires c κs =
     (same-scaling-call .result) same (c .pgn-error .result) (c .pgn-error .ensures) in
     rw reported at (start .pre .0)
 
--- src/spns.rt:132:1
 same-length : tie.Need-same-length
 same-length c = search needs
 
--- src/spns.rt:132:1
 returns-2 : tie.Need-returns-2
 returns-2 c =
     let back12 = c .before .before .before .before .before .before .before .before .before .before .before .before in

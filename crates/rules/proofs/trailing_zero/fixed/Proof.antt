@@ -15,13 +15,7 @@ use Rattle.rules.specs.TrailingZero.{starts-behind, fixed}
 use borrow.Author.Needs.{needs}
 use Rattle.rules.proofs.trailing_zero.fixed.Statement.{statement}
 use Rattle.rules.proofs.trailing_zero.fixed.Tie as tie
-use Rattle.rules.proofs.trailing_zero.fixed.Reads as reads
-use Rattle.rules.proofs.trailing_zero.fixed.Lts as lts
-use Rattle.pack.proofs.protocol.FieldIndex.order.Reads as order-reads
-use Rattle.rules.proofs.trailing_zero.any_moves.Reads as any-moves-reads
-use Rattle.rules.proofs.trailing_zero.starts_behind.Reads as starts-behind-reads
 
--- src/trailing_zero.rt:72:8
 -- said of the view
 said : (s : List ℕ) (p : Pgn) (g : PgnView) → PgnIs s p g → (j : ℕ) (a b c : Bool)
     → a ≡ anyBelow (λ k. (field-at p k .res-bits == 0) || field-at p k .proprietary) j → b ≡ starts-behind (optRepeating (g .repeating1)) (j + 1)
@@ -34,7 +28,6 @@ any-moves-requires c κs =
     let start = c .before .before in
     (start .pre .0, omega (arith, start .pre .2))
 
--- src/trailing_zero.rt:73:9
 returns : tie.Need-returns
 returns c =
     let start = c .before .before .before .before in
@@ -45,21 +38,17 @@ returns c =
       c .if1 .taken,
     )
 
--- src/trailing_zero.rt:75:9
 order-requires : tie.Need-order-requires
 order-requires c κs =
     let start = c .before .before .before .before in
     omega (arith, start .pre .2, fields-few (start .pre .0))
 
--- src/trailing_zero.rt:76:8
 starts-behind-requires : tie.Need-starts-behind-requires
 starts-behind-requires c κs = search needs
 
--- src/trailing_zero.rt:77:9
 starts-behind-requires-2 : tie.Need-starts-behind-requires-2
 starts-behind-requires-2 c κs = search needs
 
--- src/trailing_zero.rt:77:9
 returns-2 : tie.Need-returns-2
 returns-2 c =
     let start = c .before .before .before .before .before .before .before .before in
@@ -77,7 +66,6 @@ returns-2 c =
       c .before .if2 .taken,
     )
 
--- src/trailing_zero.rt:68:1
 returns-3 : tie.Need-returns-3
 returns-3 c =
     let start = c .before .before .before .before .before .before .before in
