@@ -22,6 +22,7 @@ use Rattle.walk.specs.Passes.{put, arrives, look, close, stand}
 use Rattle.walk.specs.Visits.{visited, latest, is-current}
 use Rattle.walk.specs.Walk.{End, whole, used-up, stop, Answer, arrive, settle, settled, onward, walk-on, walk-with, by-visits, walk}
 use Rattle.walk.specs.Held.{shares-held, count-field-held, count-fields-held, bit-length-held, dynamic-value-held, held}
+use Rattle.walk.specs.HeldReadings.{held-letter, held-widest, widest-count-fields-held, count-field-widest}
 use Rattle.walk.specs.Guarantee.{Unstopped}
 use Rattle.walk.proofs.NoStop.{guarantee}
 
@@ -332,6 +333,27 @@ late-conditions = refl
 late-stops : walk-alone late (1 ∷ []) ≡ answer (stop 2) (0 ∷ [])
 unfolding walk-alone
 late-stops = refl
+
+-- By the letter held, since set 2 is nested and its countField lies in set 1; but set 2 holds it too. R05's cause 3 is all that is found.
+abbrev counted-inside : Pgn
+counted-inside = pgn (set 1 3 none false) (set 2 2 (some 3) true) (a ∷ b ∷ c ∷ [])
+
+counted-inside-found : check (alone counted-inside) ≡ pgn-error 5 3 0 0 2 0 ∷ []
+unfolding computed
+counted-inside-found = refl
+
+counted-inside-stops : walk-alone counted-inside (1 ∷ []) ≡ answer (stop 2) (0 ∷ [])
+unfolding walk-alone
+counted-inside-stops = refl
+
+-- `held`, by the letter, and the widest
+unfoldable held-readings : Pgn → List Bool
+unfolding held held-letter held-widest widest-count-fields-held count-field-widest shares-held clash share nested-in count-fields-held count-field-held bit-length-held dynamic-value-held sets-hold target length-source
+held-readings p = held (alone p) p ∷ held-letter (alone p) p ∷ held-widest (alone p) p ∷ []
+
+counted-inside-readings : held-readings counted-inside ≡ false ∷ true ∷ true ∷ []
+unfolding held-readings
+counted-inside-readings = refl
 
 -- held, and R15's cause 4 is all that is found: stop 6
 abbrev ahead : Pgn

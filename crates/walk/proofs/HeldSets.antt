@@ -1,14 +1,16 @@
 -- Sets that fit (R05) and are held: the layout is past stop 1, and every countField is current at its set's start.
 use Prim.Native.Nat.{ℕ, zero, suc, _≤_, _<_}
 use native.Mathlib.Omega.{arith}
-use mathlib.Core.Path.{_≡_, refl}
+use mathlib.Core.Path.{_≡_, refl, ap}
 use mathlib.Core.Bool.{Bool, true, false, not, _||_}
 use mathlib.Core.Option.{Option, none, some}
 use lib.ListN.{length}
-use borrow.Author.Tests.{ltb-true, not-true, lt-ltb, le-ltb, ne-eqb}
+use lib.Dec.{ltb, leb, eqb}
+use borrow.Author.Tests.{ltb-true, eqb-true, not-true, lt-ltb, le-ltb, le-leb, ne-eqb}
 use Rattle.walk.specs.Layout.{Layout, set-at, start, end, nonempty, holds, nested-in, inside-previous, misplaced, clash, stop-1}
-use Rattle.walk.specs.Held.{shares-held, count-field-held, count-fields-held, nonempty-count-fields-held}
-use Rattle.walk.proofs.Tests.{or-i, and-not, imp-e, imp-i, every-e, every-i, none-below}
+use Rattle.walk.specs.Held.{shares-held}
+use Rattle.walk.specs.HeldReadings.{field-in, may-hold, count-field-widest, widest-count-fields-held}
+use Rattle.walk.proofs.Tests.{and-i, or-i, and-not, imp-e, every-e, none-below}
 use Rattle.walk.proofs.SetFacts.{Holds, holds-i, short, placed-i, nested-e}
 use Rattle.walk.proofs.Never.{Count-placed}
 use Rattle.rules.specs.Search.{everyBelow}
@@ -19,11 +21,6 @@ pub record Fits (L : Layout) (k : ℕ) : Type 0 where
   pub high : end L k ≤ suc (length (L .fields))
   pub count : (c : ℕ) → set-at L k .count-field ≡ some c → (1 ≤ c) × (c < start L k)
   pub nests : set-at L k .nested ≡ true → inside-previous L k ≡ true
-
-pub counts-weaker : (L : Layout) → count-fields-held L ≡ true → nonempty-count-fields-held L ≡ true
-unfolding count-fields-held nonempty-count-fields-held
-counts-weaker L e = every-i (λ k. not (nonempty L k) || count-field-held L k (set-at L k .count-field)) (length (L .sets))
-    (λ k l. imp-i (nonempty L k) _ (λ q. every-e (λ k. count-field-held L k (set-at L k .count-field)) (length (L .sets)) e k l))
 
 module _ (L : Layout) (fit : (k o : ℕ) → Holds L k o → Fits L k) (shares : shares-held L ≡ true) where
   apart : (j k : ℕ) → j < k → k < length (L .sets) → clash L j k ≡ false
@@ -45,19 +42,36 @@ module _ (L : Layout) (fit : (k o : ℕ) → Holds L k o → Fits L k) (shares :
   unfolding stop-1
   past-stop-1 = none-below _ (length (L .sets)) (λ k l. or-i (misplaced L k) _ (in-place k) (none-below (λ j. clash L j k) k (λ j m. apart j k m l)))
 
-  pub counts-placed : nonempty-count-fields-held L ≡ true → (k : ℕ) → Holds L k (start L k) → Count-placed L (start L k) (set-at L k .count-field)
-  unfolding nonempty-count-fields-held count-field-held
+  -- By R05's cause 3 the countField c comes before set k, and so set k does not hold it; nor does a set inside set k.
+  around : (j k c : ℕ) → Holds L j c → Holds L k (start L k) → c < start L k → (same nests : Bool) → eqb j k ≡ same → nested-in L j k ≡ nests
+      → (same || nests || nested-in L k j) ≡ true → Holds L j (start L k)
+  around j k c holding at before true nests own inner e = absurd (omega (arith, holding .0, before, ap (λ m. start L m) (eqb-true j k own)))
+  around j k c holding at before false true own inner e = let b = nested-e L past-stop-1 j k (start L k) at inner in omega arith
+  around j k c holding at before false false own inner e = let b = nested-e L past-stop-1 k j c holding e in absurd (omega arith)
+
+  pub counts-placed : widest-count-fields-held L ≡ true → (k : ℕ) → Holds L k (start L k) → Count-placed L (start L k) (set-at L k .count-field)
+  unfolding widest-count-fields-held count-field-widest
   counts-placed e k h = go (set-at L k .count-field) refl
     where
-      held-at : count-field-held L k (set-at L k .count-field) ≡ true
-      held-at = imp-e (nonempty L k) _ (every-e (λ k. not (nonempty L k) || count-field-held L k (set-at L k .count-field)) (length (L .sets)) e k (short L k (start L k) h)) (lt-ltb 0 (set-at L k .count) (omega arith))
+      sets : ℕ
+      sets = length (L .sets)
+
+      is-widest : count-field-widest L k (set-at L k .count-field) ≡ true
+      is-widest =
+          let asked = every-e (λ k. not (nonempty L k) || count-field-widest L k (set-at L k .count-field)) sets e k (short L k (start L k) h) in
+          imp-e (nonempty L k) _ asked (lt-ltb 0 (set-at L k .count) (omega arith))
 
       go : (x : Option ℕ) → set-at L k .count-field ≡ x → Count-placed L (start L k) x
       go none q = tt
       go (some zero) q = omega (arith, fit k (start L k) h .count 0 q)
       go (some (suc t)) q =
-          let g : count-field-held L k (some (suc t)) ≡ true = rw q at held-at in
-          placed-i L (start L k) t (fit k (start L k) h .count (suc t) q .1) (λ j i.
-          let n = imp-e (holds L j (suc t)) (nested-in L j k) (every-e (λ j. not (holds L j (suc t)) || nested-in L j k) (length (L .sets)) g j (short L j (suc t) i)) (holds-i L j (suc t) i) in
-          let b = nested-e L past-stop-1 j k (start L k) h n in
-          omega arith)
+          let g : count-field-widest L k (some (suc t)) ≡ true = rw q at is-widest in
+          let f = fit k (start L k) h in
+          let before : suc t < start L k = f .count (suc t) q .1 in
+          placed-i L (start L k) t before (λ j holding.
+          let low = lt-ltb 0 (suc t) (omega arith) in
+          let high = le-leb (suc t) (length (L .fields)) (omega (arith, f .high, before)) in
+          let lies : field-in L j (suc t) ≡ true = and-i _ _ (and-i _ _ low high) (holds-i L j (suc t) holding) in
+          let asked = every-e (λ j. not (field-in L j (suc t)) || may-hold L j k) sets g j (short L j (suc t) holding) in
+          let may = imp-e (field-in L j (suc t)) (may-hold L j k) asked lies in
+          around j k (suc t) holding h before (eqb j k) (nested-in L j k) refl refl may)

@@ -21,6 +21,8 @@ pub mod WalkCalls
 -- the guarantee against stops
 pub mod Never
 pub mod HeldSets
+-- every reading of what is held implies the widest
+pub mod HeldWidest
 pub mod Clean
 pub mod CleanSets
 pub mod CleanFields

@@ -24,19 +24,16 @@ use Rattle.walk.specs.Layout.{layout, sets-hold, stop-1}
 use Rattle.walk.specs.Stops.{is-dynamic-value, lacks-length, stop-at}
 use Rattle.walk.specs.Walk.{End, whole, used-up, stop, Answer, by-visits, walk}
 use Rattle.walk.specs.ByPlace.{placed}
-use Rattle.walk.specs.Held.{shares-held, count-fields-held, bit-length-held, dynamic-value-held, held, nonempty-count-fields-held, held-nonempty}
+use Rattle.walk.specs.Held.{shares-held, bit-length-held, dynamic-value-held}
+use Rattle.walk.specs.HeldReadings.{widest-count-fields-held, held-widest}
 use Rattle.walk.specs.Guarantee.{Unstopped, ends-whole, ends-used-up, Guarantee, Quiet}
 use Rattle.walk.proofs.Tests.{and-l, and-r, and-i, and-not, imp-e, every-e, any-e, and-4}
 use Rattle.walk.proofs.SetFacts.{Holds, good}
-use Rattle.walk.proofs.HeldSets.{Fits, counts-weaker, past-stop-1, counts-placed}
+use Rattle.walk.proofs.HeldSets.{Fits, past-stop-1, counts-placed}
+use Rattle.walk.proofs.HeldWidest.{held-implies-widest}
 use Rattle.walk.proofs.Never.{Counted, walk-counted, Runs, Sound, never}
 use Rattle.walk.proofs.CleanSets.{sets-fit}
 use Rattle.walk.proofs.CleanFields.{no-stop-3, no-stop-4, no-stop-5, no-stop-6, no-stop-7, no-stop-9}
-
--- held under either reading of "a countField"
-pub weaker : (P : Pack) (p : Pgn) → held P p ≡ true → held-nonempty P p ≡ true
-unfolding held held-nonempty
-weaker P p e = let h = and-4 (shares-held (layout p)) (count-fields-held (layout p)) _ _ e in rw (h .0, counts-weaker (layout p) (h .1), h .2, h .3)
 
 pub quiet : (P : Pack) (t i : ℕ) → t < 3 → i < length (pgns-of P t) → Clean (check P) → Quiet P t i (pgn-at P t i)
 quiet P t i l m e =
@@ -51,11 +48,11 @@ quiet P t i l m e =
       trailing-zero = c .trailing-zero-is-digit;
     }
 
-module _ (P : Pack) (t i : ℕ) (p : Pgn) (q : Quiet P t i p) (h : held-nonempty P p ≡ true) where
-  held-4 : (shares-held (layout p) ≡ true) × (nonempty-count-fields-held (layout p) ≡ true)
+module _ (P : Pack) (t i : ℕ) (p : Pgn) (q : Quiet P t i p) (h : held-widest P p ≡ true) where
+  held-4 : (shares-held (layout p) ≡ true) × (widest-count-fields-held (layout p) ≡ true)
       × (everyBelow (λ k. bit-length-held p k) (length (p .fields)) ≡ true) × (everyBelow (λ k. dynamic-value-held P p k) (length (p .fields)) ≡ true)
-  unfolding held-nonempty
-  held-4 = and-4 (shares-held (layout p)) (nonempty-count-fields-held (layout p)) _ _ h
+  unfolding held-widest
+  held-4 = and-4 (shares-held (layout p)) (widest-count-fields-held (layout p)) _ _ h
 
   fit : (k o : ℕ) → Holds (layout p) k o → Fits (layout p) k
   fit = sets-fit t i p (q .repeating)
@@ -105,17 +102,18 @@ unstopped a n r c = go (a .ends) refl r
     go used-up q r = ends-used-up q (c .exact q)
     go (stop k) q r = absurd r
 
--- by the rules that matter, and the weaker test
-pub guarantee-by : (P : Pack) (t i : ℕ) (p : Pgn) → Quiet P t i p → held-nonempty P p ≡ true → (readings : List ℕ) → Unstopped (walk P p readings) (length readings)
+-- by the rules that matter
+pub guarantee-by : (P : Pack) (t i : ℕ) (p : Pgn) → Quiet P t i p → held-widest P p ≡ true
+    → (readings : List ℕ) → Unstopped (walk P p readings) (length readings)
 unfolding walk
 guarantee-by P t i p q h readings =
     unstopped _ _ (never (layout p) (stop-at P p) (sound P t i p q h) readings) (walk-counted (layout p) (by-visits (layout p)) (stop-at P p) readings)
 
--- with countFields of nonempty sets only: the other reading of what is held
-pub guarantee-nonempty : (P : Pack) (t i : ℕ) → t < 3 → i < length (pgns-of P t) → without-error (check P) ≡ true → held-nonempty P (pgn-at P t i) ≡ true
+-- under the widest reading of what is held
+pub guarantee-widest : (P : Pack) (t i : ℕ) → t < 3 → i < length (pgns-of P t) → without-error (check P) ≡ true → held-widest P (pgn-at P t i) ≡ true
     → (readings : List ℕ) → Unstopped (walk P (pgn-at P t i) readings) (length readings)
-guarantee-nonempty P t i l m e h = guarantee-by P t i (pgn-at P t i) (quiet P t i l m e) h
+guarantee-widest P t i l m e h = guarantee-by P t i (pgn-at P t i) (quiet P t i l m e) h
 
 -- THE GUARANTEE
 pub guarantee : Guarantee
-guarantee P t i l m e h = guarantee-nonempty P t i l m e (weaker P (pgn-at P t i) h)
+guarantee P t i l m e h = guarantee-widest P t i l m e (held-implies-widest P (pgn-at P t i) h)

@@ -8,7 +8,7 @@ use mathlib.Core.Option.{none}
 use mathlib.Core.List.{List}
 use lib.ListN.{length, getD, set, List·getD-eq-default}
 use Rattle.pack.specs.Notation.{_==_}
-use Rattle.pack.specs.Meaning.{optNumber}
+use Rattle.walk.specs.SetsOf.{opt-order}
 use Rattle.walk.specs.Layout.{Layout, no-set}
 use Rattle.walk.specs.Passes.{Place, goto, present, ready, turn, stand}
 use Rattle.walk.specs.Walk.{Stops, Settled, due, settled, onward}
@@ -52,7 +52,8 @@ module _ {L : Layout} {v : Sets} (a : SetsAre L v) (p : Place) (o : ℕ) (po : p
       (elsewhere (has-orders (v .first)) (v .first .start .0 == suc o) (not (present (p .left 0))) (e₁ .0))
       refl)
 
-  module _ (t : ℕ) (et : t ≡ o - 1) (c₁ : counts (optNumber (v .first .counter)) t ≡ false) (c₂ : counts (optNumber (v .second .counter)) t ≡ false) (g : ℕ → ℕ) (r : ℕ) where
+  module _ (t : ℕ) (et : t ≡ o - 1) (c₁ : counts (opt-order (v .first .counter)) t ≡ false)
+      (c₂ : counts (opt-order (v .second .counter)) t ≡ false) (g : ℕ → ℕ) (r : ℕ) where
     same-counts : by-place L .visit g t r ≡ g
     same-counts = fun-ext go
       where

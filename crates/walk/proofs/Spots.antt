@@ -8,7 +8,7 @@ use mathlib.Core.Option.{Option, none, some}
 use lib.ListN.{length, List·getD-eq-default}
 use borrow.Author.Tests.{ne-eqb, lt-ltb, le-ltb}
 use Rattle.pack.specs.Notation.{if_then_else_, optional, _==_}
-use Rattle.pack.specs.Meaning.{optNumber}
+use Rattle.walk.specs.SetsOf.{opt-order}
 use Rattle.walk.specs.Layout.{Layout, no-set, set-at, end}
 use Rattle.walk.specs.Passes.{Rest, endless, more, Place, present, put, goto, goto-with, arrives, Stand, again, arrived, ready, beyond, look, Turn, goes-on, leaves, begins, turn, close, stand}
 use Rattle.walk.specs.Walk.{Arrival, not-current, over, enter, counted, arrive, Settled, past, halted, due, settle, settled}
@@ -194,6 +194,7 @@ module _ {L : Layout} {v : Sets} (a : SetsAre L v) where
       go (suc zero) = refl
       go (suc (suc k)) = rw (List·getD-eq-default (L .sets) no-set {n = suc (suc k)} (omega (arith, a .two)))
 
-  pub visited-two : (x y t r x′ y′ : ℕ) → x′ ≡ (if counts (optNumber (v .first .counter)) t then r else x) → y′ ≡ (if counts (optNumber (v .second .counter)) t then r else y)
+  pub visited-two : (x y t r x′ y′ : ℕ) → x′ ≡ (if counts (opt-order (v .first .counter)) t then r else x)
+      → y′ ≡ (if counts (opt-order (v .second .counter)) t then r else y)
       → two x′ y′ 0 ≡ by-place L .visit (two x y 0) t r
   visited-two x y t r x′ y′ ex ey = rw (visit-two x y t r, ← a .first .counter, ← a .second .counter, ← ex, ← ey)

@@ -18,11 +18,13 @@ use Rattle.rules.specs.Findings.{errors, without-error}
 use Rattle.rules.specs.declared.check.Checked.{Checked}
 use Rattle.walk.specs.Demand3.{clean, Kept, work-short, visits-short, walked-whole, walked-used-up, Demand3}
 use Rattle.walk.specs.Guarantee.{Unstopped, ends-whole, ends-used-up}
-use Rattle.walk.specs.Held.{held, held-nonempty}
+use Rattle.walk.specs.Held.{held}
+use Rattle.walk.specs.HeldReadings.{held-widest}
 use Rattle.walk.specs.WalkCall.{in-pack, walk-of, walked, visitsAfter}
 use Rattle.walk.specs.declared.walk.Walked.{Walked}
 use Rattle.walk.proofs.Tests.{and-l, and-r}
-use Rattle.walk.proofs.NoStop.{weaker, guarantee-nonempty}
+use Rattle.walk.proofs.HeldWidest.{held-implies-widest}
+use Rattle.walk.proofs.NoStop.{guarantee-widest}
 
 -- a clean check was made of an accepted pack
 pub record Clean (s : List ℕ) : Type 0 where
@@ -51,19 +53,22 @@ kept s m t i readings w ev there u = go (leb (indexOf s .records) m) refl (leb (
     go true ea true eb (ends-whole q l) = walked-whole (rw (ev, ea, there, eb, q)) q l (rw (ev, ea, there, eb))
     go true ea true eb (ends-used-up q l) = walked-used-up (rw (ev, ea, there, eb, q)) q l (rw (ev, ea, there, eb))
 
--- the two calls' answers, by their contracts, where being held is enough for `held-nonempty`
-module _ (is-held : Pack → Pgn → Bool) (enough : (P : Pack) (p : Pgn) → is-held P p ≡ true → held-nonempty P p ≡ true) where
+-- the two calls' answers, by their contracts, where being held is enough for `held-widest`
+module _ (is-held : Pack → Pgn → Bool) (enough : (P : Pack) (p : Pgn) → is-held P p ≡ true → held-widest P p ≡ true) where
   pub demand-3-by : (s : List ℕ) (t i : ℕ) (readings w : List ℕ) (k m n : ℕ) (c : Checked) (r : Walked) (w′ : List ℕ)
       → c ≡ checked s k n → r ≡ walked s m t i readings (length w) → w′ ≡ visitsAfter s m t i readings w → Demand3 is-held s t i readings m w w′ c r
   demand-3-by s t i readings w k m n c r w′ ec er ew h there is =
+      let P = packOf s in
       let a = clean-means s k n (rw ec at h) in
-      rw (er, ew)
-      (kept s m t i readings w (a .taken) there
-      (guarantee-nonempty (packOf s) t i (ltb-true _ _ (and-l (ltb t 3) (ltb i (length (pgns-of (packOf s) t))) there)) (ltb-true _ _ (and-r (ltb t 3) (ltb i (length (pgns-of (packOf s) t))) there)) (a .quiet)
-      (enough (packOf s) (pgn-at (packOf s) t i) is) readings))
+      let tree = ltb-true _ _ (and-l (ltb t 3) (ltb i (length (pgns-of P t))) there) in
+      let pgn = ltb-true _ _ (and-r (ltb t 3) (ltb i (length (pgns-of P t))) there) in
+      rw (er, ew) (kept s m t i readings w (a .taken) there (guarantee-widest P t i tree pgn (a .quiet) (enough P (pgn-at P t i) is) readings))
 
--- under either reading
+-- under the widest reading, and so under `held`'s
 pub demand-3 : (s : List ℕ) (t i : ℕ) (readings w : List ℕ) (k m n : ℕ) (c : Checked) (r : Walked) (w′ : List ℕ)
     → c ≡ checked s k n → r ≡ walked s m t i readings (length w) → w′ ≡ visitsAfter s m t i readings w
-    → Demand3 held s t i readings m w w′ c r × Demand3 held-nonempty s t i readings m w w′ c r
-demand-3 s t i readings w k m n c r w′ ec er ew = (demand-3-by held weaker s t i readings w k m n c r w′ ec er ew, demand-3-by held-nonempty (λ P p h. h) s t i readings w k m n c r w′ ec er ew)
+    → Demand3 held s t i readings m w w′ c r × Demand3 held-widest s t i readings m w w′ c r
+demand-3 s t i readings w k m n c r w′ ec er ew = (
+  demand-3-by held held-implies-widest s t i readings w k m n c r w′ ec er ew,
+  demand-3-by held-widest (λ P p h. h) s t i readings w k m n c r w′ ec er ew,
+)

@@ -8,7 +8,7 @@ use mathlib.Core.Bool.{Bool, true, false, not, _&&_, _||_}
 use lib.Dec.{ltb}
 use borrow.Author.Tests.{ltb-true, ltb-false, lt-ltb, le-ltb}
 use Rattle.pack.specs.Notation.{_<ᵇ_}
-use Rattle.pack.specs.Meaning.{optNumber}
+use Rattle.walk.specs.SetsOf.{opt-order}
 use Rattle.walk.specs.Layout.{Layout, set-at, nonempty, holds, sets-hold, share, nested-in, inside-previous, misplaced, clash, stop-1}
 use Rattle.walk.specs.Held.{shares-held, count-field-held, count-fields-held}
 use Rattle.walk.specs.ByPlace.{placed}
@@ -99,7 +99,8 @@ module _ {L : Layout} {v : Sets} (a : SetsAre L v) where
   count-second none = refl
   count-second (some c) = rw (a .two, holds-first c, holds-second c, nested-second, nested-own) (swapped (in-set (v .first) c) (in-set (v .second) c) (v .second .nested))
 
-  pub count-fields-two : count-fields-held L ≡ (counter-held v (optNumber (v .first .counter)) false && counter-held v (optNumber (v .second .counter)) (v .second .nested))
+  pub count-fields-two : count-fields-held L
+      ≡ (counter-held v (opt-order (v .first .counter)) false && counter-held v (opt-order (v .second .counter)) (v .second .nested))
   unfolding count-fields-held
   count-fields-two = rw (a .two, count-first (set-at L 0 .count-field), count-second (set-at L 1 .count-field), ← a .first .counter, ← a .second .counter)
 

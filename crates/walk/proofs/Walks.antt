@@ -6,7 +6,7 @@ use mathlib.Core.Path.{_≡_, refl, sym, ap, subst, _∙_, fun-ext}
 use mathlib.Core.Bool.{Bool, true, false}
 use mathlib.Core.List.{List, [], _∷_, _++_}
 use mathlib.Core.Option.{Option, none, some}
-use lib.ListN.{length, getD, set, drop, drop-of-length-le}
+use lib.ListN.{length, getD, set, drop, drop-of-length-le, length-append}
 use lib.Seq.{drop-cons}
 use Rattle.pack.specs.Load.{over}
 use Rattle.pack.specs.Notation.{if_then_else_}
@@ -90,8 +90,9 @@ all-same {A} x = fun-ext go
     go (suc zero) = refl
     go (suc (suc k)) = refl
 
-pub begins-at : (L : Layout) (l : Option Rest) → l ≡ none → settled L (by-place L) (record { order = 1; left = two l l none }) (two 0 0 0) ≡ settled L (by-place L) first (by-place L .fresh)
-begins-at L l e = rw (e, all-same {A = Option Rest} none, all-same {A = ℕ} 0)
+pub begins-at : (L : Layout) (l : Option Rest) → l ≡ none → (o : ℕ) → o ≡ 1
+    → settled L (by-place L) (record { order = o; left = two l l none }) (two 0 0 0) ≡ settled L (by-place L) first (by-place L .fresh)
+begins-at L l e o q = rw (e, q, all-same {A = Option Rest} none, all-same {A = ℕ} 0)
 
 pub goes-onward : (L : Layout) (p q : Place) (g h : ℕ → ℕ) (r : ℕ) → q ≡ goto p (p .order + 1) → h ≡ by-place L .visit g (p .order - 1) r → settled L (by-place L) q h ≡ onward L (by-place L) p g r
 unfolding onward
@@ -138,31 +139,50 @@ within-same L G x c (both-due m a) = due-order L G m
 abbrev after : List ℕ → Answer → Answer
 after made a = record { ends = a .ends; visits = made ++ a .visits }
 
--- Of the walk A the first n visits are made, from w to w′; the rest goes on from c.
-pub record Going (L : Layout) (stops : Stops) (A : Answer) (readings w w′ : List ℕ) (n : ℕ) (c : Settled (ℕ → ℕ)) : Type 0 where
-  pub made : List ℕ
-  pub stored : Stored w 0 made w′ n
+-- THE HISTORY: of the walk A the first n visits are made, and the rest goes on from c. No buffer has a part in it.
+pub record History (L : Layout) (stops : Stops) (A : Answer) (readings made : List ℕ) (n : ℕ) (c : Settled (ℕ → ℕ)) : Type 0 where
+  pub count : n ≡ length made
   pub rest : A ≡ after made (walk-on L (by-place L) stops c (drop n readings))
   pub whence : Settled Visits
   pub same : Same L whence c
+
+-- THE BUFFER: the n visits that are made stand in w′, which was w
+pub record Written (w w′ made : List ℕ) (n : ℕ) : Type 0 where
+  pub stored : Stored w 0 made w′ n
+
+-- both, of the same visits
+pub record Going (L : Layout) (stops : Stops) (A : Answer) (readings w w′ : List ℕ) (n : ℕ) (c : Settled (ℕ → ℕ)) : Type 0 where
+  pub made : List ℕ
+  pub history : History L stops A readings made n c
+  pub buffer : Written w w′ made n
 
 -- an answer, and the buffer after it
 pub record Told (A : Answer) (w w′ : List ℕ) (r : Walked) : Type 0 where
   pub answer : r ≡ told A
   pub out : w′ ≡ over (A .visits) w
 
-told-at : (A : Answer) (w w′ made : List ℕ) (n : ℕ) (e : Ending) → Stored w 0 made w′ n → A ≡ after made (no-visit (end-of e)) → n ≤ length w → Told A w w′ (Ended e n)
-told-at A w w′ made n e s a l =
-    let k : n ≡ length made = omega (arith, s .count) in
-    let b : A ≡ record { ends = end-of e; visits = made } = a ∙ ap (λ (v : List ℕ). record { ends = end-of e; visits = v }) (with-none made) in
-    rw b (record { answer = rw (end-back e, k); out = s .work ∙ sets-over w made (omega arith) })
+-- the walk has ended here, with these visits
+pub record EndsWith (A : Answer) (made : List ℕ) (e : Ending) : Type 0 where
+  pub ends : A .ends ≡ end-of e
+  pub visits : A .visits ≡ made
 
-pub start-going : (P : Pack) (p : Pgn) (readings w : List ℕ) → stop-1 (layout p) ≡ false → (c : Settled (ℕ → ℕ)) → c ≡ settled (layout p) (by-place (layout p)) first (by-place (layout p) .fresh)
-    → Going (layout p) (stop-at P p) (walk P p readings) readings w w 0 c
+ends-at : (A : Answer) (made : List ℕ) (e : Ending) → A ≡ after made (no-visit (end-of e)) → EndsWith A made e
+ends-at A made e a = record { ends = ap (λ (x : Answer). x .ends) a; visits = ap (λ (x : Answer). x .visits) a ∙ with-none made }
+
+-- with the buffer: the call's answer
+told-at : (A : Answer) (w w′ made : List ℕ) (n : ℕ) (e : Ending) → EndsWith A made e → n ≡ length made → Written w w′ made n → n ≤ length w
+    → Told A w w′ (Ended e n)
+told-at A w w′ made n e o k b l = record {
+  answer = rw (o .ends, o .visits, end-back e, k);
+  out = b .stored .work ∙ sets-over w made (omega arith) ∙ ap (λ (v : List ℕ). over v w) (sym (o .visits));
+}
+
+pub start-history : (P : Pack) (p : Pgn) (readings : List ℕ) → stop-1 (layout p) ≡ false
+    → (c : Settled (ℕ → ℕ)) → c ≡ settled (layout p) (by-place (layout p)) first (by-place (layout p) .fresh)
+    → History (layout p) (stop-at P p) (walk P p readings) readings [] 0 c
 unfolding walk walk-with
-start-going P p readings w e c h = rw h (record {
-  made = [];
-  stored = stored-none w 0;
+start-history P p readings e c h = rw h (record {
+  count = refl;
   rest = agree (layout p) (stop-at P p) readings ∙ (rw (e, walk-with));
   whence = settled (layout p) (by-visits (layout p)) first (by-visits (layout p) .fresh);
   same = first-same (layout p) (good (layout p) e);
@@ -172,46 +192,77 @@ pub stopped-1 : (P : Pack) (p : Pgn) (readings w : List ℕ) → stop-1 (layout 
 unfolding walk walk-with
 stopped-1 P p readings w e = rw (walk, walk-with, e) (record { answer = refl; out = refl })
 
-module _ (L : Layout) (laid : stop-1 L ≡ false) (stops : Stops) (A : Answer) (readings w w′ : List ℕ) (n : ℕ) (c : Settled (ℕ → ℕ)) (g : Going L stops A readings w w′ n c) where
-  pub going-within : Within L c
-  going-within = within-same L (good L laid) (g .whence) c (g .same)
+-- ---- the history alone
 
-  pub going-used : length readings ≤ n → n ≤ length w → (e : Ending) → e ≡ ending (used c) → Told A w w′ (Ended e n)
+module _ (L : Layout) (laid : stop-1 L ≡ false) (stops : Stops) (A : Answer) (readings made : List ℕ) (n : ℕ) (c : Settled (ℕ → ℕ))
+    (h : History L stops A readings made n c) where
+  pub history-within : Within L c
+  history-within = within-same L (good L laid) (h .whence) c (h .same)
+
+  pub history-used : length readings ≤ n → (e : Ending) → e ≡ ending (used c) → EndsWith A made e
   unfolding walk-on
-  going-used l m e h = go c refl
+  history-used l e q = ends-at A made e (go c refl)
     where
       nothing : drop n readings ≡ []
       nothing = drop-of-length-le readings l
 
-      go : (d : Settled (ℕ → ℕ)) → c ≡ d → Told A w w′ (Ended e n)
-      go past q = told-at A w w′ (g .made) n e (g .stored) (g .rest ∙ (rw (nothing, h, q, walk-on))) m
-      go halted q = told-at A w w′ (g .made) n e (g .stored) (g .rest ∙ (rw (nothing, h, q, walk-on))) m
-      go (due p x) q = told-at A w w′ (g .made) n e (g .stored) (g .rest ∙ (rw (nothing, h, q, walk-on))) m
+      go : (d : Settled (ℕ → ℕ)) → c ≡ d → A ≡ after made (no-visit (end-of e))
+      go past d = h .rest ∙ (rw (nothing, q, d, walk-on))
+      go halted d = h .rest ∙ (rw (nothing, q, d, walk-on))
+      go (due p x) d = h .rest ∙ (rw (nothing, q, d, walk-on))
 
   module _ (low : n < length readings) (r : Stepped) (er : r ≡ one-step L stops c (getD readings n 0)) where
     rest-step : walk-on L (by-place L) stops c (drop n readings) ≡ answer-of L stops (drop (n + 1) readings) r
     rest-step = rw (drop-cons readings n 0 low, er, add-one) (step-law L stops c (getD readings n 0) (drop (suc n) readings))
 
-    pub going-ended : (e : Ending) → r ≡ ended (end-of e) → n ≤ length w → Told A w w′ (Ended e n)
-    going-ended e h m = told-at A w w′ (g .made) n e (g .stored) (g .rest ∙ ap (after (g .made)) (rest-step ∙ ap (answer-of L stops (drop (n + 1) readings)) h)) m
+    pub history-ended : (e : Ending) → r ≡ ended (end-of e) → EndsWith A made e
+    history-ended e q = ends-at A made e (h .rest ∙ ap (after made) (rest-step ∙ ap (answer-of L stops (drop (n + 1) readings)) q))
 
-    pub going-on : (k : ℕ) (d : Settled (ℕ → ℕ)) → r ≡ visited k d → Going L stops A readings w (set w′ n k) (n + 1) d
-    going-on k d h =
-        let y : (y : Settled Visits) × Same L y d = subst (Next L stops) (sym er ∙ h) (next-law L stops (good L laid) (getD readings n 0) (g .whence) c (g .same)) in
+    pub history-on : (k : ℕ) (d : Settled (ℕ → ℕ)) → r ≡ visited k d → History L stops A readings (made ++ k ∷ []) (n + 1) d
+    history-on k d q =
+        let same = next-law L stops (good L laid) (getD readings n 0) (h .whence) c (h .same) in
+        let y : (y : Settled Visits) × Same L y d = subst (Next L stops) (sym er ∙ q) same in
+        let more = walk-on L (by-place L) stops d (drop (n + 1) readings) in
         record {
-          made = g .made ++ k ∷ [];
-          stored = stored-one (g .stored) k;
+          count = omega (arith, h .count, length-append made (k ∷ []));
           rest =
-              g .rest
-              ∙ ap (after (g .made)) (rest-step ∙ ap (answer-of L stops (drop (n + 1) readings)) h)
-              ∙ ap (λ (v : List ℕ). record { ends = walk-on L (by-place L) stops d (drop (n + 1) readings) .ends; visits = v })
-              (joined (g .made) (k ∷ []) (walk-on L (by-place L) stops d (drop (n + 1) readings) .visits));
+              h .rest
+              ∙ ap (after made) (rest-step ∙ ap (answer-of L stops (drop (n + 1) readings)) q)
+              ∙ ap (λ (v : List ℕ). record { ends = more .ends; visits = v }) (joined made (k ∷ []) (more .visits));
           whence = y .0;
           same = y .1;
         }
+
+-- ---- with the buffer
+
+pub start-going : (P : Pack) (p : Pgn) (readings w : List ℕ) → stop-1 (layout p) ≡ false
+    → (c : Settled (ℕ → ℕ)) → c ≡ settled (layout p) (by-place (layout p)) first (by-place (layout p) .fresh)
+    → Going (layout p) (stop-at P p) (walk P p readings) readings w w 0 c
+start-going P p readings w e c h = record { made = []; history = start-history P p readings e c h; buffer = record { stored = stored-none w 0 } }
+
+module _ (L : Layout) (laid : stop-1 L ≡ false) (stops : Stops) (A : Answer) (readings w w′ : List ℕ) (n : ℕ) (c : Settled (ℕ → ℕ))
+    (g : Going L stops A readings w w′ n c) where
+  pub going-within : Within L c
+  going-within = history-within L laid stops A readings (g .made) n c (g .history)
+
+  pub going-used : length readings ≤ n → n ≤ length w → (e : Ending) → e ≡ ending (used c) → Told A w w′ (Ended e n)
+  going-used l m e q = told-at A w w′ (g .made) n e (history-used L laid stops A readings (g .made) n c (g .history) l e q) (g .history .count) (g .buffer) m
+
+  module _ (low : n < length readings) (r : Stepped) (er : r ≡ one-step L stops c (getD readings n 0)) where
+    pub going-ended : (e : Ending) → r ≡ ended (end-of e) → n ≤ length w → Told A w w′ (Ended e n)
+    going-ended e q m =
+        told-at A w w′ (g .made) n e (history-ended L laid stops A readings (g .made) n c (g .history) low r er e q) (g .history .count) (g .buffer) m
+
+    pub going-on : (k : ℕ) (d : Settled (ℕ → ℕ)) → r ≡ visited k d → Going L stops A readings w (set w′ n k) (n + 1) d
+    going-on k d q = record {
+      made = g .made ++ k ∷ [];
+      history = history-on L laid stops A readings (g .made) n c (g .history) low r er k d q;
+      buffer = record { stored = stored-one (g .buffer .stored) k };
+    }
 
 -- after a run
 pub going-run : (L : Layout) → stop-1 L ≡ false → (stops : Stops) (A : Answer) (readings w : List ℕ) {v v′ : List ℕ} {n n′ : ℕ} {c c′ : Settled (ℕ → ℕ)}
     → Run L stops readings v n c v′ n′ c′ → Going L stops A readings w v n c → Going L stops A readings w v′ n′ c′
 going-run L laid stops A readings w no-step g = g
-going-run L laid stops A readings w (then-step {v′} {n′} {c′} R low k d e) g = going-on L laid stops A readings w v′ n′ c′ (going-run L laid stops A readings w R g) low (visited k d) e k d refl
+going-run L laid stops A readings w (then-step {v′} {n′} {c′} R low k d e) g =
+    going-on L laid stops A readings w v′ n′ c′ (going-run L laid stops A readings w R g) low (visited k d) e k d refl

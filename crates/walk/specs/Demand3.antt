@@ -34,8 +34,9 @@ pub data Kept (A : Answer) (n m : ℕ) (w w′ : List ℕ) (r : Walked) : Type 0
   walked-whole : r ≡ Ended Whole (length (A .visits)) → A .ends ≡ whole → length (A .visits) ≤ n → w′ ≡ over (A .visits) w → Kept A n m w w′ r
   walked-used-up : r ≡ Ended UsedUp (length (A .visits)) → A .ends ≡ used-up → length (A .visits) ≡ n → w′ ≡ over (A .visits) w → Kept A n m w w′ r
 
--- c is check's answer on the pack s, r walk's on PGN i of tree t over the readings. What "held" means is a parameter, since 01 can be read
--- in two ways: `held`, and `held-nonempty`, which holds of more PGNs.
+-- c is check's answer on the pack s, r walk's on PGN i of tree t over the readings. What "held" means is a parameter: it is claimed for
+-- `held`, which the call answers, and for `held-widest`. That one claim covers every reading of 01's sentence on countFields, since each
+-- implies it (proofs/HeldWidest.antt: held-, nonempty-, letter-, letter-nonempty-, where-nested-implies-widest).
 abbrev pub Demand3 : (Pack → Pgn → Bool) → (s : List ℕ) (t i : ℕ) (readings : List ℕ) (m : ℕ) (w w′ : List ℕ) → Checked → Walked → Type 0
 Demand3 is-held s t i readings m w w′ c r =
     clean c ≡ true → in-pack (packOf s) t i ≡ true → is-held (packOf s) (pgn-at (packOf s) t i) ≡ true → Kept (walk-of s t i readings) (length readings) m w w′ r

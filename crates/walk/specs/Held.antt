@@ -7,14 +7,15 @@ use Rattle.pack.specs.Value.{Pgn, Pack, field-at}
 use Rattle.rules.specs.Search.{anyBelow, everyBelow}
 use Rattle.rules.specs.Model.{target}
 use Rattle.rules.specs.DynamicLength.{length-source}
-use Rattle.walk.specs.Layout.{Layout, layout, set-at, nonempty, holds, sets-hold, nested-in, clash}
+use Rattle.walk.specs.Layout.{Layout, layout, set-at, holds, sets-hold, nested-in, clash}
 use Rattle.walk.specs.Stops.{is-dynamic-value}
 
 -- "nonempty sets share no order unless set 2 is nested"
 unfoldable pub shares-held : Layout → Bool
 shares-held L = everyBelow (λ k. everyBelow (λ j. not (clash L j k)) k) (length (L .sets))
 
--- "a countField lies in no nonempty set, or in set 1 for a nested set 2", and then in set 1 only: the countField of set k, empty or not
+-- "a countField lies in no nonempty set, or in set 1 for a nested set 2", and then in set 1 only: the countField of set k, empty or not.
+-- Other readings: HeldReadings.antt.
 unfoldable pub count-field-held : Layout → ℕ → Option ℕ → Bool
 count-field-held L k none = true
 count-field-held L k (some c) = everyBelow (λ j. not (holds L j c) || nested-in L j k) (length (L .sets))
@@ -46,10 +47,3 @@ held-by counts P p =
 
 unfoldable pub held : Pack → Pgn → Bool
 held P p = held-by count-fields-held P p
-
--- The other reading of "a countField": of nonempty sets only. More PGNs are held so, and demand 3 is shown for both.
-unfoldable pub nonempty-count-fields-held : Layout → Bool
-nonempty-count-fields-held L = everyBelow (λ k. not (nonempty L k) || count-field-held L k (set-at L k .count-field)) (length (L .sets))
-
-unfoldable pub held-nonempty : Pack → Pgn → Bool
-held-nonempty P p = held-by nonempty-count-fields-held P p

@@ -5,6 +5,8 @@ pub mod Passes
 pub mod Visits
 pub mod Walk
 pub mod Held
+-- what else "held" can mean
+pub mod HeldReadings
 pub mod Guarantee
 pub mod ByPlace
 -- the sets as values
@@ -16,5 +18,6 @@ pub mod State
 pub mod Steps
 -- the calls
 pub mod WalkCall
+pub mod Naming
 -- demand 3
 pub mod Demand3

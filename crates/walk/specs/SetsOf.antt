@@ -4,17 +4,21 @@ use mathlib.Core.Path.{_≡_}
 use mathlib.Core.Bool.{Bool, true, not, _&&_, _||_}
 use mathlib.Core.Option.{Option, none, some}
 use lib.ListN.{length}
-use Rattle.pack.specs.Notation.{_<ᵇ_, _≤ᵇ_, _==_}
+use Rattle.pack.specs.Notation.{_<ᵇ_, _≤ᵇ_, _==_, optional}
 use Rattle.pack.specs.Value.{Repeating}
-use Rattle.pack.specs.Meaning.{optNumber}
 use Rattle.walk.specs.Layout.{Layout, set-at}
+use Rattle.walk.specs.declared.sets.OptOrder.{OptOrder}
 use Rattle.walk.specs.declared.sets.Set.{Set}
 use Rattle.walk.specs.declared.sets.Sets.{Sets}
+
+-- an order that may be absent
+abbrev pub opt-order : OptOrder → Option ℕ
+opt-order v = optional (v .given) (v .order .0)
 
 pub record SetIs (R : Repeating) (v : Set) : Type 0 where
   pub start : v .start .0 ≡ R .start
   pub end : v .end .0 ≡ R .start + R .count
-  pub counter : optNumber (v .counter) ≡ R .count-field
+  pub counter : opt-order (v .counter) ≡ R .count-field
   pub nested : v .nested ≡ R .nested
 
 -- the sets of L are those two, an absent one empty

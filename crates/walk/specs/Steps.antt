@@ -51,7 +51,7 @@ state-of v = settled-of (v .settling) (memory-of (v .counts))
 
 abbrev pub step-of : Stepping → Stepped
 step-of (stepping.Ended e) = ended (end-of e)
-step-of (stepping.Visited k next) = visited k (state-of next)
+step-of (stepping.Visited k next) = visited (k .0) (state-of next)
 
 -- a due field is one of the PGN's
 abbrev pub Within : Layout → Settled (ℕ → ℕ) → Type 0

@@ -1,10 +1,11 @@
 -- What the calls `walk` and `held` answer, and what they leave in the visit buffer.
 use Prim.Native.Nat.{ℕ}
+use mathlib.Core.Path.{_≡_}
 use mathlib.Core.Bool.{Bool, _&&_}
-use mathlib.Core.List.{List}
+use mathlib.Core.List.{List, [], _∷_}
 use lib.ListN.{length}
 use Rattle.pack.specs.Notation.{_<ᵇ_, _≤ᵇ_, if_then_else_}
-use Rattle.pack.specs.Load.{loaded, over}
+use Rattle.pack.specs.Load.{Answer as Numbers, refuses, gives, after, refusal-answer, loaded, load-tells, over, workAfter}
 use Rattle.pack.specs.Meaning.{packOf}
 use Rattle.pack.specs.Value.{Pack, pgns-of, pgn-at}
 use Rattle.pack.specs.declared.load.Loaded.{Loaded}
@@ -17,7 +18,7 @@ use Rattle.walk.specs.declared.walk.End.the-variants.{Whole, UsedUp, Sto
 use Rattle.walk.specs.declared.walk.Walked.{Walked}
 use Rattle.walk.specs.declared.walk.Walked.the-variants.{Refused, Ended}
 use Rattle.walk.specs.declared.walk.HeldAnswer.{HeldAnswer}
-use Rattle.walk.specs.declared.walk.HeldAnswer.the-variants as held-answer
+use Rattle.walk.specs.declared.walk.HeldAnswer.the-variants as held-case
 
 -- 23: "tree, PGN .. named is not in the pack"
 abbrev pub in-pack : Pack → (tree pgn : ℕ) → Bool
@@ -57,14 +58,69 @@ visitsLeft (Ended e n) front o = over front o
 unfoldable pub visitsAfter : List ℕ → (m t i : ℕ) → List ℕ → List ℕ → List ℕ
 visitsAfter s m t i readings o = visitsLeft (walked s m t i readings (length o)) (walk-of s t i readings .visits) o
 
+-- ---- the same in 01's numbers
+
+-- "the end": a stop is its own number, 1 to 9; "whole" is 0, "used up" 10
+abbrev pub end-number : End → ℕ
+end-number whole = 0
+end-number used-up = 10
+end-number (stop n) = n
+
+-- for each case of the answer its number and values: "the end and the number of visits"
+abbrev pub ending-number : Ending → ℕ
+ending-number Whole = 0
+ending-number UsedUp = 10
+ending-number (Stop n) = n
+
+abbrev pub walk-answer : Walked → Numbers
+walk-answer (Refused r) = refusal-answer r
+walk-answer (Ended e n) = gives (ending-number e ∷ n ∷ [])
+
+-- 23, then 25 with "the length needed"
+abbrev pub visits-tell : Bool → (readings room : ℕ) → Answer → Numbers
+visits-tell there readings room a =
+    if there
+    then (if readings ≤ᵇ room then gives (end-number (a .ends) ∷ length (a .visits) ∷ []) else refuses 25 readings)
+    else refuses 23 0
+
+unfoldable pub walk-tells : List ℕ → (m t i : ℕ) → List ℕ → (n : ℕ) → Numbers
+walk-tells s m t i readings n = after (load-tells s m) (visits-tell (in-pack (packOf s) t i) (length readings) n (walk-of s t i readings))
+
+-- What `walk` promises: its answer r, and the work and visit buffers, w and o before, w′ and o′ after.
+pub record Walks (s : List ℕ) (t i : ℕ) (readings w o w′ o′ : List ℕ) (r : Walked) : Type 0 where
+  pub answer : r ≡ walked s (length w) t i readings (length o)
+  pub told : walk-answer r ≡ walk-tells s (length w) t i readings (length o)
+  pub work : w′ ≡ workAfter s w
+  pub visits : o′ ≡ visitsAfter s (length w) t i readings o
+
 -- ---- held
 
 abbrev pub held-judged : Bool → Bool → HeldAnswer
-held-judged there h = if there then held-answer.Held h else held-answer.Refused Absent
+held-judged there h = if there then held-case.Held h else held-case.Refused Absent
 
 abbrev pub held-after : Loaded → HeldAnswer → HeldAnswer
-held-after (load.Refused r) a = held-answer.Refused r
+held-after (load.Refused r) a = held-case.Refused r
 held-after (load.Accepted i) a = a
 
 unfoldable pub held-told : List ℕ → (m t i : ℕ) → HeldAnswer
 held-told s m t i = held-after (loaded s m) (held-judged (in-pack (packOf s) t i) (held (packOf s) (pgn-at (packOf s) t i)))
+
+-- in 01's numbers: 1 where the PGN is held, 0 where it is not
+abbrev pub yes-number : Bool → ℕ
+yes-number h = if h then 1 else 0
+
+abbrev pub held-answer : HeldAnswer → Numbers
+held-answer (held-case.Refused r) = refusal-answer r
+held-answer (held-case.Held h) = gives (yes-number h ∷ [])
+
+abbrev pub held-tell : Bool → Bool → Numbers
+held-tell there h = if there then gives (yes-number h ∷ []) else refuses 23 0
+
+unfoldable pub held-tells : List ℕ → (m t i : ℕ) → Numbers
+held-tells s m t i = after (load-tells s m) (held-tell (in-pack (packOf s) t i) (held (packOf s) (pgn-at (packOf s) t i)))
+
+-- What `held` promises: its answer r, and the work buffer, w before and w′ after.
+pub record TellsHeld (s : List ℕ) (t i : ℕ) (w w′ : List ℕ) (r : HeldAnswer) : Type 0 where
+  pub answer : r ≡ held-told s (length w) t i
+  pub told : held-answer r ≡ held-tells s (length w) t i
+  pub work : w′ ≡ workAfter s w

@@ -2,13 +2,14 @@
 ghost use mathlib.Core.Path.{_≡_};
 ghost use Prim.Native.Nat.{_<_};
 ghost use lib.ListN.{length};
-ghost use Rattle.pack.specs.Meaning.{optNumber, fieldMeaning, packOf};
+ghost use Rattle.pack.specs.Meaning.{fieldMeaning, packOf};
 ghost use Rattle.pack.specs.Ready.{PgnAt};
 ghost use Rattle.pack.specs.Value.{pgn-at, field-at};
 ghost use Rattle.walk.specs.Held.{count-fields-held, bit-length-held, dynamic-value-held, held};
 ghost use Rattle.walk.specs.Layout.{Layout, layout};
-ghost use Rattle.walk.specs.SetsOf.{SetsAre, counter-held};
+ghost use Rattle.walk.specs.SetsOf.{SetsAre, opt-order, counter-held};
 ghost use Rattle.rules.specs.Search.{everyBelow};
+use crate::sets::OptOrder;
 use crate::sets::Sets;
 use crate::sets::clash;
 use crate::sets::holds;
@@ -16,19 +17,17 @@ use crate::sets::sets_hold;
 use crate::stops::lacks_length;
 use pack::field::FieldView;
 use pack::of::field_of;
-use pack::optional::OptNumber;
 use pack::protocol::FieldIndex;
-use pack::protocol::FieldOrder;
 use rules::targets::target;
 
 // Whether a countField lies in no nonempty set, or in set 1 where it may.
-fn counter_held(sets: Sets, counter: OptNumber, nested: bool) -> bool
-    ensures { λ r. ⌜ r ≡ counter-held sets (optNumber counter) nested ⌝ }
+fn counter_held(sets: Sets, counter: OptOrder, nested: bool) -> bool
+    ensures { λ r. ⌜ r ≡ counter-held sets (opt-order counter) nested ⌝ }
 {
     if !counter.given {
         return true;
     }
-    let order = FieldOrder(counter.value);
+    let order = counter.order;
     if holds(sets.second, order) {
         return false;
     }

@@ -3,20 +3,19 @@ ghost use mathlib.Core.Path.{_≡_};
 ghost use mathlib.Core.Bool.{true, not, _&&_};
 ghost use mathlib.Core.Option.{none, some};
 ghost use Prim.Native.Nat.{ℕ, suc, _-_, _≤_};
-ghost use Rattle.pack.specs.Meaning.{optNumber};
 ghost use Rattle.pack.specs.Notation.{_==_, if_then_else_};
 ghost use Rattle.walk.specs.ByPlace.{by-place, counts};
 ghost use Rattle.walk.specs.Layout.{Layout};
 ghost use Rattle.walk.specs.Passes.{Place, goto, goto-with, present, turn, arrived, look, close, stand};
-ghost use Rattle.walk.specs.SetsOf.{SetsAre, has-orders};
+ghost use Rattle.walk.specs.SetsOf.{SetsAre, opt-order, has-orders};
 ghost use Rattle.walk.specs.State.{rest-of, left-of, place-of, memory-of, turn-of, stand-of, arrival-of, settled-of, round-of};
 ghost use Rattle.walk.specs.Walk.{arrive, counted, past, halted, due, settle, settled};
+use crate::orders::index_of;
+use crate::sets::OptOrder;
 use crate::sets::Set;
 use crate::sets::Sets;
 use crate::sets::is_nonempty;
 use crate::sets::placed;
-use pack::optional::OptNumber;
-use pack::protocol::FieldIndex;
 use pack::protocol::FieldOrder;
 
 // What is left of a set's passes after the present one: they never end, or so many.
@@ -249,8 +248,9 @@ fn passes(count: u64) -> Arriving
 }
 
 // "stop 2 if not current"; "Without countField its passes never end."
-fn arrive(sets: Sets, o: FieldOrder, counter: OptNumber, count: u64) -> Arriving
-    ensures { λ r. ⌜ ((L : Layout) → SetsAre L sets → (p : Place) → p .order ≡ o .0 → (g : ℕ → ℕ) (k : ℕ) → g k ≡ count → arrival-of r ≡ arrive L (by-place L) p g k (optNumber counter)) ⌝ }
+fn arrive(sets: Sets, o: FieldOrder, counter: OptOrder, count: u64) -> Arriving
+    ensures { λ r. ⌜ ((L : Layout) → SetsAre L sets → (p : Place) → p .order ≡ o .0 → (g : ℕ → ℕ) (k : ℕ) → g k ≡ count
+        → arrival-of r ≡ arrive L (by-place L) p g k (opt-order counter)) ⌝ }
 {
     if !counter.given {
         return Arriving::Enter(Further {
@@ -258,10 +258,10 @@ fn arrive(sets: Sets, o: FieldOrder, counter: OptNumber, count: u64) -> Arriving
             more: 0,
         });
     }
-    if counter.value == 0 {
+    if counter.order.0 == 0 {
         return Arriving::NotCurrent;
     }
-    if placed(sets, o, FieldIndex(counter.value - 1)) {
+    if placed(sets, o, index_of(counter.order)) {
         return passes(count);
     }
     Arriving::NotCurrent
@@ -347,20 +347,20 @@ pub fn settle(sets: Sets, counts: Counts, spot: Spot) -> Settling
 }
 
 // Whether the field of the order o is the countField.
-pub fn is_counter(counter: OptNumber, o: FieldOrder) -> bool
+pub fn is_counter(counter: OptOrder, o: FieldOrder) -> bool
     requires { ⌜ 1 ≤ o .0 ⌝ }
-    ensures { λ r. ⌜ r ≡ counts (optNumber counter) (o .0 - 1) ⌝ }
+    ensures { λ r. ⌜ r ≡ counts (opt-order counter) (o .0 - 1) ⌝ }
 {
     if counter.given {
-        return counter.value == o.0;
+        return counter.order.0 == o.0;
     }
     false
 }
 
 // The latest reading of a countField, after a visit at the order o.
-fn count(counter: OptNumber, before: u64, o: FieldOrder, reading: u64) -> u64
+fn count(counter: OptOrder, before: u64, o: FieldOrder, reading: u64) -> u64
     requires { ⌜ 1 ≤ o .0 ⌝ }
-    ensures { λ r. ⌜ r ≡ (if counts (optNumber counter) (o .0 - 1) then reading else before) ⌝ }
+    ensures { λ r. ⌜ r ≡ (if counts (opt-order counter) (o .0 - 1) then reading else before) ⌝ }
 {
     if is_counter(counter, o) {
         return reading;

@@ -3,7 +3,7 @@ ghost use mathlib.Core.Path.{_≡_};
 ghost use mathlib.Core.Bool.{true, false, _||_};
 ghost use mathlib.Core.Option.{none};
 ghost use Prim.Native.Nat.{ℕ, suc, _-_, _≤_, _<_};
-ghost use lib.ListN.{length, getD};
+ghost use lib.ListN.{length, getD, set};
 ghost use Rattle.pack.specs.Notation.{_==_};
 ghost use Rattle.walk.specs.ByPlace.{by-place, placed};
 ghost use Rattle.walk.specs.Layout.{Layout};
@@ -12,15 +12,26 @@ ghost use Rattle.walk.specs.SetsOf.{SetsAre};
 ghost use Rattle.walk.specs.Steps.{Run};
 ghost use Rattle.walk.specs.Walk.{Stops, due, onward};
 use crate::harmless::is_marked;
+use crate::orders::index_of;
+use crate::orders::next_order;
 use crate::passes::is_counter;
 use crate::sets::Set;
 use crate::sets::Sets;
+use pack::protocol::FieldIndex;
 use pack::protocol::FieldOrder;
 
 // Where a run ends: the order that is due there, and the number of visits by then.
 pub struct RunEnd {
     pub order: FieldOrder,
     pub visits: usize,
+}
+
+// "each visit takes one reading and writes the index": the visit after n others.
+pub fn write_visit(visits: &mut [u32], n: usize, field: FieldIndex)
+    requires { ⌜ n < length (now visits) ⌝ }
+    ensures { λ r. ⌜ now (visits .exit) ≡ set (now (visits .entry)) n (field .0) ⌝ }
+{
+    visits[n] = field.0;
 }
 
 // Whether a set begins at the order o, or ends before it.
@@ -42,7 +53,7 @@ fn is_plain(sets: Sets, o: FieldOrder) -> bool
     if sets.fields <= o.0 {
         return false;
     }
-    let next = FieldOrder(o.0 + 1);
+    let next = next_order(o);
     if is_edge(sets.first, next) {
         return false;
     }
@@ -62,7 +73,8 @@ fn runs_at(sets: Sets, harmless: &[bool], o: FieldOrder) -> bool
     ensures { λ r. ⌜ (r ≡ true → o .0 < sets .fields) ⌝ }
     ensures { λ r. ⌜ (r ≡ true → (L : Layout) → SetsAre L sets → (p : Place) → p .order ≡ o .0 → (g : ℕ → ℕ) (reading : ℕ) → onward L (by-place L) p g reading ≡ due (goto p (suc (o .0))) g) ⌝ }
 {
-    if is_marked(harmless, o.0 - 1) {
+    let k = index_of(o);
+    if is_marked(harmless, k.0) {
         return is_plain(sets, o);
     }
     false
@@ -81,21 +93,21 @@ pub fn run(
     ensures { λ r. ⌜ (n ≤ r .visits) × (r .visits ≤ length (now (readings .entry))) ⌝ }
     ensures { λ r. ⌜ ((L : Layout) → SetsAre L sets → (stops : Stops) → ((k : ℕ) → getD (now (harmless .entry)) k false ≡ true → (reading : ℕ) → stops (placed L (suc k)) k reading ≡ none) → (p : Place) → p .order ≡ order .0 → (g : ℕ → ℕ) → Run L stops (now (readings .entry)) (now (visits .entry)) n (due p g) (now (visits .exit)) (r .visits) (due (goto p (r .order .0)) g)) ⌝ }
 {
-    let mut o = order.0;
+    let mut o = order;
     let mut m = n;
     while m < readings.len() {
-        if !runs_at(sets, harmless, FieldOrder(o)) {
+        if !runs_at(sets, harmless, o) {
             return RunEnd {
-                order: FieldOrder(o),
+                order: o,
                 visits: m,
             };
         }
-        visits[m] = o - 1;
-        o += 1;
+        write_visit(visits, m, index_of(o));
+        o = next_order(o);
         m += 1;
     }
     RunEnd {
-        order: FieldOrder(o),
+        order: o,
         visits: m,
     }
 }

@@ -9,19 +9,24 @@ ghost use Rattle.pack.specs.Value.{pgn-at};
 ghost use Rattle.walk.specs.ByPlace.{placed};
 ghost use Rattle.walk.specs.Layout.{Layout, layout, no-set, set-or-empty, sets-hold, clash, stop-1};
 ghost use Rattle.walk.specs.SetsOf.{SetIs, SetsAre, has-orders, in-set, holds-both, sets-share, set-misplaced, in-first};
-use pack::optional::OptNumber;
 use pack::pgn::OptRepeating;
 use pack::pgn::PgnView;
 use pack::protocol::FieldIndex;
 use pack::protocol::FieldOrder;
+use pack::protocol::precedes;
 use rules::bools::and_not;
-use rules::repeating::precedes;
+
+// An order, if it is given.
+pub struct OptOrder {
+    pub given: bool,
+    pub order: FieldOrder,
+}
 
 // The orders from `start` to before `end`, none in an empty set; and the order of its countField.
 pub struct Set {
     pub start: FieldOrder,
     pub end: FieldOrder,
-    pub counter: OptNumber,
+    pub counter: OptOrder,
     pub nested: bool,
 }
 
@@ -33,15 +38,16 @@ pub struct Sets {
 }
 
 // An empty set.
-pub fn no_set() -> Set
+fn no_set() -> Set
     ensures { λ r. ⌜ SetIs no-set r ⌝ }
 {
+    let order = FieldOrder(0);
     Set {
-        start: FieldOrder(0),
-        end: FieldOrder(0),
-        counter: OptNumber {
+        start: order,
+        end: order,
+        counter: OptOrder {
             given: false,
-            value: 0,
+            order,
         },
         nested: false,
     }
@@ -54,7 +60,10 @@ fn set_of(o: OptRepeating) -> Set
 {
     if o.given {
         let set = o.set;
-        let counter = set.counter;
+        let counter = OptOrder {
+            given: set.counter.given,
+            order: FieldOrder(set.counter.value),
+        };
         return Set {
             start: FieldOrder(set.start),
             end: FieldOrder(set.start + set.count),

@@ -20,6 +20,9 @@ ghost use Rattle.walk.specs.Walk.{Stops, due, settled, onward};
 ghost use Rattle.walk.specs.WalkCall.{ending};
 ghost use Rattle.walk.specs.declared.walk.End.the-variants.{Whole, Stop};
 use crate::harmless::stop_at;
+use crate::orders::first_order;
+use crate::orders::index_of;
+use crate::orders::next_order;
 use crate::passes::Counts;
 use crate::passes::Settling;
 use crate::passes::Spot;
@@ -32,7 +35,7 @@ use crate::runs::run;
 use crate::sets::Sets;
 use crate::walk::End;
 use pack::load::Index;
-use pack::protocol::FieldOrder;
+use pack::protocol::FieldIndex;
 
 // Where the walk is, and the latest readings of the countFields.
 pub struct State {
@@ -43,7 +46,7 @@ pub struct State {
 // With one reading: the walk ends, or a field is visited.
 pub enum Stepping {
     Ended(End),
-    Visited { field: u32, next: State },
+    Visited { field: FieldIndex, next: State },
 }
 
 // The walk after a run, and how many visits are made by then.
@@ -71,8 +74,9 @@ pub fn begin(sets: Sets) -> State
         second: 0,
     };
     let none = gone();
+    let order = first_order();
     let spot = Spot {
-        order: FieldOrder(1),
+        order,
         first: none,
         second: none,
     };
@@ -87,7 +91,7 @@ fn onward(sets: Sets, counts: Counts, spot: Spot, reading: u64) -> State
 {
     let order = spot.order;
     let after = visit(sets, counts, order, reading);
-    let next = moved(spot, FieldOrder(order.0 + 1));
+    let next = moved(spot, next_order(order));
     let settling = settle(sets, after, next);
     State {
         settling,
@@ -113,8 +117,8 @@ fn step_at(
     ensures { λ r. ⌜ step-of r ≡ one-step (layout (pgn-at (packOf (now (s .entry))) t i)) (stop-at (packOf (now (s .entry))) (pgn-at (packOf (now (s .entry))) t i)) (due (place-of spot) (memory-of counts)) reading ⌝ }
     ensures { λ r. ⌜ Harmless (packOf (now (s .entry))) (pgn-at (packOf (now (s .entry))) t i) (now (harmless .exit)) ⌝ }
 {
-    let field = spot.order.0 - 1;
-    let stop = stop_at(s, work, index, t, i, p, sets, harmless, field, reading);
+    let field = index_of(spot.order);
+    let stop = stop_at(s, work, index, t, i, p, sets, harmless, field.0, reading);
     if stop != 0 {
         return Stepping::Ended(End::Stop(stop));
     }

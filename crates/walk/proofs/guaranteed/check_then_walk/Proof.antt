@@ -24,7 +24,15 @@ same-length-4 : tie.Need-same-length-4
 same-length-4 c = search needs
 
 returns : tie.Need-returns
-returns c = let d = demand-3 (now (c .before .before .before .before .before .before .before .before .before .before .before .before .before .before .before .before .before .before .before .before .args .pack)) (c .before .before .before .before .before .before .before .before .before .before .before .before .before .before .before .before .before .before .before .before .args .tree) (c .before .before .before .before .before .before .before .before .before .before .before .before .before .before .before .before .before .before .before .before .args .pgn) (now (c .before .before .before .before .before .before .before .before .before .before .before .before .before .before .before .before .before .before .before .before .args .readings)) (now (c .before .before .before .before .before .before .before .before .before .before .before .before .before .before .before .before .before .before .before .before .args .visits)) (length (now (c .before .before .before .before .before .before .before .before .before .before .before .before .before .before .before .before .before .before .before .before .args .work))) (length (now (c .before .before .before .before .before .before .before .before .before .before .before .before .before .before .before .before .before .before .before .before .args .scratch))) (length (now (c .before .before .before .before .before .before .before .before .before .before .before .before .before .before .before .before .before .before .before .before .args .findings))) (c .before .before .before .before .before .before .before .before .before .before .before .check .result) (c .before .before .before .before .walk .result) _ (c .before .before .before .before .before .before .before .before .before .before .before .check .ensures .0) (c .before .before .before .before .walk .ensures .0) (c .before .before .before .before .walk .ensures .1 .1) in (d .0, (d .1, (c .before .before .before .before .before .before .before .before .before .before .before .check .ensures .0, (c .before .before .before .before .before .before .before .before .before .before .before .check .ensures .1 .0, (c .before .before .before .before .before .before .before .before .before .before .before .check .ensures .1 .1, (c .before .before .before .before .walk .ensures .0, (c .before .before .before .before .walk .ensures .1 .0, c .before .before .before .before .walk .ensures .1 .1)))))))
+returns c =
+    let back12 = c .before .before .before .before .before .before .before .before .before .before .before .before in
+    let start = back12 .before .before .before .before .before .before .before .before in
+    let check = c .before .before .before .before .before .before .before .before .before .before .before .check in
+    let walk = c .before .before .before .before .walk in
+    let d = demand-3 (now (start .args .pack)) (start .args .tree) (start .args .pgn) (now (start .args .readings)) (now (start .args .visits))
+    (length (now (start .args .work))) (length (now (start .args .scratch))) (length (now (start .args .findings))) (check .result) (walk .result) _
+    (check .ensures .answer) (walk .ensures .answer) (walk .ensures .visits) in
+    (d .0, (d .1, (check .ensures, walk .ensures)))
 
 pub check-then-walk-spec : {M : Type 1} → statement M
 check-then-walk-spec =

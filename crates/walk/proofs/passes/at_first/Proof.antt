@@ -2,7 +2,7 @@ use Rattle.walk.specs.State.{left-of, rest-of, place-of, memory-of, arri
 use Rattle.walk.proofs.Spots.{put-as, round-not-current, round-over, round-enter}
 use mathlib.Core.Path.{refl, _∙_, ap}
 use mathlib.Core.Option.{some}
-use Rattle.pack.specs.Meaning.{optNumber}
+use Rattle.walk.specs.SetsOf.{opt-order}
 use borrow.Author.Needs.{needs}
 use Rattle.walk.proofs.passes.at_first.Statement.{statement}
 use Rattle.walk.proofs.passes.at_first.Tie as tie
@@ -35,13 +35,35 @@ due-requires : tie.Need-due-requires
 due-requires c κs = search needs
 
 returns : tie.Need-returns
-returns c = λ L a n. (c .not-due .ensures (memory-of (c .before .before .before .before .before .args .counts)) ∙ round-not-current L (place-of (c .before .before .before .before .before .args .spot)) (memory-of (c .before .before .before .before .before .args .counts)) 0 (arrival-of (c .before .before .before .arrive .result)) (optNumber (c .before .before .before .before .before .args .sets .first .counter)) (a .first .counter) (c .before .before .before .arrive .ensures L a (place-of (c .before .before .before .before .before .args .spot)) refl (memory-of (c .before .before .before .before .before .args .counts)) 0 refl) n (ap arrival-of (c .before .enum-told .given .1)))
+returns c =
+    let start = c .before .before .before .before .before in
+    let arrive = c .before .before .before .arrive in
+    let counts = start .args .counts in let spot = start .args .spot in
+    λ L a n. (c .not-due .ensures (memory-of counts)
+    ∙ round-not-current L (place-of spot) (memory-of counts) 0 (arrival-of (arrive .result)) (opt-order (start .args .sets .first .counter)) (a .first .counter)
+    (arrive .ensures L a (place-of spot) refl (memory-of counts) 0 refl) n (ap arrival-of (c .before .enum-told .given .1)))
 
 returns-2 : tie.Need-returns-2
-returns-2 c = λ L a n. round-over L (place-of (c .before .before .before .before .before .args .spot)) (memory-of (c .before .before .before .before .before .args .counts)) 0 (arrival-of (c .before .before .before .arrive .result)) (optNumber (c .before .before .before .before .before .args .sets .first .counter)) (a .first .counter) (c .before .before .before .arrive .ensures L a (place-of (c .before .before .before .before .before .args .spot)) refl (memory-of (c .before .before .before .before .before .args .counts)) 0 refl) n (ap arrival-of (c .before .enum-told2 .given .1)) (place-of (c .moved .result)) (rw (a .first .end) at (c .moved .ensures))
+returns-2 c =
+    let start = c .before .before .before .before .before in
+    let arrive = c .before .before .before .arrive in
+    let spot = start .args .spot in let counts = start .args .counts in
+    λ L a n. round-over L (place-of spot) (memory-of counts) 0 (arrival-of (arrive .result)) (opt-order (start .args .sets .first .counter)) (a .first .counter)
+    (arrive .ensures L a (place-of spot) refl (memory-of counts) 0 refl) n (ap arrival-of (c .before .enum-told2 .given .1)) (place-of (c .moved .result))
+    (rw (a .first .end) at (c .moved .ensures))
 
 returns-3 : tie.Need-returns-3
-returns-3 c = λ L a n. (c .due .ensures (memory-of (c .before .before .before .before .before .before .before .before .args .counts)) ∙ round-enter L (place-of (c .before .before .before .before .before .before .before .before .args .spot)) (memory-of (c .before .before .before .before .before .before .before .before .args .counts)) 0 (arrival-of (c .before .before .before .before .before .before .arrive .result)) (optNumber (c .before .before .before .before .before .before .before .before .args .sets .first .counter)) (a .first .counter) (c .before .before .before .before .before .before .arrive .ensures L a (place-of (c .before .before .before .before .before .before .before .before .args .spot)) refl (memory-of (c .before .before .before .before .before .before .before .before .args .counts)) 0 refl) n (rest-of (c .before .before .before .before .further .given .0 .0)) (ap arrival-of (c .before .before .before .before .further .given .1)) (place-of (c .before .with-first .result)) (put-as (place-of (c .before .before .before .before .before .before .before .before .args .spot)) (place-of (c .before .with-first .result)) (c .before .before .before .before .before .before .before .before .args .spot .order .0) 0 (left-of (c .before .before .pass .result)) (some (rest-of (c .before .before .before .before .further .given .0 .0))) (c .before .with-first .ensures) (c .before .before .pass .ensures)))
+returns-3 c =
+    let start = c .before .before .before .before .before .before .before .before in
+    let arrive = c .before .before .before .before .before .before .arrive in
+    let further = c .before .before .before .before .further in
+    let pass = c .before .before .pass in
+    let counts = start .args .counts in let spot = start .args .spot in
+    λ L a n. (c .due .ensures (memory-of counts)
+    ∙ round-enter L (place-of spot) (memory-of counts) 0 (arrival-of (arrive .result)) (opt-order (start .args .sets .first .counter)) (a .first .counter)
+    (arrive .ensures L a (place-of spot) refl (memory-of counts) 0 refl) n (rest-of (further .given .0 .0)) (ap arrival-of (further .given .1))
+    (place-of (c .before .with-first .result)) (put-as (place-of spot) (place-of (c .before .with-first .result)) (start .args .spot .order .0) 0
+    (left-of (pass .result)) (some (rest-of (further .given .0 .0))) (c .before .with-first .ensures) (pass .ensures)))
 
 pub at-first-spec : {M : Type 1} → statement M
 at-first-spec =

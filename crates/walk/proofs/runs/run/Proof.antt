@@ -1,60 +1,108 @@
-use denote.Ref.{now}
-use lib.ListN.{length, getD, length-set}
-use mathlib.Core.Option.{none}
-use mathlib.Core.Bool.{true, false}
-use mathlib.Core.Path.{_≡_, refl, _∙_}
-use Prim.Native.Nat.{ℕ, suc, _-_, _≤_}
-use native.Mathlib.Omega.{arith}
-use borrow.Author.Needs.{needs}
-use borrow.Author.Tests.{not-false}
-use Rattle.walk.specs.Walk.{Stops, due}
-use Rattle.walk.specs.Steps.{Run}
-use Rattle.walk.specs.SetsOf.{SetsAre}
-use Rattle.walk.specs.Passes.{Place, goto}
-use Rattle.walk.specs.Layout.{Layout}
-use Rattle.walk.specs.ByPlace.{placed}
 use Rattle.walk.proofs.Plain.{run-starts, run-visits}
+use Rattle.walk.specs.ByPlace.{placed}
+use Rattle.walk.specs.Layout.{Layout}
+use Rattle.walk.specs.Passes.{Place, goto}
+use Rattle.walk.specs.SetsOf.{SetsAre}
+use Rattle.walk.specs.Steps.{Run}
+use Rattle.walk.specs.Walk.{Stops, due}
+use borrow.Author.Tests.{not-false}
+use borrow.Author.Needs.{needs}
+use native.Mathlib.Omega.{arith}
+use Prim.Native.Nat.{ℕ, suc, _-_, _≤_}
+use mathlib.Core.Path.{_≡_, refl, _∙_}
+use mathlib.Core.Bool.{true, false}
+use mathlib.Core.Option.{none}
+use lib.ListN.{length, getD, length-set}
+use denote.Ref.{now}
 use Rattle.walk.proofs.runs.run.Statement.{statement}
 use Rattle.walk.proofs.runs.run.Tie as tie
 
 abbrev Inv-loop : tie.InvT-loop
-Inv-loop sets harmless readings visits₀ n o₀ m₀ visits o m = (1 ≤ o) × (o ≤ sets .fields) × (n ≤ m) × (m ≤ length readings) × (length visits ≡ length visits₀) × ((L : Layout) → SetsAre L sets → (stops : Stops) → ((k : ℕ) → getD harmless k false ≡ true → (reading : ℕ) → stops (placed L (suc k)) k reading ≡ none) → (p : Place) → p .order ≡ o₀ → (g : ℕ → ℕ) → Run L stops readings visits₀ n (due p g) visits m (due (goto p o) g))
+Inv-loop sets harmless readings visits₀ n o₀ m₀ visits o m =
+    (1 ≤ o .0)
+    × (o .0 ≤ sets .fields)
+    × (n ≤ m)
+    × (m ≤ length readings)
+    × (length visits ≡ length visits₀)
+    × ((L : Layout) → SetsAre L sets → (stops : Stops) → ((k : ℕ) → getD harmless k false ≡ true → (reading : ℕ) → stops (placed L (suc k)) k reading ≡ none)
+    → (p : Place) → p .order ≡ o₀ .0 → (g : ℕ → ℕ) → Run L stops readings visits₀ n (due p g) visits m (due (goto p (o .0)) g))
 
 abbrev μ-loop : tie.MeasureT-loop
 μ-loop sets harmless readings visits₀ n o₀ m₀ visits o m = length readings - m
 
 loop-holds : tie.Need-loop-holds Inv-loop μ-loop
-loop-holds c = (c .before .before .before .pre .0, c .before .before .before .pre .1, omega arith, c .before .before .before .pre .2, refl, λ L a stops harm p h g. run-starts L stops (now (c .before .before .before .args .readings)) (now (c .before .before .before .args .visits)) (c .before .before .before .args .n) p g (c .before .before .before .args .order .0) h)
+loop-holds c =
+    let start = c .before .before .before in (
+      start .pre .0,
+      start .pre .1,
+      omega (arith, c),
+      start .pre .2,
+      refl,
+      λ L a stops harm p h g. run-starts L stops (now (start .args .readings)) (now (start .args .visits)) (start .args .n) p g (start .args .order .0) h,
+    )
 
 runs-at-requires : tie.Need-runs-at-requires Inv-loop μ-loop
 runs-at-requires c κs = c .before .loop .inv .0
 
 same-length : tie.Need-same-length Inv-loop μ-loop
-same-length c = c .before .before .before .loop .inv .4
+same-length c =
+    let loop = c .before .before .before .loop in
+    loop .inv .4
 
 returns : tie.Need-returns Inv-loop μ-loop
-returns c = ((c .before .before .before .loop .inv .2, c .before .before .before .loop .inv .3), c .before .before .before .loop .inv .5)
+returns c =
+    let loop = c .before .before .before .loop in
+    ((loop .inv .2, loop .inv .3), loop .inv .5)
 
-sub-visits : tie.Need-sub-visits Inv-loop μ-loop
-sub-visits c = c .before .before .before .loop .inv .0
+index-of-requires : tie.Need-index-of-requires Inv-loop μ-loop
+index-of-requires c κs =
+    let loop = c .before .before .before .before .loop in
+    loop .inv .0
 
-mul-visits : tie.Need-mul-visits Inv-loop μ-loop
-mul-visits c = omega (arith, c .before .before .loop-test .taken, c .before .before .before .before .before .before .before .good .1 .1 .1 .0)
+write-visit-requires : tie.Need-write-visit-requires Inv-loop μ-loop
+write-visit-requires c κs =
+    let start = c .before .before .before .before .before .before .before .before .before in
+    let loop = c .before .before .before .before .before .loop in
+    let loop-test = c .before .before .before .before .loop-test in
+    omega (arith, loop-test .taken, loop .inv .4, start .pre .3)
 
-slice-write-visits : tie.Need-slice-write-visits Inv-loop μ-loop
-slice-write-visits c = omega (arith, c .before .before .loop-test .taken, c .before .before .before .loop .inv .4, c .before .before .before .before .before .before .before .pre .3)
-
-add-o : tie.Need-add-o Inv-loop μ-loop
-add-o c = omega (arith, c .before .runs-at .ensures .1 .0 (not-false (c .before .runs-at .result) (c .if1 .left)))
+next-order-requires : tie.Need-next-order-requires Inv-loop μ-loop
+next-order-requires c κs =
+    let runs-at = c .before .before .before .before .before .before .runs-at in
+    let if1 = c .before .before .before .before .before .if1 in
+    omega (arith, runs-at .ensures .1 .0 (not-false (runs-at .result) (if1 .left)))
 
 add-m : tie.Need-add-m Inv-loop μ-loop
-add-m c = omega (arith, c .before .before .loop-test .taken, c .before .before .before .before .before .before .before .good .1 .1 .1 .0)
+add-m c =
+    let back12 = c .before .before .before .before .before .before .before .before .before .before .before .before in
+    let start = back12 .before in
+    let loop-test = c .before .before .before .before .before .before .before .before .loop-test in
+    omega (arith, loop-test .taken, start .good .1 .1 .1 .0)
 
 loop-less : tie.Need-loop-less Inv-loop μ-loop
-loop-less c = search needs
+loop-less c =
+    let loop-test = c .before .before .before .before .before .before .before .before .loop-test in
+    omega (arith, loop-test .taken)
 
 loop-again : tie.Need-loop-again Inv-loop μ-loop
-loop-again c = let h = not-false (c .before .runs-at .result) (c .if1 .left) in (omega (arith, c .before .before .before .loop .inv .0), omega (arith, c .before .runs-at .ensures .1 .0 h), omega (arith, c .before .before .before .loop .inv .2), omega (arith, c .before .before .loop-test .taken), length-set (c .before .before .before .loop .visits) (c .before .before .before .loop .m) (c .before .before .before .loop .o - 1) ∙ c .before .before .before .loop .inv .4, λ L a stops harm p e g. run-visits p g (c .before .before .before .loop .o) (c .before .before .before .loop .inv .5 L a stops harm p e g) (c .before .before .loop-test .taken) (c .before .before .before .loop .inv .0) (harm (c .before .before .before .loop .o - 1) (c .before .runs-at .ensures .0 h)) (c .before .runs-at .ensures .1 .1 h L a (goto p (c .before .before .before .loop .o)) refl g))
+loop-again c =
+    let loop = c .before .before .before .before .before .before .before .before .before .loop in
+    let loop-test = c .before .before .before .before .before .before .before .before .loop-test in
+    let runs-at = c .before .before .before .before .before .before .before .runs-at in
+    let if1 = c .before .before .before .before .before .before .if1 in
+    let index-of = c .before .before .before .before .index-of in
+    let write-visit = c .before .before .before .write-visit in
+    let runs = not-false (runs-at .result) (if1 .left) in
+    let order = loop .o .0 in (
+      omega (arith, c .next-order .ensures),
+      omega (arith, c .next-order .ensures, runs-at .ensures .1 .0 runs),
+      omega (arith, loop .inv .2),
+      omega (arith, loop-test .taken),
+      write-visit .kept .0 ∙ loop .inv .4,
+      λ L a stops harm p e g. rw (write-visit .ensures, index-of .ensures, c .next-order .ensures)
+          (run-visits p g order (loop .inv .5 L a stops harm p e g) (loop-test .taken) (loop .inv .0) (harm (order - 1) (runs-at .ensures .0 runs))
+          (runs-at .ensures .1 .1 runs L a (goto p order) refl g)),
+    )
 
 same-length-2 : tie.Need-same-length-2 Inv-loop μ-loop
 same-length-2 c = c .before .loop .inv .4
@@ -72,10 +120,9 @@ run-spec =
     runs-at-requires
     same-length
     returns
-    sub-visits
-    mul-visits
-    slice-write-visits
-    add-o
+    index-of-requires
+    write-visit-requires
+    next-order-requires
     add-m
     loop-less
     loop-again

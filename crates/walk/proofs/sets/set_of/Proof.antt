@@ -1,14 +1,16 @@
-use mathlib.Core.Path.{refl}
 use native.Mathlib.Omega.{arith}
+use mathlib.Core.Path.{refl}
 use borrow.Author.Needs.{needs}
 use Rattle.walk.proofs.sets.set_of.Statement.{statement}
 use Rattle.walk.proofs.sets.set_of.Tie as tie
 
 add-t6 : tie.Need-add-t6
-add-t6 c = omega (arith, c .before .before .before .before .pre (c .before .before .before .if1 .taken))
+add-t6 c =
+    let start = c .before .before .before in
+    omega (arith, start .pre (c .before .before .if1 .taken))
 
 returns : tie.Need-returns
-returns c = rw (c .before .before .before .if1 .taken) (record { start = refl; end = refl; counter = refl; nested = refl })
+returns c = rw (c .before .before .if1 .taken) (record { start = refl; end = refl; counter = refl; nested = refl })
 
 no-set-requires : tie.Need-no-set-requires
 no-set-requires c κs = search needs

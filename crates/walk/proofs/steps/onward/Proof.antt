@@ -1,6 +1,6 @@
-use mathlib.Core.Path.{_∙_}
-use Rattle.walk.specs.State.{place-of, memory-of}
 use Rattle.walk.proofs.Walks.{goes-onward}
+use Rattle.walk.specs.State.{place-of, memory-of}
+use mathlib.Core.Path.{_∙_}
 use borrow.Author.Needs.{needs}
 use Rattle.walk.proofs.steps.onward.Statement.{statement}
 use Rattle.walk.proofs.steps.onward.Tie as tie
@@ -8,8 +8,8 @@ use Rattle.walk.proofs.steps.onward.Tie as tie
 visit-requires : tie.Need-visit-requires
 visit-requires c κs = search needs
 
-add-t9 : tie.Need-add-t9
-add-t9 c = search needs
+next-order-requires : tie.Need-next-order-requires
+next-order-requires c κs = search needs
 
 moved-requires : tie.Need-moved-requires
 moved-requires c κs = search needs
@@ -18,7 +18,13 @@ settle-requires : tie.Need-settle-requires
 settle-requires c κs = search needs
 
 returns : tie.Need-returns
-returns c = λ L a. (c .settle .ensures L a ∙ goes-onward L (place-of (c .before .before .before .before .before .args .spot)) (place-of (c .before .moved .result)) (memory-of (c .before .before .before .before .before .args .counts)) (memory-of (c .before .before .before .visit .result)) (c .before .before .before .before .before .args .reading) (c .before .moved .ensures) (c .before .before .before .visit .ensures L a))
+returns c =
+    let start = c .before .before .before .before .before in
+    let visit = c .before .before .before .visit in
+    λ L a. (c .settle .ensures L a
+    ∙ goes-onward L (place-of (start .args .spot)) (place-of (c .before .moved .result)) (memory-of (start .args .counts)) (memory-of (visit .result))
+    (start .args .reading) (rw (c .before .before .next-order .ensures) at (c .before .moved .ensures)) (visit .ensures L a))
 
 pub onward-spec : {M : Type 1} → statement M
-onward-spec = tie.close (tie.spec visit-requires add-t9 moved-requires settle-requires returns)
+onward-spec =
+    tie.close (tie.spec visit-requires next-order-requires moved-requires settle-requires returns)

@@ -1,0 +1,126 @@
+-- Every reading of "a countField lies in no nonempty set, or in set 1 for a nested set 2" implies the widest (specs/HeldReadings.antt).
+use Prim.Native.Nat.{ℕ, zero, suc, _<_}
+use native.Mathlib.Omega.{arith}
+use mathlib.Core.Path.{_≡_, refl, sym, _∙_}
+use mathlib.Core.Bool.{Bool, true, false, not, _&&_, _||_, false≢true}
+use mathlib.Core.Option.{Option, none, some}
+use lib.ListN.{length}
+use lib.Dec.{ltb, leb, eqb}
+use Rattle.pack.specs.Value.{Pgn, Pack}
+use Rattle.rules.specs.SearchLaws.{any-hit}
+use Rattle.rules.specs.Search.{anyBelow, everyBelow}
+use Rattle.walk.specs.Layout.{Layout, layout, set-at, nonempty, holds, nested-in}
+use Rattle.walk.specs.Held.{shares-held, count-field-held, count-fields-held, held-by, held}
+use Rattle.walk.specs.HeldReadings.{of-every-set, of-nonempty-sets, in-no-set, field-in, may-hold}
+use Rattle.walk.specs.HeldReadings.{count-field-letter, count-field-where-nested, count-field-widest, widest-count-fields-held}
+use Rattle.walk.specs.HeldReadings.{held-nonempty, held-letter, held-letter-nonempty, held-where-nested, held-widest}
+use Rattle.walk.proofs.Tests.{and-l, and-r, imp-e, imp-i, every-e, every-i, and-4}
+
+or-right : (a b : Bool) → b ≡ true → (a || b) ≡ true
+or-right true b e = refl
+or-right false b e = e
+
+or-left : (a b : Bool) → a ≡ true → (a || b) ≡ true
+or-left true b e = refl
+or-left false b e = absurd (false≢true e)
+
+-- ---- of one countField
+
+-- the set j may hold it
+held-one : (L : Layout) (k : ℕ) (x : Option ℕ) → count-field-held L k x ≡ true → count-field-widest L k x ≡ true
+unfolding count-field-held count-field-widest
+held-one L k none e = refl
+held-one L k (some c) e =
+    every-i (λ j. not (field-in L j c) || may-hold L j k) (length (L .sets)) (λ j l. imp-i (field-in L j c) (may-hold L j k) (λ lies. may j l lies))
+  where
+    may : (j : ℕ) → j < length (L .sets) → field-in L j c ≡ true → may-hold L j k ≡ true
+    may j l lies =
+        let asked = every-e (λ j. not (holds L j c) || nested-in L j k) (length (L .sets)) e j l in
+        let nests = imp-e (holds L j c) (nested-in L j k) asked (and-r (ltb 0 c && leb c (length (L .fields))) _ lies) in
+        or-left (eqb j k || nested-in L j k) _ (or-right (eqb j k) _ nests)
+
+letter-where-nested : (L : Layout) (k : ℕ) (x : Option ℕ) → count-field-letter L k x ≡ true → count-field-where-nested L k x ≡ true
+letter-where-nested L k none e = refl
+letter-where-nested L k (some c) e = go (in-no-set L c) (set-at L 1 .nested && holds L 0 c) e
+  where
+    go : (outside inside : Bool) → (outside || eqb k 1 && inside) ≡ true → (outside || inside) ≡ true
+    go true inside e = refl
+    go false inside e = and-r (eqb k 1) inside e
+
+module _ (p : Pgn) where
+  -- of two sets where set 2 is nested
+  nested-may : set-at (layout p) 1 .nested ≡ true → (j k : ℕ) → j < 2 → k < 2 → may-hold (layout p) j k ≡ true
+  unfolding nested-in
+  nested-may e zero zero l m = refl
+  nested-may e zero (suc zero) l m = rw (e, nested-in)
+  nested-may e (suc zero) zero l m = rw (e, nested-in)
+  nested-may e (suc zero) (suc zero) l m = refl
+  nested-may e (suc (suc j)) k l m = absurd (omega arith)
+  nested-may e zero (suc (suc k)) l m = absurd (omega arith)
+  nested-may e (suc zero) (suc (suc k)) l m = absurd (omega arith)
+
+  where-nested-one : (k : ℕ) → k < 2 → (x : Option ℕ) → count-field-where-nested (layout p) k x ≡ true → count-field-widest (layout p) k x ≡ true
+  unfolding count-field-widest
+  where-nested-one k m none e = refl
+  where-nested-one k m (some c) e = every-i (λ j. not (field-in (layout p) j c) || may-hold (layout p) j k) 2
+      (λ j l. imp-i (field-in (layout p) j c) (may-hold (layout p) j k) (λ lies. may j l (and-r (ltb 0 c && leb c (length (p .fields))) _ lies)))
+    where
+      may : (j : ℕ) → j < 2 → holds (layout p) j c ≡ true → may-hold (layout p) j k ≡ true
+      may j l lies = go (anyBelow (λ j. holds (layout p) j c) 2) refl e
+        where
+          go : (b : Bool) → anyBelow (λ j. holds (layout p) j c) 2 ≡ b → (not b || set-at (layout p) 1 .nested && holds (layout p) 0 c) ≡ true
+              → may-hold (layout p) j k ≡ true
+          go true q h = nested-may (and-l (set-at (layout p) 1 .nested) _ h) j k l m
+          go false q h = absurd (false≢true (sym q ∙ any-hit (λ j. holds (layout p) j c) 2 j l lies))
+
+-- ---- of all, and what is held
+
+-- what is asked of one countField of a set in a PGN's layout implies what the widest reading asks of it
+abbrev Implies-widest : (Layout → ℕ → Option ℕ → Bool) → Type 0
+Implies-widest lies = (p : Pgn) (k : ℕ) → k < 2 → (x : Option ℕ) → lies (layout p) k x ≡ true → count-field-widest (layout p) k x ≡ true
+
+module _ (lies : Layout → ℕ → Option ℕ → Bool) (one : Implies-widest lies) (P : Pack) (p : Pgn) where
+  abbrev asked : ℕ → Bool
+  asked k = not (nonempty (layout p) k) || count-field-widest (layout p) k (set-at (layout p) k .count-field)
+
+  counts-nonempty : of-nonempty-sets lies (layout p) ≡ true → widest-count-fields-held (layout p) ≡ true
+  unfolding widest-count-fields-held
+  counts-nonempty e = every-i asked 2 (λ k l. imp-i (nonempty (layout p) k) _ (λ q.
+      let each = every-e (λ k. not (nonempty (layout p) k) || lies (layout p) k (set-at (layout p) k .count-field)) 2 e k l in
+      one p k l _ (imp-e (nonempty (layout p) k) _ each q)))
+
+  counts-every : of-every-set lies (layout p) ≡ true → widest-count-fields-held (layout p) ≡ true
+  unfolding widest-count-fields-held
+  counts-every e = every-i asked 2 (λ k l. imp-i (nonempty (layout p) k) _ (λ q.
+      one p k l _ (every-e (λ k. lies (layout p) k (set-at (layout p) k .count-field)) 2 e k l)))
+
+  by-nonempty : held-by (of-nonempty-sets lies) P p ≡ true → held-widest P p ≡ true
+  unfolding held-widest
+  by-nonempty e = let h = and-4 (shares-held (layout p)) (of-nonempty-sets lies (layout p)) _ _ e in rw (h .0, counts-nonempty (h .1), h .2, h .3)
+
+  by-every : held-by (of-every-set lies) P p ≡ true → held-widest P p ≡ true
+  unfolding held-widest
+  by-every e = let h = and-4 (shares-held (layout p)) (of-every-set lies (layout p)) _ _ e in rw (h .0, counts-every (h .1), h .2, h .3)
+
+pub held-implies-widest : (P : Pack) (p : Pgn) → held P p ≡ true → held-widest P p ≡ true
+unfolding held count-fields-held
+held-implies-widest P p = by-every count-field-held (λ p k l. held-one (layout p) k) P p
+
+pub nonempty-implies-widest : (P : Pack) (p : Pgn) → held-nonempty P p ≡ true → held-widest P p ≡ true
+unfolding held-nonempty
+nonempty-implies-widest P p = by-nonempty count-field-held (λ p k l. held-one (layout p) k) P p
+
+letter-one : Implies-widest count-field-letter
+letter-one p k l x e = where-nested-one p k l x (letter-where-nested (layout p) k x e)
+
+pub letter-implies-widest : (P : Pack) (p : Pgn) → held-letter P p ≡ true → held-widest P p ≡ true
+unfolding held-letter
+letter-implies-widest P p = by-every count-field-letter letter-one P p
+
+pub letter-nonempty-implies-widest : (P : Pack) (p : Pgn) → held-letter-nonempty P p ≡ true → held-widest P p ≡ true
+unfolding held-letter-nonempty
+letter-nonempty-implies-widest P p = by-nonempty count-field-letter letter-one P p
+
+pub where-nested-implies-widest : (P : Pack) (p : Pgn) → held-where-nested P p ≡ true → held-widest P p ≡ true
+unfolding held-where-nested
+where-nested-implies-widest P p = by-nonempty count-field-where-nested where-nested-one P p
