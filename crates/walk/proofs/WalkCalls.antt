@@ -22,9 +22,9 @@ use Rattle.walk.specs.Naming.{absence, naming-refusal, refusal-of, IsFou
 use Rattle.walk.specs.Walk.{End, whole, used-up, stop, Answer}
 use Rattle.walk.specs.WalkCall.{in-pack, ending, judged, walk-of, walked, visitsLeft, visitsAfter, end-number, ending-number, walk-answer, visits-tell, walk-tells, Walks}
 use Rattle.walk.specs.WalkCall.{held-judged, held-told, held-answer, held-tell, held-tells, TellsHeld}
-use Rattle.walk.specs.declared.walk.FoundPgn.{FoundPgn}
-use Rattle.walk.specs.declared.walk.NamedPgn.{NamedPgn}
-use Rattle.walk.specs.declared.walk.NamedPgn.the-variants as naming
+use Rattle.walk.specs.declared.named.FoundPgn.{FoundPgn}
+use Rattle.walk.specs.declared.named.NamedPgn.{NamedPgn}
+use Rattle.walk.specs.declared.named.NamedPgn.the-variants as naming
 use Rattle.walk.specs.declared.walk.Walked.{Walked}
 use Rattle.walk.specs.declared.walk.Walked.the-variants.{Refused}
 use Rattle.walk.specs.declared.walk.HeldAnswer.{HeldAnswer}

@@ -18,9 +18,9 @@ use Rattle.walk.specs.Layout.{layout}
 use Rattle.walk.specs.SetsOf.{SetsAre}
 use Rattle.walk.specs.Walk.{Answer}
 use Rattle.walk.specs.WalkCall.{in-pack, judged, walk-of}
-use Rattle.walk.specs.declared.walk.FoundPgn.{FoundPgn}
-use Rattle.walk.specs.declared.walk.NamedPgn.{NamedPgn}
-use Rattle.walk.specs.declared.walk.NamedPgn.the-variants.{Refused, Found}
+use Rattle.walk.specs.declared.named.FoundPgn.{FoundPgn}
+use Rattle.walk.specs.declared.named.NamedPgn.{NamedPgn}
+use Rattle.walk.specs.declared.named.NamedPgn.the-variants.{Refused, Found}
 use Rattle.walk.specs.declared.walk.Walked.{Walked}
 
 -- 23, of a PGN that is there or not

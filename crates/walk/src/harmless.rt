@@ -6,16 +6,13 @@ ghost use Prim.Native.Nat.{suc, _<_};
 ghost use lib.ListN.{length, getD, set};
 ghost use Rattle.pack.specs.Meaning.{packOf};
 ghost use Rattle.pack.specs.Notation.{if_then_else_};
-ghost use Rattle.pack.specs.Ready.{PgnAt, IndexIs};
-ghost use Rattle.pack.specs.Value.{pgn-at};
 ghost use Rattle.walk.specs.ByPlace.{placed};
 ghost use Rattle.walk.specs.Layout.{layout};
-ghost use Rattle.walk.specs.SetsOf.{SetsAre};
+ghost use Rattle.walk.specs.Naming.{IsFound, found-pgn};
 ghost use Rattle.walk.specs.StopParts.{Harmless, stop-number};
 ghost use Rattle.walk.specs.Stops.{stop-at};
-use crate::sets::Sets;
+use crate::named::FoundPgn;
 use crate::stops::judge;
-use pack::load::Index;
 
 // Whether field k is marked; those that the marks have no room for are not.
 pub fn is_marked(harmless: &[bool], k: u32) -> bool
@@ -47,27 +44,25 @@ fn mark_if(harmless: &mut [bool], k: u32, hit: bool)
     }
 }
 
-// The stop at field k of PGN i of tree t, which is at p, with this reading; 0 for none.
+// The stop at field k of a PGN, with this reading; 0 for none.
 pub fn stop_at(
     s: &[u8],
     work: &[u32],
-    index: Index,
-    t: u32,
-    i: u32,
-    p: usize,
-    sets: Sets,
+    found: FoundPgn,
     harmless: &mut [bool],
     k: u32,
     reading: u64,
 ) -> u32
-    requires { ⌜ PgnAt (now s) (now work) t i p × IndexIs (packOf (now s)) index × SetsAre (layout (pgn-at (packOf (now s)) t i)) sets × Harmless (packOf (now s)) (pgn-at (packOf (now s)) t i) (now harmless) × (k < length (pgn-at (packOf (now s)) t i .fields)) ⌝ }
-    ensures { λ r. ⌜ stop-number r ≡ stop-at (packOf (now (s .entry))) (pgn-at (packOf (now (s .entry))) t i) (placed (layout (pgn-at (packOf (now (s .entry))) t i)) (suc k)) k reading ⌝ }
-    ensures { λ r. ⌜ Harmless (packOf (now (s .entry))) (pgn-at (packOf (now (s .entry))) t i) (now (harmless .exit)) ⌝ }
+    requires { ⌜ IsFound (now s) (now work) found × Harmless (packOf (now s)) (found-pgn (now s) found) (now harmless)
+        × (k < length (found-pgn (now s) found .fields)) ⌝ }
+    ensures { λ r. ⌜ stop-number r ≡ stop-at (packOf (now (s .entry))) (found-pgn (now (s .entry)) found)
+        (placed (layout (found-pgn (now (s .entry)) found)) (suc k)) k reading ⌝ }
+    ensures { λ r. ⌜ Harmless (packOf (now (s .entry))) (found-pgn (now (s .entry)) found) (now (harmless .exit)) ⌝ }
 {
     if is_marked(harmless, k) {
         return 0;
     }
-    let judged = judge(s, work, index, t, i, p, sets, k, reading);
+    let judged = judge(s, work, found, k, reading);
     mark_if(harmless, k, judged.harmless);
     judged.stop
 }

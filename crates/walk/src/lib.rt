@@ -1,6 +1,7 @@
 pub mod guaranteed;
 mod harmless;
 mod held;
+mod named;
 mod orders;
 mod passes;
 mod runs;

@@ -6,10 +6,9 @@ ghost use Prim.Native.Nat.{ℕ, suc, _≤_, _<_};
 ghost use lib.ListN.{length, getD};
 ghost use Rattle.pack.specs.Meaning.{packOf};
 ghost use Rattle.pack.specs.Notation.{if_then_else_};
-ghost use Rattle.pack.specs.Ready.{PgnAt, IndexIs};
-ghost use Rattle.pack.specs.Value.{pgn-at};
 ghost use Rattle.walk.specs.ByPlace.{by-place, placed};
 ghost use Rattle.walk.specs.Layout.{Layout, layout};
+ghost use Rattle.walk.specs.Naming.{IsFound, found-pgn};
 ghost use Rattle.walk.specs.Passes.{first};
 ghost use Rattle.walk.specs.SetsOf.{SetsAre};
 ghost use Rattle.walk.specs.State.{place-of, memory-of};
@@ -20,6 +19,7 @@ ghost use Rattle.walk.specs.Walk.{Stops, due, settled, onward};
 ghost use Rattle.walk.specs.WalkCall.{ending};
 ghost use Rattle.walk.specs.declared.walk.End.the-variants.{Whole, Stop};
 use crate::harmless::stop_at;
+use crate::named::FoundPgn;
 use crate::orders::first_order;
 use crate::orders::index_of;
 use crate::orders::next_order;
@@ -34,7 +34,6 @@ use crate::passes::visit;
 use crate::runs::run;
 use crate::sets::Sets;
 use crate::walk::End;
-use pack::load::Index;
 use pack::protocol::FieldIndex;
 
 // Where the walk is, and the latest readings of the countFields.
@@ -103,56 +102,48 @@ fn onward(sets: Sets, counts: Counts, spot: Spot, reading: u64) -> State
 fn step_at(
     s: &[u8],
     work: &[u32],
-    index: Index,
-    t: u32,
-    i: u32,
-    p: usize,
-    sets: Sets,
+    found: FoundPgn,
     harmless: &mut [bool],
     counts: Counts,
     spot: Spot,
     reading: u64,
 ) -> Stepping
-    requires { ⌜ PgnAt (now s) (now work) t i p × IndexIs (packOf (now s)) index × SetsAre (layout (pgn-at (packOf (now s)) t i)) sets × Harmless (packOf (now s)) (pgn-at (packOf (now s)) t i) (now harmless) × (1 ≤ spot .order .0) × (spot .order .0 ≤ length (pgn-at (packOf (now s)) t i .fields)) ⌝ }
-    ensures { λ r. ⌜ step-of r ≡ one-step (layout (pgn-at (packOf (now (s .entry))) t i)) (stop-at (packOf (now (s .entry))) (pgn-at (packOf (now (s .entry))) t i)) (due (place-of spot) (memory-of counts)) reading ⌝ }
-    ensures { λ r. ⌜ Harmless (packOf (now (s .entry))) (pgn-at (packOf (now (s .entry))) t i) (now (harmless .exit)) ⌝ }
+    requires { ⌜ IsFound (now s) (now work) found × Harmless (packOf (now s)) (found-pgn (now s) found) (now harmless) × (1 ≤ spot .order .0)
+        × (spot .order .0 ≤ length (found-pgn (now s) found .fields)) ⌝ }
+    ensures { λ r. ⌜ step-of r ≡ one-step (layout (found-pgn (now (s .entry)) found)) (stop-at (packOf (now (s .entry))) (found-pgn (now (s .entry)) found))
+        (due (place-of spot) (memory-of counts)) reading ⌝ }
+    ensures { λ r. ⌜ Harmless (packOf (now (s .entry))) (found-pgn (now (s .entry)) found) (now (harmless .exit)) ⌝ }
 {
     let field = index_of(spot.order);
-    let stop = stop_at(s, work, index, t, i, p, sets, harmless, field.0, reading);
+    let stop = stop_at(s, work, found, harmless, field.0, reading);
     if stop != 0 {
         return Stepping::Ended(End::Stop(stop));
     }
-    let next = onward(sets, counts, spot, reading);
+    let next = onward(found.sets, counts, spot, reading);
     Stepping::Visited { field, next }
 }
 
-// One step of the walk over PGN i of tree t, which is at p.
+// One step of the walk over a PGN.
 pub fn step(
     s: &[u8],
     work: &[u32],
-    index: Index,
-    t: u32,
-    i: u32,
-    p: usize,
-    sets: Sets,
+    found: FoundPgn,
     harmless: &mut [bool],
     state: State,
     reading: u64,
 ) -> Stepping
-    requires { ⌜ PgnAt (now s) (now work) t i p × IndexIs (packOf (now s)) index × SetsAre (layout (pgn-at (packOf (now s)) t i)) sets × Harmless (packOf (now s)) (pgn-at (packOf (now s)) t i) (now harmless) × Within (layout (pgn-at (packOf (now s)) t i)) (state-of state) ⌝ }
-    ensures { λ r. ⌜ step-of r ≡ one-step (layout (pgn-at (packOf (now (s .entry))) t i)) (stop-at (packOf (now (s .entry))) (pgn-at (packOf (now (s .entry))) t i)) (state-of state) reading ⌝ }
-    ensures { λ r. ⌜ Harmless (packOf (now (s .entry))) (pgn-at (packOf (now (s .entry))) t i) (now (harmless .exit)) ⌝ }
+    requires { ⌜ IsFound (now s) (now work) found × Harmless (packOf (now s)) (found-pgn (now s) found) (now harmless)
+        × Within (layout (found-pgn (now s) found)) (state-of state) ⌝ }
+    ensures { λ r. ⌜ step-of r ≡ one-step (layout (found-pgn (now (s .entry)) found)) (stop-at (packOf (now (s .entry))) (found-pgn (now (s .entry)) found))
+        (state-of state) reading ⌝ }
+    ensures { λ r. ⌜ Harmless (packOf (now (s .entry))) (found-pgn (now (s .entry)) found) (now (harmless .exit)) ⌝ }
 {
     let settling = state.settling;
     if settling.due {
         return step_at(
             s,
             work,
-            index,
-            t,
-            i,
-            p,
-            sets,
+            found,
             harmless,
             state.counts,
             settling.spot,

@@ -12,9 +12,11 @@ ghost use Rattle.rules.specs.Search.{anyBelow};
 ghost use Rattle.rules.specs.DynamicLength.{length-source};
 ghost use Rattle.walk.specs.ByPlace.{placed};
 ghost use Rattle.walk.specs.Layout.{layout, sets-hold};
+ghost use Rattle.walk.specs.Naming.{IsFound, found-pgn};
 ghost use Rattle.walk.specs.SetsOf.{SetsAre};
 ghost use Rattle.walk.specs.StopParts.{Named, stop-number, field-stop, need-stop};
 ghost use Rattle.walk.specs.Stops.{is-missing, lookup-missing, match-unfit, names-missing, entries-name-missing, reference-names-missing, lacks, lacks-length, stop-at};
+use crate::named::FoundPgn;
 use crate::sets::Sets;
 use crate::sets::placed;
 use crate::sets::sets_hold;
@@ -326,38 +328,39 @@ pub struct Judged {
     pub harmless: bool,
 }
 
-// Field k of PGN i of tree t, which is at p.
-pub fn judge(
-    s: &[u8],
-    work: &[u32],
-    index: Index,
-    t: u32,
-    i: u32,
-    p: usize,
-    sets: Sets,
-    k: u32,
-    reading: u64,
-) -> Judged
-    requires { ⌜ PgnAt (now s) (now work) t i p × IndexIs (packOf (now s)) index × SetsAre (layout (pgn-at (packOf (now s)) t i)) sets × (k < length (pgn-at (packOf (now s)) t i .fields)) ⌝ }
-    ensures { λ r. ⌜ stop-number (r .stop) ≡ stop-at (packOf (now (s .entry))) (pgn-at (packOf (now (s .entry))) t i) (placed (layout (pgn-at (packOf (now (s .entry))) t i)) (suc k)) k reading ⌝ }
-    ensures { λ r. ⌜ (r .harmless ≡ true → (other : ℕ) → stop-at (packOf (now (s .entry))) (pgn-at (packOf (now (s .entry))) t i) (placed (layout (pgn-at (packOf (now (s .entry))) t i)) (suc k)) k other ≡ none) ⌝ }
+// Field k of a PGN.
+pub fn judge(s: &[u8], work: &[u32], found: FoundPgn, k: u32, reading: u64) -> Judged
+    requires { ⌜ IsFound (now s) (now work) found × (k < length (found-pgn (now s) found .fields)) ⌝ }
+    ensures { λ r. ⌜ stop-number (r .stop) ≡ stop-at (packOf (now (s .entry))) (found-pgn (now (s .entry)) found)
+        (placed (layout (found-pgn (now (s .entry)) found)) (suc k)) k reading ⌝ }
+    ensures { λ r. ⌜ (r .harmless ≡ true → (other : ℕ) → stop-at (packOf (now (s .entry))) (found-pgn (now (s .entry)) found)
+        (placed (layout (found-pgn (now (s .entry)) found)) (suc k)) k other ≡ none) ⌝ }
 {
-    let f = field_of(s, work, t, i, p, k);
-    let by_field = field_stop(s, work, index, f);
+    let f = field_of(s, work, found.tree, found.pgn, found.place, k);
+    let by_field = field_stop(s, work, found.index, f);
     if by_field != 0 {
         return Judged {
             stop: by_field,
             harmless: false,
         };
     }
-    let l = fieldtype_lookup(s, work, index, f.links.reference);
-    if lookup_names_missing(s, work, index, l, reading) {
+    let l = fieldtype_lookup(s, work, found.index, f.links.reference);
+    if lookup_names_missing(s, work, found.index, l, reading) {
         return Judged {
             stop: 5,
             harmless: false,
         };
     }
-    let stop = need_stop(s, work, t, i, p, sets, k, f);
+    let stop = need_stop(
+        s,
+        work,
+        found.tree,
+        found.pgn,
+        found.place,
+        found.sets,
+        k,
+        f,
+    );
     let harmless = and_not(stop == 0, l.given);
     Judged { stop, harmless }
 }

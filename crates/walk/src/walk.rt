@@ -3,31 +3,25 @@ ghost use mathlib.Core.Path.{_≡_};
 ghost use mathlib.Core.Bool.{false};
 ghost use Prim.Native.Nat.{_≤_};
 ghost use lib.ListN.{length};
-ghost use Rattle.pack.specs.Load.{over, workAfter};
+ghost use Rattle.pack.specs.Load.{over};
 ghost use Rattle.pack.specs.Meaning.{packOf};
-ghost use Rattle.pack.specs.Ready.{Ready, IndexIs};
 ghost use Rattle.walk.specs.Layout.{layout, stop-1};
-ghost use Rattle.walk.specs.Naming.{IsFound, NamedIs, absence, found-pgn, found-walk, found-judged, naming-refusal};
+ghost use Rattle.walk.specs.Naming.{IsFound, found-pgn, found-walk, found-judged};
 ghost use Rattle.walk.specs.StopParts.{Harmless};
 ghost use Rattle.walk.specs.Walk.{walk};
-ghost use Rattle.walk.specs.WalkCall.{in-pack, told, visitsLeft, Walks, TellsHeld};
+ghost use Rattle.walk.specs.WalkCall.{told, visitsLeft, Walks, TellsHeld};
 use crate::held::held_at;
+use crate::named::FoundPgn;
+use crate::named::NamedPgn;
+use crate::named::named_pgn;
 use crate::runs::write_visit;
-use crate::sets::Sets;
-use crate::sets::sets_of;
 use crate::sets::stop_1;
 use crate::steps::Stepping;
 use crate::steps::begin;
 use crate::steps::run_on;
 use crate::steps::step;
 use crate::steps::used;
-use pack::load::Index;
-use pack::load::Loaded;
 use pack::load::Refusal;
-use pack::load::load;
-use pack::of::pgn_of;
-use pack::protocol::Protocol;
-use rules::places::pgn_position;
 
 pub enum End {
     Whole,
@@ -44,21 +38,6 @@ pub enum Walked {
 pub enum HeldAnswer {
     Refused(Refusal),
     Held(bool),
-}
-
-// A PGN of the pack: the pack's index, what names it, its work position, and its sets.
-struct FoundPgn {
-    pub index: Index,
-    pub tree: u32,
-    pub pgn: u32,
-    pub place: usize,
-    pub sets: Sets,
-}
-
-// The PGN that a call names, or the call's refusal.
-enum NamedPgn {
-    Refused(Refusal),
-    Found(FoundPgn),
 }
 
 // The walk past stop 1, with marks for fields that stop at no reading.
@@ -80,18 +59,7 @@ fn walk_on(
     let mut state = begin(sets);
     let mut n = 0;
     while n < readings.len() {
-        match step(
-            s,
-            work,
-            found.index,
-            found.tree,
-            found.pgn,
-            found.place,
-            sets,
-            harmless,
-            state,
-            readings[n],
-        ) {
+        match step(s, work, found, harmless, state, readings[n]) {
             Stepping::Ended(end) => return Walked::Ended { end, visits: n },
             Stepping::Visited { field, next } => {
                 write_visit(visits, n, field);
@@ -120,42 +88,6 @@ fn walk_at(s: &[u8], work: &[u32], found: FoundPgn, readings: &[u64], visits: &m
     }
     let mut harmless = [false; 256];
     walk_on(s, work, found, &mut harmless, readings, visits)
-}
-
-// The PGN that is named, if it is in the pack: 23.
-fn find_pgn(s: &[u8], work: &[u32], index: Index, tree: u32, pgn: u32) -> NamedPgn
-    requires { ⌜ Ready (now s) (now work) × IndexIs (packOf (now s)) index ⌝ }
-    ensures { λ r. ⌜ NamedIs (now (s .entry)) (now (work .entry)) tree pgn (absence (in-pack (packOf (now (s .entry))) tree pgn)) r ⌝ }
-{
-    if Protocol::COUNT <= tree as usize {
-        return NamedPgn::Refused(Refusal::Absent);
-    }
-    let section = Protocol::of_tree(tree).section(index);
-    if section.count <= pgn {
-        return NamedPgn::Refused(Refusal::Absent);
-    }
-    let place = pgn_position(s, work, tree, section.place, pgn);
-    let g = pgn_of(s, work, tree, pgn, place);
-    let sets = sets_of(s, work, tree, pgn, place, g);
-    let found = FoundPgn {
-        index,
-        tree,
-        pgn,
-        place,
-        sets,
-    };
-    NamedPgn::Found(found)
-}
-
-// The pack is loaded, and the PGN found: "Input refusals come before these; then 21, 23"
-fn named_pgn(pack: &[u8], work: &mut [u32], tree: u32, pgn: u32) -> NamedPgn
-    ensures { λ r. ⌜ NamedIs (now (pack .entry)) (now (work .exit)) tree pgn (naming-refusal (now (pack .entry)) (length (now (work .entry))) tree pgn) r ⌝ }
-    ensures { λ r. ⌜ now (work .exit) ≡ workAfter (now (pack .entry)) (now (work .entry)) ⌝ }
-{
-    match load(pack, work) {
-        Loaded::Refused(refusal) => NamedPgn::Refused(refusal),
-        Loaded::Accepted(index) => find_pgn(pack, work, index, tree, pgn),
-    }
 }
 
 // "then 21, 23, 25": 25, and the walk.

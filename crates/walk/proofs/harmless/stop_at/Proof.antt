@@ -1,5 +1,5 @@
-use Rattle.walk.proofs.Marks.{harmless-marked}
 use mathlib.Core.Path.{sym, _∙_}
+use Rattle.walk.proofs.Marks.{harmless-marked}
 use borrow.Author.Needs.{needs}
 use Rattle.walk.proofs.harmless.stop_at.Statement.{statement}
 use Rattle.walk.proofs.harmless.stop_at.Tie as tie
@@ -11,7 +11,9 @@ same-length : tie.Need-same-length
 same-length c = search needs
 
 returns : tie.Need-returns
-returns c = (sym (c .before .before .before .before .before .before .pre .3 .never (c .before .before .before .before .before .before .args .k) (sym (c .before .is-marked .ensures) ∙ c .if1 .taken) (c .before .before .before .before .before .before .args .reading)), c .before .before .before .before .before .before .pre .3)
+returns c =
+    let start = c .before .before .before .before .before .before in
+    (sym (start .pre .1 .never (start .args .k) (sym (c .before .is-marked .ensures) ∙ c .if1 .taken) (start .args .reading)), start .pre .1)
 
 judge-requires : tie.Need-judge-requires
 judge-requires c κs = search needs
@@ -23,7 +25,12 @@ same-length-2 : tie.Need-same-length-2
 same-length-2 c = search needs
 
 returns-2 : tie.Need-returns-2
-returns-2 c = (c .before .before .before .before .judge .ensures .0, rw (c .before .before .mark-if .ensures) (harmless-marked (c .before .before .before .before .before .before .before .before .before .before .before .args .k) (c .before .before .before .before .judge .result .harmless) (c .before .before .before .before .before .before .before .before .before .before .before .pre .3) (c .before .before .before .before .judge .ensures .1)))
+returns-2 c =
+    let start = c .before .before .before .before .before .before .before .before .before .before .before in
+    let judge = c .before .before .before .before .judge in (
+      judge .ensures .0,
+      rw (c .before .before .mark-if .ensures) (harmless-marked (start .args .k) (judge .result .harmless) (start .pre .1) (judge .ensures .1)),
+    )
 
 pub stop-at-spec : {M : Type 1} → statement M
 stop-at-spec =

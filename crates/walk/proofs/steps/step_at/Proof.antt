@@ -1,15 +1,15 @@
-use Rattle.rules.proofs.Sizes.{fields-few}
-use Rattle.walk.specs.Stops.{stop-at}
-use Rattle.walk.specs.Layout.{layout}
-use Rattle.walk.specs.Steps.{state-of}
-use Rattle.walk.specs.State.{place-of, memory-of}
-use Rattle.walk.proofs.Walks.{step-stops, step-visits}
-use native.Mathlib.Omega.{arith}
-use Prim.Native.Nat.{_-_}
-use mathlib.Core.Path.{refl}
-use denote.Ref.{now}
 use Rattle.pack.specs.Meaning.{packOf}
 use Rattle.pack.specs.Value.{pgn-at}
+use denote.Ref.{now}
+use mathlib.Core.Path.{refl}
+use Prim.Native.Nat.{_-_}
+use native.Mathlib.Omega.{arith}
+use Rattle.walk.proofs.Walks.{step-stops, step-visits}
+use Rattle.walk.specs.State.{place-of, memory-of}
+use Rattle.walk.specs.Steps.{state-of}
+use Rattle.walk.specs.Layout.{layout}
+use Rattle.walk.specs.Stops.{stop-at}
+use Rattle.rules.proofs.Sizes.{fields-few}
 use borrow.Author.Needs.{needs}
 use Rattle.walk.proofs.steps.step_at.Statement.{statement}
 use Rattle.walk.proofs.steps.step_at.Tie as tie
@@ -20,7 +20,7 @@ index-of-requires c κs = search needs
 stop-at-requires : tie.Need-stop-at-requires
 stop-at-requires c κs =
     let start = c .before .before .before .before .before in
-    (start .pre .0, start .pre .1, start .pre .2, start .pre .3, omega (arith, c .before .index-of .ensures, start .pre .4, start .pre .5))
+    (start .pre .0, start .pre .1, omega (arith, c .before .index-of .ensures, start .pre .2, start .pre .3))
 
 same-length : tie.Need-same-length
 same-length c = search needs
@@ -30,16 +30,18 @@ returns c =
     let start = c .before .before .before .before .before .before .before .before .before in
     let index-of = c .before .before .before .before .before .index-of in
     let stop-at-call = c .before .before .before .stop-at in
-    let s = now (start .args .s) in let t = start .args .t in let i = start .args .i in (
+    let s = now (start .args .s) in
+    let t = start .args .found .tree in
+    let i = start .args .found .pgn in (
       step-stops (layout (pgn-at (packOf s) t i)) (stop-at (packOf s) (pgn-at (packOf s) t i)) (place-of (start .args .spot)) (memory-of (start .args .counts))
-          (start .args .reading) (index-of .result .0) (index-of .ensures) (start .pre .4) (stop-at-call .result) (stop-at-call .ensures .0) (c .if1 .taken),
+          (start .args .reading) (index-of .result .0) (index-of .ensures) (start .pre .2) (stop-at-call .result) (stop-at-call .ensures .0) (c .if1 .taken),
       stop-at-call .ensures .1,
     )
 
 onward-requires : tie.Need-onward-requires
 onward-requires c κs =
     let start = c .before .before .before .before .before .before .before .before .before in
-    (start .pre .4, omega (arith, start .pre .5, fields-few (start .pre .0)))
+    (start .pre .2, omega (arith, start .pre .3, fields-few (start .pre .0 .place)))
 
 same-length-2 : tie.Need-same-length-2
 same-length-2 c = search needs
@@ -49,10 +51,12 @@ returns-2 c =
     let start = c .before .before .before .before .before .before .before .before .before .before in
     let index-of = c .before .before .before .before .before .before .index-of in
     let stop-at-call = c .before .before .before .before .stop-at in
-    let s = now (start .args .s) in let t = start .args .t in let i = start .args .i in (
+    let s = now (start .args .s) in
+    let t = start .args .found .tree in
+    let i = start .args .found .pgn in (
       step-visits (layout (pgn-at (packOf s) t i)) (stop-at (packOf s) (pgn-at (packOf s) t i)) (place-of (start .args .spot)) (memory-of (start .args .counts))
-          (start .args .reading) (index-of .result .0) (index-of .ensures) (start .pre .4) (stop-at-call .result) (stop-at-call .ensures .0)
-          (c .before .if1 .left) (state-of (c .onward .result)) (c .onward .ensures (layout (pgn-at (packOf s) t i)) (start .pre .2)),
+          (start .args .reading) (index-of .result .0) (index-of .ensures) (start .pre .2) (stop-at-call .result) (stop-at-call .ensures .0)
+          (c .before .if1 .left) (state-of (c .onward .result)) (c .onward .ensures (layout (pgn-at (packOf s) t i)) (start .pre .0 .sets)),
       stop-at-call .ensures .1,
     )
 

@@ -1,14 +1,14 @@
-use Rattle.pack.specs.Meaning.{packOf, fieldMeaning}
-use denote.Ref.{now}
-use mathlib.Core.Path.{refl, sym, _∙_, ap}
-use Prim.Native.Nat.{suc}
-use borrow.Author.Tests.{eqb-true}
-use mathlib.Core.Bool.{false≢true, false}
-use Rattle.walk.specs.Layout.{layout}
-use Rattle.walk.specs.ByPlace.{placed}
-use Rattle.walk.specs.StopParts.{stop-number}
-use Rattle.walk.proofs.Parts.{by-field, by-reading, by-need, named-reading, and-not-parts}
 use Rattle.pack.specs.Notation.{_==_}
+use Rattle.walk.proofs.Parts.{by-field, by-reading, by-need, named-reading, and-not-parts}
+use Rattle.walk.specs.StopParts.{stop-number}
+use Rattle.walk.specs.ByPlace.{placed}
+use Rattle.walk.specs.Layout.{layout}
+use mathlib.Core.Bool.{false≢true, false}
+use borrow.Author.Tests.{eqb-true}
+use Prim.Native.Nat.{suc}
+use mathlib.Core.Path.{refl, sym, _∙_, ap}
+use denote.Ref.{now}
+use Rattle.pack.specs.Meaning.{packOf, fieldMeaning}
 use Rattle.pack.specs.Value.{pgn-at}
 use borrow.Author.Needs.{needs}
 use Rattle.walk.proofs.stops.judge.Statement.{statement}
@@ -21,7 +21,15 @@ field-stop-requires : tie.Need-field-stop-requires
 field-stop-requires c κs = search needs
 
 returns : tie.Need-returns
-returns c = (by-field (packOf (now (c .before .before .before .before .before .args .s))) (pgn-at (packOf (now (c .before .before .before .before .before .args .s))) (c .before .before .before .before .before .args .t) (c .before .before .before .before .before .args .i)) (placed (layout (pgn-at (packOf (now (c .before .before .before .before .before .args .s))) (c .before .before .before .before .before .args .t) (c .before .before .before .before .before .args .i))) (suc (c .before .before .before .before .before .args .k))) (c .before .before .before .before .before .args .k) (c .before .before .before .before .before .args .reading) (fieldMeaning (now (c .before .before .before .before .before .args .s)) (c .before .before .field-of .result)) (c .before .before .field-of .ensures) (c .before .field-stop .result) (c .if1 .taken) (c .before .field-stop .ensures), λ h. absurd (false≢true h))
+returns c =
+    let start = c .before .before .before .before .before in
+    let field-of = c .before .before .field-of in
+    let s = now (start .args .s) in let k = start .args .k in (
+      by-field (packOf s) (pgn-at (packOf s) (start .args .found .tree) (start .args .found .pgn))
+          (placed (layout (pgn-at (packOf s) (start .args .found .tree) (start .args .found .pgn))) (suc k)) k (start .args .reading)
+          (fieldMeaning s (field-of .result)) (field-of .ensures) (c .before .field-stop .result) (c .if1 .taken) (c .before .field-stop .ensures),
+      λ h. absurd (false≢true h),
+    )
 
 fieldtype-lookup-requires : tie.Need-fieldtype-lookup-requires
 fieldtype-lookup-requires c κs = search needs
@@ -30,7 +38,19 @@ lookup-names-missing-requires : tie.Need-lookup-names-missing-requires
 lookup-names-missing-requires c κs = search needs
 
 returns-2 : tie.Need-returns-2
-returns-2 c = (by-reading (packOf (now (c .before .before .before .before .before .before .before .before .args .s))) (pgn-at (packOf (now (c .before .before .before .before .before .before .before .before .args .s))) (c .before .before .before .before .before .before .before .before .args .t) (c .before .before .before .before .before .before .before .before .args .i)) (placed (layout (pgn-at (packOf (now (c .before .before .before .before .before .before .before .before .args .s))) (c .before .before .before .before .before .before .before .before .args .t) (c .before .before .before .before .before .before .before .before .args .i))) (suc (c .before .before .before .before .before .before .before .before .args .k))) (c .before .before .before .before .before .before .before .before .args .k) (c .before .before .before .before .before .before .before .before .args .reading) (fieldMeaning (now (c .before .before .before .before .before .before .before .before .args .s)) (c .before .before .before .before .before .field-of .result)) (c .before .before .before .before .before .field-of .ensures) (c .before .before .before .before .field-stop .result) (c .before .before .before .if1 .left) (c .before .before .before .before .field-stop .ensures) (c .before .lookup-names-missing .result) (named-reading (c .before .before .fieldtype-lookup .ensures) (c .before .before .before .before .before .before .before .before .args .reading) (c .before .lookup-names-missing .result) (c .before .lookup-names-missing .ensures)) (c .if2 .taken), λ h. absurd (false≢true h))
+returns-2 c =
+    let start = c .before .before .before .before .before .before .before .before in
+    let field-of = c .before .before .before .before .before .field-of in
+    let field-stop = c .before .before .before .before .field-stop in
+    let if1 = c .before .before .before .if1 in
+    let s = now (start .args .s) in let k = start .args .k in let reading = start .args .reading in (
+      by-reading (packOf s) (pgn-at (packOf s) (start .args .found .tree) (start .args .found .pgn))
+          (placed (layout (pgn-at (packOf s) (start .args .found .tree) (start .args .found .pgn))) (suc k)) k reading (fieldMeaning s (field-of .result))
+          (field-of .ensures) (field-stop .result) (if1 .left) (field-stop .ensures) (c .before .lookup-names-missing .result)
+          (named-reading (c .before .before .fieldtype-lookup .ensures) reading (c .before .lookup-names-missing .result)
+          (c .before .lookup-names-missing .ensures)) (c .if2 .taken),
+      λ h. absurd (false≢true h),
+    )
 
 need-stop-requires : tie.Need-need-stop-requires
 need-stop-requires c κs = search needs
@@ -40,9 +60,25 @@ and-not-requires c κs = search needs
 
 returns-3 : tie.Need-returns-3
 returns-3 c =
-    let q = and-not-parts (c .before .need-stop .result == 0) (c .before .before .before .before .fieldtype-lookup .result .given) in (
-      by-need (packOf (now (c .before .before .before .before .before .before .before .before .before .before .args .s))) (pgn-at (packOf (now (c .before .before .before .before .before .before .before .before .before .before .args .s))) (c .before .before .before .before .before .before .before .before .before .before .args .t) (c .before .before .before .before .before .before .before .before .before .before .args .i)) (placed (layout (pgn-at (packOf (now (c .before .before .before .before .before .before .before .before .before .before .args .s))) (c .before .before .before .before .before .before .before .before .before .before .args .t) (c .before .before .before .before .before .before .before .before .before .before .args .i))) (suc (c .before .before .before .before .before .before .before .before .before .before .args .k))) (c .before .before .before .before .before .before .before .before .before .before .args .k) (c .before .before .before .before .before .before .before .before .before .before .args .reading) (fieldMeaning (now (c .before .before .before .before .before .before .before .before .before .before .args .s)) (c .before .before .before .before .before .before .before .field-of .result)) (c .before .before .before .before .before .before .before .field-of .ensures) (c .before .before .before .before .before .before .field-stop .result) (c .before .before .before .before .before .if1 .left) (c .before .before .before .before .before .before .field-stop .ensures) (c .before .before .before .lookup-names-missing .result) (named-reading (c .before .before .before .before .fieldtype-lookup .ensures) (c .before .before .before .before .before .before .before .before .before .before .args .reading) (c .before .before .before .lookup-names-missing .result) (c .before .before .before .lookup-names-missing .ensures)) (c .before .before .if2 .left) (c .before .need-stop .result) (c .before .need-stop .ensures),
-      λ h other. let a = q (sym (c .and-not .ensures) ∙ h) in sym (by-need (packOf (now (c .before .before .before .before .before .before .before .before .before .before .args .s))) (pgn-at (packOf (now (c .before .before .before .before .before .before .before .before .before .before .args .s))) (c .before .before .before .before .before .before .before .before .before .before .args .t) (c .before .before .before .before .before .before .before .before .before .before .args .i)) (placed (layout (pgn-at (packOf (now (c .before .before .before .before .before .before .before .before .before .before .args .s))) (c .before .before .before .before .before .before .before .before .before .before .args .t) (c .before .before .before .before .before .before .before .before .before .before .args .i))) (suc (c .before .before .before .before .before .before .before .before .before .before .args .k))) (c .before .before .before .before .before .before .before .before .before .before .args .k) other (fieldMeaning (now (c .before .before .before .before .before .before .before .before .before .before .args .s)) (c .before .before .before .before .before .before .before .field-of .result)) (c .before .before .before .before .before .before .before .field-of .ensures) (c .before .before .before .before .before .before .field-stop .result) (c .before .before .before .before .before .if1 .left) (c .before .before .before .before .before .before .field-stop .ensures) false (sym (c .before .before .before .before .fieldtype-lookup .ensures .none (a .1) other)) refl (c .before .need-stop .result) (c .before .need-stop .ensures)) ∙ ap stop-number (eqb-true (c .before .need-stop .result) 0 (a .0)),
+    let start = c .before .before .before .before .before .before .before .before .before .before in
+    let field-of = c .before .before .before .before .before .before .before .field-of in
+    let field-stop = c .before .before .before .before .before .before .field-stop in
+    let if1 = c .before .before .before .before .before .if1 in
+    let fieldtype-lookup = c .before .before .before .before .fieldtype-lookup in
+    let lookup-names-missing = c .before .before .before .lookup-names-missing in
+    let s = now (start .args .s) in let k = start .args .k in let reading = start .args .reading in
+    let q = and-not-parts (c .before .need-stop .result == 0) (fieldtype-lookup .result .given) in (
+      by-need (packOf s) (pgn-at (packOf s) (start .args .found .tree) (start .args .found .pgn))
+          (placed (layout (pgn-at (packOf s) (start .args .found .tree) (start .args .found .pgn))) (suc k)) k reading (fieldMeaning s (field-of .result))
+          (field-of .ensures) (field-stop .result) (if1 .left) (field-stop .ensures) (lookup-names-missing .result)
+          (named-reading (fieldtype-lookup .ensures) reading (lookup-names-missing .result) (lookup-names-missing .ensures)) (c .before .before .if2 .left)
+          (c .before .need-stop .result) (c .before .need-stop .ensures),
+      λ h other. let a = q (sym (c .and-not .ensures) ∙ h) in
+          sym (by-need (packOf s) (pgn-at (packOf s) (start .args .found .tree) (start .args .found .pgn))
+          (placed (layout (pgn-at (packOf s) (start .args .found .tree) (start .args .found .pgn))) (suc k)) k other (fieldMeaning s (field-of .result))
+          (field-of .ensures) (field-stop .result) (if1 .left) (field-stop .ensures) false (sym (fieldtype-lookup .ensures .none (a .1) other)) refl
+          (c .before .need-stop .result) (c .before .need-stop .ensures))
+          ∙ ap stop-number (eqb-true (c .before .need-stop .result) 0 (a .0)),
     )
 
 pub judge-spec : {M : Type 1} → statement M

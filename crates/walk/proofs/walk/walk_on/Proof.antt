@@ -1,18 +1,18 @@
-use lib.ListN.{length}
-use Rattle.walk.specs.State.{memory-of}
-use Rattle.walk.specs.Walk.{walk}
-use Rattle.walk.specs.Stops.{stop-at}
-use Rattle.walk.specs.StopParts.{Harmless}
-use Rattle.walk.specs.Layout.{layout}
-use Rattle.walk.specs.Steps.{state-of, step-of}
-use native.Mathlib.Omega.{arith}
-use Prim.Native.Nat.{_-_, _≤_}
-use mathlib.Core.Path.{_≡_, refl, _∙_, ap}
-use denote.Ref.{now}
+use borrow.Author.Needs.{needs}
+use Rattle.walk.proofs.Walks.{Going, start-going, due-within, going-within, going-used, going-ended, going-on, going-run}
 use Rattle.pack.specs.Meaning.{packOf}
 use Rattle.pack.specs.Value.{pgn-at}
-use Rattle.walk.proofs.Walks.{Going, start-going, due-within, going-within, going-used, going-ended, going-on, going-run}
-use borrow.Author.Needs.{needs}
+use denote.Ref.{now}
+use mathlib.Core.Path.{_≡_, refl, _∙_, ap}
+use Prim.Native.Nat.{_-_, _≤_}
+use native.Mathlib.Omega.{arith}
+use Rattle.walk.specs.Steps.{state-of, step-of}
+use Rattle.walk.specs.Layout.{layout}
+use Rattle.walk.specs.StopParts.{Harmless}
+use Rattle.walk.specs.Stops.{stop-at}
+use Rattle.walk.specs.Walk.{walk}
+use Rattle.walk.specs.State.{memory-of}
+use lib.ListN.{length}
 use Rattle.walk.proofs.walk.walk_on.Statement.{statement}
 use Rattle.walk.proofs.walk.walk_on.Tie as tie
 
@@ -56,9 +56,7 @@ step-requires : tie.Need-step-requires Inv-loop μ-loop
 step-requires c κs =
     let start = c .before .before .before .before .before .before .before .before .before .before .before in
     let loop = c .before .before .before .loop in (
-      start .pre .0 .place,
-      start .pre .0 .index,
-      start .pre .0 .sets,
+      start .pre .0,
       loop .inv .4,
       going-within (layout (pgn-at (packOf (now (start .args .s))) (start .args .found .tree) (start .args .found .pgn))) (start .pre .2) _ _ _ _ _ _
           (state-of (loop .state)) (loop .inv .2),
@@ -154,7 +152,7 @@ loop-again c =
           (rw (write-visit .ensures) (going-on (layout (pgn-at (packOf s) (start .args .found .tree) (start .args .found .pgn))) (start .pre .2) _ _ _ _ _ _
           (state-of (loop .state)) (loop .inv .2) (loop-test .taken) (step-of (step .result)) (step .ensures .0) (field .given .0 .0 .0)
           (state-of (field .given .0 .1 .0)) (ap step-of (field .given .1)))),
-      step .kept .1 .1 .1 .1 .1 .1 .1 .0 ∙ loop .inv .3,
+      step .kept .1 .1 .1 .0 ∙ loop .inv .3,
       step .ensures .1,
     )
 

@@ -9,8 +9,8 @@ use native.Mathlib.Omega.{arith}
 use borrow.Author.Tests.{lt-ltb, le-ltb}
 use Rattle.rules.proofs.Sections.{at-tree}
 use borrow.Author.Needs.{needs}
-use Rattle.walk.proofs.walk.find_pgn.Statement.{statement}
-use Rattle.walk.proofs.walk.find_pgn.Tie as tie
+use Rattle.walk.proofs.named.find_pgn.Statement.{statement}
+use Rattle.walk.proofs.named.find_pgn.Tie as tie
 
 returns : tie.Need-returns
 returns c =

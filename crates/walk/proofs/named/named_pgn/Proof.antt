@@ -4,8 +4,8 @@ use mathlib.Core.Path.{sym, _∙_}
 use Rattle.pack.proofs.Accepted.{load-law, index-law}
 use Rattle.walk.proofs.WalkCalls.{named-refused, refused-by-load, named-loaded}
 use borrow.Author.Needs.{needs}
-use Rattle.walk.proofs.walk.named_pgn.Statement.{statement}
-use Rattle.walk.proofs.walk.named_pgn.Tie as tie
+use Rattle.walk.proofs.named.named_pgn.Statement.{statement}
+use Rattle.walk.proofs.named.named_pgn.Tie as tie
 
 load-requires : tie.Need-load-requires
 load-requires c κs = search needs
