@@ -10,8 +10,8 @@ use pack::protocol::FieldIndex;
 use pack::protocol::FieldOrder;
 
 fn scaling(s: &[u8], v: ScalingView, f: FieldFlags) {
-    say::number(b", ", v.bits as u64);
-    say::pattern(b" bits, resolution ", v.resolution);
+    say::counted(b", ", v.bits as u64, b" bit", b" bits");
+    say::pattern(b", resolution ", v.resolution);
     say::pattern(b", offset ", v.offset);
     say::flag(b", bits given", f.bits);
     say::flag(b", unit given", f.unit);

@@ -37,9 +37,8 @@ fn list_lookup(s: &[u8], work: &[u32], p: usize, i: u32) -> usize {
     say::text(b" ", s, l.name);
     say::number(b" at byte ", at as u64);
     say::kind(b": ", l.kind);
-    say::number(b", ", l.bits as u64);
-    say::number(b" bits, ", l.entries as u64);
-    say::words(b" entries\n");
+    say::counted(b", ", l.bits as u64, b" bit", b" bits");
+    say::counted(b", ", l.entries as u64, b" entry\n", b" entries\n");
     list_entries(s, work, work::behind(p, 0), l.kind, l.entries);
     work::behind(p, l.entries)
 }

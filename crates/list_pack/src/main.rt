@@ -24,8 +24,7 @@ fn list_trees(s: &[u8], work: &[u32], index: Index) {
 fn list(s: &[u8], work: &[u32], index: Index) {
     say::number(b"pack of ", s.len() as u64);
     say::number(b" bytes, version ", pack::at::number_at(s, 0) as u64);
-    say::number(b", ", index.records as u64);
-    say::words(b" records\n");
+    say::counted(b", ", index.records as u64, b" record\n", b" records\n");
     types::list(s, work, index.types);
     lookups::list(s, work, index.lookups);
     list_trees(s, work, index);

@@ -46,8 +46,7 @@ fn list_pgn(s: &[u8], work: &[u32], p: usize) -> usize {
     say::number(b", length ", g.length as u64);
     say::opt_number(b", minimum ", g.minimum);
     flags(g.flags);
-    say::number(b", ", g.fields as u64);
-    say::words(b" fields\n");
+    say::counted(b", ", g.fields as u64, b" field\n", b" fields\n");
     list_set(b"    set 1", g.repeating1);
     list_set(b"    set 2", g.repeating2);
     fields::list(s, work, work::behind(p, 0), g.fields);

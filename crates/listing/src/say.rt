@@ -16,6 +16,16 @@ pub fn number(w: &[u8], n: u64) {
     io::print_decimal(STDOUT_FILENO, n);
 }
 
+// So many, with the word for one or for any other number of them.
+pub fn counted(w: &[u8], n: u64, one: &[u8], many: &[u8]) {
+    number(w, n);
+    if n == 1 {
+        words(one);
+        return;
+    }
+    words(many);
+}
+
 pub fn text(w: &[u8], s: &[u8], t: Text) {
     words(w);
     words(part(s, t));

@@ -105,9 +105,7 @@ fn reason(stop: u32) {
 }
 
 fn after(n: usize) {
-    say::number(b" after ", n as u64);
-    say::words(b" visit");
-    say::flag(b"s", n != 1);
+    say::counted(b" after ", n as u64, b" visit", b" visits");
 }
 
 fn show_end(end: End, n: usize) {
