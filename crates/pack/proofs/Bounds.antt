@@ -7,11 +7,15 @@ use lib.ListN.{length, getD, length-append}
 use Rattle.pack.specs.Notation.{_==_, _<ᵇ_, concatBelow}
 use Rattle.pack.specs.Items.{fresh, finish}
 use Rattle.pack.specs.Records.{lookupAt, pgnAt}
-use Rattle.pack.specs.Format.{types, typeOffsets, entries, entryOffsets, LookupState, lookupNext, lookups, lookupRecords, lookupOffsets, FieldState, fieldNext, fields, fieldOffsets, pgnNext, pgns, pgnRecords, pgnOffsets, typeList, lookupList, treeStart, treeList, typePart, lookupPart, treePart, before, offsets, packEnd, lookupStart, pgnStart}
+use Rattle.pack.specs.Format.{types, typeOffsets, entries, entryOffsets, LookupState, lookupNext, lookups, lookupRecords, lookupOffsets, FieldState}
+use Rattle.pack.specs.Format.{fieldNext, fields, fieldOffsets, pgnNext, pgns, pgnRecords, pgnOffsets, typeList, lookupList, treeStart, treeList, typePart}
+use Rattle.pack.specs.Format.{lookupPart, treePart, before, offsets, packEnd, lookupStart, pgnStart}
 use Rattle.pack.specs.Load.{mostBytes}
 use Rattle.pack.specs.Ready.{Ready}
 use Rattle.pack.specs.declared.cursor.Cursor.{Cursor}
-use Rattle.pack.proofs.Reading.{if-all, back, number-reader, version-reader, type-reader, type-moves, types-reader, entry-reader, entry-moves, entries-reader, lookup-reader, lookup-moves, lookup-steps, lookups-reader, field-steps, field-moves, fields-reader, pgn-reader, pgn-moves, pgn-next-reader, pgns-reader}
+use Rattle.pack.proofs.Reading.{if-all, back, number-reader, version-reader, type-reader, type-moves, types-reader, entry-reader, entry-moves}
+use Rattle.pack.proofs.Reading.{entries-reader, lookup-reader, lookup-moves, lookup-steps, lookups-reader, field-steps, field-moves, fields-reader}
+use Rattle.pack.proofs.Reading.{pgn-reader, pgn-moves, pgn-next-reader, pgns-reader}
 use Rattle.pack.proofs.Clean.{accepted-end, tree-clean}
 use Rattle.pack.proofs.Values.{length-types, length-lookup, length-pgn}
 use Rattle.pack.proofs.Whole.{tree-reader}

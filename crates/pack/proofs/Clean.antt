@@ -9,7 +9,8 @@ use lib.ListN.{length}
 use Rattle.pack.specs.Notation.{_==_, _<ᵇ_}
 use Rattle.pack.specs.Items.{fresh}
 use Rattle.pack.specs.Records.{lookupAt, pgnAt}
-use Rattle.pack.specs.Format.{types, entries, lookupNext, lookups, noText, fields, pgnNext, pgns, typeList, lookupList, treeStart, treeList, packEnd, typeStart, lookupStart, pgnStart}
+use Rattle.pack.specs.Format.{types, entries, lookupNext, lookups, noText, fields, pgnNext, pgns, typeList, lookupList, treeStart, treeList, packEnd}
+use Rattle.pack.specs.Format.{typeStart, lookupStart, pgnStart}
 use Rattle.pack.specs.Load.{mostBytes, refused, accepted, verdict}
 use Rattle.pack.specs.declared.cursor.Cursor.{Cursor}
 use Rattle.pack.specs.declared.load.Refusal.the-variants.{Input, TooLong}
@@ -68,7 +69,9 @@ module _ (s : List ℕ) (a : packEnd s .refused ≡ 0) where
       → entries (lookupAt (lookupStart s i .before) s (lookupStart s i .next) .value .kind) s (lookupAt (lookupStart s i .before) s (lookupStart s i .next) .next) j .refused ≡ 0
   unfolding entries lookupNext
   entry-clean i j l m =
-      clean (entry-reader s (lookupAt (lookupStart s i .before) s (lookupStart s i .next) .value .kind)) (lookupAt (lookupStart s i .before) s (lookupStart s i .next) .next) j (lookupAt (lookupStart s i .before) s (lookupStart s i .next) .value .entries) m (lookup-next-clean i l)
+      clean (entry-reader s (lookupAt (lookupStart s i .before) s (lookupStart s i .next) .value .kind))
+      (lookupAt (lookupStart s i .before) s (lookupStart s i .next) .next) j
+      (lookupAt (lookupStart s i .before) s (lookupStart s i .next) .value .entries) m (lookup-next-clean i l)
 
   pub type-clean : (i : ℕ) → i ≤ typeList s .value → typeStart s i .refused ≡ 0
   unfolding lookupList types lookups

@@ -8,7 +8,8 @@ use mathlib.Core.List.{List, [], _∷_, _++_}
 use borrow.Author.Tests.{eq-eqb, ne-eqb}
 use lib.ListN.{set}
 use Rattle.pack.specs.Records.{typeAt, entryAt}
-use Rattle.pack.specs.Format.{types, typeOffsets, entries, entryOffsets, lookupNext, lookupRecords, lookups, lookupOffsets, noText, fieldNext, fields, fieldOffsets, pgnNext, pgnRecords, pgns, pgnOffsets}
+use Rattle.pack.specs.Format.{types, typeOffsets, entries, entryOffsets, lookupNext, lookupRecords, lookups, lookupOffsets, noText, fieldNext, fields}
+use Rattle.pack.specs.Format.{fieldOffsets, pgnNext, pgnRecords, pgns, pgnOffsets}
 use Rattle.pack.specs.Placing.{Room, PlacedTo, counted}
 use Rattle.pack.specs.declared.cursor.Cursor.{Cursor}
 use Rattle.pack.proofs.Reading.{Reader, Moves, stays, type-reader, entry-reader, lookup-steps, field-steps, pgn-next-reader}

@@ -10,7 +10,9 @@ use Rattle.pack.specs.Notation.{_==_, concatBelow}
 use Rattle.pack.specs.Value.{Lookup, Field, Pgn, Pack, noFieldType, noEntry, pgn-at, field-at, lookup-at}
 use Rattle.pack.specs.Items.{fresh, bytesOf, numberAt, textAt, nameAt, indexAt, codeAt}
 use Rattle.pack.specs.Records.{typeAt, entryAt, lookupAt, namesAt, scalingAt, authoredAt, pgnAt, fieldAt}
-use Rattle.pack.specs.Format.{types, typeOffsets, entries, entryOffsets, lookupRecords, lookupOffsets, noText, FieldState, fieldNext, fields, fieldOffsets, pgnRecords, pgnOffsets, typeList, lookupList, treeList, typePart, lookupPart, treePart, before, offsets, typeStart, lookupStart, pgnStart, packEnd}
+use Rattle.pack.specs.Format.{types, typeOffsets, entries, entryOffsets, lookupRecords, lookupOffsets, noText, FieldState, fieldNext, fields}
+use Rattle.pack.specs.Format.{fieldOffsets, pgnRecords, pgnOffsets, typeList, lookupList, treeList, typePart, lookupPart, treePart, before, offsets}
+use Rattle.pack.specs.Format.{typeStart, lookupStart, pgnStart, packEnd}
 use Rattle.pack.specs.Load.{accepted}
 use Rattle.pack.specs.Meaning.{typeMeaning, entryMeaning, fieldMeaning, typeOf, lookupOf, pgnOf, packOf}
 use Rattle.pack.specs.Ready.{Ready, lookupPlace, pgnPlace, LookupAt, PgnAt, LookupIs, PgnIs}
@@ -22,7 +24,8 @@ use Rattle.pack.proofs.Reading.{if-all, number-fits, back, code-reader,
 use Rattle.pack.proofs.Places.{fields-turn}
 use Rattle.pack.proofs.Free.{index-below, lookup-free, field-free}
 use Rattle.pack.proofs.Clean.{fresh-at, accepted-end, pgn-clean, field-clean, lookup-clean, entry-clean, type-clean}
-use Rattle.pack.proofs.Values.{types-are, type-is, lookups-are, lookup-is, pgns-are, pgn-is, lookupHead, pgnHead, entries-are, entry-is, fields-are, field-is, length-types, length-lookup, length-pgn, lookup-place, pgns-below, tree-place}
+use Rattle.pack.proofs.Values.{types-are, type-is, lookups-are, lookup-is, pgns-are, pgn-is, lookupHead, pgnHead, entries-are, entry-is, fields-are}
+use Rattle.pack.proofs.Values.{field-is, length-types, length-lookup, length-pgn, lookup-place, pgns-below, tree-place}
 
 module _ (s : List ℕ) where
   -- what stands before tree t stands there in the whole, d trees further on
@@ -62,8 +65,13 @@ module _ (s : List ℕ) where
       let p = lookup-place s i (omega arith) in
       let m = length-append (typePart s) (lookupPart s) in
       let b = length-concatBelow f (lookupList s .value) i h in
-      let e : lookupPlace (packOf s) i + j ≡ length (typePart s) + (length (concatBelow f i) + j) = omega arith in
-      (rw e (in-all 0 (length (typePart s) + (length (concatBelow f i) + j)) (omega arith) (omega arith) ∙ getD-append-add (typePart s) (lookupPart s) (length (concatBelow f i) + j) 0 ∙ getD-concatBelow f 0 (lookupList s .value) i j h l), omega (arith, all-of 0 (omega arith)))
+      let e : lookupPlace (packOf s) i + j ≡ length (typePart s) + (length (concatBelow f i) + j) = omega arith in (
+        rw e
+            (in-all 0 (length (typePart s) + (length (concatBelow f i) + j)) (omega arith) (omega arith)
+            ∙ getD-append-add (typePart s) (lookupPart s) (length (concatBelow f i) + j) 0
+            ∙ getD-concatBelow f 0 (lookupList s .value) i j h l),
+        omega (arith, all-of 0 (omega arith)),
+      )
 
   -- record j of PGN i of tree t with its fields
   pgn-offset : (t i j : ℕ) → t < 3 → i < treeList s t .value → j < length (pgnRecords (typeList s .value) s (pgnStart s t i))
@@ -76,8 +84,13 @@ module _ (s : List ℕ) where
       let q = tree-place s t (omega arith) in
       let m = length-append (before s t) (treePart s t) in
       let b = length-concatBelow f (treeList s t .value) i k in
-      let e : pgnPlace (packOf s) t i + j ≡ length (before s t) + (length (concatBelow f i) + j) = omega arith in
-      (rw e (in-all (suc t) (length (before s t) + (length (concatBelow f i) + j)) (omega arith) (omega arith) ∙ getD-append-add (before s t) (treePart s t) (length (concatBelow f i) + j) 0 ∙ getD-concatBelow f 0 (treeList s t .value) i j k l), omega (arith, all-of (suc t) (omega arith)))
+      let e : pgnPlace (packOf s) t i + j ≡ length (before s t) + (length (concatBelow f i) + j) = omega arith in (
+        rw e
+            (in-all (suc t) (length (before s t) + (length (concatBelow f i) + j)) (omega arith) (omega arith)
+            ∙ getD-append-add (before s t) (treePart s t) (length (concatBelow f i) + j) 0
+            ∙ getD-concatBelow f 0 (treeList s t .value) i j k l),
+        omega (arith, all-of (suc t) (omega arith)),
+      )
 
 module _ (s w : List ℕ) (r : Ready s w) where
   clean-end : packEnd s .refused ≡ 0

@@ -8,8 +8,10 @@ use mathlib.Core.Bool.{Bool, true, false}
 use borrow.Author.Tests.{ne-eqb, eqb-false, ltb-true, leb-true}
 use lib.ListN.{length}
 use Rattle.pack.specs.Notation.{_==_, _<ᵇ_, _≤ᵇ_, if_then_else_}
-use Rattle.pack.specs.Items.{_≺_, bytesOf, refuse, moved, lastByte, shortest, capped, groups, largest32, largest64, wideAt, numberAt, judged, versionAt, codeAt, indexAt, sumAt, bytesAt, textAt, nameAt, floatAt, markAt, optTextAt, optNumberAt, optBytesAt, optSumAt, optFloatAt}
-use Rattle.pack.specs.Records.{typeAt, firstAt, kindPartAt, entryAt, lookupAt, repeatingAt, optRepeatingAt, pgnAt, namesAt, scalingAt, authoredAt, optReferenceAt, linksAt, fieldAt}
+use Rattle.pack.specs.Items.{_≺_, bytesOf, refuse, moved, lastByte, shortest, capped, groups, largest32, largest64, wideAt, numberAt, judged, versionAt}
+use Rattle.pack.specs.Items.{codeAt, indexAt, sumAt, bytesAt, textAt, nameAt, floatAt, markAt, optTextAt, optNumberAt, optBytesAt, optSumAt, optFloatAt}
+use Rattle.pack.specs.Records.{typeAt, firstAt, kindPartAt, entryAt, lookupAt, repeatingAt, optRepeatingAt, pgnAt, namesAt, scalingAt, authoredAt}
+use Rattle.pack.specs.Records.{optReferenceAt, linksAt, fieldAt}
 use Rattle.pack.specs.Format.{iter, types, entries, LookupState, lookupNext, lookups, noText, FieldState, fieldNext, fields, pgnNext, pgns}
 use Rattle.pack.specs.declared.text.OptText.{OptText}
 use Rattle.pack.specs.declared.number.Value.{Value}

@@ -6,7 +6,8 @@ use mathlib.Core.List.{List}
 use lib.ListN.{length, getD, length-append}
 use Rattle.pack.specs.Value.{pgns-of, noFieldType, noEntry, noLookup, noField, noPgn, pgn-at, field-at, lookup-at}
 use Rattle.pack.specs.Records.{entryAt, lookupAt, pgnAt, fieldAt}
-use Rattle.pack.specs.Format.{types, typeOffsets, entries, entryOffsets, LookupState, lookups, lookupRecords, lookupOffsets, fields, fieldOffsets, pgnRecords, pgnOffsets, typeList, lookupList, treeList, typePart, lookupPart, treePart, before, lookupStart, pgnStart}
+use Rattle.pack.specs.Format.{types, typeOffsets, entries, entryOffsets, LookupState, lookups, lookupRecords, lookupOffsets, fields, fieldOffsets}
+use Rattle.pack.specs.Format.{pgnRecords, pgnOffsets, typeList, lookupList, treeList, typePart, lookupPart, treePart, before, lookupStart, pgnStart}
 use Rattle.pack.specs.Meaning.{typeOf, lookupOf, pgnOf, treeOf, packOf, entryMeaning, fieldMeaning}
 use Rattle.pack.specs.Ready.{lookupPlace, pgnRecordsBelow, treePlace}
 use Rattle.pack.proofs.Tables.{length-tab, getD-tab}

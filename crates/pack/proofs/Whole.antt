@@ -7,7 +7,8 @@ use mathlib.Core.List.{List}
 use borrow.Author.Tests.{ne-eqb}
 use lib.ListN.{length}
 use Rattle.pack.specs.Items.{fresh, numberAt, versionAt, finish}
-use Rattle.pack.specs.Format.{types, typeOffsets, lookups, lookupOffsets, pgns, typeList, lookupList, treeStart, treeList, packEnd, typePart, lookupPart, treePart, before, offsets}
+use Rattle.pack.specs.Format.{types, typeOffsets, lookups, lookupOffsets, pgns, typeList, lookupList, treeStart, treeList, packEnd, typePart, lookupPart}
+use Rattle.pack.specs.Format.{treePart, before, offsets}
 use Rattle.pack.specs.Load.{indexOf}
 use Rattle.pack.specs.Placing.{Stored, PlacedTo, TreePlacing, Walking}
 use Rattle.pack.specs.declared.cursor.Cursor.{Cursor}

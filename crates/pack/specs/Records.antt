@@ -3,7 +3,8 @@ use Prim.Native.Nat.{ℕ, _/_, _%_}
 use mathlib.Core.List.{List}
 use mathlib.Core.Bool.{true, false}
 use Rattle.pack.specs.Notation.{_==_, if_then_else_}
-use Rattle.pack.specs.Items.{largest64, wideAt, numberAt, codeAt, indexAt, sumAt, markAt, textAt, nameAt, floatAt, optTextAt, optNumberAt, optFloatAt, optBytesAt, optSumAt}
+use Rattle.pack.specs.Items.{largest64, wideAt, numberAt, codeAt, indexAt, sumAt, markAt, textAt, nameAt, floatAt, optTextAt, optNumberAt, optFloatAt}
+use Rattle.pack.specs.Items.{optBytesAt, optSumAt}
 use Rattle.pack.specs.declared.text.OptText.{OptText}
 use Rattle.pack.specs.declared.cursor.Cursor.{Cursor}
 use Rattle.pack.specs.declared.cursor.WideItem.{WideItem}

@@ -3,7 +3,8 @@
 ghost use mathlib.Core.Path.{_≡_};
 ghost use Prim.Native.Nat.{_≤_, _<_};
 ghost use lib.ListN.{length, set};
-ghost use Rattle.pack.specs.Format.{types, typeOffsets, entries, entryOffsets, lookupNext, lookupRecords, lookups, lookupOffsets, fields, fieldOffsets, pgnNext, pgnRecords, pgns, pgnOffsets};
+ghost use Rattle.pack.specs.Format.{types, typeOffsets, entries, entryOffsets, lookupNext, lookupRecords, lookups, lookupOffsets, fields, fieldOffsets};
+ghost use Rattle.pack.specs.Format.{pgnNext, pgnRecords, pgns, pgnOffsets};
 ghost use Rattle.pack.specs.Load.{refusalNumber, refusalDetail, Loads};
 ghost use Rattle.pack.specs.Placing.{Room, Placing, LookupPlacing, TreePlacing, Walking, counted};
 use crate::cursor::Cursor;

@@ -64,7 +64,8 @@ pub record MarkedTo (P : Pack) (l : ℕ) (m : List Bool) (q : Bytes → Bool) (m
 pub marked-first : (P : Pack) (m : List Bool) (q : Bytes → Bool) → MarkedTo P 0 m q m
 marked-first P m q = record { below = λ j h. absurd (omega arith); above = λ j h. refl }
 
-pub marked-next : {P : Pack} {l : ℕ} {m m′ m″ : List Bool} {q : Bytes → Bool} (b : Bool) → MarkedTo P l m q m′ → l < length m′ → b ≡ q (lookup-at (P .lookups) l .name) → m″ ≡ set m′ l (getD m′ l false || b) → MarkedTo P (l + 1) m q m″
+pub marked-next : {P : Pack} {l : ℕ} {m m′ m″ : List Bool} {q : Bytes → Bool} (b : Bool) → MarkedTo P l m q m′ → l < length m′
+    → b ≡ q (lookup-at (P .lookups) l .name) → m″ ≡ set m′ l (getD m′ l false || b) → MarkedTo P (l + 1) m q m″
 marked-next {P} {l} {m} {m′} {m″} {q} b a h e w =
     record {
       below = λ j k. low j (ℕ-discrete j l) k;

@@ -36,7 +36,9 @@ module _ (pgns : List Pgn) where
       let own : (field-at q h .name ≐ field-at p k .name) ≡ true = ap (λ (t : Bytes). t ≐ field-at p k .name) (b .names ∙ sym (a .names)) ∙ same-refl (field-at p k .name) in
       let hit : other-spn (field-at p k .name) s (field-at q h .name) (field-at q h .spn) ≡ true = ap (other-spn (field-at p k .name) s (field-at q h .name)) (b .carries) ∙ (rw (own, ne-eqb e s d)) in
       let inner = any-hit (λ x. other-spn (field-at p k .name) s (field-at q x .name) (field-at q x .spn)) (length (q .fields)) h (b .in-pgn) hit in
-      let among : other-among pgns (i + 1) (field-at p k .name) (field-at p k .spn) ≡ true = ap (other-among pgns (i + 1) (field-at p k .name)) (a .carries) ∙ any-hit (λ x. other-in (field-at p k .name) s (getD pgns x noPgn)) (i + 1) j (omega arith) inner in
+      let among : other-among pgns (i + 1) (field-at p k .name) (field-at p k .spn) ≡ true =
+      ap (other-among pgns (i + 1) (field-at p k .name)) (a .carries)
+      ∙ any-hit (λ x. other-in (field-at p k .name) s (getD pgns x noPgn)) (i + 1) j (omega arith) inner in
       let from = any-hit (λ x. other-among pgns (i + 1) (field-at p x .name) (field-at p x .spn)) (length (p .fields)) k (a .in-pgn) among in
       any-hit (clash-from pgns) (length pgns) i (a .in-tree) from
 

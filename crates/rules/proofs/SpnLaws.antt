@@ -14,7 +14,8 @@ use Rattle.pack.specs.Meaning.{packOf, fieldMeaning}
 use Rattle.pack.specs.declared.field.FieldView.{FieldView}
 use Rattle.rules.specs.declared.spn_names.Namer.{Namer}
 use Rattle.rules.specs.Model.{given}
-use Rattle.rules.specs.SpnNames.{is-number, spn-field, spn-pgn, name-in, name-by, spn-name, names-spn, earlier-if, earlier-in, earlier-spn, spn-from, least-spn-in, least-spn}
+use Rattle.rules.specs.SpnNames.{is-number, spn-field, spn-pgn, name-in, name-by, spn-name, names-spn, earlier-if, earlier-in, earlier-spn, spn-from}
+use Rattle.rules.specs.SpnNames.{least-spn-in, least-spn}
 use Rattle.rules.specs.Namers.{NamesAmong}
 use Rattle.rules.proofs.Extremes.{max-is, min-is, first-given, least-given, optional-is, and-left, and-right}
 

@@ -13,7 +13,8 @@ use Rattle.rules.specs.Findings.{report-if, lookup-warning}
 use Rattle.rules.specs.Model.{fieldtype-of, lookup-ref, fieldtypes}
 use Rattle.rules.specs.Search.{sumBelow}
 use Rattle.rules.specs.Fieldtypes.{check-fieldtypes, fieldtype-at}
-use Rattle.rules.specs.LookupWiring.{check-lookup-wiring, referenced, check-lookup-refs, lookup-ref-at, lookup-found-at, lookup-width-at, check-nested-refs, fieldtype-entry-at, nested-lookup-at}
+use Rattle.rules.specs.LookupWiring.{check-lookup-wiring, referenced, check-lookup-refs, lookup-ref-at, lookup-found-at, lookup-width-at}
+use Rattle.rules.specs.LookupWiring.{check-nested-refs, fieldtype-entry-at, nested-lookup-at}
 use Rattle.rules.specs.LookupNames.{check-lookup-names, lookup-names-of, same-name-as}
 use Rattle.rules.specs.SpnNames.{check-spn-names, clash-of, clash-with, clash-at}
 use Rattle.rules.specs.PgnRange.{check-pgn-range, quick-range, found-range, Range}

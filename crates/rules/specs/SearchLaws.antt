@@ -8,7 +8,8 @@ use mathlib.Core.List.{List, [], _++_, append-nil}
 use mathlib.Core.Option.{Option, none, some, Option·none-ne-some, Option·some-injective}
 use mathlib.Core.Path.{_≡_, refl, sym, ap, _∙_}
 use Rattle.pack.specs.Notation.{if_then_else_, concatBelow, optional}
-use Rattle.rules.specs.Search.{or-else, anyBelow, firstBelow, latestBelow, countBelow, sumBelow, larger, smaller, maxBelow, minBelow, lower-key, leastBelow, next-rank, ranked}
+use Rattle.rules.specs.Search.{or-else, anyBelow, firstBelow, latestBelow, countBelow, sumBelow, larger, smaller, maxBelow, minBelow, lower-key}
+use Rattle.rules.specs.Search.{leastBelow, next-rank, ranked}
 
 -- ---- a turn
 

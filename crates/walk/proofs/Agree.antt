@@ -11,7 +11,8 @@ use borrow.Author.Tests.{eq-eqb, ne-eqb}
 use Rattle.walk.specs.Layout.{Layout, set-at, stop-1}
 use Rattle.walk.specs.Passes.{Place, first, Stand, again, arrived, ready, beyond}
 use Rattle.walk.specs.Visits.{Visits, latest, is-current}
-use Rattle.walk.specs.Walk.{Arrival, not-current, over, enter, arrive, Settled, past, halted, due, visit-then, settle, settled, onward, walk-on, walk-with, by-visits, Stops}
+use Rattle.walk.specs.Walk.{Arrival, not-current, over, enter, arrive, Settled, past, halted, due, visit-then, settle, settled, onward, walk-on}
+use Rattle.walk.specs.Walk.{walk-with, by-visits, Stops}
 use Rattle.walk.specs.ByPlace.{placed, by-place}
 use Rattle.walk.proofs.SetFacts.{Good, good}
 use Rattle.walk.proofs.Position.{standing, visiting, Comes, at-first, another, no-start, entered, passed-over, after-visit, at-field, on-arriving}

@@ -23,7 +23,8 @@ use Rattle.rules.specs.TrailingZero.{starts-behind, fixed, trailing-zero-target
 use Rattle.rules.specs.Texts.{DECIMAL}
 use Rattle.rules.specs.Clean.{Clean, clean-in-turn, clean-below, clean-if}
 use Rattle.walk.specs.Layout.{set-or-empty, layout, start, sets-hold}
-use Rattle.walk.specs.Stops.{is-missing, name-of, lookup-missing, unfit, match-unfit, names-missing, entries-name-missing, lookup-names-missing, reference-names-missing, lacks}
+use Rattle.walk.specs.Stops.{is-missing, name-of, lookup-missing, unfit, match-unfit, names-missing, entries-name-missing, lookup-names-missing}
+use Rattle.walk.specs.Stops.{reference-names-missing, lacks}
 use Rattle.walk.specs.ByPlace.{placed}
 use Rattle.walk.proofs.Tests.{and-l, and-r, and-i, or-l, or-r, or-i, none-below}
 use Rattle.walk.proofs.Clean.{clean-then, clean-else}

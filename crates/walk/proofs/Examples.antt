@@ -17,7 +17,8 @@ use Rattle.rules.specs.Floats.{ONE}
 use Rattle.rules.specs.Texts.{bytes, BINARY, NUMBER, DYNAMIC-FIELD-KEY, DYNAMIC-FIELD-VALUE}
 use Rattle.rules.specs.Search.{everyBelow}
 use Rattle.walk.specs.Layout.{Layout, sets-hold, share, nested-in, inside-previous, misplaced, clash, stop-1, layout}
-use Rattle.walk.specs.Stops.{is-missing, lookup-missing, unfit, match-unfit, names-missing, entries-name-missing, lookup-names-missing, reference-names-missing, lacks, lacks-length, stop-at}
+use Rattle.walk.specs.Stops.{is-missing, lookup-missing, unfit, match-unfit, names-missing, entries-name-missing, lookup-names-missing}
+use Rattle.walk.specs.Stops.{reference-names-missing, lacks, lacks-length, stop-at}
 use Rattle.walk.specs.Passes.{put, arrives, look, close, stand}
 use Rattle.walk.specs.Visits.{visited, latest, is-current}
 use Rattle.walk.specs.Walk.{End, whole, used-up, stop, Answer, arrive, settle, settled, onward, walk-on, walk-with, by-visits, walk}
@@ -148,7 +149,10 @@ answer x visits = record { ends = x; visits = visits }
 
 -- the definitions, opened
 unfoldable run : Pgn → List ℕ → Answer
-unfolding walk walk-with walk-on onward settled settle arrive stand close look arrives put visited latest is-current stop-1 misplaced clash share nested-in inside-previous stop-at lookup-missing is-missing match-unfit unfit reference-names-missing lookup-names-missing entries-name-missing names-missing lacks lacks-length find-lookup target fieldtypes is-fieldtype length-source resolve-match resolve-text resolve-name parse-u64 parse-digits
+unfolding walk walk-with walk-on onward settled settle arrive stand close look arrives put visited latest is-current stop-1 misplaced clash share
+    nested-in inside-previous stop-at lookup-missing is-missing match-unfit unfit reference-names-missing lookup-names-missing entries-name-missing
+    names-missing lacks lacks-length find-lookup target fieldtypes is-fieldtype length-source resolve-match resolve-text resolve-name parse-u64
+    parse-digits
 run p readings = walk P p readings
 
 unfoldable is-held : Pgn → Bool
@@ -315,7 +319,10 @@ conditions p =
     ∷ []
 
 unfoldable walk-alone : Pgn → List ℕ → Answer
-unfolding walk walk-with walk-on onward settled settle arrive stand close look arrives put visited latest is-current stop-1 misplaced clash share nested-in inside-previous stop-at lookup-missing is-missing match-unfit unfit reference-names-missing lookup-names-missing entries-name-missing names-missing lacks lacks-length find-lookup target fieldtypes is-fieldtype length-source resolve-match resolve-text resolve-name parse-u64 parse-digits
+unfolding walk walk-with walk-on onward settled settle arrive stand close look arrives put visited latest is-current stop-1 misplaced clash share
+    nested-in inside-previous stop-at lookup-missing is-missing match-unfit unfit reference-names-missing lookup-names-missing entries-name-missing
+    names-missing lacks lacks-length find-lookup target fieldtypes is-fieldtype length-source resolve-match resolve-text resolve-name parse-u64
+    parse-digits
 walk-alone p readings = walk (alone p) p readings
 
 -- held, and R05's cause 3 is all that is found: stop 2
@@ -348,7 +355,8 @@ counted-inside-stops = refl
 
 -- `held`, by the letter, and the widest
 unfoldable held-readings : Pgn → List Bool
-unfolding held held-letter held-widest widest-count-fields-held count-field-widest shares-held clash share nested-in count-fields-held count-field-held bit-length-held dynamic-value-held sets-hold target length-source
+unfolding held held-letter held-widest widest-count-fields-held count-field-widest shares-held clash share nested-in count-fields-held
+    count-field-held bit-length-held dynamic-value-held sets-hold target length-source
 held-readings p = held (alone p) p ∷ held-letter (alone p) p ∷ held-widest (alone p) p ∷ []
 
 counted-inside-readings : held-readings counted-inside ≡ false ∷ true ∷ true ∷ []

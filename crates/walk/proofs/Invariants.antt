@@ -10,7 +10,8 @@ use lib.ListN.{length}
 use lib.Dec.{ltb, eqb}
 use borrow.Author.Tests.{ltb-true, ltb-false, eqb-true, eqb-false, not-true, not-false, lt-ltb, le-leb, lt-leb, eq-eqb, ne-eqb}
 use Rattle.walk.specs.Layout.{Layout, set-at, start, end}
-use Rattle.walk.specs.Passes.{Rest, endless, more, present, Place, first, goto, goto-with, arrives, Stand, again, arrived, ready, beyond, look, close, stand}
+use Rattle.walk.specs.Passes.{Rest, endless, more, present, Place, first, goto, goto-with, arrives, Stand, again, arrived, ready, beyond, look, close}
+use Rattle.walk.specs.Passes.{stand}
 use Rattle.walk.specs.Visits.{Visit, Visits, visited}
 use Rattle.walk.specs.Walk.{by-visits}
 use Rattle.walk.proofs.Tests.{and-l, and-r, put-same, put-other, tri}

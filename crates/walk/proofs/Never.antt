@@ -10,7 +10,8 @@ use Rattle.pack.specs.Value.{noField}
 use Rattle.walk.specs.Layout.{Layout, set-at, start, stop-1}
 use Rattle.walk.specs.Passes.{passes, Place}
 use Rattle.walk.specs.Visits.{Visits}
-use Rattle.walk.specs.Walk.{Memory, counted, not-current, arrive, Settled, past, halted, due, End, whole, used-up, stop, Answer, onward, walk-on, walk-with, by-visits, Stops}
+use Rattle.walk.specs.Walk.{Memory, counted, not-current, arrive, Settled, past, halted, due, End, whole, used-up, stop, Answer, onward, walk-on}
+use Rattle.walk.specs.Walk.{walk-with, by-visits, Stops}
 use Rattle.walk.specs.ByPlace.{placed, by-place}
 use Rattle.walk.proofs.SetFacts.{Holds, Good, good}
 use Rattle.walk.proofs.Position.{due-order, arriving-at}

@@ -21,7 +21,8 @@ use Rattle.rules.specs.Texts.{DYNAMIC-FIELD-VALUE}
 use Rattle.rules.proofs.Types.{given-is}
 use Rattle.walk.specs.Layout.{Layout, sets-hold}
 use Rattle.walk.specs.ByPlace.{placed}
-use Rattle.walk.specs.Stops.{is-missing, lookup-missing, unfit, match-unfit, entries-name-missing, reference-names-missing, is-dynamic-value, lacks, lacks-length, stop-at}
+use Rattle.walk.specs.Stops.{is-missing, lookup-missing, unfit, match-unfit, entries-name-missing, reference-names-missing, is-dynamic-value, lacks}
+use Rattle.walk.specs.Stops.{lacks-length, stop-at}
 use Rattle.walk.specs.StopParts.{Named, stop-number, field-stop, need-stop}
 use Rattle.walk.specs.declared.stops.FieldtypeLookup.{FieldtypeLookup}
 

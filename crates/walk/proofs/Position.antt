@@ -15,7 +15,8 @@ use Rattle.walk.specs.Walk.{by-visits, Arrival, not-current, over, enter
 use Rattle.walk.specs.ByPlace.{placed}
 use Rattle.walk.proofs.Tests.{and-l, and-r, and-i, bool-eq}
 use Rattle.walk.proofs.SetFacts.{Holds, holds-e, holds-i, each-e, each-i, Good, good}
-use Rattle.walk.proofs.Invariants.{Present, Law, Due, Stood, now, still, law-visit, moved-visit, entering, law-over, due-enter, moved-over, stand-ok, moved-first, law-first}
+use Rattle.walk.proofs.Invariants.{Present, Law, Due, Stood, now, still, law-visit, moved-visit, entering, law-over, due-enter, moved-over, stand-ok}
+use Rattle.walk.proofs.Invariants.{moved-first, law-first}
 
 -- A walk stands somewhere before a visit, or a field is due.
 pub data Moment : Type 0 where

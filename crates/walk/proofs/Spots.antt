@@ -10,7 +10,8 @@ use borrow.Author.Tests.{ne-eqb, lt-ltb, le-ltb}
 use Rattle.pack.specs.Notation.{if_then_else_, optional, _==_}
 use Rattle.walk.specs.SetsOf.{opt-order}
 use Rattle.walk.specs.Layout.{Layout, no-set, set-at, end}
-use Rattle.walk.specs.Passes.{Rest, endless, more, Place, present, put, goto, goto-with, arrives, Stand, again, arrived, ready, beyond, look, Turn, goes-on, leaves, begins, turn, close, stand}
+use Rattle.walk.specs.Passes.{Rest, endless, more, Place, present, put, goto, goto-with, arrives, Stand, again, arrived, ready, beyond, look, Turn}
+use Rattle.walk.specs.Passes.{goes-on, leaves, begins, turn, close, stand}
 use Rattle.walk.specs.Walk.{Arrival, not-current, over, enter, counted, arrive, Settled, past, halted, due, settle, settled}
 use Rattle.walk.specs.ByPlace.{placed, counts, by-place}
 use Rattle.walk.specs.SetsOf.{SetsAre, has-orders}

@@ -20,7 +20,8 @@ use Rattle.pack.specs.Value.{pgn-at}
 use Rattle.walk.specs.Held.{held}
 use Rattle.walk.specs.Naming.{absence, naming-refusal, refusal-of, IsFound, NamedIs}
 use Rattle.walk.specs.Walk.{End, whole, used-up, stop, Answer}
-use Rattle.walk.specs.WalkCall.{in-pack, ending, judged, walk-of, walked, visitsLeft, visitsAfter, end-number, ending-number, walk-answer, visits-tell, walk-tells, Walks}
+use Rattle.walk.specs.WalkCall.{in-pack, ending, judged, walk-of, walked, visitsLeft, visitsAfter, end-number, ending-number, walk-answer, visits-tell}
+use Rattle.walk.specs.WalkCall.{walk-tells, Walks}
 use Rattle.walk.specs.WalkCall.{held-judged, held-told, held-answer, held-tell, held-tells, TellsHeld}
 use Rattle.walk.specs.declared.named.FoundPgn.{FoundPgn}
 use Rattle.walk.specs.declared.named.NamedPgn.{NamedPgn}

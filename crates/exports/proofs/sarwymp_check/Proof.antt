@@ -22,7 +22,8 @@ same-length-2 c = search needs
 
 returns : tie.Need-returns
 returns c =
-    let call = c .before .before .before .before .before .before .check .ensures in (
+    let check = c .before .before .before .before .before .before .check in
+    let call = check .ensures in (
       c .check-number .ensures ∙ ap (λ (a : Answer). a .number) (call .told),
       (c .before .check-answer .ensures ∙ ap (λ (a : Answer). filled 2 (a .values)) (call .told), (call .work, call .findings)),
     )

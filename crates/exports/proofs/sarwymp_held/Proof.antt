@@ -19,7 +19,8 @@ same-length c = search needs
 
 returns : tie.Need-returns
 returns c =
-    let call = c .before .before .before .before .held .ensures in (
+    let held = c .before .before .before .before .held in
+    let call = held .ensures in (
       c .held-number .ensures ∙ ap (λ (a : Answer). a .number) (call .told),
       (c .before .held-answer .ensures ∙ ap (λ (a : Answer). filled 1 (a .values)) (call .told), call .work),
     )

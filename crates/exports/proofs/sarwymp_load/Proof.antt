@@ -20,7 +20,8 @@ same-length c = search needs
 
 returns : tie.Need-returns
 returns c =
-    let call = c .before .before .before .before .load .ensures in (
+    let load = c .before .before .before .before .load in
+    let call = load .ensures in (
       c .load-number .ensures ∙ ap (λ (a : Answer). a .number) (call .told),
       (c .before .load-answer .ensures ∙ ap (λ (a : Answer). filled 11 (a .values)) (call .told), call .work),
     )

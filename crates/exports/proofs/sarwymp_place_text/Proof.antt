@@ -22,7 +22,8 @@ same-length-2 c = search needs
 
 returns : tie.Need-returns
 returns c =
-    let call = c .before .before .before .before .before .before .place-text .ensures in (
+    let place-text = c .before .before .before .before .before .before .place-text in
+    let call = place-text .ensures in (
       c .place-number .ensures ∙ ap (λ (a : Answer). a .number) (call .told),
       (c .before .place-answer .ensures ∙ ap (λ (a : Answer). filled 1 (a .values)) (call .told), (call .work, call .text)),
     )

@@ -22,7 +22,8 @@ same-length-2 c = search needs
 
 returns : tie.Need-returns
 returns c =
-    let call = c .before .before .before .before .before .before .walk .ensures in (
+    let walk = c .before .before .before .before .before .before .walk in
+    let call = walk .ensures in (
       c .walk-number .ensures ∙ ap (λ (a : Answer). a .number) (call .told),
       (c .before .walk-answer .ensures ∙ ap (λ (a : Answer). filled 2 (a .values)) (call .told), (call .work, call .visits)),
     )

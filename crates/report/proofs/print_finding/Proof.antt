@@ -37,10 +37,14 @@ enum-known-n : tie.Need-enum-known-n
 enum-known-n c = search needs
 
 slice-reshare-prefix-print-line : tie.Need-slice-reshare-prefix-print-line
-slice-reshare-prefix-print-line c = within _ _ _ _ _ _ _ _ _ (c .before .before .before .before .before .before .before .place-text .ensures .answer) (c .before .before .before .before .before .before .before .place-text .kept .1 .1 .1 .1 .1 .0) (c .before .n .given .1)
+slice-reshare-prefix-print-line c =
+    let place-text = c .before .before .before .before .before .before .before .place-text in
+    within _ _ _ _ _ _ _ _ _ (place-text .ensures .answer) (place-text .kept .1 .1 .1 .1 .1 .0) (c .before .n .given .1)
 
 slice-aggregate-print-line : tie.Need-slice-aggregate-print-line
-slice-aggregate-print-line c = sym (length-take-le _ _ (within _ _ _ _ _ _ _ _ _ (c .before .before .before .before .before .before .before .before .place-text .ensures .answer) (c .before .before .before .before .before .before .before .before .place-text .kept .1 .1 .1 .1 .1 .0) (c .before .before .n .given .1)))
+slice-aggregate-print-line c =
+    let place-text = c .before .before .before .before .before .before .before .before .place-text in
+    sym (length-take-le _ _ (within _ _ _ _ _ _ _ _ _ (place-text .ensures .answer) (place-text .kept .1 .1 .1 .1 .1 .0) (c .before .before .n .given .1)))
 
 print-line-requires : tie.Need-print-line-requires
 print-line-requires c κs = search needs

@@ -37,14 +37,24 @@ part-print-finding-end c = search needs
 
 print-finding-requires : tie.Need-print-finding-requires Inv-loop μ-loop
 print-finding-requires c κs =
-    let e : 8 * c .before .before .before .before .loop .i + 8 - 8 * c .before .before .before .before .loop .i ≤ length (drop (8 * c .before .before .before .before .loop .i) (c .before .before .before .before .before .before .before .before .before .args .findings .now)) = omega (arith, length-drop (8 * c .before .before .before .before .loop .i) (c .before .before .before .before .before .before .before .before .before .args .findings .now), c .before .before .before .before .before .before .before .before .before .pre, c .before .before .before .loop-test .taken) in
-    omega (arith, length-take-le (8 * c .before .before .before .before .loop .i + 8 - 8 * c .before .before .before .before .loop .i) (drop (8 * c .before .before .before .before .loop .i) (c .before .before .before .before .before .before .before .before .before .args .findings .now)) e)
+    let start = c .before .before .before .before .before .before .before .before .before in
+    let loop = c .before .before .before .before .loop in
+    let loop-test = c .before .before .before .loop-test in
+    let e : 8 * loop .i + 8 - 8 * loop .i ≤ length (drop (8 * loop .i) (start .args .findings .now)) =
+    omega (arith, length-drop (8 * loop .i) (start .args .findings .now), start .pre, loop-test .taken) in
+    omega (arith, length-take-le (8 * loop .i + 8 - 8 * loop .i) (drop (8 * loop .i) (start .args .findings .now)) e)
 
 same-length : tie.Need-same-length Inv-loop μ-loop
-same-length c = c .before .before .before .before .before .print-finding .kept .1 .0 ∙ c .before .before .before .before .before .before .before .before .before .before .loop .inv .0
+same-length c =
+    let loop = c .before .before .before .before .before .before .before .before .before .before .loop in
+    let print-finding = c .before .before .before .before .before .print-finding in
+    print-finding .kept .1 .0 ∙ loop .inv .0
 
 same-length-2 : tie.Need-same-length-2 Inv-loop μ-loop
-same-length-2 c = c .before .before .before .before .before .print-finding .kept .1 .1 .0 ∙ c .before .before .before .before .before .before .before .before .before .before .loop .inv .1
+same-length-2 c =
+    let loop = c .before .before .before .before .before .before .before .before .before .before .loop in
+    let print-finding = c .before .before .before .before .before .print-finding in
+    print-finding .kept .1 .1 .0 ∙ loop .inv .1
 
 returns : tie.Need-returns Inv-loop μ-loop
 returns c = search needs
@@ -56,7 +66,10 @@ loop-less : tie.Need-loop-less Inv-loop μ-loop
 loop-less c = search needs
 
 loop-again : tie.Need-loop-again Inv-loop μ-loop
-loop-again c = (c .before .before .before .before .before .print-finding .kept .1 .0 ∙ c .before .before .before .before .before .before .before .before .before .before .loop .inv .0, c .before .before .before .before .before .print-finding .kept .1 .1 .0 ∙ c .before .before .before .before .before .before .before .before .before .before .loop .inv .1)
+loop-again c =
+    let loop = c .before .before .before .before .before .before .before .before .before .before .loop in
+    let print-finding = c .before .before .before .before .before .print-finding in
+    (print-finding .kept .1 .0 ∙ loop .inv .0, print-finding .kept .1 .1 .0 ∙ loop .inv .1)
 
 slice-aggregate-number : tie.Need-slice-aggregate-number Inv-loop μ-loop
 slice-aggregate-number c = search needs
@@ -77,10 +90,14 @@ words-requires : tie.Need-words-requires Inv-loop μ-loop
 words-requires c κs = search needs
 
 same-length-3 : tie.Need-same-length-3 Inv-loop μ-loop
-same-length-3 c = c .before .before .before .before .before .before .before .loop .inv .0
+same-length-3 c =
+    let loop = c .before .before .before .before .before .before .before .loop in
+    loop .inv .0
 
 same-length-4 : tie.Need-same-length-4 Inv-loop μ-loop
-same-length-4 c = c .before .before .before .before .before .before .before .loop .inv .1
+same-length-4 c =
+    let loop = c .before .before .before .before .before .before .before .loop in
+    loop .inv .1
 
 returns-2 : tie.Need-returns-2 Inv-loop μ-loop
 returns-2 c = search needs

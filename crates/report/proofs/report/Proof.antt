@@ -27,7 +27,10 @@ enum-known-count : tie.Need-enum-known-count
 enum-known-count c = search needs
 
 print-findings-requires : tie.Need-print-findings-requires
-print-findings-requires c κs = within _ _ _ _ _ _ _ (c .before .before .before .before .before .before .before .before .before .before .check .ensures .answer) (c .before .before .before .before .before .before .before .before .before .before .check .kept .1 .1 .0) (c .before .before .before .before .count .given .1)
+print-findings-requires c κs =
+    let check = c .before .before .before .before .before .before .before .before .before .before .check in
+    let count = c .before .before .before .before .count in
+    within _ _ _ _ _ _ _ (check .ensures .answer) (check .kept .1 .1 .0) (count .given .1)
 
 same-length : tie.Need-same-length
 same-length c = search needs

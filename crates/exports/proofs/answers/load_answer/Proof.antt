@@ -31,7 +31,9 @@ returns : tie.Need-returns
 returns c = rw (c .before .before .l .given .1, c .detail .ensures)
 
 returns-2 : tie.Need-returns-2
-returns-2 c = rw (c .before .before .before .before .before .before .l2 .given .1)
+returns-2 c =
+    let l2 = c .before .before .before .before .before .before .l2 in
+    rw (l2 .given .1)
 
 pub load-answer-spec : {M : Type 1} → statement M
 load-answer-spec =

@@ -12,7 +12,9 @@ same true i j m n e f g = sym (le-leb m n (f (leb-true i j e)))
 same false i j m n e f g = sym (lt-leb m n (g (leb-false i j e)))
 
 returns : tie.Need-returns
-returns c = let a = c .before .args in same (leb (a .at) (a .len - a .n)) (a .at) (a .len - a .n) (a .at + a .n) (a .len) refl (λ h. omega arith) (λ h. omega arith)
+returns c =
+    let a = c .before .args in
+    same (leb (a .at) (a .len - a .n)) (a .at) (a .len - a .n) (a .at + a .n) (a .len) refl (λ h. omega arith) (λ h. omega arith)
 
 returns-2 : tie.Need-returns-2
 returns-2 c = let a = c .before .args in sym (lt-leb (a .at + a .n) (a .len) (omega arith))

@@ -16,8 +16,8 @@ is-nan (fin s m k) e = absurd (false≢true e)
 returns : tie.Need-returns
 unfolding div ofBits
 returns c =
-    let bits = c .before .args .pattern in
-    is-nan (ofBits binary64 bits) (sym (nanBits-is binary64 bits) ∙ nanBits-above binary64 bits ∙ lt-ltb _ _ (c .if1 .taken))
+    is-nan (ofBits binary64 (c .before .args .pattern))
+    (sym (nanBits-is binary64 (c .before .args .pattern)) ∙ nanBits-above binary64 (c .before .args .pattern) ∙ lt-ltb _ _ (c .if1 .taken))
 
 float-from-bits-result : tie.Need-float-from-bits-result
 float-from-bits-result c = rw (nanBits-above binary64 (c .before .args .pattern), le-ltb _ _ (c .if1 .left)) tt

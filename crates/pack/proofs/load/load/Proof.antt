@@ -18,7 +18,10 @@ none [] e = refl
 none (x ∷ xs) e = absurd (omega arith)
 
 returns : tie.Need-returns
-returns c = let a = too-long (now (c .before .before .before .args .pack)) (now (c .before .before .before .args .work)) (c .if1 .taken) in promised _ _ _ _ (a .answer) (a .work)
+returns c =
+    let start = c .before .before .before in
+    let a = too-long (now (start .args .pack)) (now (start .args .work)) (c .if1 .taken) in
+    promised _ _ _ _ (a .answer) (a .work)
 
 slice-relend-prefix-place-all : tie.Need-slice-relend-prefix-place-all
 slice-relend-prefix-place-all c = search needs
@@ -34,11 +37,12 @@ same-length c = search needs
 
 returns-2 : tie.Need-returns-2
 returns-2 c =
-    let s = now (c .before .before .before .before .before .before .before .before .before .before .args .pack) in
-    let w = now (c .before .before .before .before .before .before .before .before .before .before .args .work) in
-    let x : c .before .before .before .before .before .place-all .last .1 .0 ++ w ≡ w = rw (none (c .before .before .before .before .before .place-all .last .1 .0) (c .before .before .before .before .before .place-all .kept .1 .0)) in
-    let e = c .before .before .before .before .before .place-all .ensures .end in
-    let a = input-refused s w (omega arith) (rw (← e) (c .if2 .taken)) in
+    let start = c .before .before .before .before .before .before .before .before .before .before in
+    let place-all = c .before .before .before .before .before .place-all in
+    let w = now (start .args .work) in let s = now (start .args .pack) in
+    let x : place-all .last .1 .0 ++ w ≡ w = rw (none (place-all .last .1 .0) (place-all .kept .1 .0)) in
+    let e = place-all .ensures .end in
+    let a = input-refused s w (omega (arith, c)) (rw (← e) (c .if2 .taken)) in
     promised _ _ _ _ (rw e (a .answer)) (x ∙ a .work)
 
 same-length-2 : tie.Need-same-length-2
@@ -47,12 +51,15 @@ same-length-2 c = search needs
 returns-3 : tie.Need-returns-3
 unfolding indexOf
 returns-3 c =
-    let s = now (c .before .before .before .before .before .before .before .before .before .before .before .before .before .args .pack) in
-    let w = now (c .before .before .before .before .before .before .before .before .before .before .before .before .before .args .work) in
-    let x : c .before .before .before .before .before .before .before .before .place-all .last .1 .0 ++ w ≡ w = rw (none (c .before .before .before .before .before .before .before .before .place-all .last .1 .0) (c .before .before .before .before .before .before .before .before .place-all .kept .1 .0)) in
-    let z : packEnd s .refused ≡ 0 = rw (← c .before .before .before .before .before .before .before .before .place-all .ensures .end) (c .before .before .before .if2 .left) in
-    let n : c .before .before .before .before .before .before .before .before .place-all .result .index .records ≡ length (offsets s) = ap (λ (i : Index). i .records) (c .before .before .before .before .before .before .before .before .place-all .ensures .index z) in
-    let a = work-short s w (omega arith) z (rw (x, n) at (c .if3 .taken)) in
+    let back12 = c .before .before .before .before .before .before .before .before .before .before .before .before in
+    let start = back12 .before in
+    let place-all = c .before .before .before .before .before .before .before .before .place-all in
+    let if2 = c .before .before .before .if2 in
+    let w = now (start .args .work) in let s = now (start .args .pack) in
+    let x : place-all .last .1 .0 ++ w ≡ w = rw (none (place-all .last .1 .0) (place-all .kept .1 .0)) in
+    let z : packEnd s .refused ≡ 0 = rw (← place-all .ensures .end) (if2 .left) in
+    let n : place-all .result .index .records ≡ length (offsets s) = ap (λ (i : Index). i .records) (place-all .ensures .index z) in
+    let a = work-short s w (omega (arith, c)) z (rw (x, n) at (c .if3 .taken)) in
     promised _ _ _ _ (rw n (a .answer)) (x ∙ a .work)
 
 place-all-requires-2 : tie.Need-place-all-requires-2
@@ -64,13 +71,18 @@ same-length-3 c = search needs
 returns-4 : tie.Need-returns-4
 unfolding indexOf
 returns-4 c =
-    let s = now (c .before .before .before .before .before .before .before .before .before .before .before .before .before .before .before .before .before .args .pack) in
-    let w = now (c .before .before .before .before .before .before .before .before .before .before .before .before .before .before .before .before .before .args .work) in
-    let x : c .before .before .before .before .before .before .before .before .before .before .before .before .place-all .last .1 .0 ++ w ≡ w = rw (none (c .before .before .before .before .before .before .before .before .before .before .before .before .place-all .last .1 .0) (c .before .before .before .before .before .before .before .before .before .before .before .before .place-all .kept .1 .0)) in
-    let z : packEnd s .refused ≡ 0 = rw (← c .before .before .before .before .before .before .before .before .before .before .before .before .place-all .ensures .end) (c .before .before .before .before .before .before .before .if2 .left) in
-    let n : c .before .before .before .before .before .before .before .before .before .before .before .before .place-all .result .index .records ≡ length (offsets s) = ap (λ (i : Index). i .records) (c .before .before .before .before .before .before .before .before .before .before .before .before .place-all .ensures .index z) in
-    let a = loads s w (c .before .before .before .before .before .before .before .before .before .before .before .before .before .before .if1 .left) z (rw (x, n) at (c .before .before .before .before .if3 .left)) in
-    promised _ _ _ _ (rw (c .before .before .before .before .before .before .before .before .before .before .before .before .place-all .ensures .index z) (a .answer)) ((rw x at (c .before .before .place-all2 .ensures .work z)) ∙ a .work)
+    let back12 = c .before .before .before .before .before .before .before .before .before .before .before .before in
+    let start = back12 .before .before .before .before .before in
+    let if1 = back12 .before .before .if1 in
+    let place-all = c .before .before .before .before .before .before .before .before .before .before .before .before .place-all in
+    let if2 = c .before .before .before .before .before .before .before .if2 in
+    let if3 = c .before .before .before .before .if3 in
+    let w = now (start .args .work) in let s = now (start .args .pack) in
+    let x : place-all .last .1 .0 ++ w ≡ w = rw (none (place-all .last .1 .0) (place-all .kept .1 .0)) in
+    let z : packEnd s .refused ≡ 0 = rw (← place-all .ensures .end) (if2 .left) in
+    let n : place-all .result .index .records ≡ length (offsets s) = ap (λ (i : Index). i .records) (place-all .ensures .index z) in
+    let a = loads s w (if1 .left) z (rw (x, n) at (if3 .left)) in
+    promised _ _ _ _ (rw (place-all .ensures .index z) (a .answer)) ((rw x at (c .before .before .place-all2 .ensures .work z)) ∙ a .work)
 
 pub load-spec : {M : Type 1} → statement M
 load-spec =

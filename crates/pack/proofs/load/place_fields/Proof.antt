@@ -12,27 +12,41 @@ use Rattle.pack.proofs.load.place_fields.Statement.{statement}
 use Rattle.pack.proofs.load.place_fields.Tie as tie
 
 abbrev Inv-loop : tie.InvT-loop
-Inv-loop s work₀ types n p c₀ total₀ p₀ i₀ work c total p' i = (i ≤ n) × (length work ≡ length work₀) × PlacedTo (fields types s c₀ i .next) work₀ p₀ (fieldOffsets types s c₀ i) work c p' × Room s c p' × (total ≡ fields types s c₀ i .total)
+Inv-loop s work₀ types n p c₀ total₀ p₀ i₀ work c total p' i =
+    (i ≤ n)
+    × (length work ≡ length work₀)
+    × PlacedTo (fields types s c₀ i .next) work₀ p₀ (fieldOffsets types s c₀ i) work c p'
+    × Room s c p'
+    × (total ≡ fields types s c₀ i .total)
 
 abbrev μ-loop : tie.MeasureT-loop
 μ-loop s work₀ types n p c₀ total₀ p₀ i₀ work c total p' i = n - i
 
 loop-holds : tie.Need-loop-holds Inv-loop μ-loop
 unfolding fields fieldOffsets
-loop-holds c = (search needs, refl, placed-none (now (c .before .before .args .s)) _ _ _ (c .before .before .pre), c .before .before .pre, refl)
+loop-holds c =
+    let start = c .before .before in
+    (omega (arith, c), refl, placed-none (now (start .args .s)) _ _ _ (start .pre), start .pre, refl)
 
 same-length : tie.Need-same-length Inv-loop μ-loop
-same-length c = c .before .before .before .loop .inv .1
+same-length c =
+    let loop = c .before .before .before .loop in
+    loop .inv .1
 
 returns : tie.Need-returns Inv-loop μ-loop
 returns c =
-    let s = now (c .before .before .before .before .before .before .args .s) in
-    let a = c .before .before .before .loop .inv .2 in
+    let start = c .before .before .before .before .before .before in
+    let loop = c .before .before .before .loop in
+    let s = now (start .args .s) in
+    let a = loop .inv .2 in
     let n = c .if1 .taken in
-    placed-refused _ _ _ (a .next ∙ sym (fields-stay s (c .before .before .before .before .before .before .args .c) (c .before .before .before .before .before .before .args .types) (c .before .before .before .loop .i) (c .before .before .before .before .before .before .args .n) (search needs) (λ z. n ((rw (a .next) z))))) n (a .few)
+    placed-refused _ _ _
+    (a .next ∙ sym (fields-stay s (start .args .c) (start .args .types) (loop .i) (start .args .n) (omega (arith, c)) (λ z. n ((rw (a .next) z))))) n (a .few)
 
 put-requires : tie.Need-put-requires Inv-loop μ-loop
-put-requires c κs = omega (arith, c .before .before .before .before .loop .inv .3 .short, c .before .before .before .before .loop .inv .3 .inside)
+put-requires c κs =
+    let loop = c .before .before .before .before .loop in
+    omega (arith, loop .inv .3 .short, loop .inv .3 .inside)
 
 field-requires : tie.Need-field-requires Inv-loop μ-loop
 field-requires c κs = search needs
@@ -41,29 +55,53 @@ add-total : tie.Need-add-total Inv-loop μ-loop
 add-total c = search needs
 
 past-requires : tie.Need-past-requires Inv-loop μ-loop
-past-requires c κs = omega (arith, c .before .before .before .before .before .before .before .before .before .before .loop .inv .3 .short, c .before .before .before .before .before .before .before .before .before .before .loop .inv .3 .inside, c .before .before .before .before .before .before .before .before .before .before .loop .inv .3 .few)
+past-requires c κs =
+    let loop = c .before .before .before .before .before .before .before .before .before .before .loop in
+    omega (arith, loop .inv .3 .short, loop .inv .3 .inside, loop .inv .3 .few)
 
 add-i : tie.Need-add-i Inv-loop μ-loop
-add-i c = omega (arith, c .before .before .before .before .before .before .before .before .before .before .loop-test .taken, c .before .before .before .before .before .before .before .before .before .before .before .before .before .before .fits .n)
+add-i c =
+    let back12 = c .before .before .before .before .before .before .before .before .before .before .before .before in
+    let start = back12 .before .before in
+    let loop-test = c .before .before .before .before .before .before .before .before .before .before .loop-test in
+    omega (arith, loop-test .taken, start .fits .n)
 
 loop-less : tie.Need-loop-less Inv-loop μ-loop
-loop-less c = omega (arith, c .before .before .before .before .before .before .before .before .before .before .loop-test .taken)
+loop-less c =
+    let loop-test = c .before .before .before .before .before .before .before .before .before .before .loop-test in
+    omega (arith, loop-test .taken)
 
 loop-again : tie.Need-loop-again Inv-loop μ-loop
 unfolding fieldNext
 loop-again c =
-    let s = now (c .before .before .before .before .before .before .before .before .before .before .before .before .before .before .args .s) in
-    let i = c .before .before .before .before .before .before .before .before .before .before .before .loop .i in
-    let a = c .before .before .before .before .before .before .before .before .before .before .before .loop .inv .2 in
-    let one = placed-one (field-reader s (c .before .before .before .before .before .before .before .before .before .before .before .before .before .before .args .types) (c .before .before .before .before .before .before .before .before .before .before .before .loop .total)) (field-moves s (c .before .before .before .before .before .before .before .before .before .before .before .before .before .before .args .types) (c .before .before .before .before .before .before .before .before .before .before .before .loop .total)) (c .before .before .before .before .before .before .before .before .before .before .before .loop .c) (c .before .before .before .before .before .before .before .before .before .before .before .loop .p) (c .before .before .before .before .before .before .before .before .before .before .before .loop .work) (c .before .before .before .before .before .before .put .last .0) _ _ (c .before .before .before .before .before .before .before .before .before .before .before .loop .inv .3) (ap (λ r. r .next) (c .before .before .before .field .ensures .0)) (c .before .before .before .before .before .before .put .ensures) (c .past .ensures) in
-    let all = placed-append a (c .before .before .before .before .before .before .before .before .if1 .left) one in
-    (omega (arith, c .before .before .before .before .before .before .before .before .before .before .loop-test .taken), c .before .before .before .before .before .before .put .kept .0 ∙ c .before .before .before .before .before .before .before .before .before .before .before .loop .inv .1, (rw (fields-turn s (c .before .before .before .before .before .before .before .before .before .before .before .before .before .before .args .c) (c .before .before .before .before .before .before .before .before .before .before .before .before .before .before .args .types) i, fieldOffsets-turn s (c .before .before .before .before .before .before .before .before .before .before .before .before .before .before .args .c) (c .before .before .before .before .before .before .before .before .before .before .before .before .before .before .args .types) i, ← a .next, ← c .before .before .before .before .before .before .before .before .before .before .before .loop .inv .4) all), room-after (field-reader s (c .before .before .before .before .before .before .before .before .before .before .before .before .before .before .args .types) (c .before .before .before .before .before .before .before .before .before .before .before .loop .total)) (c .before .before .before .before .before .before .before .before .before .before .before .loop .c) (c .before .before .before .before .before .before .before .before .before .before .before .loop .p) (c .before .before .before .before .before .before .before .before .before .before .before .loop .inv .3) one, (rw (fields-turn s (c .before .before .before .before .before .before .before .before .before .before .before .before .before .before .args .c) (c .before .before .before .before .before .before .before .before .before .before .before .before .before .before .args .types) i, ← a .next, ← c .before .before .before .before .before .before .before .before .before .before .before .loop .inv .4) (ap (λ r. c .before .before .before .before .before .before .before .before .before .before .before .loop .total + r .value .scaling .bits) (c .before .before .before .field .ensures .0))))
+    let back12 = c .before .before .before .before .before .before .before .before .before .before .before .before in
+    let start = back12 .before .before in
+    let loop = c .before .before .before .before .before .before .before .before .before .before .before .loop in
+    let loop-test = c .before .before .before .before .before .before .before .before .before .before .loop-test in
+    let if1 = c .before .before .before .before .before .before .before .before .if1 in
+    let put = c .before .before .before .before .before .before .put in
+    let field = c .before .before .before .field in
+    let s = now (start .args .s) in let types = start .args .types in
+    let i = loop .i in
+    let a = loop .inv .2 in
+    let one = placed-one (field-reader s types (loop .total)) (field-moves s types (loop .total)) (loop .c) (loop .p) (loop .work) (put .last .0) _ _
+    (loop .inv .3) (ap (λ r. r .next) (field .ensures .0)) (put .ensures) (c .past .ensures) in
+    let all = placed-append a (if1 .left) one in (
+      omega (arith, loop-test .taken),
+      put .kept .0 ∙ loop .inv .1,
+      (rw (fields-turn s (start .args .c) types i, fieldOffsets-turn s (start .args .c) types i, ← a .next, ← loop .inv .4) all),
+      room-after (field-reader s types (loop .total)) (loop .c) (loop .p) (loop .inv .3) one,
+      (rw (fields-turn s (start .args .c) types i, ← a .next, ← loop .inv .4) (ap (λ r. loop .total + r .value .scaling .bits) (field .ensures .0))),
+    )
 
 same-length-2 : tie.Need-same-length-2 Inv-loop μ-loop
 same-length-2 c = c .before .loop .inv .1
 
 returns-2 : tie.Need-returns-2 Inv-loop μ-loop
-returns-2 c = let e : c .before .before .before .before .args .n ≡ c .before .loop .i = omega arith in rw e (c .before .loop .inv .2)
+returns-2 c =
+    let start = c .before .before .before .before in
+    let e : start .args .n ≡ c .before .loop .i = omega (arith, c) in
+    rw e (c .before .loop .inv .2)
 
 pub place-fields-spec : {M : Type 1} → statement M
 place-fields-spec =

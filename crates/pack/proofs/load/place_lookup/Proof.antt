@@ -11,7 +11,9 @@ use Rattle.pack.proofs.load.place_lookup.Statement.{statement}
 use Rattle.pack.proofs.load.place_lookup.Tie as tie
 
 put-requires : tie.Need-put-requires
-put-requires c κs = omega (arith, c .before .before .before .pre .short, c .before .before .before .pre .inside)
+put-requires c κs =
+    let start = c .before .before .before in
+    omega (arith, start .pre .short, start .pre .inside)
 
 lookup-requires : tie.Need-lookup-requires
 lookup-requires c κs = search needs
@@ -22,30 +24,41 @@ same-length c = search needs
 returns : tie.Need-returns
 unfolding lookupNext
 returns c =
-    let s = now (c .before .before .before .before .before .before .before .before .before .before .before .args .s) in
-    let l = lookupAt (c .before .before .before .before .before .before .before .before .before .before .before .args .before) s (c .before .before .before .before .before .before .before .before .before .before .before .args .c) in
-    let e : c .before .before .before .before .lookup .result .next ≡ l .next = ap (λ (r : LookupItem). r .next) (c .before .before .before .before .lookup .ensures) in
-    let k : c .before .before .before .before .lookup .result .next .at ≡ l .next .at = ap (λ (r : LookupItem). r .next .at) (c .before .before .before .before .lookup .ensures) in
+    let start = c .before .before .before .before .before .before .before .before .before .before .before in
+    let lookup = c .before .before .before .before .lookup in
+    let s = now (start .args .s) in
+    let l = lookupAt (start .args .before) s (start .args .c) in
+    let e : lookup .result .next ≡ l .next = ap (λ (r : LookupItem). r .next) (lookup .ensures) in
+    let k : lookup .result .next .at ≡ l .next .at = ap (λ (r : LookupItem). r .next .at) (lookup .ensures) in
     record {
-      placed = placed-refused _ _ _ (e ∙ sym (entries-reader s (l .value .kind) (l .value .entries) .sticky (l .next) (rw (← e) (c .if1 .taken)))) (c .if1 .taken) (omega (arith, k, lookup-reader s (c .before .before .before .before .before .before .before .before .before .before .before .args .before) .grows (c .before .before .before .before .before .before .before .before .before .before .before .args .c), c .before .before .before .before .before .before .before .before .before .before .before .pre .few));
-      before = (rw (c .before .before .before .before .lookup .ensures));
+      placed = placed-refused _ _ _ (e ∙ sym (entries-reader s (l .value .kind) (l .value .entries) .sticky (l .next) (rw (← e) (c .if1 .taken))))
+          (c .if1 .taken) (omega (arith, k, lookup-reader s (start .args .before) .grows (start .args .c), start .pre .few));
+      before = (rw (lookup .ensures));
     }
 
 add-place-entries : tie.Need-add-place-entries
-add-place-entries c = omega (arith, c .before .before .before .before .before .before .before .before .before .before .before .before .pre .short, c .before .before .before .before .before .before .before .before .before .before .before .before .pre .inside, c .before .before .before .before .before .before .before .before .before .before .before .before .pre .few)
+add-place-entries c =
+    let start = c .before .before .before .before .before .before .before .before .before .before .before .before in
+    omega (arith, start .pre .short, start .pre .inside, start .pre .few)
 
 place-entries-requires : tie.Need-place-entries-requires
 place-entries-requires c κs =
-    let s = now (c .before .before .before .before .before .before .before .before .before .before .before .before .args .s) in
-    let e : c .before .before .before .before .before .lookup .result .next ≡ lookupAt (c .before .before .before .before .before .before .before .before .before .before .before .before .args .before) s (c .before .before .before .before .before .before .before .before .before .before .before .before .args .c) .next = ap (λ (r : LookupItem). r .next) (c .before .before .before .before .before .lookup .ensures) in
-    rw e (room-head (lookup-reader s (c .before .before .before .before .before .before .before .before .before .before .before .before .args .before)) (lookup-moves s (c .before .before .before .before .before .before .before .before .before .before .before .before .args .before)) (c .before .before .before .before .before .before .before .before .before .before .before .before .args .c) (c .before .before .before .before .before .before .before .before .before .before .before .before .args .p) (c .before .before .before .before .before .before .before .before .before .before .before .before .pre) (rw (← e) (c .before .if1 .left)))
+    let start = c .before .before .before .before .before .before .before .before .before .before .before .before in
+    let lookup = c .before .before .before .before .before .lookup in
+    let before = start .args .before in let s = now (start .args .s) in
+    let e : lookup .result .next ≡ lookupAt before s (start .args .c) .next = ap (λ (r : LookupItem). r .next) (lookup .ensures) in
+    rw e (room-head (lookup-reader s before) (lookup-moves s before) (start .args .c) (start .args .p) (start .pre) (rw (← e) (c .before .if1 .left)))
 
 same-length-2 : tie.Need-same-length-2
 same-length-2 c = search needs
 
 returns-2 : tie.Need-returns-2
 unfolding lookupNext lookupRecords
-returns-2 c = record { placed = (rw (← c .before .before .before .before .before .before .before .before .before .lookup .ensures) (placed-parts (rw (c .before .before .before .before .before .before .before .before .before .before .before .before .put .ensures) at (c .before .before .before .place-entries .ensures)))); before = (rw (c .before .before .before .before .before .before .before .before .before .lookup .ensures)) }
+returns-2 c =
+    let put = c .before .before .before .before .before .before .before .before .before .before .before .before .put in
+    let lookup = c .before .before .before .before .before .before .before .before .before .lookup in
+    let place-entries = c .before .before .before .place-entries in
+    record { placed = (rw (← lookup .ensures) (placed-parts (rw (put .ensures) at (place-entries .ensures)))); before = (rw (lookup .ensures)) }
 
 pub place-lookup-spec : {M : Type 1} → statement M
 place-lookup-spec =

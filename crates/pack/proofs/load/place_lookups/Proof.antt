@@ -12,27 +12,40 @@ use Rattle.pack.proofs.load.place_lookups.Statement.{statement}
 use Rattle.pack.proofs.load.place_lookups.Tie as tie
 
 abbrev Inv-loop : tie.InvT-loop
-Inv-loop s work₀ n p c₀ before₀ p₀ i₀ work c before p' i = (i ≤ n) × (length work ≡ length work₀) × PlacedTo (lookups s c₀ i .next) work₀ p₀ (lookupOffsets s c₀ i) work c p' × Room s c p' × (before ≡ lookups s c₀ i .before)
+Inv-loop s work₀ n p c₀ before₀ p₀ i₀ work c before p' i =
+    (i ≤ n)
+    × (length work ≡ length work₀)
+    × PlacedTo (lookups s c₀ i .next) work₀ p₀ (lookupOffsets s c₀ i) work c p'
+    × Room s c p'
+    × (before ≡ lookups s c₀ i .before)
 
 abbrev μ-loop : tie.MeasureT-loop
 μ-loop s work₀ n p c₀ before₀ p₀ i₀ work c before p' i = n - i
 
 loop-holds : tie.Need-loop-holds Inv-loop μ-loop
 unfolding lookups lookupOffsets
-loop-holds c = (search needs, refl, placed-none (now (c .before .before .args .s)) _ _ _ (c .before .before .pre), c .before .before .pre, refl)
+loop-holds c =
+    let start = c .before .before in
+    (omega (arith, c), refl, placed-none (now (start .args .s)) _ _ _ (start .pre), start .pre, refl)
 
 same-length : tie.Need-same-length Inv-loop μ-loop
-same-length c = c .before .before .before .loop .inv .1
+same-length c =
+    let loop = c .before .before .before .loop in
+    loop .inv .1
 
 returns : tie.Need-returns Inv-loop μ-loop
 returns c =
-    let s = now (c .before .before .before .before .before .before .args .s) in
-    let a = c .before .before .before .loop .inv .2 in
+    let start = c .before .before .before .before .before .before in
+    let loop = c .before .before .before .loop in
+    let s = now (start .args .s) in
+    let a = loop .inv .2 in
     let n = c .if1 .taken in
-    placed-refused _ _ _ (a .next ∙ sym (lookups-stay s (c .before .before .before .before .before .before .args .c) (c .before .before .before .loop .i) (c .before .before .before .before .before .before .args .n) (search needs) (λ z. n ((rw (a .next) z))))) n (a .few)
+    placed-refused _ _ _ (a .next ∙ sym (lookups-stay s (start .args .c) (loop .i) (start .args .n) (omega (arith, c)) (λ z. n ((rw (a .next) z))))) n (a .few)
 
 place-lookup-requires : tie.Need-place-lookup-requires Inv-loop μ-loop
-place-lookup-requires c κs = c .before .before .before .before .loop .inv .3
+place-lookup-requires c κs =
+    let loop = c .before .before .before .before .loop in
+    loop .inv .3
 
 add-i : tie.Need-add-i Inv-loop μ-loop
 add-i c = search needs
@@ -42,19 +55,32 @@ loop-less c = search needs
 
 loop-again : tie.Need-loop-again Inv-loop μ-loop
 loop-again c =
-    let s = now (c .before .before .before .before .before .before .before .before .before .before .before .before .args .s) in
-    let i = c .before .before .before .before .before .before .before .before .before .loop .i in
-    let a = c .before .before .before .before .before .before .before .before .before .loop .inv .2 in
-    let b = c .before .before .before .before .place-lookup .ensures in
-    let all = placed-append a (c .before .before .before .before .before .before .if1 .left) (b .placed) in
-    let st : _≡_ {A = LookupState} (lookups s (c .before .before .before .before .before .before .before .before .before .before .before .before .args .c) i) (record { next = c .before .before .before .before .before .before .before .before .before .loop .c; before = c .before .before .before .before .before .before .before .before .before .loop .before }) = λ j. record { next = sym (a .next) j; before = sym (c .before .before .before .before .before .before .before .before .before .loop .inv .4) j } in
-    (search needs, c .before .before .before .before .place-lookup .kept .1 .0 ∙ c .before .before .before .before .before .before .before .before .before .loop .inv .1, (rw (lookups-turn s (c .before .before .before .before .before .before .before .before .before .before .before .before .args .c) i, lookupOffsets-turn s (c .before .before .before .before .before .before .before .before .before .before .before .before .args .c) i, st) all), room-after (lookup-next-reader s (c .before .before .before .before .before .before .before .before .before .loop .before)) (c .before .before .before .before .before .before .before .before .before .loop .c) (c .before .before .before .before .before .before .before .before .before .loop .p) (c .before .before .before .before .before .before .before .before .before .loop .inv .3) (b .placed), (rw (lookups-turn s (c .before .before .before .before .before .before .before .before .before .before .before .before .args .c) i, st) (b .before)))
+    let start = c .before .before .before .before .before .before .before .before .before .before .before .before in
+    let loop = c .before .before .before .before .before .before .before .before .before .loop in
+    let if1 = c .before .before .before .before .before .before .if1 in
+    let place-lookup = c .before .before .before .before .place-lookup in
+    let s = now (start .args .s) in
+    let i = loop .i in
+    let a = loop .inv .2 in
+    let b = place-lookup .ensures in
+    let all = placed-append a (if1 .left) (b .placed) in
+    let st : _≡_ {A = LookupState} (lookups s (start .args .c) i) (record { next = loop .c; before = loop .before }) =
+    λ j. record { next = sym (a .next) j; before = sym (loop .inv .4) j } in (
+      omega (arith, c),
+      place-lookup .kept .1 .0 ∙ loop .inv .1,
+      (rw (lookups-turn s (start .args .c) i, lookupOffsets-turn s (start .args .c) i, st) all),
+      room-after (lookup-next-reader s (loop .before)) (loop .c) (loop .p) (loop .inv .3) (b .placed),
+      (rw (lookups-turn s (start .args .c) i, st) (b .before)),
+    )
 
 same-length-2 : tie.Need-same-length-2 Inv-loop μ-loop
 same-length-2 c = c .before .loop .inv .1
 
 returns-2 : tie.Need-returns-2 Inv-loop μ-loop
-returns-2 c = let e : c .before .before .before .before .args .n ≡ c .before .loop .i = omega arith in rw e (c .before .loop .inv .2)
+returns-2 c =
+    let start = c .before .before .before .before in
+    let e : start .args .n ≡ c .before .loop .i = omega (arith, c) in
+    rw e (c .before .loop .inv .2)
 
 pub place-lookups-spec : {M : Type 1} → statement M
 place-lookups-spec =

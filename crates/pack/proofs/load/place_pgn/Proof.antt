@@ -23,7 +23,9 @@ unfolding pgnNext pgnRecords
 whole k s c g w p w′ d q e a = placed-parts (rw e at a)
 
 put-requires : tie.Need-put-requires
-put-requires c κs = omega (arith, c .before .before .before .pre .short, c .before .before .before .pre .inside)
+put-requires c κs =
+    let start = c .before .before .before in
+    omega (arith, start .pre .short, start .pre .inside)
 
 pgn-requires : tie.Need-pgn-requires
 pgn-requires c κs = search needs
@@ -34,25 +36,39 @@ same-length c = search needs
 returns : tie.Need-returns
 unfolding pgnNext
 returns c =
-    let s = now (c .before .before .before .before .before .before .before .before .before .before .args .s) in
-    let e : c .before .before .before .pgn .result .next ≡ pgnAt s (c .before .before .before .before .before .before .before .before .before .before .args .c) .next = ap (λ (r : PgnItem). r .next) (c .before .before .before .pgn .ensures) in
-    let l : c .before .before .before .pgn .result .next .at ≡ pgnAt s (c .before .before .before .before .before .before .before .before .before .before .args .c) .next .at = ap (λ (r : PgnItem). r .next .at) (c .before .before .before .pgn .ensures) in
-    placed-refused _ _ _ (e ∙ sym (fields-reader s (c .before .before .before .before .before .before .before .before .before .before .args .types) (pgnAt s (c .before .before .before .before .before .before .before .before .before .before .args .c) .value .fields) .sticky (pgnAt s (c .before .before .before .before .before .before .before .before .before .before .args .c) .next) (rw (← e) (c .if1 .taken)))) (c .if1 .taken) (omega (arith, l, pgn-reader s .grows (c .before .before .before .before .before .before .before .before .before .before .args .c), c .before .before .before .before .before .before .before .before .before .before .pre .few))
+    let start = c .before .before .before .before .before .before .before .before .before .before in
+    let pgn = c .before .before .before .pgn in
+    let s = now (start .args .s) in
+    let e : pgn .result .next ≡ pgnAt s (start .args .c) .next = ap (λ (r : PgnItem). r .next) (pgn .ensures) in
+    let l : pgn .result .next .at ≡ pgnAt s (start .args .c) .next .at = ap (λ (r : PgnItem). r .next .at) (pgn .ensures) in
+    placed-refused _ _ _ (e
+    ∙ sym (fields-reader s (start .args .types) (pgnAt s (start .args .c) .value .fields) .sticky (pgnAt s (start .args .c) .next) (rw (← e) (c .if1 .taken))))
+    (c .if1 .taken) (omega (arith, l, pgn-reader s .grows (start .args .c), start .pre .few))
 
 add-place-fields : tie.Need-add-place-fields
-add-place-fields c = omega (arith, c .before .before .before .before .before .before .before .before .before .before .before .pre .short, c .before .before .before .before .before .before .before .before .before .before .before .pre .inside, c .before .before .before .before .before .before .before .before .before .before .before .pre .few)
+add-place-fields c =
+    let start = c .before .before .before .before .before .before .before .before .before .before .before in
+    omega (arith, start .pre .short, start .pre .inside, start .pre .few)
 
 place-fields-requires : tie.Need-place-fields-requires
 place-fields-requires c κs =
-    let s = now (c .before .before .before .before .before .before .before .before .before .before .before .args .s) in
-    let e : c .before .before .before .before .pgn .result .next ≡ pgnAt s (c .before .before .before .before .before .before .before .before .before .before .before .args .c) .next = ap (λ (r : PgnItem). r .next) (c .before .before .before .before .pgn .ensures) in
-    rw e (room-head (pgn-reader s) (pgn-moves s) (c .before .before .before .before .before .before .before .before .before .before .before .args .c) (c .before .before .before .before .before .before .before .before .before .before .before .args .p) (c .before .before .before .before .before .before .before .before .before .before .before .pre) (rw (← e) (c .before .if1 .left)))
+    let start = c .before .before .before .before .before .before .before .before .before .before .before in
+    let pgn = c .before .before .before .before .pgn in
+    let s = now (start .args .s) in
+    let e : pgn .result .next ≡ pgnAt s (start .args .c) .next = ap (λ (r : PgnItem). r .next) (pgn .ensures) in
+    rw e (room-head (pgn-reader s) (pgn-moves s) (start .args .c) (start .args .p) (start .pre) (rw (← e) (c .before .if1 .left)))
 
 same-length-2 : tie.Need-same-length-2
 same-length-2 c = search needs
 
 returns-2 : tie.Need-returns-2
-returns-2 c = whole (c .before .before .before .before .before .before .before .before .before .before .before .before .before .before .args .types) (now (c .before .before .before .before .before .before .before .before .before .before .before .before .before .before .args .s)) (c .before .before .before .before .before .before .before .before .before .before .before .before .before .before .args .c) (c .before .before .before .before .before .before .before .pgn .result) (now (c .before .before .before .before .before .before .before .before .before .before .before .before .before .before .args .work)) (c .before .before .before .before .before .before .before .before .before .before .before .before .before .before .args .p) _ _ _ (c .before .before .before .before .before .before .before .pgn .ensures) (rw (c .before .before .before .before .before .before .before .before .before .before .put .ensures) at (c .before .before .place-fields .ensures))
+returns-2 c =
+    let back12 = c .before .before .before .before .before .before .before .before .before .before .before .before in
+    let start = back12 .before .before in
+    let put = c .before .before .before .before .before .before .before .before .before .before .put in
+    let pgn = c .before .before .before .before .before .before .before .pgn in
+    whole (start .args .types) (now (start .args .s)) (start .args .c) (pgn .result) (now (start .args .work)) (start .args .p) _ _ _ (pgn .ensures)
+    (rw (put .ensures) at (c .before .before .place-fields .ensures))
 
 pub place-pgn-spec : {M : Type 1} → statement M
 place-pgn-spec =

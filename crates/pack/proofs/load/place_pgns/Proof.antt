@@ -12,27 +12,37 @@ use Rattle.pack.proofs.load.place_pgns.Statement.{statement}
 use Rattle.pack.proofs.load.place_pgns.Tie as tie
 
 abbrev Inv-loop : tie.InvT-loop
-Inv-loop s work₀ types n p c₀ p₀ i₀ work c p' i = (i ≤ n) × (length work ≡ length work₀) × PlacedTo (pgns types s c₀ i) work₀ p₀ (pgnOffsets types s c₀ i) work c p' × Room s c p'
+Inv-loop s work₀ types n p c₀ p₀ i₀ work c p' i =
+    (i ≤ n) × (length work ≡ length work₀) × PlacedTo (pgns types s c₀ i) work₀ p₀ (pgnOffsets types s c₀ i) work c p' × Room s c p'
 
 abbrev μ-loop : tie.MeasureT-loop
 μ-loop s work₀ types n p c₀ p₀ i₀ work c p' i = n - i
 
 loop-holds : tie.Need-loop-holds Inv-loop μ-loop
 unfolding pgns pgnOffsets
-loop-holds c = (search needs, refl, placed-none (now (c .before .before .args .s)) _ _ _ (c .before .before .pre), c .before .before .pre)
+loop-holds c =
+    let start = c .before .before in
+    (omega (arith, c), refl, placed-none (now (start .args .s)) _ _ _ (start .pre), start .pre)
 
 same-length : tie.Need-same-length Inv-loop μ-loop
-same-length c = c .before .before .before .loop .inv .1
+same-length c =
+    let loop = c .before .before .before .loop in
+    loop .inv .1
 
 returns : tie.Need-returns Inv-loop μ-loop
 returns c =
-    let s = now (c .before .before .before .before .before .before .args .s) in
-    let a = c .before .before .before .loop .inv .2 in
+    let start = c .before .before .before .before .before .before in
+    let loop = c .before .before .before .loop in
+    let s = now (start .args .s) in
+    let a = loop .inv .2 in
     let n = c .if1 .taken in
-    placed-refused _ _ _ (a .next ∙ sym (pgns-stay s (c .before .before .before .before .before .before .args .c) (c .before .before .before .before .before .before .args .types) (c .before .before .before .loop .i) (c .before .before .before .before .before .before .args .n) (search needs) (λ z. n ((rw (a .next) z))))) n (a .few)
+    placed-refused _ _ _
+    (a .next ∙ sym (pgns-stay s (start .args .c) (start .args .types) (loop .i) (start .args .n) (omega (arith, c)) (λ z. n ((rw (a .next) z))))) n (a .few)
 
 place-pgn-requires : tie.Need-place-pgn-requires Inv-loop μ-loop
-place-pgn-requires c κs = c .before .before .before .before .loop .inv .3
+place-pgn-requires c κs =
+    let loop = c .before .before .before .before .loop in
+    loop .inv .3
 
 add-i : tie.Need-add-i Inv-loop μ-loop
 add-i c = search needs
@@ -42,17 +52,28 @@ loop-less c = search needs
 
 loop-again : tie.Need-loop-again Inv-loop μ-loop
 loop-again c =
-    let s = now (c .before .before .before .before .before .before .before .before .before .before .before .args .s) in
-    let i = c .before .before .before .before .before .before .before .before .loop .i in
-    let a = c .before .before .before .before .before .before .before .before .loop .inv .2 in
-    let all = placed-append a (c .before .before .before .before .before .if1 .left) (c .before .before .before .place-pgn .ensures) in
-    (search needs, c .before .before .before .place-pgn .kept .1 .0 ∙ c .before .before .before .before .before .before .before .before .loop .inv .1, (rw (pgns-turn s (c .before .before .before .before .before .before .before .before .before .before .before .args .c) (c .before .before .before .before .before .before .before .before .before .before .before .args .types) i, pgnOffsets-turn s (c .before .before .before .before .before .before .before .before .before .before .before .args .c) (c .before .before .before .before .before .before .before .before .before .before .before .args .types) i, ← a .next) all), room-after (pgn-next-reader s (c .before .before .before .before .before .before .before .before .before .before .before .args .types)) (c .before .before .before .before .before .before .before .before .loop .c) (c .before .before .before .before .before .before .before .before .loop .p) (c .before .before .before .before .before .before .before .before .loop .inv .3) (c .before .before .before .place-pgn .ensures))
+    let start = c .before .before .before .before .before .before .before .before .before .before .before in
+    let loop = c .before .before .before .before .before .before .before .before .loop in
+    let if1 = c .before .before .before .before .before .if1 in
+    let place-pgn = c .before .before .before .place-pgn in
+    let s = now (start .args .s) in let types = start .args .types in
+    let i = loop .i in
+    let a = loop .inv .2 in
+    let all = placed-append a (if1 .left) (place-pgn .ensures) in (
+      omega (arith, c),
+      place-pgn .kept .1 .0 ∙ loop .inv .1,
+      (rw (pgns-turn s (start .args .c) types i, pgnOffsets-turn s (start .args .c) types i, ← a .next) all),
+      room-after (pgn-next-reader s types) (loop .c) (loop .p) (loop .inv .3) (place-pgn .ensures),
+    )
 
 same-length-2 : tie.Need-same-length-2 Inv-loop μ-loop
 same-length-2 c = c .before .loop .inv .1
 
 returns-2 : tie.Need-returns-2 Inv-loop μ-loop
-returns-2 c = let e : c .before .before .before .before .args .n ≡ c .before .loop .i = omega arith in rw e (c .before .loop .inv .2)
+returns-2 c =
+    let start = c .before .before .before .before in
+    let e : start .args .n ≡ c .before .loop .i = omega (arith, c) in
+    rw e (c .before .loop .inv .2)
 
 pub place-pgns-spec : {M : Type 1} → statement M
 place-pgns-spec =

@@ -12,33 +12,44 @@ use Rattle.pack.proofs.load.place_types.Statement.{statement}
 use Rattle.pack.proofs.load.place_types.Tie as tie
 
 abbrev Inv-loop : tie.InvT-loop
-Inv-loop s work₀ n p c₀ p₀ i₀ work c p' i = (i ≤ n) × (length work ≡ length work₀) × PlacedTo (types s c₀ i) work₀ p₀ (typeOffsets s c₀ i) work c p' × Room s c p'
+Inv-loop s work₀ n p c₀ p₀ i₀ work c p' i =
+    (i ≤ n) × (length work ≡ length work₀) × PlacedTo (types s c₀ i) work₀ p₀ (typeOffsets s c₀ i) work c p' × Room s c p'
 
 abbrev μ-loop : tie.MeasureT-loop
 μ-loop s work₀ n p c₀ p₀ i₀ work c p' i = n - i
 
 loop-holds : tie.Need-loop-holds Inv-loop μ-loop
 unfolding types typeOffsets
-loop-holds c = (search needs, refl, placed-none (now (c .before .before .args .s)) _ _ _ (c .before .before .pre), c .before .before .pre)
+loop-holds c =
+    let start = c .before .before in
+    (omega (arith, c), refl, placed-none (now (start .args .s)) _ _ _ (start .pre), start .pre)
 
 same-length : tie.Need-same-length Inv-loop μ-loop
-same-length c = c .before .before .before .loop .inv .1
+same-length c =
+    let loop = c .before .before .before .loop in
+    loop .inv .1
 
 returns : tie.Need-returns Inv-loop μ-loop
 returns c =
-    let s = now (c .before .before .before .before .before .before .args .s) in
-    let a = c .before .before .before .loop .inv .2 in
+    let start = c .before .before .before .before .before .before in
+    let loop = c .before .before .before .loop in
+    let s = now (start .args .s) in
+    let a = loop .inv .2 in
     let n = c .if1 .taken in
-    placed-refused _ _ _ (a .next ∙ sym (types-stay s (c .before .before .before .before .before .before .args .c) (c .before .before .before .loop .i) (c .before .before .before .before .before .before .args .n) (search needs) (λ z. n ((rw (a .next) z))))) n (a .few)
+    placed-refused _ _ _ (a .next ∙ sym (types-stay s (start .args .c) (loop .i) (start .args .n) (omega (arith, c)) (λ z. n ((rw (a .next) z))))) n (a .few)
 
 put-requires : tie.Need-put-requires Inv-loop μ-loop
-put-requires c κs = omega (arith, c .before .before .before .before .loop .inv .3 .short, c .before .before .before .before .loop .inv .3 .inside)
+put-requires c κs =
+    let loop = c .before .before .before .before .loop in
+    omega (arith, loop .inv .3 .short, loop .inv .3 .inside)
 
 field-type-requires : tie.Need-field-type-requires Inv-loop μ-loop
 field-type-requires c κs = search needs
 
 past-requires : tie.Need-past-requires Inv-loop μ-loop
-past-requires c κs = omega (arith, c .before .before .before .before .before .before .before .before .before .loop .inv .3 .short, c .before .before .before .before .before .before .before .before .before .loop .inv .3 .inside, c .before .before .before .before .before .before .before .before .before .loop .inv .3 .few)
+past-requires c κs =
+    let loop = c .before .before .before .before .before .before .before .before .before .loop in
+    omega (arith, loop .inv .3 .short, loop .inv .3 .inside, loop .inv .3 .few)
 
 add-i : tie.Need-add-i Inv-loop μ-loop
 add-i c = search needs
@@ -48,18 +59,31 @@ loop-less c = search needs
 
 loop-again : tie.Need-loop-again Inv-loop μ-loop
 loop-again c =
-    let s = now (c .before .before .before .before .before .before .before .before .before .before .before .before .before .args .s) in
-    let i = c .before .before .before .before .before .before .before .before .before .before .loop .i in
-    let a = c .before .before .before .before .before .before .before .before .before .before .loop .inv .2 in
-    let one = placed-one (type-reader s) (type-moves s) (c .before .before .before .before .before .before .before .before .before .before .loop .c) (c .before .before .before .before .before .before .before .before .before .before .loop .p) (c .before .before .before .before .before .before .before .before .before .before .loop .work) (c .before .before .before .before .before .put .last .0) _ _ (c .before .before .before .before .before .before .before .before .before .before .loop .inv .3) (ap (λ r. r .next) (c .before .before .field-type .ensures)) (c .before .before .before .before .before .put .ensures) (c .past .ensures) in
-    let all = placed-append a (c .before .before .before .before .before .before .before .if1 .left) one in
-    (search needs, c .before .before .before .before .before .put .kept .0 ∙ c .before .before .before .before .before .before .before .before .before .before .loop .inv .1, (rw (types-turn s (c .before .before .before .before .before .before .before .before .before .before .before .before .before .args .c) i, typeOffsets-turn s (c .before .before .before .before .before .before .before .before .before .before .before .before .before .args .c) i, ← a .next) all), room-after (type-reader s) (c .before .before .before .before .before .before .before .before .before .before .loop .c) (c .before .before .before .before .before .before .before .before .before .before .loop .p) (c .before .before .before .before .before .before .before .before .before .before .loop .inv .3) one)
+    let back12 = c .before .before .before .before .before .before .before .before .before .before .before .before in
+    let start = back12 .before in
+    let loop = c .before .before .before .before .before .before .before .before .before .before .loop in
+    let if1 = c .before .before .before .before .before .before .before .if1 in
+    let put = c .before .before .before .before .before .put in
+    let s = now (start .args .s) in
+    let i = loop .i in
+    let a = loop .inv .2 in
+    let one = placed-one (type-reader s) (type-moves s) (loop .c) (loop .p) (loop .work) (put .last .0) _ _ (loop .inv .3)
+    (ap (λ r. r .next) (c .before .before .field-type .ensures)) (put .ensures) (c .past .ensures) in
+    let all = placed-append a (if1 .left) one in (
+      omega (arith, c),
+      put .kept .0 ∙ loop .inv .1,
+      (rw (types-turn s (start .args .c) i, typeOffsets-turn s (start .args .c) i, ← a .next) all),
+      room-after (type-reader s) (loop .c) (loop .p) (loop .inv .3) one,
+    )
 
 same-length-2 : tie.Need-same-length-2 Inv-loop μ-loop
 same-length-2 c = c .before .loop .inv .1
 
 returns-2 : tie.Need-returns-2 Inv-loop μ-loop
-returns-2 c = let e : c .before .before .before .before .args .n ≡ c .before .loop .i = omega arith in rw e (c .before .loop .inv .2)
+returns-2 c =
+    let start = c .before .before .before .before in
+    let e : start .args .n ≡ c .before .loop .i = omega (arith, c) in
+    rw e (c .before .loop .inv .2)
 
 pub place-types-spec : {M : Type 1} → statement M
 place-types-spec =

@@ -30,12 +30,13 @@ loop-holds c = (search needs, refl, search needs)
 returns : tie.Need-returns Inv-loop μ-loop
 unfolding capped
 returns c =
-    let s = now (c .before .before .before .before .args .s) in
+    let start = c .before .before .before .before in
+    let s = now (start .args .s) in let end = start .args .end in
     let k = c .before .before .loop .k in
-    let z : k + 1 + (c .before .before .before .before .args .n - (k + 1)) ≡ c .before .before .before .before .args .n = omega arith in
-    let m = rw z at (no-less s (c .before .before .before .before .args .end) (k + 1) (c .before .before .before .before .args .n - (k + 1))) in
-    let o = one-more s (c .before .before .before .before .args .end) k in
-    ((rw (lt-leb (groups s (c .before .before .before .before .args .end) (c .before .before .before .before .args .n)) (c .before .before .before .before .args .most) (omega (arith, c .before .before .before .before .fits .most)))), search needs)
+    let z : k + 1 + (start .args .n - (k + 1)) ≡ start .args .n = omega (arith, c) in
+    let m = rw z at (no-less s end (k + 1) (start .args .n - (k + 1))) in
+    let o = one-more s end k in
+    ((rw (lt-leb (groups s end (start .args .n)) (start .args .most) (omega (arith, start .fits .most)))), omega (arith, c))
 
 add-k : tie.Need-add-k Inv-loop μ-loop
 add-k c = search needs
@@ -59,15 +60,27 @@ loop-less : tie.Need-loop-less Inv-loop μ-loop
 loop-less c = search needs
 
 loop-again : tie.Need-loop-again Inv-loop μ-loop
-loop-again c = let o = one-more (now (c .before .before .before .before .before .before .args .s)) (c .before .before .before .before .before .before .args .end) (c .before .before .before .before .loop .k) in omega arith
+loop-again c =
+    let start = c .before .before .before .before .before .before in
+    let loop = c .before .before .before .before .loop in
+    let o = one-more (now (start .args .s)) (start .args .end) (loop .k) in
+    omega (arith, c)
 
 returns-2 : tie.Need-returns-2 Inv-loop μ-loop
 unfolding capped
-returns-2 c = let e : c .before .before .before .before .args .n ≡ c .before .before .loop .k = omega arith in ((rw (e, ← c .before .before .loop .inv .1, le-leb _ _ (c .if2 .taken))), search needs)
+returns-2 c =
+    let start = c .before .before .before .before in
+    let loop = c .before .before .loop in
+    let e : start .args .n ≡ loop .k = omega (arith, c) in
+    ((rw (e, ← loop .inv .1, le-leb _ _ (c .if2 .taken))), omega (arith, c))
 
 returns-3 : tie.Need-returns-3 Inv-loop μ-loop
 unfolding capped
-returns-3 c = let e : c .before .before .before .before .args .n ≡ c .before .before .loop .k = omega arith in ((rw (e, ← c .before .before .loop .inv .1, lt-leb _ _ (c .if2 .left))), search needs)
+returns-3 c =
+    let start = c .before .before .before .before in
+    let loop = c .before .before .loop in
+    let e : start .args .n ≡ loop .k = omega (arith, c) in
+    ((rw (e, ← loop .inv .1, lt-leb _ _ (c .if2 .left))), omega (arith, c))
 
 pub decode-spec : {M : Type 1} → statement M
 decode-spec =

@@ -34,7 +34,10 @@ shared-slice-read-if1 : tie.Need-shared-slice-read-if1 Inv-loop μ-loop
 shared-slice-read-if1 c = search needs
 
 returns : tie.Need-returns Inv-loop μ-loop
-returns c = omega (arith, stay (now (c .before .before .before .before .args .s)) (c .before .before .before .loop .i) (c .before .before .loop-test .taken) (c .if1 .taken))
+returns c =
+    let start = c .before .before .before .before in
+    let loop = c .before .before .before .loop in
+    omega (arith, stay (now (start .args .s)) (loop .i) (c .before .before .loop-test .taken) (c .if1 .taken))
 
 add-i : tie.Need-add-i Inv-loop μ-loop
 add-i c = search needs
@@ -43,7 +46,10 @@ loop-less : tie.Need-loop-less Inv-loop μ-loop
 loop-less c = search needs
 
 loop-again : tie.Need-loop-again Inv-loop μ-loop
-loop-again c = omega (arith, go (now (c .before .before .before .before .args .s)) (c .before .before .before .loop .i) (c .before .before .loop-test .taken) (c .if1 .left))
+loop-again c =
+    let start = c .before .before .before .before in
+    let loop = c .before .before .before .loop in
+    omega (arith, go (now (start .args .s)) (loop .i) (c .before .before .loop-test .taken) (c .if1 .left))
 
 returns-2 : tie.Need-returns-2 Inv-loop μ-loop
 returns-2 c = omega (arith, end (now (c .before .before .args .s)) (c .before .loop .i) (c .loop-test .left))

@@ -5,19 +5,27 @@ use Rattle.pack.proofs.of.entry_of.Statement.{statement}
 use Rattle.pack.proofs.of.entry_of.Tie as tie
 
 add-q : tie.Need-add-q
-add-q c = omega (arith, lookup-room (c .before .before .pre .0), c .before .before .pre .2)
+add-q c =
+    let start = c .before .before in
+    omega (arith, lookup-room (start .pre .0), start .pre .2)
 
 add-q-2 : tie.Need-add-q-2
-add-q-2 c = omega (arith, lookup-room (c .before .before .pre .0), c .before .before .pre .2)
+add-q-2 c =
+    let start = c .before .before in
+    omega (arith, lookup-room (start .pre .0), start .pre .2)
 
 offset-requires : tie.Need-offset-requires
-offset-requires c κs = omega (arith, lookup-room (c .before .before .pre .0), c .before .before .pre .2)
+offset-requires c κs =
+    let start = c .before .before in
+    omega (arith, lookup-room (start .pre .0), start .pre .2)
 
 entry-at-requires : tie.Need-entry-at-requires
 entry-at-requires c κs = search needs
 
 returns : tie.Need-returns
-returns c = rw (c .entry-at .ensures, c .before .offset .ensures, c .before .before .before .before .pre .1) (entry-law (c .before .before .before .before .pre .0) (c .before .before .before .before .args .j) (c .before .before .before .before .pre .2))
+returns c =
+    let start = c .before .before .before .before in
+    rw (c .entry-at .ensures, c .before .offset .ensures, start .pre .1) (entry-law (start .pre .0) (start .args .j) (start .pre .2))
 
 pub entry-of-spec : {M : Type 1} → statement M
 entry-of-spec = tie.close (tie.spec add-q add-q-2 offset-requires entry-at-requires returns)

@@ -5,19 +5,27 @@ use Rattle.pack.proofs.of.field_of.Statement.{statement}
 use Rattle.pack.proofs.of.field_of.Tie as tie
 
 add-q : tie.Need-add-q
-add-q c = omega (arith, pgn-room (c .before .before .pre .0), c .before .before .pre .1)
+add-q c =
+    let start = c .before .before in
+    omega (arith, pgn-room (start .pre .0), start .pre .1)
 
 add-q-2 : tie.Need-add-q-2
-add-q-2 c = omega (arith, pgn-room (c .before .before .pre .0), c .before .before .pre .1)
+add-q-2 c =
+    let start = c .before .before in
+    omega (arith, pgn-room (start .pre .0), start .pre .1)
 
 offset-requires : tie.Need-offset-requires
-offset-requires c κs = omega (arith, pgn-room (c .before .before .pre .0), c .before .before .pre .1)
+offset-requires c κs =
+    let start = c .before .before in
+    omega (arith, pgn-room (start .pre .0), start .pre .1)
 
 field-at-requires : tie.Need-field-at-requires
 field-at-requires c κs = search needs
 
 returns : tie.Need-returns
-returns c = rw (c .field-at .ensures, c .before .offset .ensures) (field-law (c .before .before .before .before .pre .0) (c .before .before .before .before .args .j) (c .before .before .before .before .pre .1))
+returns c =
+    let start = c .before .before .before .before in
+    rw (c .field-at .ensures, c .before .offset .ensures) (field-law (start .pre .0) (start .args .j) (start .pre .1))
 
 pub field-of-spec : {M : Type 1} → statement M
 field-of-spec = tie.close (tie.spec add-q add-q-2 offset-requires field-at-requires returns)

@@ -11,7 +11,9 @@ text-at-requires : tie.Need-text-at-requires
 text-at-requires c κs = search needs
 
 returns : tie.Need-returns
-returns c = rw (c .text-at .ensures, c .before .offset .ensures) (lookup-name-law (c .before .before .before .before .pre))
+returns c =
+    let start = c .before .before .before .before in
+    rw (c .text-at .ensures, c .before .offset .ensures) (lookup-name-law (start .pre))
 
 pub lookup-name-of-spec : {M : Type 1} → statement M
 lookup-name-of-spec = tie.close (tie.spec offset-requires text-at-requires returns)

@@ -11,7 +11,9 @@ lookup-at-requires : tie.Need-lookup-at-requires
 lookup-at-requires c κs = search needs
 
 returns : tie.Need-returns
-returns c = rw (c .lookup-at .ensures, c .before .offset .ensures) (lookup-law (c .before .before .before .before .pre))
+returns c =
+    let start = c .before .before .before .before in
+    rw (c .lookup-at .ensures, c .before .offset .ensures) (lookup-law (start .pre))
 
 pub lookup-of-spec : {M : Type 1} → statement M
 lookup-of-spec = tie.close (tie.spec offset-requires lookup-at-requires returns)

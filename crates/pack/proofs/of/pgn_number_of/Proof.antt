@@ -11,7 +11,9 @@ number-at-requires : tie.Need-number-at-requires
 number-at-requires c κs = search needs
 
 returns : tie.Need-returns
-returns c = rw (c .number-at .ensures, c .before .offset .ensures) (pgn-number-law (c .before .before .before .before .pre))
+returns c =
+    let start = c .before .before .before .before in
+    rw (c .number-at .ensures, c .before .offset .ensures) (pgn-number-law (start .pre))
 
 pub pgn-number-of-spec : {M : Type 1} → statement M
 pgn-number-of-spec = tie.close (tie.spec offset-requires number-at-requires returns)

@@ -11,7 +11,9 @@ pgn-at-requires : tie.Need-pgn-at-requires
 pgn-at-requires c κs = search needs
 
 returns : tie.Need-returns
-returns c = rw (c .pgn-at .ensures, c .before .offset .ensures) (pgn-law (c .before .before .before .before .pre))
+returns c =
+    let start = c .before .before .before .before in
+    rw (c .pgn-at .ensures, c .before .offset .ensures) (pgn-law (start .pre))
 
 pub pgn-of-spec : {M : Type 1} → statement M
 pgn-of-spec = tie.close (tie.spec offset-requires pgn-at-requires returns)

@@ -5,15 +5,18 @@ use Rattle.pack.proofs.of.type_of.Statement.{statement}
 use Rattle.pack.proofs.of.type_of.Tie as tie
 
 offset-requires : tie.Need-offset-requires
-offset-requires c κs = type-law (now (c .before .before .args .s)) (now (c .before .before .args .work)) (c .before .before .pre .0) (c .before .before .args .i) (c .before .before .pre .1) .0
+offset-requires c κs =
+    let start = c .before .before in
+    type-law (now (start .args .s)) (now (start .args .work)) (start .pre .0) (start .args .i) (start .pre .1) .0
 
 type-at-requires : tie.Need-type-at-requires
 type-at-requires c κs = search needs
 
 returns : tie.Need-returns
 returns c =
-    let s = now (c .before .before .before .before .args .s) in
-    (rw (c .type-at .ensures, c .before .offset .ensures) (type-law s (now (c .before .before .before .before .args .work)) (c .before .before .before .before .pre .0) (c .before .before .before .before .args .i) (c .before .before .before .before .pre .1) .1))
+    let start = c .before .before .before .before in
+    let s = now (start .args .s) in
+    (rw (c .type-at .ensures, c .before .offset .ensures) (type-law s (now (start .args .work)) (start .pre .0) (start .args .i) (start .pre .1) .1))
 
 pub type-of-spec : {M : Type 1} → statement M
 type-of-spec = tie.close (tie.spec offset-requires type-at-requires returns)

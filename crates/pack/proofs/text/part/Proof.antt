@@ -36,19 +36,25 @@ slice-aggregate-result : tie.Need-slice-aggregate-result
 slice-aggregate-result c = search needs
 
 returns : tie.Need-returns
-returns c = let e : c .before .before .before .args .t .start + c .before .before .before .args .t .len - c .before .before .before .args .t .start ≡ c .before .before .before .args .t .len = omega arith in rw e
+returns c =
+    let start = c .before .before .before in
+    let e : start .args .t .start + start .args .t .len - start .args .t .start ≡ start .args .t .len = omega (arith, c) in
+    rw e
 
 returns-2 : tie.Need-returns-2
 returns-2 c =
-    let l = now (c .before .before .before .args .s) in
-    let a = c .before .before .before .args .t .start in
+    let start = c .before .before .before in
+    let l = now (start .args .s) in
+    let a = start .args .t .start in
     let e : length (drop a l) ≡ length l - a = length-drop a l in
-    take-all (length l - a) (drop a l) (omega arith) ∙ sym (take-all (c .before .before .before .args .t .len) (drop a l) (omega arith))
+    take-all (length l - a) (drop a l) (omega (arith, c)) ∙ sym (take-all (start .args .t .len) (drop a l) (omega (arith, c)))
 
 returns-3 : tie.Need-returns-3
 returns-3 c =
-    let e : drop (c .before .before .args .t .start) (now (c .before .before .args .s)) ≡ _ = drop-of-length-le (now (c .before .before .args .s)) {i = c .before .before .args .t .start} (omega arith) in
-    rw e (sym (take-nil (c .before .before .args .t .len)))
+    let start = c .before .before in
+    let s = now (start .args .s) in
+    let e : drop (start .args .t .start) s ≡ _ = drop-of-length-le s {i = start .args .t .start} (omega (arith, c)) in
+    rw e (sym (take-nil (start .args .t .len)))
 
 pub part-spec : {M : Type 1} → statement M
 part-spec =

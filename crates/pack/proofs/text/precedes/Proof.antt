@@ -45,7 +45,10 @@ loop-holds : tie.Need-loop-holds Inv-loop μ-loop
 loop-holds c = search needs
 
 returns : tie.Need-returns Inv-loop μ-loop
-returns c = sym (c .before .before .loop .inv .2 ∙ short (now (c .before .before .before .args .a)) (now (c .before .before .before .args .b)) (c .before .before .loop .i) (search needs) (search needs))
+returns c =
+    let start = c .before .before .before in
+    let loop = c .before .before .loop in
+    sym (loop .inv .2 ∙ short (now (start .args .a)) (now (start .args .b)) (loop .i) (omega (arith, c)) (omega (arith, c)))
 
 shared-slice-read-if2 : tie.Need-shared-slice-read-if2 Inv-loop μ-loop
 shared-slice-read-if2 c = search needs
@@ -54,7 +57,10 @@ shared-slice-read-if2-2 : tie.Need-shared-slice-read-if2-2 Inv-loop μ-loop
 shared-slice-read-if2-2 c = search needs
 
 returns-2 : tie.Need-returns-2 Inv-loop μ-loop
-returns-2 c = sym (c .before .before .before .before .before .loop .inv .2 ∙ lower (now (c .before .before .before .before .before .before .args .a)) (now (c .before .before .before .before .before .before .args .b)) (c .before .before .before .before .before .loop .i) (search needs) (search needs) (c .if2 .taken))
+returns-2 c =
+    let start = c .before .before .before .before .before .before in
+    let loop = c .before .before .before .before .before .loop in
+    sym (loop .inv .2 ∙ lower (now (start .args .a)) (now (start .args .b)) (loop .i) (omega (arith, c)) (omega (arith, c)) (c .if2 .taken))
 
 shared-slice-read-if3 : tie.Need-shared-slice-read-if3 Inv-loop μ-loop
 shared-slice-read-if3 c = search needs
@@ -63,7 +69,10 @@ shared-slice-read-if3-2 : tie.Need-shared-slice-read-if3-2 Inv-loop μ-loop
 shared-slice-read-if3-2 c = search needs
 
 returns-3 : tie.Need-returns-3 Inv-loop μ-loop
-returns-3 c = sym (c .before .before .before .before .before .before .before .before .loop .inv .2 ∙ higher (now (c .before .before .before .before .before .before .before .before .before .args .a)) (now (c .before .before .before .before .before .before .before .before .before .args .b)) (c .before .before .before .before .before .before .before .before .loop .i) (search needs) (search needs) (c .if3 .taken))
+returns-3 c =
+    let start = c .before .before .before .before .before .before .before .before .before in
+    let loop = c .before .before .before .before .before .before .before .before .loop in
+    sym (loop .inv .2 ∙ higher (now (start .args .a)) (now (start .args .b)) (loop .i) (omega (arith, c)) (omega (arith, c)) (c .if3 .taken))
 
 add-i : tie.Need-add-i Inv-loop μ-loop
 add-i c = search needs
@@ -72,10 +81,19 @@ loop-less : tie.Need-loop-less Inv-loop μ-loop
 loop-less c = search needs
 
 loop-again : tie.Need-loop-again Inv-loop μ-loop
-loop-again c = (search needs, search needs, c .before .before .before .before .before .before .before .before .loop .inv .2 ∙ level (now (c .before .before .before .before .before .before .before .before .before .args .a)) (now (c .before .before .before .before .before .before .before .before .before .args .b)) (c .before .before .before .before .before .before .before .before .loop .i) (search needs) (search needs) (c .before .before .before .if2 .left) (c .if3 .left))
+loop-again c =
+    let start = c .before .before .before .before .before .before .before .before .before in
+    let loop = c .before .before .before .before .before .before .before .before .loop in
+    let if2 = c .before .before .before .if2 in (
+      omega (arith, c),
+      omega (arith, c),
+      loop .inv .2 ∙ level (now (start .args .a)) (now (start .args .b)) (loop .i) (omega (arith, c)) (omega (arith, c)) (if2 .left) (c .if3 .left),
+    )
 
 returns-4 : tie.Need-returns-4 Inv-loop μ-loop
-returns-4 c = sym (c .before .loop .inv .2 ∙ ended (now (c .before .before .args .a)) (now (c .before .before .args .b)) (c .before .loop .i) (c .loop-test .left))
+returns-4 c =
+    let start = c .before .before in
+    sym (c .before .loop .inv .2 ∙ ended (now (start .args .a)) (now (start .args .b)) (c .before .loop .i) (c .loop-test .left))
 
 pub precedes-spec : {M : Type 1} → statement M
 precedes-spec =

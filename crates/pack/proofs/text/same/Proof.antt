@@ -50,7 +50,10 @@ shared-slice-read-if2-2 : tie.Need-shared-slice-read-if2-2 Inv-loop μ-loop
 shared-slice-read-if2-2 c = search needs
 
 returns-2 : tie.Need-returns-2 Inv-loop μ-loop
-returns-2 c = sym (c .before .before .before .before .loop .inv .1 ∙ differ (now (c .before .before .before .before .before .before .args .a)) (now (c .before .before .before .before .before .before .args .b)) (c .before .before .before .before .loop .i) (search needs) (omega arith) (c .if2 .taken))
+returns-2 c =
+    let start = c .before .before .before .before .before .before in
+    let loop = c .before .before .before .before .loop in
+    sym (loop .inv .1 ∙ differ (now (start .args .a)) (now (start .args .b)) (loop .i) (omega (arith, c)) (omega (arith, c)) (c .if2 .taken))
 
 add-i : tie.Need-add-i Inv-loop μ-loop
 add-i c = search needs
@@ -59,12 +62,16 @@ loop-less : tie.Need-loop-less Inv-loop μ-loop
 loop-less c = search needs
 
 loop-again : tie.Need-loop-again Inv-loop μ-loop
-loop-again c = (c .before .before .before .before .loop .inv .0, c .before .before .before .before .loop .inv .1 ∙ agree (now (c .before .before .before .before .before .before .args .a)) (now (c .before .before .before .before .before .before .args .b)) (c .before .before .before .before .loop .i) (search needs) (omega arith) (c .if2 .left))
+loop-again c =
+    let start = c .before .before .before .before .before .before in
+    let loop = c .before .before .before .before .loop in
+    (loop .inv .0, loop .inv .1 ∙ agree (now (start .args .a)) (now (start .args .b)) (loop .i) (omega (arith, c)) (omega (arith, c)) (c .if2 .left))
 
 returns-3 : tie.Need-returns-3 Inv-loop μ-loop
 returns-3 c =
-    let x = drop-of-length-le (now (c .before .before .before .args .a)) {i = c .before .loop .i} (omega arith) in
-    let y = drop-of-length-le (now (c .before .before .before .args .b)) {i = c .before .loop .i} (omega arith) in
+    let start = c .before .before .before in
+    let x = drop-of-length-le (now (start .args .a)) {i = c .before .loop .i} (omega (arith, c)) in
+    let y = drop-of-length-le (now (start .args .b)) {i = c .before .loop .i} (omega (arith, c)) in
     rw (c .before .loop .inv .1, x, y)
 
 pub same-spec : {M : Type 1} → statement M

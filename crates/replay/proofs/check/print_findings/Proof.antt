@@ -37,14 +37,22 @@ part-print-finding-end c = search needs
 
 print-finding-requires : tie.Need-print-finding-requires Inv-loop μ-loop
 print-finding-requires c κs =
-    let e : c .before .before .before .before .loop .at + 8 - c .before .before .before .before .loop .at ≤ length (drop (c .before .before .before .before .loop .at) (c .before .before .before .before .before .before .before .before .before .args .findings .now)) = omega (arith, length-drop (c .before .before .before .before .loop .at) (c .before .before .before .before .before .before .before .before .before .args .findings .now), c .before .before .before .loop-test .taken) in
-    omega (arith, length-take-le (c .before .before .before .before .loop .at + 8 - c .before .before .before .before .loop .at) (drop (c .before .before .before .before .loop .at) (c .before .before .before .before .before .before .before .before .before .args .findings .now)) e)
+    let start = c .before .before .before .before .before .before .before .before .before in
+    let loop = c .before .before .before .before .loop in
+    let loop-test = c .before .before .before .loop-test in
+    let e : loop .at + 8 - loop .at ≤ length (drop (loop .at) (start .args .findings .now)) =
+    omega (arith, length-drop (loop .at) (start .args .findings .now), loop-test .taken) in
+    omega (arith, length-take-le (loop .at + 8 - loop .at) (drop (loop .at) (start .args .findings .now)) e)
 
 loop-less : tie.Need-loop-less Inv-loop μ-loop
 loop-less c = search needs
 
 loop-again : tie.Need-loop-again Inv-loop μ-loop
-loop-again c = (omega (arith, c .before .before .before .before .before .before .before .before .loop-test .taken), c .before .before .before .before .print-finding .kept .1 .0 ∙ c .before .before .before .before .before .before .before .before .before .loop .inv .1, c .before .before .before .before .print-finding .kept .1 .1 .0 ∙ c .before .before .before .before .before .before .before .before .before .loop .inv .2)
+loop-again c =
+    let loop = c .before .before .before .before .before .before .before .before .before .loop in
+    let loop-test = c .before .before .before .before .before .before .before .before .loop-test in
+    let print-finding = c .before .before .before .before .print-finding in
+    (omega (arith, loop-test .taken), print-finding .kept .1 .0 ∙ loop .inv .1, print-finding .kept .1 .1 .0 ∙ loop .inv .2)
 
 same-length : tie.Need-same-length Inv-loop μ-loop
 same-length c = c .before .loop .inv .1

@@ -1,3 +1,4 @@
+use native.Mathlib.Omega.{arith}
 -- `replay` is safe: of the findings only those that the buffer has are printed.
 use lib.Seq.{length-take-le}
 use Prim.Native.Nat.{_*_}
@@ -22,7 +23,10 @@ slice-reshare-prefix-print-answer : tie.Need-slice-reshare-prefix-print-answer
 slice-reshare-prefix-print-answer c = search needs
 
 slice-aggregate-print-answer : tie.Need-slice-aggregate-print-answer
-slice-aggregate-print-answer c = sym (length-take-le (8 * c .before .before .before .least .result) (c .before .before .before .before .before .before .before .before .sarwymp-check .last .1 .1 .0) (search needs))
+slice-aggregate-print-answer c =
+    let sarwymp-check = c .before .before .before .before .before .before .before .before .sarwymp-check in
+    let least = c .before .before .before .least in
+    sym (length-take-le (8 * least .result) (sarwymp-check .last .1 .1 .0) (omega (arith, c)))
 
 print-answer-requires : tie.Need-print-answer-requires
 print-answer-requires c κs = search needs

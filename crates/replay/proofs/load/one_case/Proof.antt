@@ -1,3 +1,4 @@
+use native.Mathlib.Omega.{arith}
 -- `one_case` is safe and ends: the first n of a buffer are n, where it has as many.
 use mathlib.Core.Path.{sym}
 use lib.Seq.{length-take-le}
@@ -15,13 +16,18 @@ slice-relend-prefix-replay : tie.Need-slice-relend-prefix-replay
 slice-relend-prefix-replay c = search needs
 
 slice-aggregate-replay : tie.Need-slice-aggregate-replay
-slice-aggregate-replay c = sym (length-take-le (c .before .count2 .result) (c .before .before .before .before .before .args .pack .now) (search needs))
+slice-aggregate-replay c =
+    let start = c .before .before .before .before .before in
+    sym (length-take-le (c .before .count2 .result) (start .args .pack .now) (omega (arith, c)))
 
 slice-relend-prefix-replay-2 : tie.Need-slice-relend-prefix-replay-2
 slice-relend-prefix-replay-2 c = search needs
 
 slice-aggregate-replay-2 : tie.Need-slice-aggregate-replay-2
-slice-aggregate-replay-2 c = sym (length-take-le (c .before .before .before .count .result) (c .before .before .before .before .before .before .args .work .now) (search needs))
+slice-aggregate-replay-2 c =
+    let start = c .before .before .before .before .before .before in
+    let count = c .before .before .before .count in
+    sym (length-take-le (count .result) (start .args .work .now) (omega (arith, c)))
 
 replay-requires : tie.Need-replay-requires
 replay-requires c κs = search needs

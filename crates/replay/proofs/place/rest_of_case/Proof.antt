@@ -27,13 +27,17 @@ slice-relend-prefix-replay : tie.Need-slice-relend-prefix-replay
 slice-relend-prefix-replay c = search needs
 
 slice-aggregate-replay : tie.Need-slice-aggregate-replay
-slice-aggregate-replay c = sym (length-take-le _ _ (c .before .before .before .before .before .before .count .ensures))
+slice-aggregate-replay c =
+    let count = c .before .before .before .before .before .before .count in
+    sym (length-take-le _ _ (count .ensures))
 
 slice-relend-prefix-replay-2 : tie.Need-slice-relend-prefix-replay-2
 slice-relend-prefix-replay-2 c = search needs
 
 slice-aggregate-replay-2 : tie.Need-slice-aggregate-replay-2
-slice-aggregate-replay-2 c = sym (length-take-le _ _ (c .before .before .before .count2 .ensures))
+slice-aggregate-replay-2 c =
+    let count2 = c .before .before .before .count2 in
+    sym (length-take-le _ _ (count2 .ensures))
 
 replay-requires : tie.Need-replay-requires
 replay-requires c κs = search needs

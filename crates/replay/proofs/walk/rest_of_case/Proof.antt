@@ -27,19 +27,25 @@ slice-relend-prefix-with-readings : tie.Need-slice-relend-prefix-with-readings
 slice-relend-prefix-with-readings c = search needs
 
 slice-aggregate-with-readings : tie.Need-slice-aggregate-with-readings
-slice-aggregate-with-readings c = sym (length-take-le _ _ (c .before .before .before .before .before .before .count .ensures))
+slice-aggregate-with-readings c =
+    let count = c .before .before .before .before .before .before .count in
+    sym (length-take-le _ _ (count .ensures))
 
 slice-relend-prefix-with-readings-2 : tie.Need-slice-relend-prefix-with-readings-2
 slice-relend-prefix-with-readings-2 c = search needs
 
 slice-aggregate-with-readings-2 : tie.Need-slice-aggregate-with-readings-2
-slice-aggregate-with-readings-2 c = sym (length-take-le _ _ (c .before .before .before .count3 .ensures))
+slice-aggregate-with-readings-2 c =
+    let count3 = c .before .before .before .count3 in
+    sym (length-take-le _ _ (count3 .ensures))
 
 slice-relend-prefix-with-readings-3 : tie.Need-slice-relend-prefix-with-readings-3
 slice-relend-prefix-with-readings-3 c = search needs
 
 slice-aggregate-with-readings-3 : tie.Need-slice-aggregate-with-readings-3
-slice-aggregate-with-readings-3 c = sym (length-take-le _ _ (c .before .before .before .before .before .count2 .ensures))
+slice-aggregate-with-readings-3 c =
+    let count2 = c .before .before .before .before .before .count2 in
+    sym (length-take-le _ _ (count2 .ensures))
 
 with-readings-requires : tie.Need-with-readings-requires
 with-readings-requires c κs = search needs

@@ -20,11 +20,13 @@ use Rattle.rules.proofs.bit_length_field.bit_length_field_at.Statement.
 use Rattle.rules.proofs.bit_length_field.bit_length_field_at.Tie as tie
 
 module _ (s : List ℕ) (t i k : ℕ) (p : Pgn) (f : FieldView) (is : fieldMeaning s f ≡ field-at p k) (b : Bool) (z : b ≡ variable-binary (fieldMeaning s f)) where
-  without : f .links .length .given ≡ false → (F : Finding) → F ≡ pgn-error 15 1 t i k 0 → bit-length-field-at t i p k (field-at p k .bit-length-field) ≡ report-if b F
+  without : f .links .length .given ≡ false → (F : Finding) → F ≡ pgn-error 15 1 t i k 0
+      → bit-length-field-at t i p k (field-at p k .bit-length-field) ≡ report-if b F
   unfolding bit-length-field-at
   without h F y = rw (← is, h, ← is, ← z, y)
 
-  needless : f .links .length .given ≡ true → b ≡ false → (F : Finding) → F ≡ pgn-error 15 2 t i k 0 → bit-length-field-at t i p k (field-at p k .bit-length-field) ≡ F ∷ []
+  needless : f .links .length .given ≡ true → b ≡ false → (F : Finding) → F ≡ pgn-error 15 2 t i k 0
+      → bit-length-field-at t i p k (field-at p k .bit-length-field) ≡ F ∷ []
   unfolding bit-length-field-at
   needless h x F y = rw (← is, h, ← is, ← z, x, y)
 
@@ -40,37 +42,87 @@ pgn-error-requires : tie.Need-pgn-error-requires
 pgn-error-requires c κs = search needs
 
 put-if-requires : tie.Need-put-if-requires
-put-if-requires c κs = rw (without (now (c .before .before .before .before .before .before .before .before .args .s)) (c .before .before .before .before .before .before .before .before .args .t) (c .before .before .before .before .before .before .before .before .args .i) (c .before .before .before .before .before .before .before .before .args .k) (pgn-at (packOf (now (c .before .before .before .before .before .before .before .before .args .s))) (c .before .before .before .before .before .before .before .before .args .t) (c .before .before .before .before .before .before .before .before .args .i)) (c .before .before .before .before .before .before .before .before .args .f) (c .before .before .before .before .before .before .before .before .pre .4) (c .before .before .before .before .variable-binary .result) (c .before .before .before .before .variable-binary .ensures) (not-true (c .before .before .before .before .before .before .before .before .args .f .links .length .given) (c .before .before .if1 .taken)) (c .pgn-error .result) (c .pgn-error .ensures)) at (c .before .before .before .before .before .before .before .before .pre .0)
+put-if-requires c κs =
+    let start = c .before .before .before .before .before .before .before .before in
+    let variable-binary-call = c .before .before .before .before .variable-binary in
+    let s = now (start .args .s) in let t = start .args .t in let i = start .args .i in
+    rw (without s t i (start .args .k) (pgn-at (packOf s) t i) (start .args .f) (start .pre .4) (variable-binary-call .result) (variable-binary-call .ensures)
+    (not-true (start .args .f .links .length .given) (c .before .before .if1 .taken)) (c .pgn-error .result) (c .pgn-error .ensures)) at (start .pre .0)
 
 same-length : tie.Need-same-length
 same-length c = search needs
 
 returns : tie.Need-returns
-returns c = rw (without (now (c .before .before .before .before .before .before .before .before .before .before .before .args .s)) (c .before .before .before .before .before .before .before .before .before .before .before .args .t) (c .before .before .before .before .before .before .before .before .before .before .before .args .i) (c .before .before .before .before .before .before .before .before .before .before .before .args .k) (pgn-at (packOf (now (c .before .before .before .before .before .before .before .before .before .before .before .args .s))) (c .before .before .before .before .before .before .before .before .before .before .before .args .t) (c .before .before .before .before .before .before .before .before .before .before .before .args .i)) (c .before .before .before .before .before .before .before .before .before .before .before .args .f) (c .before .before .before .before .before .before .before .before .before .before .before .pre .4) (c .before .before .before .before .before .before .before .variable-binary .result) (c .before .before .before .before .before .before .before .variable-binary .ensures) (not-true (c .before .before .before .before .before .before .before .before .before .before .before .args .f .links .length .given) (c .before .before .before .before .before .if1 .taken)) (c .before .before .before .pgn-error .result) (c .before .before .before .pgn-error .ensures)) (c .before .before .put-if .ensures)
+returns c =
+    let start = c .before .before .before .before .before .before .before .before .before .before .before in
+    let variable-binary-call = c .before .before .before .before .before .before .before .variable-binary in
+    let if1 = c .before .before .before .before .before .if1 in
+    let pgn-error-call = c .before .before .before .pgn-error in
+    let s = now (start .args .s) in let t = start .args .t in let i = start .args .i in
+    rw (without s t i (start .args .k) (pgn-at (packOf s) t i) (start .args .f) (start .pre .4) (variable-binary-call .result) (variable-binary-call .ensures)
+    (not-true (start .args .f .links .length .given) (if1 .taken)) (pgn-error-call .result) (pgn-error-call .ensures)) (c .before .before .put-if .ensures)
 
 pgn-error-requires-2 : tie.Need-pgn-error-requires-2
 pgn-error-requires-2 c κs = search needs
 
 put-requires : tie.Need-put-requires
-put-requires c κs = rw (needless (now (c .before .before .before .before .before .before .before .before .before .args .s)) (c .before .before .before .before .before .before .before .before .before .args .t) (c .before .before .before .before .before .before .before .before .before .args .i) (c .before .before .before .before .before .before .before .before .before .args .k) (pgn-at (packOf (now (c .before .before .before .before .before .before .before .before .before .args .s))) (c .before .before .before .before .before .before .before .before .before .args .t) (c .before .before .before .before .before .before .before .before .before .args .i)) (c .before .before .before .before .before .before .before .before .before .args .f) (c .before .before .before .before .before .before .before .before .before .pre .4) (c .before .before .before .before .before .variable-binary .result) (c .before .before .before .before .before .variable-binary .ensures) (not-false (c .before .before .before .before .before .before .before .before .before .args .f .links .length .given) (c .before .before .before .if1 .left)) (not-true (c .before .before .before .before .before .variable-binary .result) (c .before .before .if2 .taken)) (c .pgn-error2 .result) (c .pgn-error2 .ensures)) at (c .before .before .before .before .before .before .before .before .before .pre .0)
+put-requires c κs =
+    let start = c .before .before .before .before .before .before .before .before .before in
+    let variable-binary-call = c .before .before .before .before .before .variable-binary in
+    let if1 = c .before .before .before .if1 in
+    let s = now (start .args .s) in let t = start .args .t in let i = start .args .i in
+    rw (needless s t i (start .args .k) (pgn-at (packOf s) t i) (start .args .f) (start .pre .4) (variable-binary-call .result) (variable-binary-call .ensures)
+    (not-false (start .args .f .links .length .given) (if1 .left)) (not-true (variable-binary-call .result) (c .before .before .if2 .taken))
+    (c .pgn-error2 .result) (c .pgn-error2 .ensures)) at (start .pre .0)
 
 same-length-2 : tie.Need-same-length-2
 same-length-2 c = search needs
 
 returns-2 : tie.Need-returns-2
-returns-2 c = rw (needless (now (c .before .before .before .before .before .before .before .before .before .before .before .before .args .s)) (c .before .before .before .before .before .before .before .before .before .before .before .before .args .t) (c .before .before .before .before .before .before .before .before .before .before .before .before .args .i) (c .before .before .before .before .before .before .before .before .before .before .before .before .args .k) (pgn-at (packOf (now (c .before .before .before .before .before .before .before .before .before .before .before .before .args .s))) (c .before .before .before .before .before .before .before .before .before .before .before .before .args .t) (c .before .before .before .before .before .before .before .before .before .before .before .before .args .i)) (c .before .before .before .before .before .before .before .before .before .before .before .before .args .f) (c .before .before .before .before .before .before .before .before .before .before .before .before .pre .4) (c .before .before .before .before .before .before .before .before .variable-binary .result) (c .before .before .before .before .before .before .before .before .variable-binary .ensures) (not-false (c .before .before .before .before .before .before .before .before .before .before .before .before .args .f .links .length .given) (c .before .before .before .before .before .before .if1 .left)) (not-true (c .before .before .before .before .before .before .before .before .variable-binary .result) (c .before .before .before .before .before .if2 .taken)) (c .before .before .before .pgn-error2 .result) (c .before .before .before .pgn-error2 .ensures)) (c .before .before .put .ensures)
+returns-2 c =
+    let start = c .before .before .before .before .before .before .before .before .before .before .before .before in
+    let variable-binary-call = c .before .before .before .before .before .before .before .before .variable-binary in
+    let if1 = c .before .before .before .before .before .before .if1 in
+    let if2 = c .before .before .before .before .before .if2 in
+    let pgn-error2 = c .before .before .before .pgn-error2 in
+    let s = now (start .args .s) in let t = start .args .t in let i = start .args .i in
+    rw (needless s t i (start .args .k) (pgn-at (packOf s) t i) (start .args .f) (start .pre .4) (variable-binary-call .result) (variable-binary-call .ensures)
+    (not-false (start .args .f .links .length .given) (if1 .left)) (not-true (variable-binary-call .result) (if2 .taken)) (pgn-error2 .result)
+    (pgn-error2 .ensures)) (c .before .before .put .ensures)
 
 target-requires : tie.Need-target-requires
-target-requires c κs = (c .before .before .before .before .before .before .before .pre .1, c .before .before .before .before .before .before .before .pre .2)
+target-requires c κs =
+    let start = c .before .before .before .before .before .before .before in
+    (start .pre .1, start .pre .2)
 
 bit-length-target-at-requires : tie.Need-bit-length-target-at-requires
-bit-length-target-at-requires c κs = ((rw (with-target (now (c .before .before .before .before .before .before .before .before .before .args .s)) (c .before .before .before .before .before .before .before .before .before .args .t) (c .before .before .before .before .before .before .before .before .before .args .i) (c .before .before .before .before .before .before .before .before .before .args .k) (pgn-at (packOf (now (c .before .before .before .before .before .before .before .before .before .args .s))) (c .before .before .before .before .before .before .before .before .before .args .t) (c .before .before .before .before .before .before .before .before .before .args .i)) (c .before .before .before .before .before .before .before .before .before .args .f) (c .before .before .before .before .before .before .before .before .before .pre .4) (c .before .before .before .before .before .variable-binary .result) (c .before .before .before .before .before .variable-binary .ensures) (not-false (c .before .before .before .before .before .before .before .before .before .args .f .links .length .given) (c .before .before .before .if1 .left)) (not-false (c .before .before .before .before .before .variable-binary .result) (c .before .before .if2 .left)) (optNumber (c .before .target .result)) (c .before .target .ensures)) at (c .before .before .before .before .before .before .before .before .before .pre .0)), c .before .before .before .before .before .before .before .before .before .pre .1, omega (arith, c .before .before .before .before .before .before .before .before .before .pre .2, c .before .before .before .before .before .before .before .before .before .pre .3))
+bit-length-target-at-requires c κs =
+    let start = c .before .before .before .before .before .before .before .before .before in
+    let variable-binary-call = c .before .before .before .before .before .variable-binary in
+    let if1 = c .before .before .before .if1 in
+    let s = now (start .args .s) in let t = start .args .t in let i = start .args .i in (
+      (rw (with-target s t i (start .args .k) (pgn-at (packOf s) t i) (start .args .f) (start .pre .4) (variable-binary-call .result)
+          (variable-binary-call .ensures) (not-false (start .args .f .links .length .given) (if1 .left))
+          (not-false (variable-binary-call .result) (c .before .before .if2 .left)) (optNumber (c .before .target .result)) (c .before .target .ensures)) at
+          (start .pre .0)),
+      start .pre .1,
+      omega (arith, start .pre .2, start .pre .3),
+    )
 
 same-length-3 : tie.Need-same-length-3
 same-length-3 c = search needs
 
 returns-3 : tie.Need-returns-3
-returns-3 c = rw (with-target (now (c .before .before .before .before .before .before .before .before .before .before .before .before .args .s)) (c .before .before .before .before .before .before .before .before .before .before .before .before .args .t) (c .before .before .before .before .before .before .before .before .before .before .before .before .args .i) (c .before .before .before .before .before .before .before .before .before .before .before .before .args .k) (pgn-at (packOf (now (c .before .before .before .before .before .before .before .before .before .before .before .before .args .s))) (c .before .before .before .before .before .before .before .before .before .before .before .before .args .t) (c .before .before .before .before .before .before .before .before .before .before .before .before .args .i)) (c .before .before .before .before .before .before .before .before .before .before .before .before .args .f) (c .before .before .before .before .before .before .before .before .before .before .before .before .pre .4) (c .before .before .before .before .before .before .before .before .variable-binary .result) (c .before .before .before .before .before .before .before .before .variable-binary .ensures) (not-false (c .before .before .before .before .before .before .before .before .before .before .before .before .args .f .links .length .given) (c .before .before .before .before .before .before .if1 .left)) (not-false (c .before .before .before .before .before .before .before .before .variable-binary .result) (c .before .before .before .before .before .if2 .left)) (optNumber (c .before .before .before .before .target .result)) (c .before .before .before .before .target .ensures)) (c .before .before .bit-length-target-at .ensures)
+returns-3 c =
+    let start = c .before .before .before .before .before .before .before .before .before .before .before .before in
+    let variable-binary-call = c .before .before .before .before .before .before .before .before .variable-binary in
+    let if1 = c .before .before .before .before .before .before .if1 in
+    let if2 = c .before .before .before .before .before .if2 in
+    let target-call = c .before .before .before .before .target in
+    let s = now (start .args .s) in let t = start .args .t in let i = start .args .i in
+    rw (with-target s t i (start .args .k) (pgn-at (packOf s) t i) (start .args .f) (start .pre .4) (variable-binary-call .result)
+    (variable-binary-call .ensures) (not-false (start .args .f .links .length .given) (if1 .left)) (not-false (variable-binary-call .result) (if2 .left))
+    (optNumber (target-call .result)) (target-call .ensures)) (c .before .before .bit-length-target-at .ensures)
 
 pub bit-length-field-at-spec : {M : Type 1} → statement M
 bit-length-field-at-spec =

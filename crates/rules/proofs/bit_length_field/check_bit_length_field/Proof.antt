@@ -27,30 +27,58 @@ abbrev μ-loop : tie.MeasureT-loop
 μ-loop out₀ n s work t i p fields m₀ k₀ out m k = fields - k
 
 loop-holds : tie.Need-loop-holds Inv-loop μ-loop
-loop-holds c = (search needs, refl, emitted-none (now (c .before .before .before .args .out)) (c .before .before .before .args .n))
+loop-holds c =
+    let start = c .before .before .before in
+    (omega (arith, c), refl, emitted-none (now (start .args .out)) (start .args .n))
 
 field-of-requires : tie.Need-field-of-requires Inv-loop μ-loop
-field-of-requires c κs = (c .before .before .before .before .before .pre .1, omega (arith, c .before .before .before .before .before .pre .2 .fields, c .loop-test .taken))
+field-of-requires c κs =
+    let start = c .before .before .before .before .before in
+    (start .pre .1, omega (arith, start .pre .2 .fields, c .loop-test .taken))
 
 bit-length-field-at-requires : tie.Need-bit-length-field-at-requires Inv-loop μ-loop
 unfolding check-bit-length-field
-bit-length-field-at-requires c κs = (fits-turn (of-field (now (c .before .before .before .before .before .before .before .args .s)) (c .before .before .before .before .before .before .before .args .t) (c .before .before .before .before .before .before .before .args .i)) (c .before .before .before .before .before .before .before .args .g .fields) (c .before .before .before .loop .k) (c .before .before .loop-test .taken) (rw (← c .before .before .before .before .before .before .before .pre .2 .fields) at (c .before .before .before .before .before .before .before .pre .0)) (c .before .before .before .loop .inv .2), c .before .before .before .before .before .before .before .pre .1, c .before .before .before .before .before .before .before .pre .2 .fields, c .before .before .loop-test .taken, c .before .field-of .ensures)
+bit-length-field-at-requires c κs =
+    let start = c .before .before .before .before .before .before .before in
+    let loop = c .before .before .before .loop in
+    let loop-test = c .before .before .loop-test in (
+      fits-turn (of-field (now (start .args .s)) (start .args .t) (start .args .i)) (start .args .g .fields) (loop .k) (loop-test .taken)
+          (rw (← start .pre .2 .fields) at (start .pre .0)) (loop .inv .2),
+      start .pre .1,
+      start .pre .2 .fields,
+      loop-test .taken,
+      c .before .field-of .ensures,
+    )
 
 add-k : tie.Need-add-k Inv-loop μ-loop
-add-k c = omega (arith, c .before .before .before .before .before .loop-test .taken, c .before .before .before .before .before .before .before .before .before .before .pre .2 .fields, fields-few (c .before .before .before .before .before .before .before .before .before .before .pre .1))
+add-k c =
+    let start = c .before .before .before .before .before .before .before .before .before .before in
+    let loop-test = c .before .before .before .before .before .loop-test in
+    omega (arith, loop-test .taken, start .pre .2 .fields, fields-few (start .pre .1))
 
 loop-less : tie.Need-loop-less Inv-loop μ-loop
 loop-less c = search needs
 
 loop-again : tie.Need-loop-again Inv-loop μ-loop
-loop-again c = (search needs, c .before .before .bit-length-field-at .kept .0 ∙ c .before .before .before .before .before .before .loop .inv .1, emitted-turn (of-field (now (c .before .before .before .before .before .before .before .before .before .before .args .s)) (c .before .before .before .before .before .before .before .before .before .before .args .t) (c .before .before .before .before .before .before .before .before .before .before .args .i)) (c .before .before .before .before .before .before .loop .k) (c .before .before .before .before .before .before .loop .inv .2) (c .before .before .bit-length-field-at .ensures))
+loop-again c =
+    let start = c .before .before .before .before .before .before .before .before .before .before in
+    let loop = c .before .before .before .before .before .before .loop in
+    let bit-length-field-at-call = c .before .before .bit-length-field-at in (
+      omega (arith, c),
+      bit-length-field-at-call .kept .0 ∙ loop .inv .1,
+      emitted-turn (of-field (now (start .args .s)) (start .args .t) (start .args .i)) (loop .k) (loop .inv .2) (bit-length-field-at-call .ensures),
+    )
 
 same-length : tie.Need-same-length Inv-loop μ-loop
 same-length c = c .before .loop .inv .1
 
 returns : tie.Need-returns Inv-loop μ-loop
 unfolding check-bit-length-field
-returns c = let e : length (pgn-at (packOf (now (c .before .before .before .before .before .args .s))) (c .before .before .before .before .before .args .t) (c .before .before .before .before .before .args .i) .fields) ≡ c .before .loop .k = omega (arith, c .before .before .before .before .before .pre .2 .fields, c .before .loop .inv .0, c .loop-test .left) in rw e (c .before .loop .inv .2)
+returns c =
+    let start = c .before .before .before .before .before in
+    let e : length (pgn-at (packOf (now (start .args .s))) (start .args .t) (start .args .i) .fields) ≡ c .before .loop .k =
+    omega (arith, start .pre .2 .fields, c .before .loop .inv .0, c .loop-test .left) in
+    rw e (c .before .loop .inv .2)
 
 pub check-bit-length-field-spec : {M : Type 1} → statement M
 check-bit-length-field-spec =

@@ -13,7 +13,8 @@ use denote.Ref.{now}
 use Rattle.rules.proofs.bytes_out.put_bytes.Statement.{statement}
 use Rattle.rules.proofs.bytes_out.put_bytes.Tie as tie
 
-turn : (w : List ℕ) (p : ℕ) (bytes w′ : List ℕ) (q i : ℕ) → i < length bytes → Stored w p (take i bytes) w′ q → Stored w p (take (i + 1) bytes) (set w′ q (getD bytes i 0)) (q + 1)
+turn : (w : List ℕ) (p : ℕ) (bytes w′ : List ℕ) (q i : ℕ) → i < length bytes → Stored w p (take i bytes) w′ q
+    → Stored w p (take (i + 1) bytes) (set w′ q (getD bytes i 0)) (q + 1)
 turn w p bytes w′ q i h a = rw (add-one i, take-suc bytes i 0 h) (stored-one a (getD bytes i 0))
 
 abbrev Inv-loop : tie.InvT-loop
@@ -23,7 +24,9 @@ abbrev μ-loop : tie.MeasureT-loop
 μ-loop out₀ at bytes end₀ i₀ out end i = length bytes - i
 
 loop-holds : tie.Need-loop-holds Inv-loop μ-loop
-loop-holds c = (omega arith, refl, omega arith, stored-none (now (c .before .before .args .out)) (c .before .before .args .at))
+loop-holds c =
+    let start = c .before .before in
+    (omega (arith, c), refl, omega (arith, c), stored-none (now (start .args .out)) (start .args .at))
 
 shared-slice-read-put-byte : tie.Need-shared-slice-read-put-byte Inv-loop μ-loop
 shared-slice-read-put-byte c = search needs
@@ -32,7 +35,11 @@ put-byte-requires : tie.Need-put-byte-requires Inv-loop μ-loop
 put-byte-requires c κs = search needs
 
 add-end : tie.Need-add-end Inv-loop μ-loop
-add-end c = omega (arith, c .before .before .before .before .before .before .loop .inv .2, c .before .before .before .before .before .loop-test .taken, c .before .before .before .before .before .before .before .before .before .pre)
+add-end c =
+    let start = c .before .before .before .before .before .before .before .before .before in
+    let loop = c .before .before .before .before .before .before .loop in
+    let loop-test = c .before .before .before .before .before .loop-test in
+    omega (arith, loop .inv .2, loop-test .taken, start .pre)
 
 add-i : tie.Need-add-i Inv-loop μ-loop
 add-i c = search needs
@@ -41,13 +48,25 @@ loop-less : tie.Need-loop-less Inv-loop μ-loop
 loop-less c = search needs
 
 loop-again : tie.Need-loop-again Inv-loop μ-loop
-loop-again c = (omega (arith, c .before .before .before .before .before .loop-test .taken), c .before .before .put-byte .kept .0 ∙ c .before .before .before .before .before .before .loop .inv .1, omega (arith, c .before .before .before .before .before .before .loop .inv .2), rw (c .before .before .put-byte .ensures) (turn (now (c .before .before .before .before .before .before .before .before .before .args .out)) (c .before .before .before .before .before .before .before .before .before .args .at) (now (c .before .before .before .before .before .before .before .before .before .args .bytes)) (c .before .before .before .before .before .before .loop .out) (c .before .before .before .before .before .before .loop .end) (c .before .before .before .before .before .before .loop .i) (c .before .before .before .before .before .loop-test .taken) (c .before .before .before .before .before .before .loop .inv .3)))
+loop-again c =
+    let start = c .before .before .before .before .before .before .before .before .before in
+    let loop = c .before .before .before .before .before .before .loop in
+    let loop-test = c .before .before .before .before .before .loop-test in
+    let put-byte = c .before .before .put-byte in (
+      omega (arith, loop-test .taken),
+      put-byte .kept .0 ∙ loop .inv .1,
+      omega (arith, loop .inv .2),
+      rw (put-byte .ensures)
+          (turn (now (start .args .out)) (start .args .at) (now (start .args .bytes)) (loop .out) (loop .end) (loop .i) (loop-test .taken) (loop .inv .3)),
+    )
 
 same-length : tie.Need-same-length Inv-loop μ-loop
 same-length c = c .before .loop .inv .1
 
 returns : tie.Need-returns Inv-loop μ-loop
-returns c = rw (take-all (c .before .loop .i) (now (c .before .before .before .before .args .bytes)) (c .loop-test .left)) at (c .before .loop .inv .3)
+returns c =
+    let start = c .before .before .before .before in
+    rw (take-all (c .before .loop .i) (now (start .args .bytes)) (c .loop-test .left)) at (c .before .loop .inv .3)
 
 pub put-bytes-spec : {M : Type 1} → statement M
 put-bytes-spec =

@@ -15,8 +15,9 @@ use borrow.Author.Needs.{needs}
 use Rattle.rules.proofs.bytes_out.put_six_digits.Statement.{statement}
 use Rattle.rules.proofs.bytes_out.put_six_digits.Tie as tie
 
-both : (w : List ℕ) (p k start : ℕ) (ds : List ℕ) (n : ℕ) (w′ : List ℕ) (q : ℕ) (w″ : List ℕ) (r : ℕ) → drop start ds ≡ digits n → start + length (digits n) ≡ 10 → k ≡ 6 - (10 - start)
-    → Stored w p (take k (bytes "000000")) w′ q → Stored w′ q (take (10 - start) (drop start ds)) w″ r → Stored w p (six-digits n) w″ r
+both : (w : List ℕ) (p k start : ℕ) (ds : List ℕ) (n : ℕ) (w′ : List ℕ) (q : ℕ) (w″ : List ℕ) (r : ℕ) → drop start ds ≡ digits n
+    → start + length (digits n) ≡ 10 → k ≡ 6 - (10 - start) → Stored w p (take k (bytes "000000")) w′ q → Stored w′ q (take (10 - start) (drop start ds)) w″ r
+    → Stored w p (six-digits n) w″ r
 unfolding six-digits
 both w p k start ds n w′ q w″ r d e f a b =
     let x : k ≡ 6 - length (digits n) = omega arith in
@@ -38,10 +39,15 @@ array-share-prefix-zero : tie.Need-array-share-prefix-zero
 array-share-prefix-zero c = search needs
 
 slice-aggregate-put-bytes : tie.Need-slice-aggregate-put-bytes
-slice-aggregate-put-bytes c = sym (length-take-le (c .before .before .before .before .zeros .result) (bytes "000000") (omega (arith, c .before .before .before .before .zeros .ensures)))
+slice-aggregate-put-bytes c =
+    let zeros = c .before .before .before .before .zeros in
+    sym (length-take-le (zeros .result) (bytes "000000") (omega (arith, zeros .ensures)))
 
 put-bytes-requires : tie.Need-put-bytes-requires
-put-bytes-requires c κs = omega (arith, length-take (c .before .before .before .before .zeros .result) (bytes "000000"), c .before .before .before .before .before .before .before .pre)
+put-bytes-requires c κs =
+    let start = c .before .before .before .before .before .before .before in
+    let zeros = c .before .before .before .before .zeros in
+    omega (arith, length-take (zeros .result) (bytes "000000"), start .pre)
 
 sub-put-bytes : tie.Need-sub-put-bytes
 sub-put-bytes c = search needs
@@ -50,16 +56,39 @@ part-put-bytes-start : tie.Need-part-put-bytes-start
 part-put-bytes-start c = search needs
 
 part-put-bytes-end : tie.Need-part-put-bytes-end
-part-put-bytes-end c = ten (c .before .before .before .before .before .before .before .before .before .before .before .digits-of .result .start) (c .before .before .before .before .before .before .before .before .before .before .before .before .before .args .n) (c .before .before .before .before .before .before .before .before .before .before .before .digits-of .result .bytes) (c .before .before .before .before .before .before .before .before .before .before .before .digits-of .ensures .0) (c .before .before .before .before .before .before .before .before .before .before .before .digits-of .ensures .1)
+part-put-bytes-end c =
+    let back12 = c .before .before .before .before .before .before .before .before .before .before .before .before in
+    let start = back12 .before in
+    let digits-of = c .before .before .before .before .before .before .before .before .before .before .before .digits-of in
+    ten (digits-of .result .start) (start .args .n) (digits-of .result .bytes) (digits-of .ensures .0) (digits-of .ensures .1)
 
 put-bytes-requires-2 : tie.Need-put-bytes-requires-2
-put-bytes-requires-2 c κs = omega (arith, length-take (c .before .before .before .before .before .before .before .before .before .before .before .zeros .result) (bytes "000000"), length-take (10 - c .before .before .before .before .before .before .before .before .before .before .before .before .digits-of .result .start) (drop (c .before .before .before .before .before .before .before .before .before .before .before .before .digits-of .result .start) (c .before .before .before .before .before .before .before .before .before .before .before .before .digits-of .result .bytes)), c .before .before .before .before .before .before .put-bytes .ensures .count, c .before .before .before .before .before .before .before .before .before .before .before .before .before .before .pre)
+put-bytes-requires-2 c κs =
+    let back12 = c .before .before .before .before .before .before .before .before .before .before .before .before in
+    let start = back12 .before .before in
+    let digits-of = c .before .before .before .before .before .before .before .before .before .before .before .before .digits-of in
+    let zeros = c .before .before .before .before .before .before .before .before .before .before .before .zeros in
+    let put-bytes = c .before .before .before .before .before .before .put-bytes in
+    omega (
+      arith,
+      length-take (zeros .result) (bytes "000000"),
+      length-take (10 - digits-of .result .start) (drop (digits-of .result .start) (digits-of .result .bytes)),
+      put-bytes .ensures .count,
+      start .pre,
+    )
 
 same-length : tie.Need-same-length
 same-length c = search needs
 
 returns : tie.Need-returns
-returns c = both (now (c .before .before .before .before .before .before .before .before .before .before .before .before .before .before .before .before .before .args .out)) (c .before .before .before .before .before .before .before .before .before .before .before .before .before .before .before .before .before .args .at) (c .before .before .before .before .before .before .before .before .before .before .before .before .before .before .zeros .result) (c .before .before .before .before .before .before .before .before .before .before .before .before .before .before .before .digits-of .result .start) (c .before .before .before .before .before .before .before .before .before .before .before .before .before .before .before .digits-of .result .bytes) (c .before .before .before .before .before .before .before .before .before .before .before .before .before .before .before .before .before .args .n) _ _ _ _ (c .before .before .before .before .before .before .before .before .before .before .before .before .before .before .before .digits-of .ensures .0) (c .before .before .before .before .before .before .before .before .before .before .before .before .before .before .before .digits-of .ensures .1) (c .before .before .before .before .before .before .before .before .before .before .before .before .before .before .zeros .ensures) (c .before .before .before .before .before .before .before .before .before .put-bytes .ensures) (c .before .before .put-bytes2 .ensures)
+returns c =
+    let back12 = c .before .before .before .before .before .before .before .before .before .before .before .before in
+    let start = back12 .before .before .before .before .before in
+    let digits-of = back12 .before .before .before .digits-of in
+    let zeros = back12 .before .before .zeros in
+    let put-bytes = c .before .before .before .before .before .before .before .before .before .put-bytes in
+    both (now (start .args .out)) (start .args .at) (zeros .result) (digits-of .result .start) (digits-of .result .bytes) (start .args .n) _ _ _ _
+    (digits-of .ensures .0) (digits-of .ensures .1) (zeros .ensures) (put-bytes .ensures) (c .before .before .put-bytes2 .ensures)
 
 pub put-six-digits-spec : {M : Type 1} → statement M
 put-six-digits-spec =

@@ -18,7 +18,15 @@ use Rattle.rules.proofs.Emits.{emitted-append}
 use Rattle.rules.proofs.check.check_all.Statement.{statement}
 use Rattle.rules.proofs.check.check_all.Tie as tie
 
-parts : (P : Pack) → length (check P) ≡ length (check-fieldtypes (P .fieldtypes)) + length (check-lookup-wiring P) + length (check-spn-names (P .pgns-j1939)) + length (concatBelow (λ l. lookup-names-of l (lookup-at (P .lookups) l)) (length (P .lookups))) + length (concatBelow (check-tree P) 3) + length (check-spns P) + length (concatBelow (check-tree-continues P) 3)
+parts : (P : Pack)
+    → length (check P)
+    ≡ length (check-fieldtypes (P .fieldtypes))
+    + length (check-lookup-wiring P)
+    + length (check-spn-names (P .pgns-j1939))
+    + length (concatBelow (λ l. lookup-names-of l (lookup-at (P .lookups) l)) (length (P .lookups)))
+    + length (concatBelow (check-tree P) 3)
+    + length (check-spns P)
+    + length (concatBelow (check-tree-continues P) 3)
 unfolding check check-lookup-names
 parts P =
     let names = length-append (check-spn-names (P .pgns-j1939)) (concatBelow (λ l. lookup-names-of l (lookup-at (P .lookups) l)) (length (P .lookups))) in
@@ -26,36 +34,173 @@ parts P =
     let b = length-append (check-fieldtypes (P .fieldtypes) ++ check-lookup-wiring P) (check-lookup-names P) in
     let c = length-append (check-fieldtypes (P .fieldtypes) ++ check-lookup-wiring P ++ check-lookup-names P) (concatBelow (check-tree P) 3) in
     let d = length-append (check-fieldtypes (P .fieldtypes) ++ check-lookup-wiring P ++ check-lookup-names P ++ concatBelow (check-tree P) 3) (check-spns P) in
-    let e = length-append (check-fieldtypes (P .fieldtypes) ++ check-lookup-wiring P ++ check-lookup-names P ++ concatBelow (check-tree P) 3 ++ check-spns P) (concatBelow (check-tree-continues P) 3) in
+    let e = length-append (check-fieldtypes (P .fieldtypes) ++ check-lookup-wiring P ++ check-lookup-names P ++ concatBelow (check-tree P) 3 ++ check-spns P)
+    (concatBelow (check-tree-continues P) 3) in
     omega arith
 
 check-fieldtypes-requires : tie.Need-check-fieldtypes-requires
-check-fieldtypes-requires c κs = (record { small = omega (arith, c .before .before .before .before .pre .0 .small, parts (packOf (now (c .before .before .before .before .args .s)))) }, c .before .before .before .before .pre .1, c .before .before .before .before .pre .2 .types)
+check-fieldtypes-requires c κs =
+    let start = c .before .before .before .before in
+    (record { small = omega (arith, start .pre .0 .small, parts (packOf (now (start .args .s)))) }, start .pre .1, start .pre .2 .types)
 
 check-lookup-wiring-requires : tie.Need-check-lookup-wiring-requires
-check-lookup-wiring-requires c κs = (record { small = omega (arith, c .before .before .before .before .before .before .before .before .pre .0 .small, parts (packOf (now (c .before .before .before .before .before .before .before .before .args .s))), c .before .before .before .check-fieldtypes .ensures .count) }, c .before .before .before .before .before .before .before .before .pre .1, c .before .before .before .before .before .before .before .before .pre .2)
+check-lookup-wiring-requires c κs =
+    let start = c .before .before .before .before .before .before .before .before in
+    let check-fieldtypes-call = c .before .before .before .check-fieldtypes in (
+      record { small = omega (arith, start .pre .0 .small, parts (packOf (now (start .args .s))), check-fieldtypes-call .ensures .count) },
+      start .pre .1,
+      start .pre .2,
+    )
 
 check-spn-names-requires : tie.Need-check-spn-names-requires
-check-spn-names-requires c κs = (record { small = omega (arith, c .before .before .before .before .before .before .before .before .before .before .before .before .pre .0 .small, parts (packOf (now (c .before .before .before .before .before .before .before .before .before .before .before .before .args .s))), c .before .before .before .before .before .before .before .check-fieldtypes .ensures .count, c .before .before .before .check-lookup-wiring .ensures .count) }, c .before .before .before .before .before .before .before .before .before .before .before .before .pre .1, c .before .before .before .before .before .before .before .before .before .before .before .before .pre .2 .trees 1 (omega arith), c .before .before .before .before .before .before .before .before .before .before .before .before .pre .2 .trees-place 1 (omega arith))
+check-spn-names-requires c κs =
+    let start = c .before .before .before .before .before .before .before .before .before .before .before .before in
+    let check-fieldtypes-call = c .before .before .before .before .before .before .before .check-fieldtypes in
+    let check-lookup-wiring-call = c .before .before .before .check-lookup-wiring in (
+      record {
+        small = omega (
+          arith,
+          start .pre .0 .small,
+          parts (packOf (now (start .args .s))),
+          check-fieldtypes-call .ensures .count,
+          check-lookup-wiring-call .ensures .count,
+        );
+      },
+      start .pre .1,
+      start .pre .2 .trees 1 (omega (arith, c)),
+      start .pre .2 .trees-place 1 (omega (arith, c)),
+    )
 
 check-lookup-names-requires : tie.Need-check-lookup-names-requires
-check-lookup-names-requires c κs = (record { small = omega (arith, c .before .before .before .before .before .before .before .before .before .before .before .before .before .before .before .before .pre .0 .small, parts (packOf (now (c .before .before .before .before .before .before .before .before .before .before .before .before .before .before .before .before .args .s))), c .before .before .before .before .before .before .before .before .before .before .before .check-fieldtypes .ensures .count, c .before .before .before .before .before .before .before .check-lookup-wiring .ensures .count, c .before .before .before .check-spn-names .ensures .count) }, c .before .before .before .before .before .before .before .before .before .before .before .before .before .before .before .before .pre .1, c .before .before .before .before .before .before .before .before .before .before .before .before .before .before .before .before .pre .2 .lookups, c .before .before .before .before .before .before .before .before .before .before .before .before .before .before .before .before .pre .2 .lookups-place)
+check-lookup-names-requires c κs =
+    let back12 = c .before .before .before .before .before .before .before .before .before .before .before .before in
+    let start = back12 .before .before .before .before in
+    let check-fieldtypes-call = c .before .before .before .before .before .before .before .before .before .before .before .check-fieldtypes in
+    let check-lookup-wiring-call = c .before .before .before .before .before .before .before .check-lookup-wiring in
+    let check-spn-names-call = c .before .before .before .check-spn-names in (
+      record {
+        small = omega (
+          arith,
+          start .pre .0 .small,
+          parts (packOf (now (start .args .s))),
+          check-fieldtypes-call .ensures .count,
+          check-lookup-wiring-call .ensures .count,
+          check-spn-names-call .ensures .count,
+        );
+      },
+      start .pre .1,
+      start .pre .2 .lookups,
+      start .pre .2 .lookups-place,
+    )
 
 check-trees-requires : tie.Need-check-trees-requires
-check-trees-requires c κs = (record { small = omega (arith, c .before .before .before .before .before .before .before .before .before .before .before .before .before .before .before .before .before .before .before .before .pre .0 .small, parts (packOf (now (c .before .before .before .before .before .before .before .before .before .before .before .before .before .before .before .before .before .before .before .before .args .s))), c .before .before .before .before .before .before .before .before .before .before .before .before .before .before .before .check-fieldtypes .ensures .count, c .before .before .before .before .before .before .before .before .before .before .before .check-lookup-wiring .ensures .count, c .before .before .before .before .before .before .before .check-spn-names .ensures .count, c .before .before .before .check-lookup-names .ensures .count) }, c .before .before .before .before .before .before .before .before .before .before .before .before .before .before .before .before .before .before .before .before .pre .1, c .before .before .before .before .before .before .before .before .before .before .before .before .before .before .before .before .before .before .before .before .pre .2)
+check-trees-requires c κs =
+    let back12 = c .before .before .before .before .before .before .before .before .before .before .before .before in
+    let start = back12 .before .before .before .before .before .before .before .before in
+    let check-fieldtypes-call = back12 .before .before .before .check-fieldtypes in
+    let check-lookup-wiring-call = c .before .before .before .before .before .before .before .before .before .before .before .check-lookup-wiring in
+    let check-spn-names-call = c .before .before .before .before .before .before .before .check-spn-names in
+    let check-lookup-names-call = c .before .before .before .check-lookup-names in (
+      record {
+        small = omega (
+          arith,
+          start .pre .0 .small,
+          parts (packOf (now (start .args .s))),
+          check-fieldtypes-call .ensures .count,
+          check-lookup-wiring-call .ensures .count,
+          check-spn-names-call .ensures .count,
+          check-lookup-names-call .ensures .count,
+        );
+      },
+      start .pre .1,
+      start .pre .2,
+    )
 
 check-spns-requires : tie.Need-check-spns-requires
-check-spns-requires c κs = (record { small = omega (arith, c .before .before .before .before .before .before .before .before .before .before .before .before .before .before .before .before .before .before .before .before .before .before .before .before .pre .0 .small, parts (packOf (now (c .before .before .before .before .before .before .before .before .before .before .before .before .before .before .before .before .before .before .before .before .before .before .before .before .args .s))), c .before .before .before .before .before .before .before .before .before .before .before .before .before .before .before .before .before .before .before .check-fieldtypes .ensures .count, c .before .before .before .before .before .before .before .before .before .before .before .before .before .before .before .check-lookup-wiring .ensures .count, c .before .before .before .before .before .before .before .before .before .before .before .check-spn-names .ensures .count, c .before .before .before .before .before .before .before .check-lookup-names .ensures .count, c .before .before .before .check-trees .ensures .count) }, c .before .before .before .before .before .before .before .before .before .before .before .before .before .before .before .before .before .before .before .before .before .before .before .before .pre .1, c .before .before .before .before .before .before .before .before .before .before .before .before .before .before .before .before .before .before .before .before .before .before .before .before .pre .2)
+check-spns-requires c κs =
+    let back12 = c .before .before .before .before .before .before .before .before .before .before .before .before in
+    let start = back12 .before .before .before .before .before .before .before .before .before .before .before .before in
+    let check-fieldtypes-call = back12 .before .before .before .before .before .before .before .check-fieldtypes in
+    let check-lookup-wiring-call = back12 .before .before .before .check-lookup-wiring in
+    let check-spn-names-call = c .before .before .before .before .before .before .before .before .before .before .before .check-spn-names in
+    let check-lookup-names-call = c .before .before .before .before .before .before .before .check-lookup-names in
+    let check-trees = c .before .before .before .check-trees in (
+      record {
+        small = omega (
+          arith,
+          start .pre .0 .small,
+          parts (packOf (now (start .args .s))),
+          check-fieldtypes-call .ensures .count,
+          check-lookup-wiring-call .ensures .count,
+          check-spn-names-call .ensures .count,
+          check-lookup-names-call .ensures .count,
+          check-trees .ensures .count,
+        );
+      },
+      start .pre .1,
+      start .pre .2,
+    )
 
 check-trees-continues-requires : tie.Need-check-trees-continues-requires
-check-trees-continues-requires c κs = (record { small = omega (arith, c .before .before .before .before .before .before .before .before .before .before .before .before .before .before .before .before .before .before .before .before .before .before .before .before .before .before .before .before .pre .0 .small, parts (packOf (now (c .before .before .before .before .before .before .before .before .before .before .before .before .before .before .before .before .before .before .before .before .before .before .before .before .before .before .before .before .args .s))), c .before .before .before .before .before .before .before .before .before .before .before .before .before .before .before .before .before .before .before .before .before .before .before .check-fieldtypes .ensures .count, c .before .before .before .before .before .before .before .before .before .before .before .before .before .before .before .before .before .before .before .check-lookup-wiring .ensures .count, c .before .before .before .before .before .before .before .before .before .before .before .before .before .before .before .check-spn-names .ensures .count, c .before .before .before .before .before .before .before .before .before .before .before .check-lookup-names .ensures .count, c .before .before .before .before .before .before .before .check-trees .ensures .count, c .before .before .before .check-spns .ensures .count) }, c .before .before .before .before .before .before .before .before .before .before .before .before .before .before .before .before .before .before .before .before .before .before .before .before .before .before .before .before .pre .1, c .before .before .before .before .before .before .before .before .before .before .before .before .before .before .before .before .before .before .before .before .before .before .before .before .before .before .before .before .pre .2)
+check-trees-continues-requires c κs =
+    let back12 = c .before .before .before .before .before .before .before .before .before .before .before .before in
+    let back24 = back12 .before .before .before .before .before .before .before .before .before .before .before .before in
+    let start = back24 .before .before .before .before in
+    let check-fieldtypes-call = back12 .before .before .before .before .before .before .before .before .before .before .before .check-fieldtypes in
+    let check-lookup-wiring-call = back12 .before .before .before .before .before .before .before .check-lookup-wiring in
+    let check-spn-names-call = back12 .before .before .before .check-spn-names in
+    let check-lookup-names-call = c .before .before .before .before .before .before .before .before .before .before .before .check-lookup-names in
+    let check-trees = c .before .before .before .before .before .before .before .check-trees in
+    let check-spns-call = c .before .before .before .check-spns in (
+      record {
+        small = omega (
+          arith,
+          start .pre .0 .small,
+          parts (packOf (now (start .args .s))),
+          check-fieldtypes-call .ensures .count,
+          check-lookup-wiring-call .ensures .count,
+          check-spn-names-call .ensures .count,
+          check-lookup-names-call .ensures .count,
+          check-trees .ensures .count,
+          check-spns-call .ensures .count,
+        );
+      },
+      start .pre .1,
+      start .pre .2,
+    )
 
 same-length : tie.Need-same-length
-same-length c = c .before .before .check-trees-continues .kept .0 ∙ c .before .before .before .before .before .before .check-spns .kept .0 ∙ c .before .before .before .before .before .before .before .before .before .before .check-trees .kept .0 ∙ c .before .before .before .before .before .before .before .before .before .before .before .before .before .before .check-lookup-names .kept .0 ∙ c .before .before .before .before .before .before .before .before .before .before .before .before .before .before .before .before .before .before .check-spn-names .kept .0 ∙ c .before .before .before .before .before .before .before .before .before .before .before .before .before .before .before .before .before .before .before .before .before .before .check-lookup-wiring .kept .0 ∙ c .before .before .before .before .before .before .before .before .before .before .before .before .before .before .before .before .before .before .before .before .before .before .before .before .before .before .check-fieldtypes .kept .0
+same-length c =
+    let back12 = c .before .before .before .before .before .before .before .before .before .before .before .before in
+    let back24 = back12 .before .before .before .before .before .before .before .before .before .before .before .before in
+    let check-fieldtypes-call = back24 .before .before .check-fieldtypes in
+    let check-lookup-wiring-call = back12 .before .before .before .before .before .before .before .before .before .before .check-lookup-wiring in
+    let check-spn-names-call = back12 .before .before .before .before .before .before .check-spn-names in
+    let check-lookup-names-call = back12 .before .before .check-lookup-names in
+    let check-trees = c .before .before .before .before .before .before .before .before .before .before .check-trees in
+    let check-spns-call = c .before .before .before .before .before .before .check-spns in
+    c .before .before .check-trees-continues .kept .0
+    ∙ check-spns-call .kept .0
+    ∙ check-trees .kept .0
+    ∙ check-lookup-names-call .kept .0
+    ∙ check-spn-names-call .kept .0
+    ∙ check-lookup-wiring-call .kept .0
+    ∙ check-fieldtypes-call .kept .0
 
 returns : tie.Need-returns
 unfolding check check-lookup-names
-returns c = emitted-append (emitted-append (emitted-append (emitted-append (emitted-append (c .before .before .before .before .before .before .before .before .before .before .before .before .before .before .before .before .before .before .before .before .before .before .before .before .before .before .check-fieldtypes .ensures) (c .before .before .before .before .before .before .before .before .before .before .before .before .before .before .before .before .before .before .before .before .before .before .check-lookup-wiring .ensures)) (emitted-append (c .before .before .before .before .before .before .before .before .before .before .before .before .before .before .before .before .before .before .check-spn-names .ensures) (c .before .before .before .before .before .before .before .before .before .before .before .before .before .before .check-lookup-names .ensures))) (c .before .before .before .before .before .before .before .before .before .before .check-trees .ensures)) (c .before .before .before .before .before .before .check-spns .ensures)) (c .before .before .check-trees-continues .ensures)
+returns c =
+    let back12 = c .before .before .before .before .before .before .before .before .before .before .before .before in
+    let back24 = back12 .before .before .before .before .before .before .before .before .before .before .before .before in
+    let check-fieldtypes-call = back24 .before .before .check-fieldtypes in
+    let check-lookup-wiring-call = back12 .before .before .before .before .before .before .before .before .before .before .check-lookup-wiring in
+    let check-spn-names-call = back12 .before .before .before .before .before .before .check-spn-names in
+    let check-lookup-names-call = back12 .before .before .check-lookup-names in
+    let check-trees = c .before .before .before .before .before .before .before .before .before .before .check-trees in
+    let check-spns-call = c .before .before .before .before .before .before .check-spns in
+    emitted-append (emitted-append (emitted-append (emitted-append (emitted-append (check-fieldtypes-call .ensures) (check-lookup-wiring-call .ensures))
+    (emitted-append (check-spn-names-call .ensures) (check-lookup-names-call .ensures))) (check-trees .ensures)) (check-spns-call .ensures))
+    (c .before .before .check-trees-continues .ensures)
 
 pub check-all-spec : {M : Type 1} → statement M
 check-all-spec =

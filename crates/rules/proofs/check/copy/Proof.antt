@@ -28,13 +28,19 @@ mul-to : tie.Need-mul-to Inv-loop μ-loop
 mul-to c = omega (arith, c .loop-test .taken, c .before .before .pre)
 
 shared-slice-read-to : tie.Need-shared-slice-read-to Inv-loop μ-loop
-shared-slice-read-to c = omega (arith, c .before .loop-test .taken, c .before .before .before .pre)
+shared-slice-read-to c =
+    let start = c .before .before .before in
+    omega (arith, c .before .loop-test .taken, start .pre)
 
 mul-to-2 : tie.Need-mul-to-2 Inv-loop μ-loop
-mul-to-2 c = omega (arith, c .before .loop-test .taken, c .before .before .before .pre, c .before .before .loop .inv .1)
+mul-to-2 c =
+    let start = c .before .before .before in
+    omega (arith, c .before .loop-test .taken, start .pre, c .before .before .loop .inv .1)
 
 slice-write-to : tie.Need-slice-write-to Inv-loop μ-loop
-slice-write-to c = omega (arith, c .before .loop-test .taken, c .before .before .before .pre, c .before .before .loop .inv .1)
+slice-write-to c =
+    let start = c .before .before .before in
+    omega (arith, c .before .loop-test .taken, start .pre, c .before .before .loop .inv .1)
 
 add-i : tie.Need-add-i Inv-loop μ-loop
 add-i c = search needs
@@ -43,13 +49,25 @@ loop-less : tie.Need-loop-less Inv-loop μ-loop
 loop-less c = search needs
 
 loop-again : tie.Need-loop-again Inv-loop μ-loop
-loop-again c = (omega (arith, c .before .loop-test .taken), length-set (c .before .before .loop .to) (c .before .before .loop .i) (getD (now (c .before .before .before .args .from)) (c .before .before .loop .i) 0) ∙ c .before .before .loop .inv .1, turn (now (c .before .before .before .args .to)) (now (c .before .before .before .args .from)) (c .before .before .loop .to) (c .before .before .loop .i) (c .before .before .loop .i) (omega (arith, c .before .loop-test .taken, c .before .before .before .pre)) (c .before .before .loop .inv .2))
+loop-again c =
+    let start = c .before .before .before in
+    let loop = c .before .before .loop in
+    let from = now (start .args .from) in (
+      omega (arith, c .before .loop-test .taken),
+      length-set (loop .to) (loop .i) (getD from (loop .i) 0) ∙ loop .inv .1,
+      turn (now (start .args .to)) from (loop .to) (loop .i) (loop .i) (omega (arith, c .before .loop-test .taken, start .pre)) (loop .inv .2),
+    )
 
 same-length : tie.Need-same-length Inv-loop μ-loop
 same-length c = c .before .loop .inv .1
 
 returns : tie.Need-returns Inv-loop μ-loop
-returns c = let e : c .before .loop .i ≡ c .before .before .args .n = omega (arith, c .before .loop .inv .0, c .loop-test .left) in (rw e at (c .before .loop .inv .2)) .work ∙ sets-over (now (c .before .before .args .to)) (take (c .before .before .args .n) (now (c .before .before .args .from))) (omega (arith, length-take-le (c .before .before .args .n) (now (c .before .before .args .from)) (c .before .before .pre .0), c .before .before .pre .1))
+returns c =
+    let start = c .before .before in
+    let n = start .args .n in let from = now (start .args .from) in
+    let e : c .before .loop .i ≡ start .args .n = omega (arith, c .before .loop .inv .0, c .loop-test .left) in
+    (rw e at (c .before .loop .inv .2)) .work
+    ∙ sets-over (now (start .args .to)) (take n from) (omega (arith, length-take-le n from (start .pre .0), start .pre .1))
 
 pub copy-spec : {M : Type 1} → statement M
 copy-spec =

@@ -39,7 +39,9 @@ mul-severity-2 : tie.Need-mul-severity-2 Inv-loop μ-loop
 mul-severity-2 c = search needs
 
 shared-slice-read-severity : tie.Need-shared-slice-read-severity Inv-loop μ-loop
-shared-slice-read-severity c = omega (arith, c .before .before .before .before .pre, c .before .loop-test .taken)
+shared-slice-read-severity c =
+    let start = c .before .before .before .before in
+    omega (arith, start .pre, c .before .loop-test .taken)
 
 one-more-requires : tie.Need-one-more-requires Inv-loop μ-loop
 one-more-requires c κs = search needs
@@ -51,10 +53,20 @@ loop-less : tie.Need-loop-less Inv-loop μ-loop
 loop-less c = search needs
 
 loop-again : tie.Need-loop-again Inv-loop μ-loop
-loop-again c = (omega (arith, c .before .before .loop-test .taken), more-by (error-at (now (c .before .before .before .before .before .args .findings)) (c .before .before .before .loop .i)) (c .one-more .ensures) (c .before .before .before .loop .inv .1), c .one-more .ensures ∙ rw (c .before .before .before .loop .inv .2) (sym (count-turn (error-at (now (c .before .before .before .before .before .args .findings))) (c .before .before .before .loop .i))))
+loop-again c =
+    let start = c .before .before .before .before .before in
+    let loop = c .before .before .before .loop in
+    let findings = now (start .args .findings) in (
+      omega (arith, c .before .before .loop-test .taken),
+      more-by (error-at findings (loop .i)) (c .one-more .ensures) (loop .inv .1),
+      c .one-more .ensures ∙ rw (loop .inv .2) (sym (count-turn (error-at findings) (loop .i))),
+    )
 
 returns : tie.Need-returns Inv-loop μ-loop
-returns c = let e : c .before .loop .i ≡ c .before .before .before .args .n = omega (arith, c .before .loop .inv .0, c .loop-test .left) in rw (← e) (c .before .loop .inv .2)
+returns c =
+    let start = c .before .before .before in
+    let e : c .before .loop .i ≡ start .args .n = omega (arith, c .before .loop .inv .0, c .loop-test .left) in
+    rw (← e) (c .before .loop .inv .2)
 
 pub count-errors-spec : {M : Type 1} → statement M
 count-errors-spec =

@@ -13,22 +13,32 @@ mul-numbers : tie.Need-mul-numbers
 mul-numbers c = search needs
 
 copy-requires : tie.Need-copy-requires
-copy-requires c κs = (c .before .if1 .taken, c .before .before .before .before .before .before .pre .4)
+copy-requires c κs =
+    let start = c .before .before .before .before .before .before in
+    (c .before .if1 .taken, start .pre .4)
 
 same-length : tie.Need-same-length
 same-length c = c .before .before .copy .kept .1 .0
 
 returns : tie.Need-returns
-returns c = rw (c .before .before .before .before .before .before .before .before .before .pre .3 (c .before .before .before .before .if1 .taken)) at (c .before .before .copy .ensures)
+returns c =
+    let start = c .before .before .before .before .before .before .before .before .before in
+    let if1 = c .before .before .before .before .if1 in
+    rw (start .pre .3 (if1 .taken)) at (c .before .before .copy .ensures)
 
 check-all-requires : tie.Need-check-all-requires
-check-all-requires c κs = (findings-few (now (c .before .before .before .before .before .before .args .pack)) (now (c .before .before .before .before .before .before .args .work)) (c .before .before .before .before .before .before .pre .0), c .before .before .before .before .before .before .pre .0, c .before .before .before .before .before .before .pre .1)
+check-all-requires c κs =
+    let start = c .before .before .before .before .before .before in
+    (findings-few (now (start .args .pack)) (now (start .args .work)) (start .pre .0), start .pre .0, start .pre .1)
 
 same-length-2 : tie.Need-same-length-2
 same-length-2 c = c .before .before .check-all .kept .0
 
 returns-2 : tie.Need-returns-2
-returns-2 c = c .before .before .check-all .ensures .out ∙ put-all (check (packOf (now (c .before .before .before .before .before .before .before .before .before .args .pack)))) (now (c .before .before .before .before .before .before .before .before .before .args .findings)) (omega (arith, c .before .before .before .before .before .before .before .before .before .pre .2, c .before .before .before .before .before .before .before .before .before .pre .4))
+returns-2 c =
+    let start = c .before .before .before .before .before .before .before .before .before in
+    c .before .before .check-all .ensures .out
+    ∙ put-all (check (packOf (now (start .args .pack)))) (now (start .args .findings)) (omega (arith, start .pre .2, start .pre .4))
 
 pub deliver-spec : {M : Type 1} → statement M
 deliver-spec =

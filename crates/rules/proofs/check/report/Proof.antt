@@ -12,19 +12,36 @@ slice-aggregate-check-all : tie.Need-slice-aggregate-check-all
 slice-aggregate-check-all c = search needs
 
 check-all-requires : tie.Need-check-all-requires
-check-all-requires c κs = (findings-few (now (c .before .before .before .before .args .pack)) (now (c .before .before .before .before .args .work)) (c .before .before .before .before .pre .0), c .before .before .before .before .pre .0, c .before .before .before .before .pre .1)
+check-all-requires c κs =
+    let start = c .before .before .before .before in
+    (findings-few (now (start .args .pack)) (now (start .args .work)) (start .pre .0), start .pre .0, start .pre .1)
 
 mul-needed : tie.Need-mul-needed
-mul-needed c = omega (arith, c .before .check-all .ensures .count, findings-few (now (c .before .before .before .before .before .before .args .pack)) (now (c .before .before .before .before .before .before .args .work)) (c .before .before .before .before .before .before .pre .0) .small)
+mul-needed c =
+    let start = c .before .before .before .before .before .before in
+    omega (arith, c .before .check-all .ensures .count, findings-few (now (start .args .pack)) (now (start .args .work)) (start .pre .0) .small)
 
 returns : tie.Need-returns
-returns c = let a = buffer-short (check (packOf (now (c .before .before .before .before .before .before .before .args .pack)))) (now (c .before .before .before .before .before .before .before .args .findings)) (c .before .before .check-all .result) (omega (arith, c .before .before .check-all .ensures .count)) (c .if1 .taken) in (a .answer, a .out)
+returns c =
+    let start = c .before .before .before .before .before .before .before in
+    let check-all = c .before .before .check-all in
+    let a = buffer-short (check (packOf (now (start .args .pack)))) (now (start .args .findings)) (check-all .result) (omega (arith, check-all .ensures .count))
+    (c .if1 .taken) in
+    (a .answer, a .out)
 
 slice-aggregate-deliver : tie.Need-slice-aggregate-deliver
 slice-aggregate-deliver c = search needs
 
 deliver-requires : tie.Need-deliver-requires
-deliver-requires c κs = (c .before .before .before .before .before .before .before .before .before .pre .0, c .before .before .before .before .before .before .before .before .before .pre .1, omega (arith, c .before .before .before .before .check-all .ensures .count), (λ h. put-front (check (packOf (now (c .before .before .before .before .before .before .before .before .before .args .pack)))) _ _ (c .before .before .before .before .check-all .result) (c .before .before .before .before .check-all .ensures) (omega (arith, h, c .before .before .before .before .check-all .kept .0))), c .before .before .if1 .left)
+deliver-requires c κs =
+    let start = c .before .before .before .before .before .before .before .before .before in
+    let check-all = c .before .before .before .before .check-all in (
+      start .pre .0,
+      start .pre .1,
+      omega (arith, check-all .ensures .count),
+      (λ h. put-front (check (packOf (now (start .args .pack)))) _ _ (check-all .result) (check-all .ensures) (omega (arith, h, check-all .kept .0))),
+      c .before .before .if1 .left,
+    )
 
 count-errors-requires : tie.Need-count-errors-requires
 count-errors-requires c κs = search needs
@@ -33,7 +50,15 @@ same-length : tie.Need-same-length
 same-length c = search needs
 
 returns-2 : tie.Need-returns-2
-returns-2 c = let a = all-put (check (packOf (now (c .before .before .before .before .before .before .before .before .before .before .before .before .before .before .args .pack)))) (now (c .before .before .before .before .before .before .before .before .before .before .before .before .before .before .args .findings)) (c .before .before .before .before .deliver .last .1 .1 .0) (c .before .before .before .before .before .before .before .before .before .check-all .result) (c .count-errors .result) (omega (arith, c .before .before .before .before .before .before .before .before .before .check-all .ensures .count)) (c .before .before .before .before .before .before .before .if1 .left) (c .before .before .before .before .deliver .ensures) (c .count-errors .ensures) in (a .answer, a .out)
+returns-2 c =
+    let back12 = c .before .before .before .before .before .before .before .before .before .before .before .before in
+    let start = back12 .before .before in
+    let check-all = c .before .before .before .before .before .before .before .before .before .check-all in
+    let if1 = c .before .before .before .before .before .before .before .if1 in
+    let deliver = c .before .before .before .before .deliver in
+    let a = all-put (check (packOf (now (start .args .pack)))) (now (start .args .findings)) (deliver .last .1 .1 .0) (check-all .result)
+    (c .count-errors .result) (omega (arith, check-all .ensures .count)) (if1 .left) (deliver .ensures) (c .count-errors .ensures) in
+    (a .answer, a .out)
 
 pub report-spec : {M : Type 1} → statement M
 report-spec =

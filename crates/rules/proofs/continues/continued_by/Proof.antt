@@ -31,28 +31,47 @@ loop-holds : tie.Need-loop-holds Inv-loop μ-loop
 loop-holds c = (search needs, search needs, refl)
 
 field-of-requires : tie.Need-field-of-requires Inv-loop μ-loop
-field-of-requires c κs = (c .before .before .before .before .pre .0, omega (arith, c .before .before .before .before .pre .1, c .loop-test .taken))
+field-of-requires c κs =
+    let start = c .before .before .before .before in
+    (start .pre .0, omega (arith, start .pre .1, c .loop-test .taken))
 
 is-text-requires : tie.Need-is-text-requires Inv-loop μ-loop
 is-text-requires c κs = search needs
 
 counted-requires : tie.Need-counted-requires Inv-loop μ-loop
-counted-requires c κs = omega (arith, c .before .before .before .loop .inv .1, c .before .before .loop-test .taken, c .before .before .before .before .before .before .pre .1, fields-few (c .before .before .before .before .before .before .pre .0))
+counted-requires c κs =
+    let start = c .before .before .before .before .before .before in
+    let loop = c .before .before .before .loop in
+    omega (arith, loop .inv .1, c .before .before .loop-test .taken, start .pre .1, fields-few (start .pre .0))
 
 add-k : tie.Need-add-k Inv-loop μ-loop
-add-k c = omega (arith, c .before .before .before .loop-test .taken, c .before .before .before .before .before .before .before .pre .1, fields-few (c .before .before .before .before .before .before .before .pre .0))
+add-k c =
+    let start = c .before .before .before .before .before .before .before in
+    let loop-test = c .before .before .before .loop-test in
+    omega (arith, loop-test .taken, start .pre .1, fields-few (start .pre .0))
 
 loop-less : tie.Need-loop-less Inv-loop μ-loop
 loop-less c = search needs
 
 loop-again : tie.Need-loop-again Inv-loop μ-loop
 loop-again c =
-    let e : continuing (now (c .before .before .before .before .before .before .before .args .s)) (c .before .before .before .before .before .before .before .args .t) (c .before .before .before .before .before .before .before .args .i) (bytesOf (now (c .before .before .before .before .before .before .before .args .s)) (c .before .before .before .before .before .before .before .args .id)) (c .before .before .before .before .loop .k) ≡ c .before .is-text .result = ap (λ (F : Field). is-text (F .continues) (bytesOf (now (c .before .before .before .before .before .before .before .args .s)) (c .before .before .before .before .before .before .before .args .id))) (sym (c .before .before .field-of .ensures)) ∙ sym (c .before .is-text .ensures) in
-    (search needs, (rw (c .counted .ensures) (hits-few (c .before .is-text .result) (c .before .before .before .before .loop .count) (c .before .before .before .before .loop .k) (c .before .before .before .before .loop .inv .1))), c .counted .ensures ∙ (rw (count-turn (continuing (now (c .before .before .before .before .before .before .before .args .s)) (c .before .before .before .before .before .before .before .args .t) (c .before .before .before .before .before .before .before .args .i) (bytesOf (now (c .before .before .before .before .before .before .before .args .s)) (c .before .before .before .before .before .before .before .args .id))) (c .before .before .before .before .loop .k), e, ← c .before .before .before .before .loop .inv .2)))
+    let start = c .before .before .before .before .before .before .before in
+    let loop = c .before .before .before .before .loop in
+    let s = now (start .args .s) in let t = start .args .t in let i = start .args .i in let id = start .args .id in
+    let e : continuing s t i (bytesOf s id) (loop .k) ≡ c .before .is-text .result =
+    ap (λ (F : Field). is-text (F .continues) (bytesOf s id)) (sym (c .before .before .field-of .ensures)) ∙ sym (c .before .is-text .ensures) in (
+      omega (arith, c),
+      (rw (c .counted .ensures) (hits-few (c .before .is-text .result) (loop .count) (loop .k) (loop .inv .1))),
+      c .counted .ensures ∙ (rw (count-turn (continuing s t i (bytesOf s id)) (loop .k), e, ← loop .inv .2)),
+    )
 
 returns : tie.Need-returns Inv-loop μ-loop
 unfolding continued-by
-returns c = let e : length (pgn-at (packOf (now (c .before .before .before .before .args .s))) (c .before .before .before .before .args .t) (c .before .before .before .before .args .i) .fields) ≡ c .before .loop .k = omega (arith, c .before .before .before .before .pre .1, c .before .loop .inv .0, c .loop-test .left) in rw e (c .before .loop .inv .2)
+returns c =
+    let start = c .before .before .before .before in
+    let e : length (pgn-at (packOf (now (start .args .s))) (start .args .t) (start .args .i) .fields) ≡ c .before .loop .k =
+    omega (arith, start .pre .1, c .before .loop .inv .0, c .loop-test .left) in
+    rw e (c .before .loop .inv .2)
 
 pub continued-by-spec : {M : Type 1} → statement M
 continued-by-spec =

@@ -35,7 +35,9 @@ module _ (s : List ℕ) (fts : List FieldType) (t i k : ℕ) (p : Pgn) (f : Fiel
     unfolding continues-at continued-found-at
     absent x F y = rw (text-is, ← e, x, y)
 
-    found : b ≡ true → continues-at fts t i p k (field-at p k .continues) ≡ continued-at fts t i p k (field-at p k) (bytesOf s (f .authored .continues .text)) v (field-at p v)
+    found : b ≡ true
+        → continues-at fts t i p k (field-at p k .continues)
+        ≡ continued-at fts t i p k (field-at p k) (bytesOf s (f .authored .continues .text)) v (field-at p v)
     unfolding continues-at continued-found-at
     found x = rw (text-is, ← e, x)
 
@@ -43,31 +45,78 @@ module _ (s : List ℕ) (fts : List FieldType) (t i k : ℕ) (p : Pgn) (f : Fiel
     below x = first-is (λ j. field-at p j .id ≐ bytesOf s (f .authored .continues .text)) k v (sym e ∙ (rw x)) .0
 
 returns : tie.Need-returns
-returns c = rw (without (now (c .before .before .before .before .before .args .s)) (packOf (now (c .before .before .before .before .before .args .s)) .fieldtypes) (c .before .before .before .before .before .args .t) (c .before .before .before .before .before .args .i) (c .before .before .before .before .before .args .k) (pgn-at (packOf (now (c .before .before .before .before .before .args .s))) (c .before .before .before .before .before .args .t) (c .before .before .before .before .before .args .i)) (c .before .before .before .before .before .args .f) (c .before .before .before .before .before .pre .4) (not-true (c .before .before .before .before .before .args .f .authored .continues .given) (c .if1 .taken))) (emitted-none (now (c .before .before .before .before .before .args .out)) (c .before .before .before .before .before .args .n))
+returns c =
+    let start = c .before .before .before .before .before in
+    let s = now (start .args .s) in let t = start .args .t in let i = start .args .i in
+    rw (without s (packOf s .fieldtypes) t i (start .args .k) (pgn-at (packOf s) t i) (start .args .f) (start .pre .4)
+    (not-true (start .args .f .authored .continues .given) (c .if1 .taken))) (emitted-none (now (start .args .out)) (start .args .n))
 
 first-with-id-requires : tie.Need-first-with-id-requires
-first-with-id-requires c κs = (c .before .before .before .before .before .before .pre .1, omega (arith, c .before .before .before .before .before .before .pre .2 .fields, c .before .before .before .before .before .before .pre .3))
+first-with-id-requires c κs =
+    let start = c .before .before .before .before .before .before in
+    (start .pre .1, omega (arith, start .pre .2 .fields, start .pre .3))
 
 pgn-error-requires : tie.Need-pgn-error-requires
 pgn-error-requires c κs = search needs
 
 put-requires : tie.Need-put-requires
-put-requires c κs = rw (absent (now (c .before .before .before .before .before .before .before .before .before .before .before .args .s)) (packOf (now (c .before .before .before .before .before .before .before .before .before .before .before .args .s)) .fieldtypes) (c .before .before .before .before .before .before .before .before .before .before .before .args .t) (c .before .before .before .before .before .before .before .before .before .before .before .args .i) (c .before .before .before .before .before .before .before .before .before .before .before .args .k) (pgn-at (packOf (now (c .before .before .before .before .before .before .before .before .before .before .before .args .s))) (c .before .before .before .before .before .before .before .before .before .before .before .args .t) (c .before .before .before .before .before .before .before .before .before .before .before .args .i)) (c .before .before .before .before .before .before .before .before .before .before .before .args .f) (c .before .before .before .before .before .before .before .before .before .before .before .pre .4) (not-false (c .before .before .before .before .before .before .before .before .before .before .before .args .f .authored .continues .given) (c .before .before .before .before .before .before .if1 .left)) (c .before .before .before .before .first-with-id .result .given) (c .before .before .before .before .first-with-id .result .value) (c .before .before .before .before .first-with-id .ensures) (not-true (c .before .before .before .before .first-with-id .result .given) (c .before .before .if2 .taken)) (c .pgn-error .result) (c .pgn-error .ensures)) at (c .before .before .before .before .before .before .before .before .before .before .before .pre .0)
+put-requires c κs =
+    let start = c .before .before .before .before .before .before .before .before .before .before .before in
+    let if1 = c .before .before .before .before .before .before .if1 in
+    let first-with-id = c .before .before .before .before .first-with-id in
+    let s = now (start .args .s) in let t = start .args .t in let i = start .args .i in
+    rw (absent s (packOf s .fieldtypes) t i (start .args .k) (pgn-at (packOf s) t i) (start .args .f) (start .pre .4)
+    (not-false (start .args .f .authored .continues .given) (if1 .left)) (first-with-id .result .given) (first-with-id .result .value) (first-with-id .ensures)
+    (not-true (first-with-id .result .given) (c .before .before .if2 .taken)) (c .pgn-error .result) (c .pgn-error .ensures)) at (start .pre .0)
 
 same-length : tie.Need-same-length
 same-length c = search needs
 
 returns-2 : tie.Need-returns-2
-returns-2 c = rw (absent (now (c .before .before .before .before .before .before .before .before .before .before .before .before .before .before .args .s)) (packOf (now (c .before .before .before .before .before .before .before .before .before .before .before .before .before .before .args .s)) .fieldtypes) (c .before .before .before .before .before .before .before .before .before .before .before .before .before .before .args .t) (c .before .before .before .before .before .before .before .before .before .before .before .before .before .before .args .i) (c .before .before .before .before .before .before .before .before .before .before .before .before .before .before .args .k) (pgn-at (packOf (now (c .before .before .before .before .before .before .before .before .before .before .before .before .before .before .args .s))) (c .before .before .before .before .before .before .before .before .before .before .before .before .before .before .args .t) (c .before .before .before .before .before .before .before .before .before .before .before .before .before .before .args .i)) (c .before .before .before .before .before .before .before .before .before .before .before .before .before .before .args .f) (c .before .before .before .before .before .before .before .before .before .before .before .before .before .before .pre .4) (not-false (c .before .before .before .before .before .before .before .before .before .before .before .before .before .before .args .f .authored .continues .given) (c .before .before .before .before .before .before .before .before .before .if1 .left)) (c .before .before .before .before .before .before .before .first-with-id .result .given) (c .before .before .before .before .before .before .before .first-with-id .result .value) (c .before .before .before .before .before .before .before .first-with-id .ensures) (not-true (c .before .before .before .before .before .before .before .first-with-id .result .given) (c .before .before .before .before .before .if2 .taken)) (c .before .before .before .pgn-error .result) (c .before .before .before .pgn-error .ensures)) (c .before .before .put .ensures)
+returns-2 c =
+    let back12 = c .before .before .before .before .before .before .before .before .before .before .before .before in
+    let start = back12 .before .before in
+    let if1 = c .before .before .before .before .before .before .before .before .before .if1 in
+    let first-with-id = c .before .before .before .before .before .before .before .first-with-id in
+    let if2 = c .before .before .before .before .before .if2 in
+    let pgn-error-call = c .before .before .before .pgn-error in
+    let s = now (start .args .s) in let t = start .args .t in let i = start .args .i in
+    rw (absent s (packOf s .fieldtypes) t i (start .args .k) (pgn-at (packOf s) t i) (start .args .f) (start .pre .4)
+    (not-false (start .args .f .authored .continues .given) (if1 .left)) (first-with-id .result .given) (first-with-id .result .value) (first-with-id .ensures)
+    (not-true (first-with-id .result .given) (if2 .taken)) (pgn-error-call .result) (pgn-error-call .ensures)) (c .before .before .put .ensures)
 
 continued-at-requires : tie.Need-continued-at-requires
-continued-at-requires c κs = ((rw (found (now (c .before .before .before .before .before .before .before .before .before .before .args .s)) (packOf (now (c .before .before .before .before .before .before .before .before .before .before .args .s)) .fieldtypes) (c .before .before .before .before .before .before .before .before .before .before .args .t) (c .before .before .before .before .before .before .before .before .before .before .args .i) (c .before .before .before .before .before .before .before .before .before .before .args .k) (pgn-at (packOf (now (c .before .before .before .before .before .before .before .before .before .before .args .s))) (c .before .before .before .before .before .before .before .before .before .before .args .t) (c .before .before .before .before .before .before .before .before .before .before .args .i)) (c .before .before .before .before .before .before .before .before .before .before .args .f) (c .before .before .before .before .before .before .before .before .before .before .pre .4) (not-false (c .before .before .before .before .before .before .before .before .before .before .args .f .authored .continues .given) (c .before .before .before .before .before .if1 .left)) (c .before .before .before .first-with-id .result .given) (c .before .before .before .first-with-id .result .value) (c .before .before .before .first-with-id .ensures) (not-false (c .before .before .before .first-with-id .result .given) (c .before .if2 .left))) at (c .before .before .before .before .before .before .before .before .before .before .pre .0)), c .before .before .before .before .before .before .before .before .before .before .pre .1, c .before .before .before .before .before .before .before .before .before .before .pre .2, c .before .before .before .before .before .before .before .before .before .before .pre .3, below (now (c .before .before .before .before .before .before .before .before .before .before .args .s)) (packOf (now (c .before .before .before .before .before .before .before .before .before .before .args .s)) .fieldtypes) (c .before .before .before .before .before .before .before .before .before .before .args .t) (c .before .before .before .before .before .before .before .before .before .before .args .i) (c .before .before .before .before .before .before .before .before .before .before .args .k) (pgn-at (packOf (now (c .before .before .before .before .before .before .before .before .before .before .args .s))) (c .before .before .before .before .before .before .before .before .before .before .args .t) (c .before .before .before .before .before .before .before .before .before .before .args .i)) (c .before .before .before .before .before .before .before .before .before .before .args .f) (c .before .before .before .before .before .before .before .before .before .before .pre .4) (not-false (c .before .before .before .before .before .before .before .before .before .before .args .f .authored .continues .given) (c .before .before .before .before .before .if1 .left)) (c .before .before .before .first-with-id .result .given) (c .before .before .before .first-with-id .result .value) (c .before .before .before .first-with-id .ensures) (not-false (c .before .before .before .first-with-id .result .given) (c .before .if2 .left)), c .before .before .before .before .before .before .before .before .before .before .pre .4)
+continued-at-requires c κs =
+    let start = c .before .before .before .before .before .before .before .before .before .before in
+    let if1 = c .before .before .before .before .before .if1 in
+    let first-with-id = c .before .before .before .first-with-id in
+    let s = now (start .args .s) in let t = start .args .t in let i = start .args .i in let k = start .args .k in let f = start .args .f in (
+      (rw (found s (packOf s .fieldtypes) t i k (pgn-at (packOf s) t i) f (start .pre .4) (not-false (start .args .f .authored .continues .given) (if1 .left))
+          (first-with-id .result .given) (first-with-id .result .value) (first-with-id .ensures)
+          (not-false (first-with-id .result .given) (c .before .if2 .left))) at (start .pre .0)),
+      start .pre .1,
+      start .pre .2,
+      start .pre .3,
+      below s (packOf s .fieldtypes) t i k (pgn-at (packOf s) t i) f (start .pre .4) (not-false (start .args .f .authored .continues .given) (if1 .left))
+          (first-with-id .result .given) (first-with-id .result .value) (first-with-id .ensures)
+          (not-false (first-with-id .result .given) (c .before .if2 .left)),
+      start .pre .4,
+    )
 
 same-length-2 : tie.Need-same-length-2
 same-length-2 c = search needs
 
 returns-3 : tie.Need-returns-3
-returns-3 c = rw (found (now (c .before .before .before .before .before .before .before .before .before .before .before .before .before .args .s)) (packOf (now (c .before .before .before .before .before .before .before .before .before .before .before .before .before .args .s)) .fieldtypes) (c .before .before .before .before .before .before .before .before .before .before .before .before .before .args .t) (c .before .before .before .before .before .before .before .before .before .before .before .before .before .args .i) (c .before .before .before .before .before .before .before .before .before .before .before .before .before .args .k) (pgn-at (packOf (now (c .before .before .before .before .before .before .before .before .before .before .before .before .before .args .s))) (c .before .before .before .before .before .before .before .before .before .before .before .before .before .args .t) (c .before .before .before .before .before .before .before .before .before .before .before .before .before .args .i)) (c .before .before .before .before .before .before .before .before .before .before .before .before .before .args .f) (c .before .before .before .before .before .before .before .before .before .before .before .before .before .pre .4) (not-false (c .before .before .before .before .before .before .before .before .before .before .before .before .before .args .f .authored .continues .given) (c .before .before .before .before .before .before .before .before .if1 .left)) (c .before .before .before .before .before .before .first-with-id .result .given) (c .before .before .before .before .before .before .first-with-id .result .value) (c .before .before .before .before .before .before .first-with-id .ensures) (not-false (c .before .before .before .before .before .before .first-with-id .result .given) (c .before .before .before .before .if2 .left))) (c .before .before .continued-at .ensures)
+returns-3 c =
+    let back12 = c .before .before .before .before .before .before .before .before .before .before .before .before in
+    let start = back12 .before in
+    let if1 = c .before .before .before .before .before .before .before .before .if1 in
+    let first-with-id = c .before .before .before .before .before .before .first-with-id in
+    let if2 = c .before .before .before .before .if2 in
+    let s = now (start .args .s) in let t = start .args .t in let i = start .args .i in
+    rw (found s (packOf s .fieldtypes) t i (start .args .k) (pgn-at (packOf s) t i) (start .args .f) (start .pre .4)
+    (not-false (start .args .f .authored .continues .given) (if1 .left)) (first-with-id .result .given) (first-with-id .result .value) (first-with-id .ensures)
+    (not-false (first-with-id .result .given) (if2 .left))) (c .before .before .continued-at .ensures)
 
 pub continues-at-spec : {M : Type 1} → statement M
 continues-at-spec =

@@ -12,16 +12,28 @@ use Rattle.rules.proofs.continues.not_integers.Statement.{statement}
 use Rattle.rules.proofs.continues.not_integers.Tie as tie
 
 type-of-requires : tie.Need-type-of-requires
-type-of-requires c κs = (c .before .before .pre .0, c .before .before .pre .1)
+type-of-requires c κs =
+    let start = c .before .before in
+    (start .pre .0, start .pre .1)
 
 integer-requires : tie.Need-integer-requires
 integer-requires c κs = search needs
 
 returns : tie.Need-returns
-returns c = rw (integer-is (now (c .before .before .before .before .before .args .s)) (packOf (now (c .before .before .before .before .before .args .s)) .fieldtypes) (c .before .before .before .before .before .args .low) (c .before .before .type-of .result) (c .before .before .type-of .ensures), ← c .before .integer .ensures, not-true (c .before .integer .result) (c .if1 .taken))
+returns c =
+    let start = c .before .before .before .before .before in
+    let type-of = c .before .before .type-of in
+    let s = now (start .args .s) in
+    rw (
+      integer-is s (packOf s .fieldtypes) (start .args .low) (type-of .result) (type-of .ensures),
+      ← c .before .integer .ensures,
+      not-true (c .before .integer .result) (c .if1 .taken),
+    )
 
 type-of-requires-2 : tie.Need-type-of-requires-2
-type-of-requires-2 c κs = (c .before .before .before .before .before .pre .0, c .before .before .before .before .before .pre .2)
+type-of-requires-2 c κs =
+    let start = c .before .before .before .before .before in
+    (start .pre .0, start .pre .2)
 
 slice-aggregate-text-is : tie.Need-slice-aggregate-text-is
 slice-aggregate-text-is c = search needs
@@ -30,7 +42,18 @@ text-is-requires : tie.Need-text-is-requires
 text-is-requires c κs = search needs
 
 returns-2 : tie.Need-returns-2
-returns-2 c = rw (integer-is (now (c .before .before .before .before .before .before .before .before .args .s)) (packOf (now (c .before .before .before .before .before .before .before .before .args .s)) .fieldtypes) (c .before .before .before .before .before .before .before .before .args .low) (c .before .before .before .before .before .type-of .result) (c .before .before .before .before .before .type-of .ensures), ← c .before .before .before .before .integer .ensures, not-false (c .before .before .before .before .integer .result) (c .before .before .before .if1 .left), c .text-is .ensures) (ap (λ (T : FieldType). not (T .root-name ≐ NUMBER)) (c .before .before .type-of2 .ensures))
+returns-2 c =
+    let start = c .before .before .before .before .before .before .before .before in
+    let type-of = c .before .before .before .before .before .type-of in
+    let integer = c .before .before .before .before .integer in
+    let if1 = c .before .before .before .if1 in
+    let s = now (start .args .s) in
+    rw (
+      integer-is s (packOf s .fieldtypes) (start .args .low) (type-of .result) (type-of .ensures),
+      ← integer .ensures,
+      not-false (integer .result) (if1 .left),
+      c .text-is .ensures,
+    ) (ap (λ (T : FieldType). not (T .root-name ≐ NUMBER)) (c .before .before .type-of2 .ensures))
 
 pub not-integers-spec : {M : Type 1} → statement M
 not-integers-spec =

@@ -16,54 +16,134 @@ use denote.Ref.{now}
 use Rattle.rules.proofs.continues.placed_at.Statement.{statement}
 use Rattle.rules.proofs.continues.placed_at.Tie as tie
 
-set-is : (s : List ℕ) (p : Pgn) (g : PgnView) → PgnIs s p g → (k r : ℕ) → r ≡ (if holds-order (optRepeating (g .repeating2)) (k + 1) then 2 else if holds-order (optRepeating (g .repeating1)) (k + 1) then 1 else 0) → set-of p k ≡ r
+set-is : (s : List ℕ) (p : Pgn) (g : PgnView) → PgnIs s p g → (k r : ℕ)
+    → r ≡ (if holds-order (optRepeating (g .repeating2)) (k + 1) then 2 else if holds-order (optRepeating (g .repeating1)) (k + 1) then 1 else 0)
+    → set-of p k ≡ r
 unfolding set-of
 set-is s p g is k r e = sym (e ∙ (rw (ap (λ (G : Pgn). G .repeating1) (is .means), ap (λ (G : Pgn). G .repeating2) (is .means))))
 
 set-of-requires : tie.Need-set-of-requires
-set-of-requires c κs = omega (arith, c .before .before .before .pre .2 .fields, c .before .before .before .pre .3, c .before .before .before .pre .4, fields-few (c .before .before .before .pre .1))
+set-of-requires c κs =
+    let start = c .before .before .before in
+    omega (arith, start .pre .2 .fields, start .pre .3, start .pre .4, fields-few (start .pre .1))
 
 set-of-requires-2 : tie.Need-set-of-requires-2
-set-of-requires-2 c κs = omega (arith, c .before .before .before .before .pre .2 .fields, c .before .before .before .before .pre .3, fields-few (c .before .before .before .before .pre .1))
+set-of-requires-2 c κs =
+    let start = c .before .before .before .before in
+    omega (arith, start .pre .2 .fields, start .pre .3, fields-few (start .pre .1))
 
 pgn-error-requires : tie.Need-pgn-error-requires
 pgn-error-requires c κs = search needs
 
 put-requires : tie.Need-put-requires
-put-requires c κs = rw (c .pgn-error .ensures) (rw ((set-is (now (c .before .before .before .before .before .before .before .before .args .s)) (pgn-at (packOf (now (c .before .before .before .before .before .before .before .before .args .s))) (c .before .before .before .before .before .before .before .before .args .t) (c .before .before .before .before .before .before .before .before .args .i)) (c .before .before .before .before .before .before .before .before .args .g) (c .before .before .before .before .before .before .before .before .pre .2) (c .before .before .before .before .before .before .before .before .args .j) (c .before .before .before .before .set-of .result) (c .before .before .before .before .set-of .ensures)), (set-is (now (c .before .before .before .before .before .before .before .before .args .s)) (pgn-at (packOf (now (c .before .before .before .before .before .before .before .before .args .s))) (c .before .before .before .before .before .before .before .before .args .t) (c .before .before .before .before .before .before .before .before .args .i)) (c .before .before .before .before .before .before .before .before .args .g) (c .before .before .before .before .before .before .before .before .pre .2) (c .before .before .before .before .before .before .before .before .args .k) (c .before .before .before .set-of2 .result) (c .before .before .before .set-of2 .ensures)), ne-eqb (c .before .before .before .before .set-of .result) (c .before .before .before .set-of2 .result) (c .before .before .if1 .taken)) at (c .before .before .before .before .before .before .before .before .pre .0))
+put-requires c κs =
+    let start = c .before .before .before .before .before .before .before .before in
+    let set-of-call = c .before .before .before .before .set-of in
+    let set-of2 = c .before .before .before .set-of2 in
+    let s = now (start .args .s) in let t = start .args .t in let i = start .args .i in let g = start .args .g in
+    rw (c .pgn-error .ensures) (rw (
+      (set-is s (pgn-at (packOf s) t i) g (start .pre .2) (start .args .j) (set-of-call .result) (set-of-call .ensures)),
+      (set-is s (pgn-at (packOf s) t i) g (start .pre .2) (start .args .k) (set-of2 .result) (set-of2 .ensures)),
+      ne-eqb (set-of-call .result) (set-of2 .result) (c .before .before .if1 .taken),
+    ) at (start .pre .0))
 
 same-length : tie.Need-same-length
 same-length c = search needs
 
 returns : tie.Need-returns
-returns c = rw ((set-is (now (c .before .before .before .before .before .before .before .before .before .before .before .args .s)) (pgn-at (packOf (now (c .before .before .before .before .before .before .before .before .before .before .before .args .s))) (c .before .before .before .before .before .before .before .before .before .before .before .args .t) (c .before .before .before .before .before .before .before .before .before .before .before .args .i)) (c .before .before .before .before .before .before .before .before .before .before .before .args .g) (c .before .before .before .before .before .before .before .before .before .before .before .pre .2) (c .before .before .before .before .before .before .before .before .before .before .before .args .j) (c .before .before .before .before .before .before .before .set-of .result) (c .before .before .before .before .before .before .before .set-of .ensures)), (set-is (now (c .before .before .before .before .before .before .before .before .before .before .before .args .s)) (pgn-at (packOf (now (c .before .before .before .before .before .before .before .before .before .before .before .args .s))) (c .before .before .before .before .before .before .before .before .before .before .before .args .t) (c .before .before .before .before .before .before .before .before .before .before .before .args .i)) (c .before .before .before .before .before .before .before .before .before .before .before .args .g) (c .before .before .before .before .before .before .before .before .before .before .before .pre .2) (c .before .before .before .before .before .before .before .before .before .before .before .args .k) (c .before .before .before .before .before .before .set-of2 .result) (c .before .before .before .before .before .before .set-of2 .ensures)), ne-eqb (c .before .before .before .before .before .before .before .set-of .result) (c .before .before .before .before .before .before .set-of2 .result) (c .before .before .before .before .before .if1 .taken)) (rw (c .before .before .before .pgn-error .ensures) at (c .before .before .put .ensures))
+returns c =
+    let start = c .before .before .before .before .before .before .before .before .before .before .before in
+    let set-of-call = c .before .before .before .before .before .before .before .set-of in
+    let set-of2 = c .before .before .before .before .before .before .set-of2 in
+    let if1 = c .before .before .before .before .before .if1 in
+    let pgn-error-call = c .before .before .before .pgn-error in
+    let s = now (start .args .s) in let t = start .args .t in let i = start .args .i in let g = start .args .g in
+    rw (
+      (set-is s (pgn-at (packOf s) t i) g (start .pre .2) (start .args .j) (set-of-call .result) (set-of-call .ensures)),
+      (set-is s (pgn-at (packOf s) t i) g (start .pre .2) (start .args .k) (set-of2 .result) (set-of2 .ensures)),
+      ne-eqb (set-of-call .result) (set-of2 .result) (if1 .taken),
+    ) (rw (pgn-error-call .ensures) at (c .before .before .put .ensures))
 
 pgn-error-requires-2 : tie.Need-pgn-error-requires-2
 pgn-error-requires-2 c κs = search needs
 
 put-requires-2 : tie.Need-put-requires-2
-put-requires-2 c κs = rw (c .pgn-error2 .ensures) (rw ((set-is (now (c .before .before .before .before .before .before .before .before .before .args .s)) (pgn-at (packOf (now (c .before .before .before .before .before .before .before .before .before .args .s))) (c .before .before .before .before .before .before .before .before .before .args .t) (c .before .before .before .before .before .before .before .before .before .args .i)) (c .before .before .before .before .before .before .before .before .before .args .g) (c .before .before .before .before .before .before .before .before .before .pre .2) (c .before .before .before .before .before .before .before .before .before .args .j) (c .before .before .before .before .before .set-of .result) (c .before .before .before .before .before .set-of .ensures)), (set-is (now (c .before .before .before .before .before .before .before .before .before .args .s)) (pgn-at (packOf (now (c .before .before .before .before .before .before .before .before .before .args .s))) (c .before .before .before .before .before .before .before .before .before .args .t) (c .before .before .before .before .before .before .before .before .before .args .i)) (c .before .before .before .before .before .before .before .before .before .args .g) (c .before .before .before .before .before .before .before .before .before .pre .2) (c .before .before .before .before .before .before .before .before .before .args .k) (c .before .before .before .before .set-of2 .result) (c .before .before .before .before .set-of2 .ensures)), eq-eqb (c .before .before .before .before .before .set-of .result) (c .before .before .before .before .set-of2 .result) (c .before .before .before .if1 .left), not-true (c .before .before .before .before .before .before .before .before .before .args .continued) (c .before .before .if2 .taken)) at (c .before .before .before .before .before .before .before .before .before .pre .0))
+put-requires-2 c κs =
+    let start = c .before .before .before .before .before .before .before .before .before in
+    let set-of-call = c .before .before .before .before .before .set-of in
+    let set-of2 = c .before .before .before .before .set-of2 in
+    let if1 = c .before .before .before .if1 in
+    let s = now (start .args .s) in let t = start .args .t in let i = start .args .i in let g = start .args .g in
+    rw (c .pgn-error2 .ensures) (rw (
+      (set-is s (pgn-at (packOf s) t i) g (start .pre .2) (start .args .j) (set-of-call .result) (set-of-call .ensures)),
+      (set-is s (pgn-at (packOf s) t i) g (start .pre .2) (start .args .k) (set-of2 .result) (set-of2 .ensures)),
+      eq-eqb (set-of-call .result) (set-of2 .result) (if1 .left),
+      not-true (start .args .continued) (c .before .before .if2 .taken),
+    ) at (start .pre .0))
 
 same-length-2 : tie.Need-same-length-2
 same-length-2 c = search needs
 
 returns-2 : tie.Need-returns-2
-returns-2 c = rw ((set-is (now (c .before .before .before .before .before .before .before .before .before .before .before .before .args .s)) (pgn-at (packOf (now (c .before .before .before .before .before .before .before .before .before .before .before .before .args .s))) (c .before .before .before .before .before .before .before .before .before .before .before .before .args .t) (c .before .before .before .before .before .before .before .before .before .before .before .before .args .i)) (c .before .before .before .before .before .before .before .before .before .before .before .before .args .g) (c .before .before .before .before .before .before .before .before .before .before .before .before .pre .2) (c .before .before .before .before .before .before .before .before .before .before .before .before .args .j) (c .before .before .before .before .before .before .before .before .set-of .result) (c .before .before .before .before .before .before .before .before .set-of .ensures)), (set-is (now (c .before .before .before .before .before .before .before .before .before .before .before .before .args .s)) (pgn-at (packOf (now (c .before .before .before .before .before .before .before .before .before .before .before .before .args .s))) (c .before .before .before .before .before .before .before .before .before .before .before .before .args .t) (c .before .before .before .before .before .before .before .before .before .before .before .before .args .i)) (c .before .before .before .before .before .before .before .before .before .before .before .before .args .g) (c .before .before .before .before .before .before .before .before .before .before .before .before .pre .2) (c .before .before .before .before .before .before .before .before .before .before .before .before .args .k) (c .before .before .before .before .before .before .before .set-of2 .result) (c .before .before .before .before .before .before .before .set-of2 .ensures)), eq-eqb (c .before .before .before .before .before .before .before .before .set-of .result) (c .before .before .before .before .before .before .before .set-of2 .result) (c .before .before .before .before .before .before .if1 .left), not-true (c .before .before .before .before .before .before .before .before .before .before .before .before .args .continued) (c .before .before .before .before .before .if2 .taken)) (rw (c .before .before .before .pgn-error2 .ensures) at (c .before .before .put2 .ensures))
+returns-2 c =
+    let start = c .before .before .before .before .before .before .before .before .before .before .before .before in
+    let set-of-call = c .before .before .before .before .before .before .before .before .set-of in
+    let set-of2 = c .before .before .before .before .before .before .before .set-of2 in
+    let if1 = c .before .before .before .before .before .before .if1 in
+    let if2 = c .before .before .before .before .before .if2 in
+    let pgn-error2 = c .before .before .before .pgn-error2 in
+    let s = now (start .args .s) in let t = start .args .t in let i = start .args .i in let g = start .args .g in
+    rw (
+      (set-is s (pgn-at (packOf s) t i) g (start .pre .2) (start .args .j) (set-of-call .result) (set-of-call .ensures)),
+      (set-is s (pgn-at (packOf s) t i) g (start .pre .2) (start .args .k) (set-of2 .result) (set-of2 .ensures)),
+      eq-eqb (set-of-call .result) (set-of2 .result) (if1 .left),
+      not-true (start .args .continued) (if2 .taken),
+    ) (rw (pgn-error2 .ensures) at (c .before .before .put2 .ensures))
 
 continued-by-requires : tie.Need-continued-by-requires
-continued-by-requires c κs = (c .before .before .before .before .before .before .before .pre .1, c .before .before .before .before .before .before .before .pre .2 .fields)
+continued-by-requires c κs =
+    let start = c .before .before .before .before .before .before .before in
+    (start .pre .1, start .pre .2 .fields)
 
 pgn-error-requires-3 : tie.Need-pgn-error-requires-3
 pgn-error-requires-3 c κs = search needs
 
 put-if-requires : tie.Need-put-if-requires
-put-if-requires c κs = rw (c .pgn-error3 .ensures, c .before .before .continued-by .ensures) (rw ((set-is (now (c .before .before .before .before .before .before .before .before .before .before .args .s)) (pgn-at (packOf (now (c .before .before .before .before .before .before .before .before .before .before .args .s))) (c .before .before .before .before .before .before .before .before .before .before .args .t) (c .before .before .before .before .before .before .before .before .before .before .args .i)) (c .before .before .before .before .before .before .before .before .before .before .args .g) (c .before .before .before .before .before .before .before .before .before .before .pre .2) (c .before .before .before .before .before .before .before .before .before .before .args .j) (c .before .before .before .before .before .before .set-of .result) (c .before .before .before .before .before .before .set-of .ensures)), (set-is (now (c .before .before .before .before .before .before .before .before .before .before .args .s)) (pgn-at (packOf (now (c .before .before .before .before .before .before .before .before .before .before .args .s))) (c .before .before .before .before .before .before .before .before .before .before .args .t) (c .before .before .before .before .before .before .before .before .before .before .args .i)) (c .before .before .before .before .before .before .before .before .before .before .args .g) (c .before .before .before .before .before .before .before .before .before .before .pre .2) (c .before .before .before .before .before .before .before .before .before .before .args .k) (c .before .before .before .before .before .set-of2 .result) (c .before .before .before .before .before .set-of2 .ensures)), eq-eqb (c .before .before .before .before .before .before .set-of .result) (c .before .before .before .before .before .set-of2 .result) (c .before .before .before .before .if1 .left), not-false (c .before .before .before .before .before .before .before .before .before .before .args .continued) (c .before .before .before .if2 .left)) at (c .before .before .before .before .before .before .before .before .before .before .pre .0))
+put-if-requires c κs =
+    let start = c .before .before .before .before .before .before .before .before .before .before in
+    let set-of-call = c .before .before .before .before .before .before .set-of in
+    let set-of2 = c .before .before .before .before .before .set-of2 in
+    let if1 = c .before .before .before .before .if1 in
+    let if2 = c .before .before .before .if2 in
+    let s = now (start .args .s) in let t = start .args .t in let i = start .args .i in let g = start .args .g in
+    rw (c .pgn-error3 .ensures, c .before .before .continued-by .ensures)
+    (rw (
+      (set-is s (pgn-at (packOf s) t i) g (start .pre .2) (start .args .j) (set-of-call .result) (set-of-call .ensures)),
+      (set-is s (pgn-at (packOf s) t i) g (start .pre .2) (start .args .k) (set-of2 .result) (set-of2 .ensures)),
+      eq-eqb (set-of-call .result) (set-of2 .result) (if1 .left),
+      not-false (start .args .continued) (if2 .left),
+    ) at (start .pre .0))
 
 same-length-3 : tie.Need-same-length-3
 same-length-3 c = search needs
 
 returns-3 : tie.Need-returns-3
-returns-3 c = rw ((set-is (now (c .before .before .before .before .before .before .before .before .before .before .before .before .before .args .s)) (pgn-at (packOf (now (c .before .before .before .before .before .before .before .before .before .before .before .before .before .args .s))) (c .before .before .before .before .before .before .before .before .before .before .before .before .before .args .t) (c .before .before .before .before .before .before .before .before .before .before .before .before .before .args .i)) (c .before .before .before .before .before .before .before .before .before .before .before .before .before .args .g) (c .before .before .before .before .before .before .before .before .before .before .before .before .before .pre .2) (c .before .before .before .before .before .before .before .before .before .before .before .before .before .args .j) (c .before .before .before .before .before .before .before .before .before .set-of .result) (c .before .before .before .before .before .before .before .before .before .set-of .ensures)), (set-is (now (c .before .before .before .before .before .before .before .before .before .before .before .before .before .args .s)) (pgn-at (packOf (now (c .before .before .before .before .before .before .before .before .before .before .before .before .before .args .s))) (c .before .before .before .before .before .before .before .before .before .before .before .before .before .args .t) (c .before .before .before .before .before .before .before .before .before .before .before .before .before .args .i)) (c .before .before .before .before .before .before .before .before .before .before .before .before .before .args .g) (c .before .before .before .before .before .before .before .before .before .before .before .before .before .pre .2) (c .before .before .before .before .before .before .before .before .before .before .before .before .before .args .k) (c .before .before .before .before .before .before .before .before .set-of2 .result) (c .before .before .before .before .before .before .before .before .set-of2 .ensures)), eq-eqb (c .before .before .before .before .before .before .before .before .before .set-of .result) (c .before .before .before .before .before .before .before .before .set-of2 .result) (c .before .before .before .before .before .before .before .if1 .left), not-false (c .before .before .before .before .before .before .before .before .before .before .before .before .before .args .continued) (c .before .before .before .before .before .before .if2 .left)) (rw (c .before .before .before .pgn-error3 .ensures, c .before .before .before .before .before .continued-by .ensures) at (c .before .before .put-if .ensures))
+returns-3 c =
+    let back12 = c .before .before .before .before .before .before .before .before .before .before .before .before in
+    let start = back12 .before in
+    let set-of-call = c .before .before .before .before .before .before .before .before .before .set-of in
+    let set-of2 = c .before .before .before .before .before .before .before .before .set-of2 in
+    let if1 = c .before .before .before .before .before .before .before .if1 in
+    let if2 = c .before .before .before .before .before .before .if2 in
+    let continued-by = c .before .before .before .before .before .continued-by in
+    let pgn-error3 = c .before .before .before .pgn-error3 in
+    let s = now (start .args .s) in let t = start .args .t in let i = start .args .i in let g = start .args .g in
+    rw (
+      (set-is s (pgn-at (packOf s) t i) g (start .pre .2) (start .args .j) (set-of-call .result) (set-of-call .ensures)),
+      (set-is s (pgn-at (packOf s) t i) g (start .pre .2) (start .args .k) (set-of2 .result) (set-of2 .ensures)),
+      eq-eqb (set-of-call .result) (set-of2 .result) (if1 .left),
+      not-false (start .args .continued) (if2 .left),
+    ) (rw (pgn-error3 .ensures, continued-by .ensures) at (c .before .before .put-if .ensures))
 
 pub placed-at-spec : {M : Type 1} → statement M
 placed-at-spec =

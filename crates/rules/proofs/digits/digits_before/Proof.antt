@@ -18,7 +18,8 @@ drop-set b at x h =
     drop-cons (set b at x) at 0 l ∙ (rw (getD-set-same b at x 0 h, drop-set-lt (suc at) b at x (omega arith)))
 
 -- the lowest digit put, where there are more and where it is the last
-more : (room v at x : ℕ) (b : List ℕ) → 10 ≤ v → at < length b → x ≡ 48 + v % 10 → digits-within (suc room) v ++ drop (suc at) b ≡ digits-within room (v / 10) ++ drop at (set b at x)
+more : (room v at x : ℕ) (b : List ℕ) → 10 ≤ v → at < length b → x ≡ 48 + v % 10
+    → digits-within (suc room) v ++ drop (suc at) b ≡ digits-within room (v / 10) ++ drop at (set b at x)
 more room v at x b h l e = rw (le-ltb v 10 h, drop-set b at x l, e) (append-snoc (digits-within room (v / 10)) (48 + v % 10) (drop (suc at) b))
 
 last : (room v at x : ℕ) (b : List ℕ) → v < 10 → at < length b → x ≡ 48 + v % 10 → digits-within (suc room) v ++ drop (suc at) b ≡ drop at (set b at x)
@@ -46,20 +47,35 @@ begun : (n end : ℕ) (b : List ℕ) → n < 4294967296 → Written n end n end 
 unfolding digits
 begun n end b h = record { room = 10; place = omega arith; high = omega arith; kept = refl; few = omega arith; some-left = omega arith; same = refl }
 
-next : (n end v at x : ℕ) (b₀ b : List ℕ) → end ≤ length b₀ → 10 ≤ end → 10 ≤ v → x ≡ 48 + v % 10 → Written n end v at b₀ b → (1 ≤ at - 1) × Written n end (v / 10) (at - 1) b₀ (set b (at - 1) x)
+next : (n end v at x : ℕ) (b₀ b : List ℕ) → end ≤ length b₀ → 10 ≤ end → 10 ≤ v → x ≡ 48 + v % 10 → Written n end v at b₀ b
+    → (1 ≤ at - 1) × Written n end (v / 10) (at - 1) b₀ (set b (at - 1) x)
 next n end v at x b₀ b l z h e w = go (w .room) (at) (w .place) (w .few) (two-digits (w .room) v h (w .few)) (w .high) (w .same)
   where
-    go : (room at : ℕ) → room + end ≡ at + 10 → v < 10 ^ room → 2 ≤ room → at ≤ end → digits n ++ drop end b₀ ≡ digits-within room v ++ drop at b → (1 ≤ at - 1) × Written n end (v / 10) (at - 1) b₀ (set b (at - 1) x)
+    go : (room at : ℕ) → room + end ≡ at + 10 → v < 10 ^ room → 2 ≤ room → at ≤ end → digits n ++ drop end b₀ ≡ digits-within room v ++ drop at b
+        → (1 ≤ at - 1) × Written n end (v / 10) (at - 1) b₀ (set b (at - 1) x)
     go zero at p f t u s = absurd (omega arith)
     go (suc room) zero p f t u s = absurd (omega arith)
     go (suc room) (suc at) p f t u s =
         let r : suc at - 1 ≡ at = omega arith in
-        rw r (omega arith, record { room = room; place = omega arith; high = omega arith; kept = length-set b at x ∙ w .kept; few = lower room v f; some-left = omega arith; same = s ∙ more room v at x b h (omega (arith, w .kept)) e })
+        rw r (
+          omega arith,
+          record {
+            room = room;
+            place = omega arith;
+            high = omega arith;
+            kept = length-set b at x ∙ w .kept;
+            few = lower room v f;
+            some-left = omega arith;
+            same = s ∙ more room v at x b h (omega (arith, w .kept)) e;
+          },
+        )
 
-done : (n end v at x : ℕ) (b₀ b : List ℕ) → end ≤ length b₀ → 10 ≤ end → v < 10 → x ≡ 48 + v % 10 → Written n end v at b₀ b → (drop (at - 1) (set b (at - 1) x) ≡ digits n ++ drop end b₀) × (at - 1 + length (digits n) ≡ end)
+done : (n end v at x : ℕ) (b₀ b : List ℕ) → end ≤ length b₀ → 10 ≤ end → v < 10 → x ≡ 48 + v % 10 → Written n end v at b₀ b
+    → (drop (at - 1) (set b (at - 1) x) ≡ digits n ++ drop end b₀) × (at - 1 + length (digits n) ≡ end)
 done n end v at x b₀ b l z h e w = go (w .room) at (w .place) (w .some-left) (w .high) (w .same)
   where
-    go : (room at : ℕ) → room + end ≡ at + 10 → 1 ≤ room → at ≤ end → digits n ++ drop end b₀ ≡ digits-within room v ++ drop at b → (drop (at - 1) (set b (at - 1) x) ≡ digits n ++ drop end b₀) × (at - 1 + length (digits n) ≡ end)
+    go : (room at : ℕ) → room + end ≡ at + 10 → 1 ≤ room → at ≤ end → digits n ++ drop end b₀ ≡ digits-within room v ++ drop at b
+        → (drop (at - 1) (set b (at - 1) x) ≡ digits n ++ drop end b₀) × (at - 1 + length (digits n) ≡ end)
     go zero at p t u s = absurd (omega arith)
     go (suc room) zero p t u s = absurd (omega arith)
     go (suc room) (suc at) p t u s =
@@ -90,7 +106,11 @@ loop-less : tie.Need-loop-less Inv-loop μ-loop
 loop-less c = search needs
 
 loop-again : tie.Need-loop-again Inv-loop μ-loop
-loop-again c = next (c .before .before .before .before .args .n) (c .before .before .before .before .args .end) (c .before .before .loop .v) (c .before .before .loop .at) (c .lowest .result) (now (c .before .before .before .before .args .b)) (c .before .before .loop .b) (c .before .before .before .before .pre .1) (c .before .before .before .before .pre .0) (c .before .loop-test .taken) (c .lowest .ensures) (c .before .before .loop .inv .1)
+loop-again c =
+    let start = c .before .before .before .before in
+    let loop = c .before .before .loop in
+    next (start .args .n) (start .args .end) (loop .v) (loop .at) (c .lowest .result) (now (start .args .b)) (loop .b) (start .pre .1) (start .pre .0)
+    (c .before .loop-test .taken) (c .lowest .ensures) (loop .inv .1)
 
 sub-at-2 : tie.Need-sub-at-2 Inv-loop μ-loop
 sub-at-2 c = search needs
@@ -105,7 +125,11 @@ same-length : tie.Need-same-length Inv-loop μ-loop
 same-length c = search needs
 
 returns : tie.Need-returns Inv-loop μ-loop
-returns c = done (c .before .before .before .before .args .n) (c .before .before .before .before .args .end) (c .before .before .loop .v) (c .before .before .loop .at) (c .lowest2 .result) (now (c .before .before .before .before .args .b)) (c .before .before .loop .b) (c .before .before .before .before .pre .1) (c .before .before .before .before .pre .0) (c .before .loop-test .left) (c .lowest2 .ensures) (c .before .before .loop .inv .1)
+returns c =
+    let start = c .before .before .before .before in
+    let loop = c .before .before .loop in
+    done (start .args .n) (start .args .end) (loop .v) (loop .at) (c .lowest2 .result) (now (start .args .b)) (loop .b) (start .pre .1) (start .pre .0)
+    (c .before .loop-test .left) (c .lowest2 .ensures) (loop .inv .1)
 
 pub digits-before-spec : {M : Type 1} → statement M
 digits-before-spec =

@@ -12,7 +12,9 @@ digits-before-requires : tie.Need-digits-before-requires
 digits-before-requires c κs = search needs
 
 returns : tie.Need-returns
-returns c = (c .before .digits-before .ensures .0 ∙ append-nil (digits (c .before .before .before .args .n)), c .before .digits-before .ensures .1)
+returns c =
+    let start = c .before .before .before in
+    (c .before .digits-before .ensures .0 ∙ append-nil (digits (start .args .n)), c .before .digits-before .ensures .1)
 
 pub digits-of-spec : {M : Type 1} → statement M
 digits-of-spec = tie.close (tie.spec slice-aggregate-digits-before digits-before-requires returns)

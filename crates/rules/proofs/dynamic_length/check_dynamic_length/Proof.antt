@@ -29,13 +29,15 @@ abbrev source : List ℕ → ℕ → ℕ → ℕ → Bool
 source s t i j = length-source (packOf s .fieldtypes) (field-at (pgn-at (packOf s) t i) j)
 
 -- a turn of the search for a length source
-found : (s : List ℕ) (t i k : ℕ) (v : FieldView) (root : List ℕ) (old new : Bool) → fieldMeaning s v ≡ field-at (pgn-at (packOf s) t i) k → root ≡ getD (packOf s .fieldtypes) (v .ft) noFieldType .root-name
-    → old ≡ anyBelow (source s t i) k → new ≡ (old || (v .flags .dynamic || (root ≐ DYNAMIC-FIELD-KEY))) → new ≡ anyBelow (source s t i) (suc k)
+found : (s : List ℕ) (t i k : ℕ) (v : FieldView) (root : List ℕ) (old new : Bool) → fieldMeaning s v ≡ field-at (pgn-at (packOf s) t i) k
+    → root ≡ getD (packOf s .fieldtypes) (v .ft) noFieldType .root-name → old ≡ anyBelow (source s t i) k
+    → new ≡ (old || (v .flags .dynamic || (root ≐ DYNAMIC-FIELD-KEY))) → new ≡ anyBelow (source s t i) (suc k)
 unfolding length-source
 found s t i k v root old new is r o n = rw (n, o, r, ← is)
 
 abbrev Inv-loop : tie.InvT-loop
-Inv-loop out₀ n s work t i p g m₀ have₀ k₀ out m have k = (k ≤ g .fields) × (length out ≡ length out₀) × Emitted out₀ n (concatBelow (of-field s t i) k) out m × (have ≡ anyBelow (source s t i) k)
+Inv-loop out₀ n s work t i p g m₀ have₀ k₀ out m have k =
+    (k ≤ g .fields) × (length out ≡ length out₀) × Emitted out₀ n (concatBelow (of-field s t i) k) out m × (have ≡ anyBelow (source s t i) k)
 
 abbrev μ-loop : tie.MeasureT-loop
 μ-loop out₀ n s work t i p g m₀ have₀ k₀ out m have k = g .fields - k
@@ -44,33 +46,74 @@ loop-holds : tie.Need-loop-holds Inv-loop μ-loop
 loop-holds c = (omega arith, refl, emitted-none _ _, refl)
 
 field-of-requires : tie.Need-field-of-requires Inv-loop μ-loop
-field-of-requires c κs = (c .before .before .before .before .before .before .pre .1, omega (arith, c .before .before .before .before .before .before .pre .2 .fields))
+field-of-requires c κs =
+    let start = c .before .before .before .before .before .before in
+    (start .pre .1, omega (arith, start .pre .2 .fields))
 
 root-of-requires : tie.Need-root-of-requires Inv-loop μ-loop
-root-of-requires c κs = (c .before .before .before .before .before .before .before .pre .1 .ready, (let e : c .field-of .result .ft ≡ field-at (pgn-at (packOf (now (c .before .before .before .before .before .before .before .args .s))) (c .before .before .before .before .before .before .before .args .t) (c .before .before .before .before .before .before .before .args .i)) (c .before .before .before .loop .k) .ft = ap (λ (F : Field). F .ft) (c .field-of .ensures) in omega (arith, e, field-ft-law (c .before .before .before .before .before .before .before .pre .1) (c .before .before .before .loop .k) (omega (arith, c .before .if1 .taken, c .before .before .before .before .before .before .before .pre .2 .fields)))))
+root-of-requires c κs =
+    let start = c .before .before .before .before .before .before .before in
+    let loop = c .before .before .before .loop in (
+      start .pre .1 .ready,
+      (let e : c .field-of .result .ft ≡ field-at (pgn-at (packOf (now (start .args .s))) (start .args .t) (start .args .i)) (loop .k) .ft =
+          ap (λ (F : Field). F .ft) (c .field-of .ensures) in
+          omega (arith, e, field-ft-law (start .pre .1) (loop .k) (omega (arith, c .before .if1 .taken, start .pre .2 .fields)))),
+    )
 
 have-length-source-requires : tie.Need-have-length-source-requires Inv-loop μ-loop
 have-length-source-requires c κs = search needs
 
 dynamic-length-at-requires : tie.Need-dynamic-length-at-requires Inv-loop μ-loop
 unfolding check-dynamic-length have-length-source
-dynamic-length-at-requires c κs = (fits-turn (of-field (now (c .before .before .before .before .before .before .before .before .before .before .args .s)) (c .before .before .before .before .before .before .before .before .before .before .args .t) (c .before .before .before .before .before .before .before .before .before .before .args .i)) (c .before .before .before .before .before .before .before .before .before .before .args .g .fields) (c .before .before .before .before .before .before .loop .k) (c .before .before .before .before .if1 .taken) (rw (← c .before .before .before .before .before .before .before .before .before .before .pre .2 .fields) at (c .before .before .before .before .before .before .before .before .before .before .pre .0)) (c .before .before .before .before .before .before .loop .inv .2), c .before .before .before .field-of .ensures, (rw (← c .before .before .before .field-of .ensures) (c .before .before .root-of .ensures)), found (now (c .before .before .before .before .before .before .before .before .before .before .args .s)) (c .before .before .before .before .before .before .before .before .before .before .args .t) (c .before .before .before .before .before .before .before .before .before .before .args .i) (c .before .before .before .before .before .before .loop .k) (c .before .before .before .field-of .result) (bytesOf (now (c .before .before .before .before .before .before .before .before .before .before .args .s)) (c .before .before .root-of .result)) (c .before .before .before .before .before .before .loop .have) _ (c .before .before .before .field-of .ensures) (c .before .before .root-of .ensures) (c .before .before .before .before .before .before .loop .inv .3) (c .before .have-length-source .ensures))
+dynamic-length-at-requires c κs =
+    let start = c .before .before .before .before .before .before .before .before .before .before in
+    let loop = c .before .before .before .before .before .before .loop in
+    let if1 = c .before .before .before .before .if1 in
+    let field-of = c .before .before .before .field-of in
+    let root-of = c .before .before .root-of in
+    let s = now (start .args .s) in let t = start .args .t in let i = start .args .i in (
+      fits-turn (of-field s t i) (start .args .g .fields) (loop .k) (if1 .taken) (rw (← start .pre .2 .fields) at (start .pre .0)) (loop .inv .2),
+      field-of .ensures,
+      (rw (← field-of .ensures) (root-of .ensures)),
+      found s t i (loop .k) (field-of .result) (bytesOf s (root-of .result)) (loop .have) _ (field-of .ensures) (root-of .ensures) (loop .inv .3)
+          (c .before .have-length-source .ensures),
+    )
 
 add-k : tie.Need-add-k Inv-loop μ-loop
-add-k c = omega (arith, c .before .before .before .before .before .before .before .before .struct-known .given)
+add-k c =
+    let struct-known = c .before .before .before .before .before .before .before .before .struct-known in
+    omega (arith, struct-known .given)
 
 loop-less : tie.Need-loop-less Inv-loop μ-loop
 loop-less c = search needs
 
 loop-again : tie.Need-loop-again Inv-loop μ-loop
-loop-again c = (omega arith, c .before .before .dynamic-length-at .kept .0 ∙ c .before .before .before .before .before .before .before .before .before .loop .inv .1, emitted-turn (of-field (now (c .before .before .before .before .before .before .before .before .before .before .before .before .before .args .s)) (c .before .before .before .before .before .before .before .before .before .before .before .before .before .args .t) (c .before .before .before .before .before .before .before .before .before .before .before .before .before .args .i)) (c .before .before .before .before .before .before .before .before .before .loop .k) (c .before .before .before .before .before .before .before .before .before .loop .inv .2) (c .before .before .dynamic-length-at .ensures), (rw (add-one (c .before .before .before .before .before .before .before .before .before .loop .k)) (found (now (c .before .before .before .before .before .before .before .before .before .before .before .before .before .args .s)) (c .before .before .before .before .before .before .before .before .before .before .before .before .before .args .t) (c .before .before .before .before .before .before .before .before .before .before .before .before .before .args .i) (c .before .before .before .before .before .before .before .before .before .loop .k) (c .before .before .before .before .before .before .field-of .result) (bytesOf (now (c .before .before .before .before .before .before .before .before .before .before .before .before .before .args .s)) (c .before .before .before .before .before .root-of .result)) (c .before .before .before .before .before .before .before .before .before .loop .have) _ (c .before .before .before .before .before .before .field-of .ensures) (c .before .before .before .before .before .root-of .ensures) (c .before .before .before .before .before .before .before .before .before .loop .inv .3) (c .before .before .before .before .have-length-source .ensures))))
+loop-again c =
+    let back12 = c .before .before .before .before .before .before .before .before .before .before .before .before in
+    let start = back12 .before in
+    let loop = c .before .before .before .before .before .before .before .before .before .loop in
+    let field-of = c .before .before .before .before .before .before .field-of in
+    let root-of = c .before .before .before .before .before .root-of in
+    let have-length-source-call = c .before .before .before .before .have-length-source in
+    let dynamic-length-at-call = c .before .before .dynamic-length-at in
+    let s = now (start .args .s) in let t = start .args .t in let i = start .args .i in (
+      omega (arith, c),
+      dynamic-length-at-call .kept .0 ∙ loop .inv .1,
+      emitted-turn (of-field s t i) (loop .k) (loop .inv .2) (dynamic-length-at-call .ensures),
+      (rw (add-one (loop .k)) (found s t i (loop .k) (field-of .result) (bytesOf s (root-of .result)) (loop .have) _ (field-of .ensures) (root-of .ensures)
+          (loop .inv .3) (have-length-source-call .ensures))),
+    )
 
 same-length : tie.Need-same-length Inv-loop μ-loop
 same-length c = search needs
 
 returns : tie.Need-returns Inv-loop μ-loop
 unfolding check-dynamic-length
-returns c = let e : c .before .before .loop .k ≡ length (pgn-at (packOf (now (c .before .before .before .before .before .before .args .s))) (c .before .before .before .before .before .before .args .t) (c .before .before .before .before .before .before .args .i) .fields) = omega (arith, c .before .before .before .before .before .before .pre .2 .fields) in rw (← e) (c .before .before .loop .inv .2)
+returns c =
+    let start = c .before .before .before .before .before .before in
+    let loop = c .before .before .loop in
+    let e : loop .k ≡ length (pgn-at (packOf (now (start .args .s))) (start .args .t) (start .args .i) .fields) = omega (arith, start .pre .2 .fields) in
+    rw (← e) (loop .inv .2)
 
 pub check-dynamic-length-spec : {M : Type 1} → statement M
 check-dynamic-length-spec =

@@ -47,7 +47,14 @@ pgn-error-requires : tie.Need-pgn-error-requires
 pgn-error-requires c κs = search needs
 
 put-if-requires : tie.Need-put-if-requires
-put-if-requires c κs = fits-left _ _ (fits-left _ _ (rw (viewed (now (c .before .before .before .before .before .before .before .before .before .args .s)) (packOf (now (c .before .before .before .before .before .before .before .before .before .args .s)) .fieldtypes) (c .before .before .before .before .before .before .before .before .before .args .t) (c .before .before .before .before .before .before .before .before .before .args .i) (pgn-at (packOf (now (c .before .before .before .before .before .before .before .before .before .args .s))) (c .before .before .before .before .before .before .before .before .before .args .t) (c .before .before .before .before .before .before .before .before .before .args .i)) (c .before .before .before .before .before .before .before .before .before .args .k) _ (c .before .before .before .before .before .before .before .before .before .args .f) (bytesOf (now (c .before .before .before .before .before .before .before .before .before .args .s)) (c .before .before .before .before .before .before .before .before .before .args .root)) (c .before .before .before .before .before .before .before .before .before .args .have) (c .before .before .before .before .before .before .before .before .before .pre .1) (c .before .before .before .before .before .before .before .before .before .pre .2) (c .before .before .before .before .before .before .before .before .before .pre .3) _ _ _ _ _ _ _ _ (c .before .before .before .before .before .text-is .ensures) (c .before .before .before .text-is2 .ensures) (c .before .before .and-not .ensures) (c .pgn-error .ensures) refl refl refl refl) at (c .before .before .before .before .before .before .before .before .before .pre .0)))
+put-if-requires c κs =
+    let start = c .before .before .before .before .before .before .before .before .before in
+    let text-is = c .before .before .before .before .before .text-is in
+    let text-is2 = c .before .before .before .text-is2 in
+    let s = now (start .args .s) in let t = start .args .t in let i = start .args .i in
+    fits-left _ _ (fits-left _ _ (rw (viewed s (packOf s .fieldtypes) t i (pgn-at (packOf s) t i) (start .args .k) _ (start .args .f)
+    (bytesOf s (start .args .root)) (start .args .have) (start .pre .1) (start .pre .2) (start .pre .3) _ _ _ _ _ _ _ _ (text-is .ensures) (text-is2 .ensures)
+    (c .before .before .and-not .ensures) (c .pgn-error .ensures) refl refl refl refl) at (start .pre .0)))
 
 and-not-requires-2 : tie.Need-and-not-requires-2
 and-not-requires-2 c κs = search needs
@@ -56,7 +63,19 @@ pgn-error-requires-2 : tie.Need-pgn-error-requires-2
 pgn-error-requires-2 c κs = search needs
 
 put-if-requires-2 : tie.Need-put-if-requires-2
-put-if-requires-2 c κs = fits-right (report-if (c .before .before .before .before .before .before .before .before .and-not .result) (c .before .before .before .before .before .before .pgn-error .result)) _ (fits-left _ _ (rw (viewed (now (c .before .before .before .before .before .before .before .before .before .before .before .before .before .before .before .args .s)) (packOf (now (c .before .before .before .before .before .before .before .before .before .before .before .before .before .before .before .args .s)) .fieldtypes) (c .before .before .before .before .before .before .before .before .before .before .before .before .before .before .before .args .t) (c .before .before .before .before .before .before .before .before .before .before .before .before .before .before .before .args .i) (pgn-at (packOf (now (c .before .before .before .before .before .before .before .before .before .before .before .before .before .before .before .args .s))) (c .before .before .before .before .before .before .before .before .before .before .before .before .before .before .before .args .t) (c .before .before .before .before .before .before .before .before .before .before .before .before .before .before .before .args .i)) (c .before .before .before .before .before .before .before .before .before .before .before .before .before .before .before .args .k) _ (c .before .before .before .before .before .before .before .before .before .before .before .before .before .before .before .args .f) (bytesOf (now (c .before .before .before .before .before .before .before .before .before .before .before .before .before .before .before .args .s)) (c .before .before .before .before .before .before .before .before .before .before .before .before .before .before .before .args .root)) (c .before .before .before .before .before .before .before .before .before .before .before .before .before .before .before .args .have) (c .before .before .before .before .before .before .before .before .before .before .before .before .before .before .before .pre .1) (c .before .before .before .before .before .before .before .before .before .before .before .before .before .before .before .pre .2) (c .before .before .before .before .before .before .before .before .before .before .before .before .before .before .before .pre .3) _ _ _ _ _ _ _ _ (c .before .before .before .before .before .before .before .before .before .before .before .text-is .ensures) (c .before .before .before .before .before .before .before .before .before .text-is2 .ensures) (c .before .before .before .before .before .before .before .before .and-not .ensures) (c .before .before .before .before .before .before .pgn-error .ensures) (c .before .before .and-not2 .ensures) (c .pgn-error2 .ensures) refl refl) at (c .before .before .before .before .before .before .before .before .before .before .before .before .before .before .before .pre .0))) (c .before .before .before .before .before .put-if .ensures)
+put-if-requires-2 c κs =
+    let back12 = c .before .before .before .before .before .before .before .before .before .before .before .before in
+    let start = back12 .before .before .before in
+    let text-is = c .before .before .before .before .before .before .before .before .before .before .before .text-is in
+    let text-is2 = c .before .before .before .before .before .before .before .before .before .text-is2 in
+    let and-not = c .before .before .before .before .before .before .before .before .and-not in
+    let pgn-error-call = c .before .before .before .before .before .before .pgn-error in
+    let put-if = c .before .before .before .before .before .put-if in
+    let s = now (start .args .s) in let t = start .args .t in let i = start .args .i in
+    fits-right (report-if (and-not .result) (pgn-error-call .result)) _
+    (fits-left _ _ (rw (viewed s (packOf s .fieldtypes) t i (pgn-at (packOf s) t i) (start .args .k) _ (start .args .f) (bytesOf s (start .args .root))
+    (start .args .have) (start .pre .1) (start .pre .2) (start .pre .3) _ _ _ _ _ _ _ _ (text-is .ensures) (text-is2 .ensures) (and-not .ensures)
+    (pgn-error-call .ensures) (c .before .before .and-not2 .ensures) (c .pgn-error2 .ensures) refl refl) at (start .pre .0))) (put-if .ensures)
 
 and-not-requires-3 : tie.Need-and-not-requires-3
 and-not-requires-3 c κs = search needs
@@ -65,13 +84,45 @@ pgn-error-requires-3 : tie.Need-pgn-error-requires-3
 pgn-error-requires-3 c κs = search needs
 
 put-if-requires-3 : tie.Need-put-if-requires-3
-put-if-requires-3 c κs = fits-right _ _ (rw (viewed (now (c .before .before .before .before .before .before .before .before .before .before .before .before .before .before .before .before .before .before .before .before .before .args .s)) (packOf (now (c .before .before .before .before .before .before .before .before .before .before .before .before .before .before .before .before .before .before .before .before .before .args .s)) .fieldtypes) (c .before .before .before .before .before .before .before .before .before .before .before .before .before .before .before .before .before .before .before .before .before .args .t) (c .before .before .before .before .before .before .before .before .before .before .before .before .before .before .before .before .before .before .before .before .before .args .i) (pgn-at (packOf (now (c .before .before .before .before .before .before .before .before .before .before .before .before .before .before .before .before .before .before .before .before .before .args .s))) (c .before .before .before .before .before .before .before .before .before .before .before .before .before .before .before .before .before .before .before .before .before .args .t) (c .before .before .before .before .before .before .before .before .before .before .before .before .before .before .before .before .before .before .before .before .before .args .i)) (c .before .before .before .before .before .before .before .before .before .before .before .before .before .before .before .before .before .before .before .before .before .args .k) _ (c .before .before .before .before .before .before .before .before .before .before .before .before .before .before .before .before .before .before .before .before .before .args .f) (bytesOf (now (c .before .before .before .before .before .before .before .before .before .before .before .before .before .before .before .before .before .before .before .before .before .args .s)) (c .before .before .before .before .before .before .before .before .before .before .before .before .before .before .before .before .before .before .before .before .before .args .root)) (c .before .before .before .before .before .before .before .before .before .before .before .before .before .before .before .before .before .before .before .before .before .args .have) (c .before .before .before .before .before .before .before .before .before .before .before .before .before .before .before .before .before .before .before .before .before .pre .1) (c .before .before .before .before .before .before .before .before .before .before .before .before .before .before .before .before .before .before .before .before .before .pre .2) (c .before .before .before .before .before .before .before .before .before .before .before .before .before .before .before .before .before .before .before .before .before .pre .3) _ _ _ _ _ _ _ _ (c .before .before .before .before .before .before .before .before .before .before .before .before .before .before .before .before .before .text-is .ensures) (c .before .before .before .before .before .before .before .before .before .before .before .before .before .before .before .text-is2 .ensures) (c .before .before .before .before .before .before .before .before .before .before .before .before .before .before .and-not .ensures) (c .before .before .before .before .before .before .before .before .before .before .before .before .pgn-error .ensures) (c .before .before .before .before .before .before .before .before .and-not2 .ensures) (c .before .before .before .before .before .before .pgn-error2 .ensures) (c .before .before .and-not3 .ensures) (c .pgn-error3 .ensures)) at (c .before .before .before .before .before .before .before .before .before .before .before .before .before .before .before .before .before .before .before .before .before .pre .0)) (emitted-append (c .before .before .before .before .before .before .before .before .before .before .before .put-if .ensures) (c .before .before .before .before .before .put-if2 .ensures))
+put-if-requires-3 c κs =
+    let back12 = c .before .before .before .before .before .before .before .before .before .before .before .before in
+    let start = back12 .before .before .before .before .before .before .before .before .before in
+    let text-is = back12 .before .before .before .before .before .text-is in
+    let text-is2 = back12 .before .before .before .text-is2 in
+    let and-not = back12 .before .before .and-not in
+    let pgn-error-call = c .before .before .before .before .before .before .before .before .before .before .before .before .pgn-error in
+    let put-if = c .before .before .before .before .before .before .before .before .before .before .before .put-if in
+    let and-not2 = c .before .before .before .before .before .before .before .before .and-not2 in
+    let pgn-error2 = c .before .before .before .before .before .before .pgn-error2 in
+    let put-if2 = c .before .before .before .before .before .put-if2 in
+    let s = now (start .args .s) in let t = start .args .t in let i = start .args .i in
+    fits-right _ _ (rw (viewed s (packOf s .fieldtypes) t i (pgn-at (packOf s) t i) (start .args .k) _ (start .args .f) (bytesOf s (start .args .root))
+    (start .args .have) (start .pre .1) (start .pre .2) (start .pre .3) _ _ _ _ _ _ _ _ (text-is .ensures) (text-is2 .ensures) (and-not .ensures)
+    (pgn-error-call .ensures) (and-not2 .ensures) (pgn-error2 .ensures) (c .before .before .and-not3 .ensures) (c .pgn-error3 .ensures)) at (start .pre .0))
+    (emitted-append (put-if .ensures) (put-if2 .ensures))
 
 same-length : tie.Need-same-length
 same-length c = search needs
 
 returns : tie.Need-returns
-returns c = rw (viewed (now (c .before .before .before .before .before .before .before .before .before .before .before .before .before .before .before .before .before .before .before .before .before .before .before .before .args .s)) (packOf (now (c .before .before .before .before .before .before .before .before .before .before .before .before .before .before .before .before .before .before .before .before .before .before .before .before .args .s)) .fieldtypes) (c .before .before .before .before .before .before .before .before .before .before .before .before .before .before .before .before .before .before .before .before .before .before .before .before .args .t) (c .before .before .before .before .before .before .before .before .before .before .before .before .before .before .before .before .before .before .before .before .before .before .before .before .args .i) (pgn-at (packOf (now (c .before .before .before .before .before .before .before .before .before .before .before .before .before .before .before .before .before .before .before .before .before .before .before .before .args .s))) (c .before .before .before .before .before .before .before .before .before .before .before .before .before .before .before .before .before .before .before .before .before .before .before .before .args .t) (c .before .before .before .before .before .before .before .before .before .before .before .before .before .before .before .before .before .before .before .before .before .before .before .before .args .i)) (c .before .before .before .before .before .before .before .before .before .before .before .before .before .before .before .before .before .before .before .before .before .before .before .before .args .k) _ (c .before .before .before .before .before .before .before .before .before .before .before .before .before .before .before .before .before .before .before .before .before .before .before .before .args .f) (bytesOf (now (c .before .before .before .before .before .before .before .before .before .before .before .before .before .before .before .before .before .before .before .before .before .before .before .before .args .s)) (c .before .before .before .before .before .before .before .before .before .before .before .before .before .before .before .before .before .before .before .before .before .before .before .before .args .root)) (c .before .before .before .before .before .before .before .before .before .before .before .before .before .before .before .before .before .before .before .before .before .before .before .before .args .have) (c .before .before .before .before .before .before .before .before .before .before .before .before .before .before .before .before .before .before .before .before .before .before .before .before .pre .1) (c .before .before .before .before .before .before .before .before .before .before .before .before .before .before .before .before .before .before .before .before .before .before .before .before .pre .2) (c .before .before .before .before .before .before .before .before .before .before .before .before .before .before .before .before .before .before .before .before .before .before .before .before .pre .3) _ _ _ _ _ _ _ _ (c .before .before .before .before .before .before .before .before .before .before .before .before .before .before .before .before .before .before .before .before .text-is .ensures) (c .before .before .before .before .before .before .before .before .before .before .before .before .before .before .before .before .before .before .text-is2 .ensures) (c .before .before .before .before .before .before .before .before .before .before .before .before .before .before .before .before .before .and-not .ensures) (c .before .before .before .before .before .before .before .before .before .before .before .before .before .before .before .pgn-error .ensures) (c .before .before .before .before .before .before .before .before .before .before .before .and-not2 .ensures) (c .before .before .before .before .before .before .before .before .before .pgn-error2 .ensures) (c .before .before .before .before .before .and-not3 .ensures) (c .before .before .before .pgn-error3 .ensures)) (emitted-append (emitted-append (c .before .before .before .before .before .before .before .before .before .before .before .before .before .before .put-if .ensures) (c .before .before .before .before .before .before .before .before .put-if2 .ensures)) (c .before .before .put-if3 .ensures))
+returns c =
+    let back12 = c .before .before .before .before .before .before .before .before .before .before .before .before in
+    let start = back12 .before .before .before .before .before .before .before .before .before .before .before .before in
+    let text-is = back12 .before .before .before .before .before .before .before .before .text-is in
+    let text-is2 = back12 .before .before .before .before .before .before .text-is2 in
+    let and-not = back12 .before .before .before .before .before .and-not in
+    let pgn-error-call = back12 .before .before .before .pgn-error in
+    let put-if = back12 .before .before .put-if in
+    let and-not2 = c .before .before .before .before .before .before .before .before .before .before .before .and-not2 in
+    let pgn-error2 = c .before .before .before .before .before .before .before .before .before .pgn-error2 in
+    let put-if2 = c .before .before .before .before .before .before .before .before .put-if2 in
+    let and-not3 = c .before .before .before .before .before .and-not3 in
+    let pgn-error3 = c .before .before .before .pgn-error3 in
+    let s = now (start .args .s) in let t = start .args .t in let i = start .args .i in
+    rw (viewed s (packOf s .fieldtypes) t i (pgn-at (packOf s) t i) (start .args .k) _ (start .args .f) (bytesOf s (start .args .root)) (start .args .have)
+    (start .pre .1) (start .pre .2) (start .pre .3) _ _ _ _ _ _ _ _ (text-is .ensures) (text-is2 .ensures) (and-not .ensures) (pgn-error-call .ensures)
+    (and-not2 .ensures) (pgn-error2 .ensures) (and-not3 .ensures) (pgn-error3 .ensures))
+    (emitted-append (emitted-append (put-if .ensures) (put-if2 .ensures)) (c .before .before .put-if3 .ensures))
 
 pub dynamic-length-at-spec : {M : Type 1} → statement M
 dynamic-length-at-spec =

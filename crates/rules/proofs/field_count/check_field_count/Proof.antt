@@ -14,7 +14,8 @@ use Rattle.rules.proofs.field_count.check_field_count.Statement.{statem
 use Rattle.rules.proofs.field_count.check_field_count.Tie as tie
 
 -- the rule, said of the view
-viewed : (s : List ℕ) (t i : ℕ) (G : Pgn) (g : PgnView) → PgnIs s G g → (f : Finding) → f ≡ pgn-error 11 1 t i 0 0 → check-field-count t i G ≡ report-if (33 <ᵇ g .fields) f
+viewed : (s : List ℕ) (t i : ℕ) (G : Pgn) (g : PgnView) → PgnIs s G g → (f : Finding) → f ≡ pgn-error 11 1 t i 0 0
+    → check-field-count t i G ≡ report-if (33 <ᵇ g .fields) f
 unfolding check-field-count
 viewed s t i G g is f e = rw (is .fields, e)
 
@@ -22,13 +23,19 @@ pgn-error-requires : tie.Need-pgn-error-requires
 pgn-error-requires c κs = search needs
 
 put-if-requires : tie.Need-put-if-requires
-put-if-requires c κs = rw (viewed (now (c .before .before .before .before .before .args .s)) (c .before .before .before .before .before .args .t) (c .before .before .before .before .before .args .i) _ (c .before .before .before .before .before .args .g) (c .before .before .before .before .before .pre .1) _ (c .pgn-error .ensures)) at (c .before .before .before .before .before .pre .0)
+put-if-requires c κs =
+    let start = c .before .before .before .before .before in
+    rw (viewed (now (start .args .s)) (start .args .t) (start .args .i) _ (start .args .g) (start .pre .1) _ (c .pgn-error .ensures)) at (start .pre .0)
 
 same-length : tie.Need-same-length
 same-length c = search needs
 
 returns : tie.Need-returns
-returns c = rw (viewed (now (c .before .before .before .before .before .before .before .before .args .s)) (c .before .before .before .before .before .before .before .before .args .t) (c .before .before .before .before .before .before .before .before .args .i) _ (c .before .before .before .before .before .before .before .before .args .g) (c .before .before .before .before .before .before .before .before .pre .1) _ (c .before .before .before .pgn-error .ensures)) (c .before .before .put-if .ensures)
+returns c =
+    let start = c .before .before .before .before .before .before .before .before in
+    let pgn-error-call = c .before .before .before .pgn-error in
+    rw (viewed (now (start .args .s)) (start .args .t) (start .args .i) _ (start .args .g) (start .pre .1) _ (pgn-error-call .ensures))
+    (c .before .before .put-if .ensures)
 
 pub check-field-count-spec : {M : Type 1} → statement M
 check-field-count-spec =

@@ -32,27 +32,52 @@ loop-holds : tie.Need-loop-holds Inv-loop μ-loop
 loop-holds c = (omega arith, refl, emitted-none _ _)
 
 field-of-requires : tie.Need-field-of-requires Inv-loop μ-loop
-field-of-requires c κs = (c .before .before .before .before .before .before .pre .1, omega (arith, c .before .before .before .before .before .before .pre .2 .fields))
+field-of-requires c κs =
+    let start = c .before .before .before .before .before .before in
+    (start .pre .1, omega (arith, start .pre .2 .fields))
 
 overrides-at-requires : tie.Need-overrides-at-requires Inv-loop μ-loop
 unfolding check-field-type-overrides
-overrides-at-requires c κs = (fits-turn (of-field (now (c .before .before .before .before .before .before .before .before .args .s)) (c .before .before .before .before .before .before .before .before .args .t) (c .before .before .before .before .before .before .before .before .args .i)) (c .before .before .before .before .before .before .before .before .args .g .fields) (c .before .before .before .before .loop .k) (c .before .before .if1 .taken) (rw (← c .before .before .before .before .before .before .before .before .pre .2 .fields) at (c .before .before .before .before .before .before .before .before .pre .0)) (c .before .before .before .before .loop .inv .2), c .before .field-of .ensures, c .before .before .before .before .before .before .before .before .pre .1 .ready, (let e : c .before .field-of .result .ft ≡ field-at (pgn-at (packOf (now (c .before .before .before .before .before .before .before .before .args .s))) (c .before .before .before .before .before .before .before .before .args .t) (c .before .before .before .before .before .before .before .before .args .i)) (c .before .before .before .before .loop .k) .ft = ap (λ (F : Field). F .ft) (c .before .field-of .ensures) in omega (arith, e, field-ft-law (c .before .before .before .before .before .before .before .before .pre .1) (c .before .before .before .before .loop .k) (omega (arith, c .before .before .if1 .taken, c .before .before .before .before .before .before .before .before .pre .2 .fields)))))
+overrides-at-requires c κs =
+    let start = c .before .before .before .before .before .before .before .before in
+    let loop = c .before .before .before .before .loop in
+    let if1 = c .before .before .if1 in
+    let s = now (start .args .s) in let t = start .args .t in let i = start .args .i in (
+      fits-turn (of-field s t i) (start .args .g .fields) (loop .k) (if1 .taken) (rw (← start .pre .2 .fields) at (start .pre .0)) (loop .inv .2),
+      c .before .field-of .ensures,
+      start .pre .1 .ready,
+      (let e : c .before .field-of .result .ft ≡ field-at (pgn-at (packOf s) t i) (loop .k) .ft = ap (λ (F : Field). F .ft) (c .before .field-of .ensures) in
+          omega (arith, e, field-ft-law (start .pre .1) (loop .k) (omega (arith, if1 .taken, start .pre .2 .fields)))),
+    )
 
 add-k : tie.Need-add-k Inv-loop μ-loop
-add-k c = omega (arith, c .before .before .before .before .before .before .struct-known .given)
+add-k c =
+    let struct-known = c .before .before .before .before .before .before .struct-known in
+    omega (arith, struct-known .given)
 
 loop-less : tie.Need-loop-less Inv-loop μ-loop
 loop-less c = search needs
 
 loop-again : tie.Need-loop-again Inv-loop μ-loop
-loop-again c = (omega arith, c .before .before .overrides-at .kept .0 ∙ c .before .before .before .before .before .before .before .loop .inv .1, emitted-turn (of-field (now (c .before .before .before .before .before .before .before .before .before .before .before .args .s)) (c .before .before .before .before .before .before .before .before .before .before .before .args .t) (c .before .before .before .before .before .before .before .before .before .before .before .args .i)) (c .before .before .before .before .before .before .before .loop .k) (c .before .before .before .before .before .before .before .loop .inv .2) (c .before .before .overrides-at .ensures))
+loop-again c =
+    let start = c .before .before .before .before .before .before .before .before .before .before .before in
+    let loop = c .before .before .before .before .before .before .before .loop in
+    let overrides-at-call = c .before .before .overrides-at in (
+      omega (arith, c),
+      overrides-at-call .kept .0 ∙ loop .inv .1,
+      emitted-turn (of-field (now (start .args .s)) (start .args .t) (start .args .i)) (loop .k) (loop .inv .2) (overrides-at-call .ensures),
+    )
 
 same-length : tie.Need-same-length Inv-loop μ-loop
 same-length c = search needs
 
 returns : tie.Need-returns Inv-loop μ-loop
 unfolding check-field-type-overrides
-returns c = let e : c .before .before .loop .k ≡ length (pgn-at (packOf (now (c .before .before .before .before .before .before .args .s))) (c .before .before .before .before .before .before .args .t) (c .before .before .before .before .before .before .args .i) .fields) = omega (arith, c .before .before .before .before .before .before .pre .2 .fields) in rw (← e) (c .before .before .loop .inv .2)
+returns c =
+    let start = c .before .before .before .before .before .before in
+    let loop = c .before .before .loop in
+    let e : loop .k ≡ length (pgn-at (packOf (now (start .args .s))) (start .args .t) (start .args .i) .fields) = omega (arith, start .pre .2 .fields) in
+    rw (← e) (loop .inv .2)
 
 pub check-field-type-overrides-spec : {M : Type 1} → statement M
 check-field-type-overrides-spec =

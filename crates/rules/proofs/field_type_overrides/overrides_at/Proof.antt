@@ -24,9 +24,10 @@ given-is true n = refl
 given-is false n = refl
 
 -- the rule at a field, said of the views
-viewed : (s : List ℕ) (fts : List FieldType) (t i k : ℕ) (F : Field) (v : FieldView) (u : FieldTypeView) → fieldMeaning s v ≡ F → typeMeaning s u ≡ getD fts (v .ft) noFieldType
-    → (a b z : Bool) (f h : Finding) → a ≡ (v .flags .bits && not (u .size == 0)) → f ≡ pgn-error 14 1 t i k 0 → z ≡ float-eq (u .resolution) 0 → b ≡ (v .authored .resolution .given && not z)
-    → h ≡ pgn-error 14 2 t i k 0 → overrides-at t i k F (fieldtype-of fts F) ≡ report-if a f ++ report-if b h
+viewed : (s : List ℕ) (fts : List FieldType) (t i k : ℕ) (F : Field) (v : FieldView) (u : FieldTypeView) → fieldMeaning s v ≡ F
+    → typeMeaning s u ≡ getD fts (v .ft) noFieldType → (a b z : Bool) (f h : Finding) → a ≡ (v .flags .bits && not (u .size == 0)) → f ≡ pgn-error 14 1 t i k 0
+    → z ≡ float-eq (u .resolution) 0 → b ≡ (v .authored .resolution .given && not z) → h ≡ pgn-error 14 2 t i k 0
+    → overrides-at t i k F (fieldtype-of fts F) ≡ report-if a f ++ report-if b h
 unfolding overrides-at
 viewed s fts t i k F v u is tu a b z f h xa xf xz xb xh =
     rw (← is, ← tu, xa, xf, xb, xz, xh, given-is (v .authored .resolution .given) (v .authored .resolution .pattern))
@@ -41,7 +42,12 @@ pgn-error-requires : tie.Need-pgn-error-requires
 pgn-error-requires c κs = search needs
 
 put-if-requires : tie.Need-put-if-requires
-put-if-requires c κs = fits-left _ _ (rw (viewed (now (c .before .before .before .before .before .before .before .before .args .s)) (packOf (now (c .before .before .before .before .before .before .before .before .args .s)) .fieldtypes) (c .before .before .before .before .before .before .before .before .args .t) (c .before .before .before .before .before .before .before .before .args .i) (c .before .before .before .before .before .before .before .before .args .k) _ (c .before .before .before .before .before .before .before .before .args .f) (c .before .before .before .before .type-of .result) (c .before .before .before .before .before .before .before .before .pre .1) (c .before .before .before .before .type-of .ensures) _ _ _ _ _ (c .before .before .and-not .ensures) (c .pgn-error .ensures) refl refl refl) at (c .before .before .before .before .before .before .before .before .pre .0))
+put-if-requires c κs =
+    let start = c .before .before .before .before .before .before .before .before in
+    let type-of = c .before .before .before .before .type-of in
+    let s = now (start .args .s) in
+    fits-left _ _ (rw (viewed s (packOf s .fieldtypes) (start .args .t) (start .args .i) (start .args .k) _ (start .args .f) (type-of .result) (start .pre .1)
+    (type-of .ensures) _ _ _ _ _ (c .before .before .and-not .ensures) (c .pgn-error .ensures) refl refl refl) at (start .pre .0))
 
 float-eq-requires : tie.Need-float-eq-requires
 float-eq-requires c κs = search needs
@@ -53,13 +59,38 @@ pgn-error-requires-2 : tie.Need-pgn-error-requires-2
 pgn-error-requires-2 c κs = search needs
 
 put-if-requires-2 : tie.Need-put-if-requires-2
-put-if-requires-2 c κs = fits-right (report-if (c .before .before .before .before .before .before .before .before .before .and-not .result) (c .before .before .before .before .before .before .before .pgn-error .result)) _ (rw (viewed (now (c .before .before .before .before .before .before .before .before .before .before .before .before .before .before .before .args .s)) (packOf (now (c .before .before .before .before .before .before .before .before .before .before .before .before .before .before .before .args .s)) .fieldtypes) (c .before .before .before .before .before .before .before .before .before .before .before .before .before .before .before .args .t) (c .before .before .before .before .before .before .before .before .before .before .before .before .before .before .before .args .i) (c .before .before .before .before .before .before .before .before .before .before .before .before .before .before .before .args .k) _ (c .before .before .before .before .before .before .before .before .before .before .before .before .before .before .before .args .f) (c .before .before .before .before .before .before .before .before .before .before .before .type-of .result) (c .before .before .before .before .before .before .before .before .before .before .before .before .before .before .before .pre .1) (c .before .before .before .before .before .before .before .before .before .before .before .type-of .ensures) _ _ _ _ _ (c .before .before .before .before .before .before .before .before .before .and-not .ensures) (c .before .before .before .before .before .before .before .pgn-error .ensures) (c .before .before .before .float-eq .ensures) (c .before .before .and-not2 .ensures) (c .pgn-error2 .ensures)) at (c .before .before .before .before .before .before .before .before .before .before .before .before .before .before .before .pre .0)) (c .before .before .before .before .before .before .put-if .ensures)
+put-if-requires-2 c κs =
+    let back12 = c .before .before .before .before .before .before .before .before .before .before .before .before in
+    let start = back12 .before .before .before in
+    let type-of = c .before .before .before .before .before .before .before .before .before .before .before .type-of in
+    let and-not = c .before .before .before .before .before .before .before .before .before .and-not in
+    let pgn-error-call = c .before .before .before .before .before .before .before .pgn-error in
+    let put-if = c .before .before .before .before .before .before .put-if in
+    let float-eq-call = c .before .before .before .float-eq in
+    let s = now (start .args .s) in
+    fits-right (report-if (and-not .result) (pgn-error-call .result)) _
+    (rw (viewed s (packOf s .fieldtypes) (start .args .t) (start .args .i) (start .args .k) _ (start .args .f) (type-of .result) (start .pre .1)
+    (type-of .ensures) _ _ _ _ _ (and-not .ensures) (pgn-error-call .ensures) (float-eq-call .ensures) (c .before .before .and-not2 .ensures)
+    (c .pgn-error2 .ensures)) at (start .pre .0)) (put-if .ensures)
 
 same-length : tie.Need-same-length
 same-length c = search needs
 
 returns : tie.Need-returns
-returns c = rw (viewed (now (c .before .before .before .before .before .before .before .before .before .before .before .before .before .before .before .before .before .before .args .s)) (packOf (now (c .before .before .before .before .before .before .before .before .before .before .before .before .before .before .before .before .before .before .args .s)) .fieldtypes) (c .before .before .before .before .before .before .before .before .before .before .before .before .before .before .before .before .before .before .args .t) (c .before .before .before .before .before .before .before .before .before .before .before .before .before .before .before .before .before .before .args .i) (c .before .before .before .before .before .before .before .before .before .before .before .before .before .before .before .before .before .before .args .k) _ (c .before .before .before .before .before .before .before .before .before .before .before .before .before .before .before .before .before .before .args .f) (c .before .before .before .before .before .before .before .before .before .before .before .before .before .before .type-of .result) (c .before .before .before .before .before .before .before .before .before .before .before .before .before .before .before .before .before .before .pre .1) (c .before .before .before .before .before .before .before .before .before .before .before .before .before .before .type-of .ensures) _ _ _ _ _ (c .before .before .before .before .before .before .before .before .before .before .before .before .and-not .ensures) (c .before .before .before .before .before .before .before .before .before .before .pgn-error .ensures) (c .before .before .before .before .before .before .float-eq .ensures) (c .before .before .before .before .before .and-not2 .ensures) (c .before .before .before .pgn-error2 .ensures)) (emitted-append (c .before .before .before .before .before .before .before .before .before .put-if .ensures) (c .before .before .put-if2 .ensures))
+returns c =
+    let back12 = c .before .before .before .before .before .before .before .before .before .before .before .before in
+    let start = back12 .before .before .before .before .before .before in
+    let type-of = back12 .before .before .type-of in
+    let and-not = c .before .before .before .before .before .before .before .before .before .before .before .before .and-not in
+    let pgn-error-call = c .before .before .before .before .before .before .before .before .before .before .pgn-error in
+    let put-if = c .before .before .before .before .before .before .before .before .before .put-if in
+    let float-eq-call = c .before .before .before .before .before .before .float-eq in
+    let and-not2 = c .before .before .before .before .before .and-not2 in
+    let pgn-error2 = c .before .before .before .pgn-error2 in
+    let s = now (start .args .s) in
+    rw (viewed s (packOf s .fieldtypes) (start .args .t) (start .args .i) (start .args .k) _ (start .args .f) (type-of .result) (start .pre .1)
+    (type-of .ensures) _ _ _ _ _ (and-not .ensures) (pgn-error-call .ensures) (float-eq-call .ensures) (and-not2 .ensures) (pgn-error2 .ensures))
+    (emitted-append (put-if .ensures) (c .before .before .put-if2 .ensures))
 
 pub overrides-at-spec : {M : Type 1} → statement M
 overrides-at-spec =

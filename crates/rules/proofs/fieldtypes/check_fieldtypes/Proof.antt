@@ -29,7 +29,14 @@ loop-holds c = (omega arith, refl, emitted-none _ _)
 
 fieldtype-at-requires : tie.Need-fieldtype-at-requires Inv-loop μ-loop
 unfolding check-fieldtypes
-fieldtype-at-requires c κs = (fits-turn (of-type (now (c .before .before .before .before .before .before .args .s))) (c .before .before .before .before .before .before .args .types) (c .before .before .loop .i) (c .before .loop-test .taken) (rw (← c .before .before .before .before .before .before .pre .2) at (c .before .before .before .before .before .before .pre .0)) (c .before .before .loop .inv .2), c .before .before .before .before .before .before .pre .1, omega arith)
+fieldtype-at-requires c κs =
+    let start = c .before .before .before .before .before .before in
+    let loop = c .before .before .loop in (
+      fits-turn (of-type (now (start .args .s))) (start .args .types) (loop .i) (c .before .loop-test .taken) (rw (← start .pre .2) at (start .pre .0))
+          (loop .inv .2),
+      start .pre .1,
+      omega (arith, c),
+    )
 
 add-i : tie.Need-add-i Inv-loop μ-loop
 add-i c = search needs
@@ -38,14 +45,24 @@ loop-less : tie.Need-loop-less Inv-loop μ-loop
 loop-less c = search needs
 
 loop-again : tie.Need-loop-again Inv-loop μ-loop
-loop-again c = (omega arith, c .before .before .fieldtype-at .kept .0 ∙ c .before .before .before .before .before .loop .inv .1, emitted-turn (of-type (now (c .before .before .before .before .before .before .before .before .before .args .s))) (c .before .before .before .before .before .loop .i) (c .before .before .before .before .before .loop .inv .2) (c .before .before .fieldtype-at .ensures))
+loop-again c =
+    let start = c .before .before .before .before .before .before .before .before .before in
+    let loop = c .before .before .before .before .before .loop in
+    let fieldtype-at-call = c .before .before .fieldtype-at in (
+      omega (arith, c),
+      fieldtype-at-call .kept .0 ∙ loop .inv .1,
+      emitted-turn (of-type (now (start .args .s))) (loop .i) (loop .inv .2) (fieldtype-at-call .ensures),
+    )
 
 same-length : tie.Need-same-length Inv-loop μ-loop
 same-length c = search needs
 
 returns : tie.Need-returns Inv-loop μ-loop
 unfolding check-fieldtypes
-returns c = let e : c .before .loop .i ≡ length (packOf (now (c .before .before .before .before .before .args .s)) .fieldtypes) = omega arith in rw (← e) (c .before .loop .inv .2)
+returns c =
+    let start = c .before .before .before .before .before in
+    let e : c .before .loop .i ≡ length (packOf (now (start .args .s)) .fieldtypes) = omega (arith, c) in
+    rw (← e) (c .before .loop .inv .2)
 
 pub check-fieldtypes-spec : {M : Type 1} → statement M
 check-fieldtypes-spec =

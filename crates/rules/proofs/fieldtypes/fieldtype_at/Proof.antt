@@ -14,8 +14,8 @@ use Rattle.rules.proofs.fieldtypes.fieldtype_at.Statement.{statement}
 use Rattle.rules.proofs.fieldtypes.fieldtype_at.Tie as tie
 
 -- the rule, said of the view
-viewed : (s : List ℕ) (i : ℕ) (F : FieldType) (v : FieldTypeView) → typeMeaning s v ≡ F → (a : Bool) → a ≡ (not (v .base) && not (v .print)) → (f : Finding) → f ≡ fieldtype-error 23 1 i
-    → fieldtype-at i F ≡ report-if a f
+viewed : (s : List ℕ) (i : ℕ) (F : FieldType) (v : FieldTypeView) → typeMeaning s v ≡ F → (a : Bool) → a ≡ (not (v .base) && not (v .print)) → (f : Finding)
+    → f ≡ fieldtype-error 23 1 i → fieldtype-at i F ≡ report-if a f
 unfolding fieldtype-at
 viewed s i F v is a d f e = rw (← is, d, e)
 
@@ -29,13 +29,23 @@ fieldtype-error-requires : tie.Need-fieldtype-error-requires
 fieldtype-error-requires c κs = search needs
 
 put-if-requires : tie.Need-put-if-requires
-put-if-requires c κs = rw (viewed (now (c .before .before .before .before .before .before .before .before .args .s)) (c .before .before .before .before .before .before .before .before .args .i) _ (c .before .before .before .before .type-of .result) (c .before .before .before .before .type-of .ensures) _ (c .before .before .and-not .ensures) _ (c .fieldtype-error .ensures)) at (c .before .before .before .before .before .before .before .before .pre .0)
+put-if-requires c κs =
+    let start = c .before .before .before .before .before .before .before .before in
+    let type-of = c .before .before .before .before .type-of in
+    rw (viewed (now (start .args .s)) (start .args .i) _ (type-of .result) (type-of .ensures) _ (c .before .before .and-not .ensures) _
+    (c .fieldtype-error .ensures)) at (start .pre .0)
 
 same-length : tie.Need-same-length
 same-length c = search needs
 
 returns : tie.Need-returns
-returns c = rw (viewed (now (c .before .before .before .before .before .before .before .before .before .before .before .args .s)) (c .before .before .before .before .before .before .before .before .before .before .before .args .i) _ (c .before .before .before .before .before .before .before .type-of .result) (c .before .before .before .before .before .before .before .type-of .ensures) _ (c .before .before .before .before .before .and-not .ensures) _ (c .before .before .before .fieldtype-error .ensures)) (c .before .before .put-if .ensures)
+returns c =
+    let start = c .before .before .before .before .before .before .before .before .before .before .before in
+    let type-of = c .before .before .before .before .before .before .before .type-of in
+    let and-not = c .before .before .before .before .before .and-not in
+    let fieldtype-error-call = c .before .before .before .fieldtype-error in
+    rw (viewed (now (start .args .s)) (start .args .i) _ (type-of .result) (type-of .ensures) _ (and-not .ensures) _ (fieldtype-error-call .ensures))
+    (c .before .before .put-if .ensures)
 
 pub fieldtype-at-spec : {M : Type 1} → statement M
 fieldtype-at-spec =

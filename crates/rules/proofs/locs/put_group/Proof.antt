@@ -13,14 +13,19 @@ slice-aggregate-put-bytes : tie.Need-slice-aggregate-put-bytes
 slice-aggregate-put-bytes c = search needs
 
 put-bytes-requires : tie.Need-put-bytes-requires
-put-bytes-requires c κs = omega (arith, c .before .before .before .before .put-number .ensures .count, number-short (c .before .before .before .before .before .before .before .args .tree) (c .before .before .before .before .before .before .before .args .number))
+put-bytes-requires c κs =
+    let start = c .before .before .before .before .before .before .before in
+    let put-number = c .before .before .before .before .put-number in
+    omega (arith, put-number .ensures .count, number-short (start .args .tree) (start .args .number))
 
 same-length : tie.Need-same-length
 same-length c = search needs
 
 returns : tie.Need-returns
 unfolding group-loc
-returns c = stored-append (c .before .before .before .before .before .before .before .put-number .ensures) (c .before .before .put-bytes .ensures)
+returns c =
+    let put-number = c .before .before .before .before .before .before .before .put-number in
+    stored-append (put-number .ensures) (c .before .before .put-bytes .ensures)
 
 pub put-group-spec : {M : Type 1} → statement M
 put-group-spec =

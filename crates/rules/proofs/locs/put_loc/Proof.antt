@@ -33,25 +33,33 @@ same-length : tie.Need-same-length
 same-length c = search needs
 
 returns : tie.Need-returns
-returns c = rw (c .before .before .before .before .before .enum-told .given .1) (c .before .before .put-bytes .ensures)
+returns c =
+    let enum-told-here = c .before .before .before .before .before .enum-told in
+    rw (enum-told-here .given .1) (c .before .before .put-bytes .ensures)
 
 same-length-2 : tie.Need-same-length-2
 same-length-2 c = search needs
 
 returns-2 : tie.Need-returns-2
-returns-2 c = rw (c .before .before .before .before .before .loc .given .1) (c .before .before .put-pgn .ensures)
+returns-2 c =
+    let loc = c .before .before .before .before .before .loc in
+    rw (loc .given .1) (c .before .before .put-pgn .ensures)
 
 same-length-3 : tie.Need-same-length-3
 same-length-3 c = search needs
 
 returns-3 : tie.Need-returns-3
-returns-3 c = rw (c .before .before .before .before .before .loc2 .given .1) (c .before .before .put-lookup .ensures)
+returns-3 c =
+    let loc2 = c .before .before .before .before .before .loc2 in
+    rw (loc2 .given .1) (c .before .before .put-lookup .ensures)
 
 same-length-4 : tie.Need-same-length-4
 same-length-4 c = search needs
 
 returns-4 : tie.Need-returns-4
-returns-4 c = rw (c .before .before .before .before .before .loc3 .given .1) (c .before .before .put-group .ensures)
+returns-4 c =
+    let loc3 = c .before .before .before .before .before .loc3 in
+    rw (loc3 .given .1) (c .before .before .put-group .ensures)
 
 pub put-loc-spec : {M : Type 1} → statement M
 put-loc-spec =

@@ -27,7 +27,11 @@ same-length c = search needs
 
 returns : tie.Need-returns
 unfolding lookup-loc
-returns c = stored-append (stored-append (c .before .before .before .before .before .before .before .before .before .before .before .before .put-bytes .ensures) (rw (c .before .before .before .before .before .before .before .before .part .ensures) at (c .before .before .before .before .before .before .before .put-bytes2 .ensures))) (c .before .before .put-bytes3 .ensures)
+returns c =
+    let put-bytes = c .before .before .before .before .before .before .before .before .before .before .before .before .put-bytes in
+    let part = c .before .before .before .before .before .before .before .before .part in
+    let put-bytes2 = c .before .before .before .before .before .before .before .put-bytes2 in
+    stored-append (stored-append (put-bytes .ensures) (rw (part .ensures) at (put-bytes2 .ensures))) (c .before .before .put-bytes3 .ensures)
 
 pub put-lookup-spec : {M : Type 1} → statement M
 put-lookup-spec =

@@ -31,28 +31,66 @@ prefix-requires : tie.Need-prefix-requires
 prefix-requires c κs = search needs
 
 array-share-prefix-bytes : tie.Need-array-share-prefix-bytes
-array-share-prefix-bytes c = within (c .before .before .before .before .before .args .tree) (c .before .before .before .of-tree .result) (c .before .before .prefix .result) (c .before .before .before .of-tree .ensures) (c .before .before .prefix .ensures)
+array-share-prefix-bytes c =
+    let start = c .before .before .before .before .before in
+    let of-tree = c .before .before .before .of-tree in
+    let prefix = c .before .before .prefix in
+    within (start .args .tree) (of-tree .result) (prefix .result) (of-tree .ensures) (prefix .ensures)
 
 slice-aggregate-put-bytes : tie.Need-slice-aggregate-put-bytes
-slice-aggregate-put-bytes c = sym (length-take-le (c .before .before .before .prefix .result .len) (c .before .before .before .prefix .result .bytes) (within (c .before .before .before .before .before .before .args .tree) (c .before .before .before .before .of-tree .result) (c .before .before .before .prefix .result) (c .before .before .before .before .of-tree .ensures) (c .before .before .before .prefix .ensures)))
+slice-aggregate-put-bytes c =
+    let start = c .before .before .before .before .before .before in
+    let of-tree = c .before .before .before .before .of-tree in
+    let prefix = c .before .before .before .prefix in
+    sym (length-take-le (prefix .result .len) (prefix .result .bytes)
+    (within (start .args .tree) (of-tree .result) (prefix .result) (of-tree .ensures) (prefix .ensures)))
 
 put-bytes-requires : tie.Need-put-bytes-requires
-put-bytes-requires c κs = rw (text (c .before .before .before .before .before .before .args .tree) (c .before .before .before .before .of-tree .result) (c .before .before .before .prefix .result) (c .before .before .before .before .of-tree .ensures) (c .before .before .before .prefix .ensures)) (omega (arith, prefix-short (c .before .before .before .before .before .before .args .tree)))
+put-bytes-requires c κs =
+    let start = c .before .before .before .before .before .before in
+    let of-tree = c .before .before .before .before .of-tree in
+    let prefix = c .before .before .before .prefix in
+    let tree = start .args .tree in
+    rw (text tree (of-tree .result) (prefix .result) (of-tree .ensures) (prefix .ensures)) (omega (arith, prefix-short tree))
 
 slice-aggregate-put-bytes-2 : tie.Need-slice-aggregate-put-bytes-2
 slice-aggregate-put-bytes-2 c = search needs
 
 put-bytes-requires-2 : tie.Need-put-bytes-requires-2
-put-bytes-requires-2 c κs = let a = rw (text (c .before .before .before .before .before .before .before .before .before .before .before .args .tree) (c .before .before .before .before .before .before .before .before .before .of-tree .result) (c .before .before .before .before .before .before .before .before .prefix .result) (c .before .before .before .before .before .before .before .before .before .of-tree .ensures) (c .before .before .before .before .before .before .before .before .prefix .ensures)) at (c .before .before .before .before .put-bytes .ensures) in omega (arith, a .count, prefix-short (c .before .before .before .before .before .before .before .before .before .before .before .args .tree))
+put-bytes-requires-2 c κs =
+    let start = c .before .before .before .before .before .before .before .before .before .before .before in
+    let of-tree = c .before .before .before .before .before .before .before .before .before .of-tree in
+    let prefix = c .before .before .before .before .before .before .before .before .prefix in
+    let put-bytes = c .before .before .before .before .put-bytes in
+    let tree = start .args .tree in
+    let a = rw (text tree (of-tree .result) (prefix .result) (of-tree .ensures) (prefix .ensures)) at (put-bytes .ensures) in
+    omega (arith, a .count, prefix-short tree)
 
 put-six-digits-requires : tie.Need-put-six-digits-requires
-put-six-digits-requires c κs = let a = rw (text (c .before .before .before .before .before .before .before .before .before .before .before .before .before .before .before .args .tree) (c .before .before .before .before .before .before .before .before .before .before .before .before .before .of-tree .result) (c .before .before .before .before .before .before .before .before .before .before .before .before .prefix .result) (c .before .before .before .before .before .before .before .before .before .before .before .before .before .of-tree .ensures) (c .before .before .before .before .before .before .before .before .before .before .before .before .prefix .ensures)) at (c .before .before .before .before .before .before .before .before .put-bytes .ensures) in omega (arith, a .count, c .before .before .before .put-bytes2 .ensures .count, prefix-short (c .before .before .before .before .before .before .before .before .before .before .before .before .before .before .before .args .tree))
+put-six-digits-requires c κs =
+    let back12 = c .before .before .before .before .before .before .before .before .before .before .before .before in
+    let start = back12 .before .before .before in
+    let of-tree = back12 .before .of-tree in
+    let prefix = c .before .before .before .before .before .before .before .before .before .before .before .before .prefix in
+    let put-bytes = c .before .before .before .before .before .before .before .before .put-bytes in
+    let put-bytes2 = c .before .before .before .put-bytes2 in
+    let tree = start .args .tree in
+    let a = rw (text tree (of-tree .result) (prefix .result) (of-tree .ensures) (prefix .ensures)) at (put-bytes .ensures) in
+    omega (arith, a .count, put-bytes2 .ensures .count, prefix-short tree)
 
 same-length : tie.Need-same-length
 same-length c = search needs
 
 returns : tie.Need-returns
-returns c = stored-append (stored-append (rw (text (c .before .before .before .before .before .before .before .before .before .before .before .before .before .before .before .before .before .before .args .tree) (c .before .before .before .before .before .before .before .before .before .before .before .before .before .before .before .before .of-tree .result) (c .before .before .before .before .before .before .before .before .before .before .before .before .before .before .before .prefix .result) (c .before .before .before .before .before .before .before .before .before .before .before .before .before .before .before .before .of-tree .ensures) (c .before .before .before .before .before .before .before .before .before .before .before .before .before .before .before .prefix .ensures)) at (c .before .before .before .before .before .before .before .before .before .before .before .put-bytes .ensures)) (c .before .before .before .before .before .before .put-bytes2 .ensures)) (c .before .before .put-six-digits .ensures)
+returns c =
+    let back12 = c .before .before .before .before .before .before .before .before .before .before .before .before in
+    let start = back12 .before .before .before .before .before .before in
+    let of-tree = back12 .before .before .before .before .of-tree in
+    let prefix = back12 .before .before .before .prefix in
+    let put-bytes = c .before .before .before .before .before .before .before .before .before .before .before .put-bytes in
+    let put-bytes2 = c .before .before .before .before .before .before .put-bytes2 in
+    stored-append (stored-append (rw (text (start .args .tree) (of-tree .result) (prefix .result) (of-tree .ensures) (prefix .ensures)) at (put-bytes .ensures))
+    (put-bytes2 .ensures)) (c .before .before .put-six-digits .ensures)
 
 pub put-number-spec : {M : Type 1} → statement M
 put-number-spec =

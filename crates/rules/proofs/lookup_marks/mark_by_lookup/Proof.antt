@@ -21,22 +21,38 @@ abbrev nests : List ℕ → ℕ → List ℕ → ℕ → Bool
 nests s l name e = is-text (getD (lookup-at (packOf s .lookups) l .entries) e noEntry .nested) name
 
 abbrev Inv-loop : tie.InvT-loop
-Inv-loop marks₀ s work lookups l p entries e₀ marks e = (e ≤ entries) × (length marks ≡ length marks₀) × Marked (packOf s) marks₀ (λ n. anyBelow (nests s l n) e) marks
+Inv-loop marks₀ s work lookups l p entries e₀ marks e =
+    (e ≤ entries) × (length marks ≡ length marks₀) × Marked (packOf s) marks₀ (λ n. anyBelow (nests s l n) e) marks
 
 abbrev μ-loop : tie.MeasureT-loop
 μ-loop marks₀ s work lookups l p entries e₀ marks e = entries - e
 
 returns : tie.Need-returns Inv-loop μ-loop
-returns c = marked-as (λ n. false) (λ n. referenced-by-lookup n (lookup-at (packOf (now (c .before .before .before .before .before .args .s)) .lookups) (c .before .before .before .before .before .args .l))) (λ n. sym (not-nesting (now (c .before .before .before .before .before .args .s)) n (lookup-at (packOf (now (c .before .before .before .before .before .args .s)) .lookups) (c .before .before .before .before .before .args .l)) (c .before .before .before .before .before .args .v) (c .before .before .before .before .before .pre .4) (c .if1 .taken))) (marked-none (packOf (now (c .before .before .before .before .before .args .s))) (now (c .before .before .before .before .before .args .marks)))
+returns c =
+    let start = c .before .before .before .before .before in
+    let s = now (start .args .s) in let l = start .args .l in
+    marked-as (λ n. false) (λ n. referenced-by-lookup n (lookup-at (packOf s .lookups) l))
+    (λ n. sym (not-nesting s n (lookup-at (packOf s .lookups) l) (start .args .v) (start .pre .4) (c .if1 .taken)))
+    (marked-none (packOf s) (now (start .args .marks)))
 
 loop-holds : tie.Need-loop-holds Inv-loop μ-loop
-loop-holds c = (search needs, refl, marked-none (packOf (now (c .before .before .before .before .before .args .s))) (now (c .before .before .before .before .before .args .marks)))
+loop-holds c =
+    let start = c .before .before .before .before .before in
+    (omega (arith, c), refl, marked-none (packOf (now (start .args .s))) (now (start .args .marks)))
 
 entry-of-requires : tie.Need-entry-of-requires Inv-loop μ-loop
-entry-of-requires c κs = (c .before .before .before .before .before .before .before .pre .1, sym (c .before .before .if1 .left) ∙ ap (λ (L : Lookup). L .kind) (c .before .before .before .before .before .before .before .pre .4 .means), omega (arith, c .before .before .before .before .before .before .before .pre .4 .entries, c .loop-test .taken))
+entry-of-requires c κs =
+    let start = c .before .before .before .before .before .before .before in (
+      start .pre .1,
+      sym (c .before .before .if1 .left) ∙ ap (λ (L : Lookup). L .kind) (start .pre .4 .means),
+      omega (arith, start .pre .4 .entries, c .loop-test .taken),
+    )
 
 mark-nested-requires : tie.Need-mark-nested-requires Inv-loop μ-loop
-mark-nested-requires c κs = (omega (arith, c .before .before .before .loop .inv .1, c .before .before .before .before .before .before .before .before .before .pre .0), c .before .before .before .before .before .before .before .before .before .pre .1 .ready, c .before .before .before .before .before .before .before .before .before .pre .2, c .before .before .before .before .before .before .before .before .before .pre .3)
+mark-nested-requires c κs =
+    let start = c .before .before .before .before .before .before .before .before .before in
+    let loop = c .before .before .before .loop in
+    (omega (arith, loop .inv .1, start .pre .0), start .pre .1 .ready, start .pre .2, start .pre .3)
 
 add-e : tie.Need-add-e Inv-loop μ-loop
 add-e c = search needs
@@ -45,13 +61,30 @@ loop-less : tie.Need-loop-less Inv-loop μ-loop
 loop-less c = search needs
 
 loop-again : tie.Need-loop-again Inv-loop μ-loop
-loop-again c = (search needs, c .before .before .mark-nested .kept .0 ∙ c .before .before .before .before .before .before .loop .inv .1, marked-turn (nests (now (c .before .before .before .before .before .before .before .before .before .before .before .before .args .s)) (c .before .before .before .before .before .before .before .before .before .before .before .before .args .l)) (c .before .before .before .before .before .before .loop .e) (c .before .before .before .before .before .before .loop .inv .2) (marked-as (λ n. is-text (optBytes (now (c .before .before .before .before .before .before .before .before .before .before .before .before .args .s)) (c .before .before .before .before .entry-of .result .nested)) n) (λ n. nests (now (c .before .before .before .before .before .before .before .before .before .before .before .before .args .s)) (c .before .before .before .before .before .before .before .before .before .before .before .before .args .l) n (c .before .before .before .before .before .before .loop .e)) (λ n. ap (λ (E : Entry). is-text (E .nested) n) (c .before .before .before .before .entry-of .ensures)) (c .before .before .mark-nested .ensures)))
+loop-again c =
+    let start = c .before .before .before .before .before .before .before .before .before .before .before .before in
+    let loop = c .before .before .before .before .before .before .loop in
+    let entry-of = c .before .before .before .before .entry-of in
+    let mark-nested = c .before .before .mark-nested in
+    let s = now (start .args .s) in let l = start .args .l in (
+      omega (arith, c),
+      mark-nested .kept .0 ∙ loop .inv .1,
+      marked-turn (nests s l) (loop .e) (loop .inv .2) (marked-as (λ n. is-text (optBytes s (entry-of .result .nested)) n) (λ n. nests s l n (loop .e))
+          (λ n. ap (λ (E : Entry). is-text (E .nested) n) (entry-of .ensures)) (mark-nested .ensures)),
+    )
 
 same-length : tie.Need-same-length Inv-loop μ-loop
 same-length c = c .before .loop .inv .1
 
 returns-2 : tie.Need-returns-2 Inv-loop μ-loop
-returns-2 c = let q : length (lookup-at (packOf (now (c .before .before .before .before .before .before .before .args .s)) .lookups) (c .before .before .before .before .before .before .before .args .l) .entries) ≡ c .before .loop .e = omega (arith, c .before .before .before .before .before .before .before .pre .4 .entries, c .before .loop .inv .0, c .loop-test .left) in marked-as (λ n. anyBelow (nests (now (c .before .before .before .before .before .before .before .args .s)) (c .before .before .before .before .before .before .before .args .l) n) (c .before .loop .e)) (λ n. referenced-by-lookup n (lookup-at (packOf (now (c .before .before .before .before .before .before .before .args .s)) .lookups) (c .before .before .before .before .before .before .before .args .l))) (λ n. sym (nesting (now (c .before .before .before .before .before .before .before .args .s)) n (lookup-at (packOf (now (c .before .before .before .before .before .before .before .args .s)) .lookups) (c .before .before .before .before .before .before .before .args .l)) (c .before .before .before .before .before .before .before .args .v) (c .before .before .before .before .before .before .before .pre .4) (c .before .before .if1 .left) ∙ ap (anyBelow (nests (now (c .before .before .before .before .before .before .before .args .s)) (c .before .before .before .before .before .before .before .args .l) n)) q)) (c .before .loop .inv .2)
+returns-2 c =
+    let start = c .before .before .before .before .before .before .before in
+    let s = now (start .args .s) in let l = start .args .l in
+    let q : length (lookup-at (packOf s .lookups) l .entries) ≡ c .before .loop .e =
+    omega (arith, start .pre .4 .entries, c .before .loop .inv .0, c .loop-test .left) in
+    marked-as (λ n. anyBelow (nests s l n) (c .before .loop .e)) (λ n. referenced-by-lookup n (lookup-at (packOf s .lookups) l))
+    (λ n. sym (nesting s n (lookup-at (packOf s .lookups) l) (start .args .v) (start .pre .4) (c .before .before .if1 .left) ∙ ap (anyBelow (nests s l n)) q))
+    (c .before .loop .inv .2)
 
 pub mark-by-lookup-spec : {M : Type 1} → statement M
 mark-by-lookup-spec =

@@ -23,43 +23,89 @@ abbrev has : List ℕ → List ℕ → ℕ → Bool
 has s name l = referenced-by-lookup name (lookup-at (packOf s .lookups) l)
 
 abbrev Inv-loop : tie.InvT-loop
-Inv-loop marks₀ s work lookups count p₀ l₀ marks p l = (l ≤ count) × (p ≡ lookupPlace (packOf s) l) × (length marks ≡ length marks₀) × Marked (packOf s) marks₀ (λ n. anyBelow (has s n) l) marks
+Inv-loop marks₀ s work lookups count p₀ l₀ marks p l =
+    (l ≤ count) × (p ≡ lookupPlace (packOf s) l) × (length marks ≡ length marks₀) × Marked (packOf s) marks₀ (λ n. anyBelow (has s n) l) marks
 
 abbrev μ-loop : tie.MeasureT-loop
 μ-loop marks₀ s work lookups count p₀ l₀ marks p l = count - l
 
 loop-holds : tie.Need-loop-holds Inv-loop μ-loop
-loop-holds c = (search needs, c .before .before .before .pre .3, refl, marked-none (packOf (now (c .before .before .before .args .s))) (now (c .before .before .before .args .marks)))
+loop-holds c =
+    let start = c .before .before .before in
+    (omega (arith, c), start .pre .3, refl, marked-none (packOf (now (start .args .s))) (now (start .args .marks)))
 
 lookup-of-requires : tie.Need-lookup-of-requires Inv-loop μ-loop
-lookup-of-requires c κs = (at-lookup (c .before .before .before .before .before .pre .1) (c .before .before .before .before .before .pre .2) (c .before .loop .inv .1) (c .loop-test .taken))
+lookup-of-requires c κs =
+    let start = c .before .before .before .before .before in
+    (at-lookup (start .pre .1) (start .pre .2) (c .before .loop .inv .1) (c .loop-test .taken))
 
 mark-by-lookup-requires : tie.Need-mark-by-lookup-requires Inv-loop μ-loop
-mark-by-lookup-requires c κs = (omega (arith, c .before .before .before .loop .inv .2, c .before .before .before .before .before .before .before .pre .0), (at-lookup (c .before .before .before .before .before .before .before .pre .1) (c .before .before .before .before .before .before .before .pre .2) (c .before .before .before .loop .inv .1) (c .before .before .loop-test .taken)), c .before .before .before .before .before .before .before .pre .2, c .before .before .before .before .before .before .before .pre .3, c .before .lookup-of .ensures)
+mark-by-lookup-requires c κs =
+    let start = c .before .before .before .before .before .before .before in
+    let loop = c .before .before .before .loop in (
+      omega (arith, loop .inv .2, start .pre .0),
+      (at-lookup (start .pre .1) (start .pre .2) (loop .inv .1) (c .before .before .loop-test .taken)),
+      start .pre .2,
+      start .pre .3,
+      c .before .lookup-of .ensures,
+    )
 
 add-p : tie.Need-add-p Inv-loop μ-loop
-add-p c = omega (arith, entries-few (at-lookup (c .before .before .before .before .before .before .before .before .before .before .pre .1) (c .before .before .before .before .before .before .before .before .before .before .pre .2) (c .before .before .before .before .before .before .loop .inv .1) (c .before .before .before .before .before .loop-test .taken)))
+add-p c =
+    let start = c .before .before .before .before .before .before .before .before .before .before in
+    let loop = c .before .before .before .before .before .before .loop in
+    let loop-test = c .before .before .before .before .before .loop-test in
+    omega (arith, entries-few (at-lookup (start .pre .1) (start .pre .2) (loop .inv .1) (loop-test .taken)))
 
 cast-p : tie.Need-cast-p Inv-loop μ-loop
-cast-p c = omega (arith, entries-few (at-lookup (c .before .before .before .before .before .before .before .before .before .before .before .pre .1) (c .before .before .before .before .before .before .before .before .before .before .before .pre .2) (c .before .before .before .before .before .before .before .loop .inv .1) (c .before .before .before .before .before .before .loop-test .taken)), c .before .before .before .before .before .lookup-of .ensures .entries)
+cast-p c =
+    let start = c .before .before .before .before .before .before .before .before .before .before .before in
+    let loop = c .before .before .before .before .before .before .before .loop in
+    let loop-test = c .before .before .before .before .before .before .loop-test in
+    let lookup-of = c .before .before .before .before .before .lookup-of in
+    omega (arith, entries-few (at-lookup (start .pre .1) (start .pre .2) (loop .inv .1) (loop-test .taken)), lookup-of .ensures .entries)
 
 add-p-2 : tie.Need-add-p-2 Inv-loop μ-loop
-add-p-2 c = omega (arith, entries-few (at-lookup (c .before .before .before .before .before .before .before .before .before .before .before .pre .1) (c .before .before .before .before .before .before .before .before .before .before .before .pre .2) (c .before .before .before .before .before .before .before .loop .inv .1) (c .before .before .before .before .before .before .loop-test .taken)), c .before .before .before .before .before .lookup-of .ensures .entries)
+add-p-2 c =
+    let start = c .before .before .before .before .before .before .before .before .before .before .before in
+    let loop = c .before .before .before .before .before .before .before .loop in
+    let loop-test = c .before .before .before .before .before .before .loop-test in
+    let lookup-of = c .before .before .before .before .before .lookup-of in
+    omega (arith, entries-few (at-lookup (start .pre .1) (start .pre .2) (loop .inv .1) (loop-test .taken)), lookup-of .ensures .entries)
 
 add-l : tie.Need-add-l Inv-loop μ-loop
-add-l c = omega (arith, lookups-few (at-lookup (c .before .before .before .before .before .before .before .before .before .before .before .pre .1) (c .before .before .before .before .before .before .before .before .before .before .before .pre .2) (c .before .before .before .before .before .before .before .loop .inv .1) (c .before .before .before .before .before .before .loop-test .taken)))
+add-l c =
+    let start = c .before .before .before .before .before .before .before .before .before .before .before in
+    let loop = c .before .before .before .before .before .before .before .loop in
+    let loop-test = c .before .before .before .before .before .before .loop-test in
+    omega (arith, lookups-few (at-lookup (start .pre .1) (start .pre .2) (loop .inv .1) (loop-test .taken)))
 
 loop-less : tie.Need-loop-less Inv-loop μ-loop
 loop-less c = search needs
 
 loop-again : tie.Need-loop-again Inv-loop μ-loop
-loop-again c = (search needs, omega (arith, lookup-place-next (packOf (now (c .before .before .before .before .before .before .before .before .before .before .before .args .s))) (c .before .before .before .before .before .before .before .loop .l), c .before .before .before .before .before .lookup-of .ensures .entries, c .before .before .before .before .before .before .before .loop .inv .1), c .before .before .before .mark-by-lookup .kept .0 ∙ c .before .before .before .before .before .before .before .loop .inv .2, marked-turn (has (now (c .before .before .before .before .before .before .before .before .before .before .before .args .s))) (c .before .before .before .before .before .before .before .loop .l) (c .before .before .before .before .before .before .before .loop .inv .3) (c .before .before .before .mark-by-lookup .ensures))
+loop-again c =
+    let start = c .before .before .before .before .before .before .before .before .before .before .before in
+    let loop = c .before .before .before .before .before .before .before .loop in
+    let lookup-of = c .before .before .before .before .before .lookup-of in
+    let mark-by-lookup = c .before .before .before .mark-by-lookup in
+    let s = now (start .args .s) in (
+      omega (arith, c),
+      omega (arith, lookup-place-next (packOf s) (loop .l), lookup-of .ensures .entries, loop .inv .1),
+      mark-by-lookup .kept .0 ∙ loop .inv .2,
+      marked-turn (has s) (loop .l) (loop .inv .3) (mark-by-lookup .ensures),
+    )
 
 same-length : tie.Need-same-length Inv-loop μ-loop
 same-length c = c .before .loop .inv .2
 
 returns : tie.Need-returns Inv-loop μ-loop
-returns c = let q : c .before .loop .l ≡ length (packOf (now (c .before .before .before .before .before .args .s)) .lookups) = omega (arith, c .before .before .before .before .before .pre .2, c .before .loop .inv .0, c .loop-test .left) in marked-as (λ n. anyBelow (has (now (c .before .before .before .before .before .args .s)) n) (c .before .loop .l)) (λ n. anyBelow (has (now (c .before .before .before .before .before .args .s)) n) (length (packOf (now (c .before .before .before .before .before .args .s)) .lookups))) (λ n. ap (anyBelow (has (now (c .before .before .before .before .before .args .s)) n)) q) (c .before .loop .inv .3)
+returns c =
+    let start = c .before .before .before .before .before in
+    let s = now (start .args .s) in
+    let q : c .before .loop .l ≡ length (packOf s .lookups) = omega (arith, start .pre .2, c .before .loop .inv .0, c .loop-test .left) in
+    marked-as (λ n. anyBelow (has s n) (c .before .loop .l)) (λ n. anyBelow (has s n) (length (packOf s .lookups))) (λ n. ap (anyBelow (has s n)) q)
+    (c .before .loop .inv .3)
 
 pub mark-by-lookups-spec : {M : Type 1} → statement M
 mark-by-lookups-spec =

@@ -20,19 +20,27 @@ abbrev refers : List ℕ → ℕ → ℕ → List ℕ → ℕ → Bool
 refers s t i name k = ref-is (field-at (pgn-at (packOf s) t i) k .reference) name
 
 abbrev Inv-loop : tie.InvT-loop
-Inv-loop marks₀ s work lookups t i p fields k₀ marks k = (k ≤ fields) × (length marks ≡ length marks₀) × Marked (packOf s) marks₀ (λ n. anyBelow (refers s t i n) k) marks
+Inv-loop marks₀ s work lookups t i p fields k₀ marks k =
+    (k ≤ fields) × (length marks ≡ length marks₀) × Marked (packOf s) marks₀ (λ n. anyBelow (refers s t i n) k) marks
 
 abbrev μ-loop : tie.MeasureT-loop
 μ-loop marks₀ s work lookups t i p fields k₀ marks k = fields - k
 
 loop-holds : tie.Need-loop-holds Inv-loop μ-loop
-loop-holds c = (search needs, refl, marked-none (packOf (now (c .before .before .before .args .s))) (now (c .before .before .before .args .marks)))
+loop-holds c =
+    let start = c .before .before .before in
+    (omega (arith, c), refl, marked-none (packOf (now (start .args .s))) (now (start .args .marks)))
 
 field-of-requires : tie.Need-field-of-requires Inv-loop μ-loop
-field-of-requires c κs = (c .before .before .before .before .before .pre .1, omega (arith, c .before .before .before .before .before .pre .4, c .loop-test .taken))
+field-of-requires c κs =
+    let start = c .before .before .before .before .before in
+    (start .pre .1, omega (arith, start .pre .4, c .loop-test .taken))
 
 mark-reference-requires : tie.Need-mark-reference-requires Inv-loop μ-loop
-mark-reference-requires c κs = (omega (arith, c .before .before .before .loop .inv .1, c .before .before .before .before .before .before .before .pre .0), c .before .before .before .before .before .before .before .pre .1 .ready, c .before .before .before .before .before .before .before .pre .2, c .before .before .before .before .before .before .before .pre .3)
+mark-reference-requires c κs =
+    let start = c .before .before .before .before .before .before .before in
+    let loop = c .before .before .before .loop in
+    (omega (arith, loop .inv .1, start .pre .0), start .pre .1 .ready, start .pre .2, start .pre .3)
 
 add-k : tie.Need-add-k Inv-loop μ-loop
 add-k c = search needs
@@ -41,14 +49,29 @@ loop-less : tie.Need-loop-less Inv-loop μ-loop
 loop-less c = search needs
 
 loop-again : tie.Need-loop-again Inv-loop μ-loop
-loop-again c = (search needs, c .before .before .mark-reference .kept .0 ∙ c .before .before .before .before .before .before .loop .inv .1, marked-turn (refers (now (c .before .before .before .before .before .before .before .before .before .before .args .s)) (c .before .before .before .before .before .before .before .before .before .before .args .t) (c .before .before .before .before .before .before .before .before .before .before .args .i)) (c .before .before .before .before .before .before .loop .k) (c .before .before .before .before .before .before .loop .inv .2) (marked-as (λ n. ref-is (optReference (now (c .before .before .before .before .before .before .before .before .before .before .args .s)) (c .before .before .before .before .field-of .result .links .reference)) n) (λ n. refers (now (c .before .before .before .before .before .before .before .before .before .before .args .s)) (c .before .before .before .before .before .before .before .before .before .before .args .t) (c .before .before .before .before .before .before .before .before .before .before .args .i) n (c .before .before .before .before .before .before .loop .k)) (λ n. ap (λ (F : Field). ref-is (F .reference) n) (c .before .before .before .before .field-of .ensures)) (c .before .before .mark-reference .ensures)))
+loop-again c =
+    let start = c .before .before .before .before .before .before .before .before .before .before in
+    let loop = c .before .before .before .before .before .before .loop in
+    let field-of = c .before .before .before .before .field-of in
+    let mark-reference = c .before .before .mark-reference in
+    let s = now (start .args .s) in let t = start .args .t in let i = start .args .i in (
+      omega (arith, c),
+      mark-reference .kept .0 ∙ loop .inv .1,
+      marked-turn (refers s t i) (loop .k) (loop .inv .2) (marked-as (λ n. ref-is (optReference s (field-of .result .links .reference)) n)
+          (λ n. refers s t i n (loop .k)) (λ n. ap (λ (F : Field). ref-is (F .reference) n) (field-of .ensures)) (mark-reference .ensures)),
+    )
 
 same-length : tie.Need-same-length Inv-loop μ-loop
 same-length c = c .before .loop .inv .1
 
 returns : tie.Need-returns Inv-loop μ-loop
 unfolding referenced-by-pgn
-returns c = let q : c .before .loop .k ≡ length (pgn-at (packOf (now (c .before .before .before .before .before .args .s))) (c .before .before .before .before .before .args .t) (c .before .before .before .before .before .args .i) .fields) = omega (arith, c .before .before .before .before .before .pre .4, c .before .loop .inv .0, c .loop-test .left) in marked-as (λ n. anyBelow (refers (now (c .before .before .before .before .before .args .s)) (c .before .before .before .before .before .args .t) (c .before .before .before .before .before .args .i) n) (c .before .loop .k)) (λ n. referenced-by-pgn n (pgn-at (packOf (now (c .before .before .before .before .before .args .s))) (c .before .before .before .before .before .args .t) (c .before .before .before .before .before .args .i))) (λ n. ap (anyBelow (refers (now (c .before .before .before .before .before .args .s)) (c .before .before .before .before .before .args .t) (c .before .before .before .before .before .args .i) n)) q) (c .before .loop .inv .2)
+returns c =
+    let start = c .before .before .before .before .before in
+    let s = now (start .args .s) in let t = start .args .t in let i = start .args .i in
+    let q : c .before .loop .k ≡ length (pgn-at (packOf s) t i .fields) = omega (arith, start .pre .4, c .before .loop .inv .0, c .loop-test .left) in
+    marked-as (λ n. anyBelow (refers s t i n) (c .before .loop .k)) (λ n. referenced-by-pgn n (pgn-at (packOf s) t i)) (λ n. ap (anyBelow (refers s t i n)) q)
+    (c .before .loop .inv .2)
 
 pub mark-by-pgn-spec : {M : Type 1} → statement M
 mark-by-pgn-spec =

@@ -26,7 +26,9 @@ abbrev μ-loop : tie.MeasureT-loop
 μ-loop marks₀ s work index t₀ marks t = 3 - t
 
 loop-holds : tie.Need-loop-holds Inv-loop μ-loop
-loop-holds c = (search needs, refl, marked-none (packOf (now (c .before .before .before .args .s))) (now (c .before .before .before .args .marks)))
+loop-holds c =
+    let start = c .before .before .before in
+    (omega (arith, c), refl, marked-none (packOf (now (start .args .s))) (now (start .args .marks)))
 
 of-tree-requires : tie.Need-of-tree-requires Inv-loop μ-loop
 of-tree-requires c κs = search needs
@@ -36,23 +38,38 @@ section-requires c κs = search needs
 
 mark-by-tree-requires : tie.Need-mark-by-tree-requires Inv-loop μ-loop
 mark-by-tree-requires c κs =
-    let a = at-tree (packOf (now (c .before .before .before .before .before .before .before .before .args .s))) (c .before .before .before .before .before .before .before .before .args .index) (c .before .before .before .before .before .before .before .before .pre .2) (c .before .before .before .before .loop .t) (c .before .before .before .loop-test .taken) (c .before .before .of-tree .result) (c .before .section .result) (c .before .before .of-tree .ensures) (c .before .section .ensures) in
-    (omega (arith, c .before .before .before .before .loop .inv .1, c .before .before .before .before .before .before .before .before .pre .0), c .before .before .before .before .before .before .before .before .pre .1, c .before .before .before .before .before .before .before .before .pre .2 .lookups, c .before .before .before .before .before .before .before .before .pre .2 .lookups-place, c .before .before .before .loop-test .taken, a .0, a .1)
+    let start = c .before .before .before .before .before .before .before .before in
+    let loop = c .before .before .before .before .loop in
+    let loop-test = c .before .before .before .loop-test in
+    let of-tree = c .before .before .of-tree in
+    let a = at-tree (packOf (now (start .args .s))) (start .args .index) (start .pre .2) (loop .t) (loop-test .taken) (of-tree .result)
+    (c .before .section .result) (of-tree .ensures) (c .before .section .ensures) in
+    (omega (arith, loop .inv .1, start .pre .0), start .pre .1, start .pre .2 .lookups, start .pre .2 .lookups-place, loop-test .taken, a .0, a .1)
 
 add-t : tie.Need-add-t Inv-loop μ-loop
-add-t c = omega (arith, c .before .before .before .before .before .before .loop-test .taken)
+add-t c =
+    let loop-test = c .before .before .before .before .before .before .loop-test in
+    omega (arith, loop-test .taken)
 
 loop-less : tie.Need-loop-less Inv-loop μ-loop
 loop-less c = search needs
 
 loop-again : tie.Need-loop-again Inv-loop μ-loop
-loop-again c = (search needs, c .before .before .mark-by-tree .kept .0 ∙ c .before .before .before .before .before .before .before .loop .inv .1, marked-turn (has (now (c .before .before .before .before .before .before .before .before .before .before .before .args .s))) (c .before .before .before .before .before .before .before .loop .t) (c .before .before .before .before .before .before .before .loop .inv .2) (c .before .before .mark-by-tree .ensures))
+loop-again c =
+    let start = c .before .before .before .before .before .before .before .before .before .before .before in
+    let loop = c .before .before .before .before .before .before .before .loop in
+    let mark-by-tree = c .before .before .mark-by-tree in
+    (omega (arith, c), mark-by-tree .kept .0 ∙ loop .inv .1, marked-turn (has (now (start .args .s))) (loop .t) (loop .inv .2) (mark-by-tree .ensures))
 
 same-length : tie.Need-same-length Inv-loop μ-loop
 same-length c = c .before .loop .inv .1
 
 returns : tie.Need-returns Inv-loop μ-loop
-returns c = let q : c .before .loop .t ≡ 3 = omega (arith, c .before .loop .inv .0, c .loop-test .left) in marked-as (λ n. anyBelow (has (now (c .before .before .before .before .before .args .s)) n) (c .before .loop .t)) (λ n. anyBelow (has (now (c .before .before .before .before .before .args .s)) n) 3) (λ n. ap (anyBelow (has (now (c .before .before .before .before .before .args .s)) n)) q) (c .before .loop .inv .2)
+returns c =
+    let start = c .before .before .before .before .before in
+    let s = now (start .args .s) in
+    let q : c .before .loop .t ≡ 3 = omega (arith, c .before .loop .inv .0, c .loop-test .left) in
+    marked-as (λ n. anyBelow (has s n) (c .before .loop .t)) (λ n. anyBelow (has s n) 3) (λ n. ap (anyBelow (has s n)) q) (c .before .loop .inv .2)
 
 pub mark-by-trees-spec : {M : Type 1} → statement M
 mark-by-trees-spec =

@@ -22,10 +22,15 @@ same-length : tie.Need-same-length
 same-length c = search needs
 
 returns : tie.Need-returns
-returns c = ap (λ (x : Bool). set (now (c .before .args .marks)) (c .before .args .l) x) (or-hit (getD (now (c .before .args .marks)) (c .before .args .l) false) (c .before .args .hit) (c .if1 .taken))
+returns c =
+    ap (λ (x : Bool). set (now (c .before .args .marks)) (c .before .args .l) x)
+    (or-hit (getD (now (c .before .args .marks)) (c .before .args .l) false) (c .before .args .hit) (c .if1 .taken))
 
 returns-2 : tie.Need-returns-2
-returns-2 c = sym (set-getD (now (c .before .args .marks)) (c .before .args .l) false) ∙ ap (λ (x : Bool). set (now (c .before .args .marks)) (c .before .args .l) x) (or-miss (getD (now (c .before .args .marks)) (c .before .args .l) false) (c .before .args .hit) (c .if1 .left))
+returns-2 c =
+    sym (set-getD (now (c .before .args .marks)) (c .before .args .l) false)
+    ∙ ap (λ (x : Bool). set (now (c .before .args .marks)) (c .before .args .l) x)
+    (or-miss (getD (now (c .before .args .marks)) (c .before .args .l) false) (c .before .args .hit) (c .if1 .left))
 
 pub mark-if-spec : {M : Type 1} → statement M
 mark-if-spec = tie.close (tie.spec slice-write-marks same-length returns returns-2)

@@ -20,16 +20,25 @@ unnamed : (s : List ℕ) (o : OptText) → o .given ≡ false → (n : List ℕ)
 unnamed s o e n = rw e
 
 mark-requires : tie.Need-mark-requires
-mark-requires c κs = (c .before .before .before .before .before .pre .0, c .before .before .before .before .before .pre .1, c .before .before .before .before .before .pre .2, c .before .before .before .before .before .pre .3)
+mark-requires c κs =
+    let start = c .before .before .before .before .before in
+    (start .pre .0, start .pre .1, start .pre .2, start .pre .3)
 
 same-length : tie.Need-same-length
 same-length c = search needs
 
 returns : tie.Need-returns
-returns c = marked-as (λ n. bytesOf (now (c .before .before .before .before .before .before .before .before .args .s)) (c .before .before .before .before .before .before .before .before .args .o .text) ≐ n) (λ n. is-text (optBytes (now (c .before .before .before .before .before .before .before .before .args .s)) (c .before .before .before .before .before .before .before .before .args .o)) n) (named (now (c .before .before .before .before .before .before .before .before .args .s)) (c .before .before .before .before .before .before .before .before .args .o) (c .before .before .before .before .if1 .taken)) (c .before .before .mark .ensures)
+returns c =
+    let start = c .before .before .before .before .before .before .before .before in
+    let if1 = c .before .before .before .before .if1 in
+    let s = now (start .args .s) in let o = start .args .o in
+    marked-as (λ n. bytesOf s (start .args .o .text) ≐ n) (λ n. is-text (optBytes s o) n) (named s o (if1 .taken)) (c .before .before .mark .ensures)
 
 returns-2 : tie.Need-returns-2
-returns-2 c = marked-as (λ n. false) (λ n. is-text (optBytes (now (c .before .before .before .before .args .s)) (c .before .before .before .before .args .o)) n) (unnamed (now (c .before .before .before .before .args .s)) (c .before .before .before .before .args .o) (c .if1 .left)) (marked-none (packOf (now (c .before .before .before .before .args .s))) (now (c .before .before .before .before .args .marks)))
+returns-2 c =
+    let start = c .before .before .before .before in
+    let s = now (start .args .s) in let o = start .args .o in
+    marked-as (λ n. false) (λ n. is-text (optBytes s o) n) (unnamed s o (c .if1 .left)) (marked-none (packOf s) (now (start .args .marks)))
 
 pub mark-nested-spec : {M : Type 1} → statement M
 mark-nested-spec = tie.close (tie.spec mark-requires same-length returns returns-2)

@@ -20,16 +20,25 @@ unnamed : (s : List ℕ) (r : OptReference) → r .given ≡ false → (n : List
 unnamed s r e n = rw e
 
 mark-requires : tie.Need-mark-requires
-mark-requires c κs = (c .before .before .before .before .before .pre .0, c .before .before .before .before .before .pre .1, c .before .before .before .before .before .pre .2, c .before .before .before .before .before .pre .3)
+mark-requires c κs =
+    let start = c .before .before .before .before .before in
+    (start .pre .0, start .pre .1, start .pre .2, start .pre .3)
 
 same-length : tie.Need-same-length
 same-length c = search needs
 
 returns : tie.Need-returns
-returns c = marked-as (λ n. bytesOf (now (c .before .before .before .before .before .before .before .before .args .s)) (c .before .before .before .before .before .before .before .before .args .r .name) ≐ n) (λ n. ref-is (optReference (now (c .before .before .before .before .before .before .before .before .args .s)) (c .before .before .before .before .before .before .before .before .args .r)) n) (named (now (c .before .before .before .before .before .before .before .before .args .s)) (c .before .before .before .before .before .before .before .before .args .r) (c .before .before .before .before .if1 .taken)) (c .before .before .mark .ensures)
+returns c =
+    let start = c .before .before .before .before .before .before .before .before in
+    let if1 = c .before .before .before .before .if1 in
+    let s = now (start .args .s) in let r = start .args .r in
+    marked-as (λ n. bytesOf s (start .args .r .name) ≐ n) (λ n. ref-is (optReference s r) n) (named s r (if1 .taken)) (c .before .before .mark .ensures)
 
 returns-2 : tie.Need-returns-2
-returns-2 c = marked-as (λ n. false) (λ n. ref-is (optReference (now (c .before .before .before .before .args .s)) (c .before .before .before .before .args .r)) n) (unnamed (now (c .before .before .before .before .args .s)) (c .before .before .before .before .args .r) (c .if1 .left)) (marked-none (packOf (now (c .before .before .before .before .args .s))) (now (c .before .before .before .before .args .marks)))
+returns-2 c =
+    let start = c .before .before .before .before in
+    let s = now (start .args .s) in let r = start .args .r in
+    marked-as (λ n. false) (λ n. ref-is (optReference s r) n) (unnamed s r (c .if1 .left)) (marked-none (packOf s) (now (start .args .marks)))
 
 pub mark-reference-spec : {M : Type 1} → statement M
 mark-reference-spec = tie.close (tie.spec mark-requires same-length returns returns-2)

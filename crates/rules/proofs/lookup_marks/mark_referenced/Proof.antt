@@ -11,17 +11,30 @@ use Rattle.rules.proofs.lookup_marks.mark_referenced.Statement.{stateme
 use Rattle.rules.proofs.lookup_marks.mark_referenced.Tie as tie
 
 mark-by-trees-requires : tie.Need-mark-by-trees-requires
-mark-by-trees-requires c κs = (c .before .before .before .before .pre .0, c .before .before .before .before .pre .1, c .before .before .before .before .pre .2)
+mark-by-trees-requires c κs =
+    let start = c .before .before .before .before in
+    (start .pre .0, start .pre .1, start .pre .2)
 
 mark-by-lookups-requires : tie.Need-mark-by-lookups-requires
-mark-by-lookups-requires c κs = (omega (arith, c .before .before .before .before .before .before .before .before .pre .0, c .before .before .before .mark-by-trees .kept .0), c .before .before .before .before .before .before .before .before .pre .1, c .before .before .before .before .before .before .before .before .pre .2 .lookups, c .before .before .before .before .before .before .before .before .pre .2 .lookups-place)
+mark-by-lookups-requires c κs =
+    let start = c .before .before .before .before .before .before .before .before in
+    let mark-by-trees = c .before .before .before .mark-by-trees in
+    (omega (arith, start .pre .0, mark-by-trees .kept .0), start .pre .1, start .pre .2 .lookups, start .pre .2 .lookups-place)
 
 same-length : tie.Need-same-length
-same-length c = c .before .before .mark-by-lookups .kept .0 ∙ c .before .before .before .before .before .before .mark-by-trees .kept .0
+same-length c =
+    let mark-by-trees = c .before .before .before .before .before .before .mark-by-trees in
+    c .before .before .mark-by-lookups .kept .0 ∙ mark-by-trees .kept .0
 
 returns : tie.Need-returns
 unfolding referenced
-returns c = marked-then (λ n. anyBelow (λ t. referenced-by-tree (packOf (now (c .before .before .before .before .before .before .before .before .before .before .before .args .s))) n t) 3) (λ n. anyBelow (λ l. referenced-by-lookup n (lookup-at (packOf (now (c .before .before .before .before .before .before .before .before .before .before .before .args .s)) .lookups) l)) (length (packOf (now (c .before .before .before .before .before .before .before .before .before .before .before .args .s)) .lookups))) (c .before .before .before .before .before .before .mark-by-trees .ensures) (c .before .before .mark-by-lookups .ensures)
+returns c =
+    let start = c .before .before .before .before .before .before .before .before .before .before .before in
+    let mark-by-trees = c .before .before .before .before .before .before .mark-by-trees in
+    let s = now (start .args .s) in
+    marked-then (λ n. anyBelow (λ t. referenced-by-tree (packOf s) n t) 3)
+    (λ n. anyBelow (λ l. referenced-by-lookup n (lookup-at (packOf s .lookups) l)) (length (packOf s .lookups))) (mark-by-trees .ensures)
+    (c .before .before .mark-by-lookups .ensures)
 
 pub mark-referenced-spec : {M : Type 1} → statement M
 mark-referenced-spec =

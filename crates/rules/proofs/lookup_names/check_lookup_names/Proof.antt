@@ -23,43 +23,87 @@ abbrev of-lookup : List ℕ → ℕ → List Finding
 of-lookup s l = lookup-names-of l (lookup-at (packOf s .lookups) l)
 
 abbrev Inv-loop : tie.InvT-loop
-Inv-loop out₀ n s work count m₀ p₀ l₀ out m p l = (l ≤ count) × (p ≡ lookupPlace (packOf s) l) × (length out ≡ length out₀) × Emitted out₀ n (concatBelow (of-lookup s) l) out m
+Inv-loop out₀ n s work count m₀ p₀ l₀ out m p l =
+    (l ≤ count) × (p ≡ lookupPlace (packOf s) l) × (length out ≡ length out₀) × Emitted out₀ n (concatBelow (of-lookup s) l) out m
 
 abbrev μ-loop : tie.MeasureT-loop
 μ-loop out₀ n s work count m₀ p₀ l₀ out m p l = count - l
 
 loop-holds : tie.Need-loop-holds Inv-loop μ-loop
-loop-holds c = (search needs, c .before .before .before .pre .3, refl, emitted-none (now (c .before .before .before .args .out)) (c .before .before .before .args .n))
+loop-holds c =
+    let start = c .before .before .before in
+    (omega (arith, c), start .pre .3, refl, emitted-none (now (start .args .out)) (start .args .n))
 
 lookup-of-requires : tie.Need-lookup-of-requires Inv-loop μ-loop
-lookup-of-requires c κs = (at-lookup (c .before .before .before .before .before .pre .1) (c .before .before .before .before .before .pre .2) (c .before .loop .inv .1) (c .loop-test .taken))
+lookup-of-requires c κs =
+    let start = c .before .before .before .before .before in
+    (at-lookup (start .pre .1) (start .pre .2) (c .before .loop .inv .1) (c .loop-test .taken))
 
 lookup-names-of-requires : tie.Need-lookup-names-of-requires Inv-loop μ-loop
-lookup-names-of-requires c κs = (fits-turn (of-lookup (now (c .before .before .before .before .before .before .before .args .s))) (c .before .before .before .before .before .before .before .args .lookups .count) (c .before .before .before .loop .l) (c .before .before .loop-test .taken) (rw (← c .before .before .before .before .before .before .before .pre .2) at (c .before .before .before .before .before .before .before .pre .0)) (c .before .before .before .loop .inv .3), (at-lookup (c .before .before .before .before .before .before .before .pre .1) (c .before .before .before .before .before .before .before .pre .2) (c .before .before .before .loop .inv .1) (c .before .before .loop-test .taken)), c .before .lookup-of .ensures)
+lookup-names-of-requires c κs =
+    let start = c .before .before .before .before .before .before .before in
+    let loop = c .before .before .before .loop in
+    let loop-test = c .before .before .loop-test in (
+      fits-turn (of-lookup (now (start .args .s))) (start .args .lookups .count) (loop .l) (loop-test .taken) (rw (← start .pre .2) at (start .pre .0))
+          (loop .inv .3),
+      (at-lookup (start .pre .1) (start .pre .2) (loop .inv .1) (loop-test .taken)),
+      c .before .lookup-of .ensures,
+    )
 
 add-p : tie.Need-add-p Inv-loop μ-loop
-add-p c = omega (arith, entries-few (at-lookup (c .before .before .before .before .before .before .before .before .before .before .pre .1) (c .before .before .before .before .before .before .before .before .before .before .pre .2) (c .before .before .before .before .before .before .loop .inv .1) (c .before .before .before .before .before .loop-test .taken)))
+add-p c =
+    let start = c .before .before .before .before .before .before .before .before .before .before in
+    let loop = c .before .before .before .before .before .before .loop in
+    let loop-test = c .before .before .before .before .before .loop-test in
+    omega (arith, entries-few (at-lookup (start .pre .1) (start .pre .2) (loop .inv .1) (loop-test .taken)))
 
 cast-p : tie.Need-cast-p Inv-loop μ-loop
-cast-p c = omega (arith, entries-few (at-lookup (c .before .before .before .before .before .before .before .before .before .before .before .pre .1) (c .before .before .before .before .before .before .before .before .before .before .before .pre .2) (c .before .before .before .before .before .before .before .loop .inv .1) (c .before .before .before .before .before .before .loop-test .taken)), c .before .before .before .before .before .lookup-of .ensures .entries)
+cast-p c =
+    let start = c .before .before .before .before .before .before .before .before .before .before .before in
+    let loop = c .before .before .before .before .before .before .before .loop in
+    let loop-test = c .before .before .before .before .before .before .loop-test in
+    let lookup-of = c .before .before .before .before .before .lookup-of in
+    omega (arith, entries-few (at-lookup (start .pre .1) (start .pre .2) (loop .inv .1) (loop-test .taken)), lookup-of .ensures .entries)
 
 add-p-2 : tie.Need-add-p-2 Inv-loop μ-loop
-add-p-2 c = omega (arith, entries-few (at-lookup (c .before .before .before .before .before .before .before .before .before .before .before .pre .1) (c .before .before .before .before .before .before .before .before .before .before .before .pre .2) (c .before .before .before .before .before .before .before .loop .inv .1) (c .before .before .before .before .before .before .loop-test .taken)), c .before .before .before .before .before .lookup-of .ensures .entries)
+add-p-2 c =
+    let start = c .before .before .before .before .before .before .before .before .before .before .before in
+    let loop = c .before .before .before .before .before .before .before .loop in
+    let loop-test = c .before .before .before .before .before .before .loop-test in
+    let lookup-of = c .before .before .before .before .before .lookup-of in
+    omega (arith, entries-few (at-lookup (start .pre .1) (start .pre .2) (loop .inv .1) (loop-test .taken)), lookup-of .ensures .entries)
 
 add-l : tie.Need-add-l Inv-loop μ-loop
-add-l c = omega (arith, lookups-few (at-lookup (c .before .before .before .before .before .before .before .before .before .before .before .pre .1) (c .before .before .before .before .before .before .before .before .before .before .before .pre .2) (c .before .before .before .before .before .before .before .loop .inv .1) (c .before .before .before .before .before .before .loop-test .taken)))
+add-l c =
+    let start = c .before .before .before .before .before .before .before .before .before .before .before in
+    let loop = c .before .before .before .before .before .before .before .loop in
+    let loop-test = c .before .before .before .before .before .before .loop-test in
+    omega (arith, lookups-few (at-lookup (start .pre .1) (start .pre .2) (loop .inv .1) (loop-test .taken)))
 
 loop-less : tie.Need-loop-less Inv-loop μ-loop
 loop-less c = search needs
 
 loop-again : tie.Need-loop-again Inv-loop μ-loop
-loop-again c = (search needs, omega (arith, lookup-place-next (packOf (now (c .before .before .before .before .before .before .before .before .before .before .before .args .s))) (c .before .before .before .before .before .before .before .loop .l), c .before .before .before .before .before .lookup-of .ensures .entries, c .before .before .before .before .before .before .before .loop .inv .1), c .before .before .before .lookup-names-of .kept .0 ∙ c .before .before .before .before .before .before .before .loop .inv .2, emitted-turn (of-lookup (now (c .before .before .before .before .before .before .before .before .before .before .before .args .s))) (c .before .before .before .before .before .before .before .loop .l) (c .before .before .before .before .before .before .before .loop .inv .3) (c .before .before .before .lookup-names-of .ensures))
+loop-again c =
+    let start = c .before .before .before .before .before .before .before .before .before .before .before in
+    let loop = c .before .before .before .before .before .before .before .loop in
+    let lookup-of = c .before .before .before .before .before .lookup-of in
+    let lookup-names-of-call = c .before .before .before .lookup-names-of in
+    let s = now (start .args .s) in (
+      omega (arith, c),
+      omega (arith, lookup-place-next (packOf s) (loop .l), lookup-of .ensures .entries, loop .inv .1),
+      lookup-names-of-call .kept .0 ∙ loop .inv .2,
+      emitted-turn (of-lookup s) (loop .l) (loop .inv .3) (lookup-names-of-call .ensures),
+    )
 
 same-length : tie.Need-same-length Inv-loop μ-loop
 same-length c = c .before .loop .inv .2
 
 returns : tie.Need-returns Inv-loop μ-loop
-returns c = let e : c .before .before .before .before .before .args .lookups .count ≡ c .before .loop .l = omega (arith, c .before .loop .inv .0, c .loop-test .left) in rw (← c .before .before .before .before .before .pre .2, e) (c .before .loop .inv .3)
+returns c =
+    let start = c .before .before .before .before .before in
+    let e : start .args .lookups .count ≡ c .before .loop .l = omega (arith, c .before .loop .inv .0, c .loop-test .left) in
+    rw (← start .pre .2, e) (c .before .loop .inv .3)
 
 pub check-lookup-names-spec : {M : Type 1} → statement M
 check-lookup-names-spec =

@@ -17,10 +17,13 @@ use Rattle.rules.proofs.lookup_names.latest_same_name.Tie as tie
 
 -- whether entry d has the name of entry e
 abbrev named : List ℕ → ℕ → ℕ → ℕ → Bool
-named s l e d = same-name (lookup-at (packOf s .lookups) l .kind) (getD (lookup-at (packOf s .lookups) l .entries) d noEntry) (getD (lookup-at (packOf s .lookups) l .entries) e noEntry)
+named s l e d =
+    same-name (lookup-at (packOf s .lookups) l .kind) (getD (lookup-at (packOf s .lookups) l .entries) d noEntry)
+    (getD (lookup-at (packOf s .lookups) l .entries) e noEntry)
 
-said : (s : List ℕ) (l e d k : ℕ) (a b : EntryView) (r : Bool) → k ≡ lookup-at (packOf s .lookups) l .kind → entryMeaning s a ≡ getD (lookup-at (packOf s .lookups) l .entries) d noEntry → entryMeaning s b ≡ getD (lookup-at (packOf s .lookups) l .entries) e noEntry
-    → r ≡ same-name k (entryMeaning s a) (entryMeaning s b) → r ≡ named s l e d
+said : (s : List ℕ) (l e d k : ℕ) (a b : EntryView) (r : Bool) → k ≡ lookup-at (packOf s .lookups) l .kind
+    → entryMeaning s a ≡ getD (lookup-at (packOf s .lookups) l .entries) d noEntry
+    → entryMeaning s b ≡ getD (lookup-at (packOf s .lookups) l .entries) e noEntry → r ≡ same-name k (entryMeaning s a) (entryMeaning s b) → r ≡ named s l e d
 said s l e d k a b r x y z h = h ∙ (λ j. same-name (x j) (y j) (z j))
 
 abbrev Inv-loop : tie.InvT-loop
@@ -33,7 +36,9 @@ loop-holds : tie.Need-loop-holds Inv-loop μ-loop
 loop-holds c = (search needs, refl)
 
 entry-of-requires : tie.Need-entry-of-requires Inv-loop μ-loop
-entry-of-requires c κs = (c .before .before .before .before .pre .0, c .before .before .before .before .pre .1, omega (arith, c .before .before .before .before .pre .2, c .loop-test .taken))
+entry-of-requires c κs =
+    let start = c .before .before .before .before in
+    (start .pre .0, start .pre .1, omega (arith, start .pre .2, c .loop-test .taken))
 
 same-name-requires : tie.Need-same-name-requires Inv-loop μ-loop
 same-name-requires c κs = search needs
@@ -49,11 +54,19 @@ loop-less c = search needs
 
 loop-again : tie.Need-loop-again Inv-loop μ-loop
 loop-again c =
-    let h = said (now (c .before .before .before .before .before .before .before .args .s)) (c .before .before .before .before .before .before .before .args .l) (c .before .before .before .before .before .before .before .args .e) (c .before .before .before .before .loop .d) (c .before .before .before .before .before .before .before .args .kind) (c .before .before .entry-of .result) (c .before .before .before .before .before .before .before .args .entry) (c .before .same-name .result) (c .before .before .before .before .before .before .before .pre .1) (c .before .before .entry-of .ensures) (c .before .before .before .before .before .before .before .pre .3) (c .before .same-name .ensures) in
-    (search needs, c .latest .ensures ∙ (rw (latest-turn (named (now (c .before .before .before .before .before .before .before .args .s)) (c .before .before .before .before .before .before .before .args .l) (c .before .before .before .before .before .before .before .args .e)) (c .before .before .before .before .loop .d), ← h, c .before .before .before .before .loop .inv .1)))
+    let start = c .before .before .before .before .before .before .before in
+    let loop = c .before .before .before .before .loop in
+    let entry-of = c .before .before .entry-of in
+    let s = now (start .args .s) in let l = start .args .l in let e = start .args .e in
+    let h = said s l e (loop .d) (start .args .kind) (entry-of .result) (start .args .entry) (c .before .same-name .result) (start .pre .1) (entry-of .ensures)
+    (start .pre .3) (c .before .same-name .ensures) in
+    (omega (arith, c), c .latest .ensures ∙ (rw (latest-turn (named s l e) (loop .d), ← h, loop .inv .1)))
 
 returns : tie.Need-returns Inv-loop μ-loop
-returns c = let q : c .before .loop .d ≡ c .before .before .before .before .args .e = omega (arith, c .before .loop .inv .0, c .loop-test .left) in c .before .loop .inv .1 ∙ ap (latestBelow (named (now (c .before .before .before .before .args .s)) (c .before .before .before .before .args .l) (c .before .before .before .before .args .e))) q
+returns c =
+    let start = c .before .before .before .before in
+    let q : c .before .loop .d ≡ start .args .e = omega (arith, c .before .loop .inv .0, c .loop-test .left) in
+    c .before .loop .inv .1 ∙ ap (latestBelow (named (now (start .args .s)) (start .args .l) (start .args .e))) q
 
 pub latest-same-name-spec : {M : Type 1} → statement M
 latest-same-name-spec =

@@ -36,7 +36,8 @@ module _ (s : List ℕ) (L : Lookup) (v : LookupView) (is : LookupIs s L v) (l :
   others h = let e : (L .name ≐ SPN-LOOKUP) ≡ false = ap (λ (M : Lookup). M .name ≐ SPN-LOOKUP) (sym (is .means)) ∙ sym z ∙ h in rw (e, is .entries)
 
 abbrev Inv-loop : tie.InvT-loop
-Inv-loop out₀ n s work l p entries kind m₀ e₀ out m e = (e ≤ entries) × (length out ≡ length out₀) × Emitted out₀ n (concatBelow (of-entry (lookup-at (packOf s .lookups) l) l) e) out m
+Inv-loop out₀ n s work l p entries kind m₀ e₀ out m e =
+    (e ≤ entries) × (length out ≡ length out₀) × Emitted out₀ n (concatBelow (of-entry (lookup-at (packOf s .lookups) l) l) e) out m
 
 abbrev μ-loop : tie.MeasureT-loop
 μ-loop out₀ n s work l p entries kind m₀ e₀ out m e = entries - e
@@ -48,28 +49,63 @@ text-is-requires : tie.Need-text-is-requires Inv-loop μ-loop
 text-is-requires c κs = search needs
 
 returns : tie.Need-returns Inv-loop μ-loop
-returns c = rw (spns (now (c .before .before .before .before .before .before .args .s)) (lookup-at (packOf (now (c .before .before .before .before .before .before .args .s)) .lookups) (c .before .before .before .before .before .before .args .l)) (c .before .before .before .before .before .before .args .v) (c .before .before .before .before .before .before .pre .2) (c .before .before .before .before .before .before .args .l) (c .before .text-is .result) (c .before .text-is .ensures) (c .if1 .taken)) (emitted-none (now (c .before .before .before .before .before .before .args .out)) (c .before .before .before .before .before .before .args .n))
+returns c =
+    let start = c .before .before .before .before .before .before in
+    let s = now (start .args .s) in let l = start .args .l in
+    rw (spns s (lookup-at (packOf s .lookups) l) (start .args .v) (start .pre .2) l (c .before .text-is .result) (c .before .text-is .ensures) (c .if1 .taken))
+    (emitted-none (now (start .args .out)) (start .args .n))
 
 loop-holds : tie.Need-loop-holds Inv-loop μ-loop
-loop-holds c = (search needs, refl, emitted-none (now (c .before .before .before .before .before .before .args .out)) (c .before .before .before .before .before .before .args .n))
+loop-holds c =
+    let start = c .before .before .before .before .before .before in
+    (omega (arith, c), refl, emitted-none (now (start .args .out)) (start .args .n))
 
 same-name-at-requires : tie.Need-same-name-at-requires Inv-loop μ-loop
-same-name-at-requires c κs = (fits-turn (of-entry (lookup-at (packOf (now (c .before .before .before .before .before .before .before .before .before .args .s)) .lookups) (c .before .before .before .before .before .before .before .before .before .args .l)) (c .before .before .before .before .before .before .before .before .before .args .l)) (c .before .before .before .before .before .before .before .before .before .args .v .entries) (c .before .before .loop .e) (c .before .loop-test .taken) (rw (others (now (c .before .before .before .before .before .before .before .before .before .args .s)) (lookup-at (packOf (now (c .before .before .before .before .before .before .before .before .before .args .s)) .lookups) (c .before .before .before .before .before .before .before .before .before .args .l)) (c .before .before .before .before .before .before .before .before .before .args .v) (c .before .before .before .before .before .before .before .before .before .pre .2) (c .before .before .before .before .before .before .before .before .before .args .l) (c .before .before .before .before .text-is .result) (c .before .before .before .before .text-is .ensures) (c .before .before .before .if1 .left)) at (c .before .before .before .before .before .before .before .before .before .pre .0)) (c .before .before .loop .inv .2), c .before .before .before .before .before .before .before .before .before .pre .1, ap (λ (M : Lookup). M .kind) (c .before .before .before .before .before .before .before .before .before .pre .2 .means), omega (arith, c .before .before .before .before .before .before .before .before .before .pre .2 .entries, c .before .loop-test .taken))
+same-name-at-requires c κs =
+    let start = c .before .before .before .before .before .before .before .before .before in
+    let text-is = c .before .before .before .before .text-is in
+    let if1 = c .before .before .before .if1 in
+    let loop = c .before .before .loop in
+    let s = now (start .args .s) in let l = start .args .l in (
+      fits-turn (of-entry (lookup-at (packOf s .lookups) l) l) (start .args .v .entries) (loop .e) (c .before .loop-test .taken)
+          (rw (others s (lookup-at (packOf s .lookups) l) (start .args .v) (start .pre .2) l (text-is .result) (text-is .ensures) (if1 .left)) at
+          (start .pre .0)) (loop .inv .2),
+      start .pre .1,
+      ap (λ (M : Lookup). M .kind) (start .pre .2 .means),
+      omega (arith, start .pre .2 .entries, c .before .loop-test .taken),
+    )
 
 add-e : tie.Need-add-e Inv-loop μ-loop
-add-e c = omega (arith, c .before .before .before .before .loop-test .taken, c .before .before .before .before .before .before .before .before .before .before .before .before .pre .2 .entries, entries-few (c .before .before .before .before .before .before .before .before .before .before .before .before .pre .1))
+add-e c =
+    let start = c .before .before .before .before .before .before .before .before .before .before .before .before in
+    let loop-test = c .before .before .before .before .loop-test in
+    omega (arith, loop-test .taken, start .pre .2 .entries, entries-few (start .pre .1))
 
 loop-less : tie.Need-loop-less Inv-loop μ-loop
 loop-less c = search needs
 
 loop-again : tie.Need-loop-again Inv-loop μ-loop
-loop-again c = (search needs, c .before .before .same-name-at .kept .0 ∙ c .before .before .before .before .before .loop .inv .1, emitted-turn (of-entry (lookup-at (packOf (now (c .before .before .before .before .before .before .before .before .before .before .before .before .args .s)) .lookups) (c .before .before .before .before .before .before .before .before .before .before .before .before .args .l)) (c .before .before .before .before .before .before .before .before .before .before .before .before .args .l)) (c .before .before .before .before .before .loop .e) (c .before .before .before .before .before .loop .inv .2) (c .before .before .same-name-at .ensures))
+loop-again c =
+    let start = c .before .before .before .before .before .before .before .before .before .before .before .before in
+    let loop = c .before .before .before .before .before .loop in
+    let same-name-at = c .before .before .same-name-at in
+    let l = start .args .l in (
+      omega (arith, c),
+      same-name-at .kept .0 ∙ loop .inv .1,
+      emitted-turn (of-entry (lookup-at (packOf (now (start .args .s)) .lookups) l) l) (loop .e) (loop .inv .2) (same-name-at .ensures),
+    )
 
 same-length : tie.Need-same-length Inv-loop μ-loop
 same-length c = c .before .loop .inv .1
 
 returns-2 : tie.Need-returns-2 Inv-loop μ-loop
-returns-2 c = let q : c .before .before .before .before .before .before .before .before .args .v .entries ≡ c .before .loop .e = omega (arith, c .before .loop .inv .0, c .loop-test .left) in rw (others (now (c .before .before .before .before .before .before .before .before .args .s)) (lookup-at (packOf (now (c .before .before .before .before .before .before .before .before .args .s)) .lookups) (c .before .before .before .before .before .before .before .before .args .l)) (c .before .before .before .before .before .before .before .before .args .v) (c .before .before .before .before .before .before .before .before .pre .2) (c .before .before .before .before .before .before .before .before .args .l) (c .before .before .before .text-is .result) (c .before .before .before .text-is .ensures) (c .before .before .if1 .left), q) (c .before .loop .inv .2)
+returns-2 c =
+    let start = c .before .before .before .before .before .before .before .before in
+    let text-is = c .before .before .before .text-is in
+    let s = now (start .args .s) in let l = start .args .l in
+    let q : start .args .v .entries ≡ c .before .loop .e = omega (arith, c .before .loop .inv .0, c .loop-test .left) in
+    rw (others s (lookup-at (packOf s .lookups) l) (start .args .v) (start .pre .2) l (text-is .result) (text-is .ensures) (c .before .before .if1 .left), q)
+    (c .before .loop .inv .2)
 
 pub lookup-names-of-spec : {M : Type 1} → statement M
 lookup-names-of-spec =

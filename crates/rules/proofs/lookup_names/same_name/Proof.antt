@@ -20,15 +20,33 @@ same-text-requires c κs = search needs
 
 returns : tie.Need-returns
 unfolding same-name
-returns c = rw (← c .before .same-text .ensures, not-true (c .before .same-text .result) (c .if1 .taken), and-false (not (c .before .before .before .args .kind == 1) || (c .before .before .before .args .a .first == c .before .before .before .args .b .first)))
+returns c =
+    let start = c .before .before .before in
+    rw (
+      ← c .before .same-text .ensures,
+      not-true (c .before .same-text .result) (c .if1 .taken),
+      and-false (not (start .args .kind == 1) || (start .args .a .first == start .args .b .first)),
+    )
 
 returns-2 : tie.Need-returns-2
 unfolding same-name
-returns-2 c = rw (← c .before .before .before .before .same-text .ensures, not-false (c .before .before .before .before .same-text .result) (c .before .before .before .if1 .left), eq-eqb (c .before .before .before .before .before .before .args .kind) 1 (c .before .before .if2 .taken), and-true (c .before .before .before .before .before .before .args .a .first == c .before .before .before .before .before .before .args .b .first))
+returns-2 c =
+    let start = c .before .before .before .before .before .before in
+    let same-text = c .before .before .before .before .same-text in
+    let if1 = c .before .before .before .if1 in
+    rw (
+      ← same-text .ensures,
+      not-false (same-text .result) (if1 .left),
+      eq-eqb (start .args .kind) 1 (c .before .before .if2 .taken),
+      and-true (start .args .a .first == start .args .b .first),
+    )
 
 returns-3 : tie.Need-returns-3
 unfolding same-name
-returns-3 c = rw (← c .before .before .same-text .ensures, not-false (c .before .before .same-text .result) (c .before .if1 .left), ne-eqb (c .before .before .before .before .args .kind) 1 (c .if2 .left))
+returns-3 c =
+    let start = c .before .before .before .before in
+    let same-text = c .before .before .same-text in
+    rw (← same-text .ensures, not-false (same-text .result) (c .before .if1 .left), ne-eqb (start .args .kind) 1 (c .if2 .left))
 
 pub same-name-spec : {M : Type 1} → statement M
 same-name-spec = tie.close (tie.spec same-text-requires returns returns-2 returns-3)

@@ -25,25 +25,43 @@ module _ (l e : ℕ) (o : Option ℕ) (b : Bool) (v : ℕ) (x : optional b v ≡
   other h F y = rw (← x, h, y)
 
 entry-of-requires : tie.Need-entry-of-requires
-entry-of-requires c κs = (c .before .before .before .pre .1, c .before .before .before .pre .2, c .before .before .before .pre .3)
+entry-of-requires c κs =
+    let start = c .before .before .before in
+    (start .pre .1, start .pre .2, start .pre .3)
 
 latest-same-name-requires : tie.Need-latest-same-name-requires
-latest-same-name-requires c κs = (c .before .before .before .before .pre .1, c .before .before .before .before .pre .2, c .before .before .before .before .pre .3, c .entry-of .ensures)
+latest-same-name-requires c κs =
+    let start = c .before .before .before .before in
+    (start .pre .1, start .pre .2, start .pre .3, c .entry-of .ensures)
 
 returns : tie.Need-returns
-returns c = rw (no-other (c .before .before .before .before .before .before .before .args .l) (c .before .before .before .before .before .before .before .args .e) _ (c .before .before .latest-same-name .result .given) (c .before .before .latest-same-name .result .value) (c .before .before .latest-same-name .ensures) (not-true (c .before .before .latest-same-name .result .given) (c .if1 .taken))) (emitted-none (now (c .before .before .before .before .before .before .before .args .out)) (c .before .before .before .before .before .before .before .args .n))
+returns c =
+    let start = c .before .before .before .before .before .before .before in
+    let latest-same-name = c .before .before .latest-same-name in
+    rw (no-other (start .args .l) (start .args .e) _ (latest-same-name .result .given) (latest-same-name .result .value) (latest-same-name .ensures)
+    (not-true (latest-same-name .result .given) (c .if1 .taken))) (emitted-none (now (start .args .out)) (start .args .n))
 
 lookup-error-requires : tie.Need-lookup-error-requires
 lookup-error-requires c κs = search needs
 
 put-requires : tie.Need-put-requires
-put-requires c κs = rw (other (c .before .before .before .before .before .before .before .before .before .args .l) (c .before .before .before .before .before .before .before .before .before .args .e) _ (c .before .before .before .before .latest-same-name .result .given) (c .before .before .before .before .latest-same-name .result .value) (c .before .before .before .before .latest-same-name .ensures) (not-false (c .before .before .before .before .latest-same-name .result .given) (c .before .before .if1 .left)) (c .lookup-error .result) (c .lookup-error .ensures)) at (c .before .before .before .before .before .before .before .before .before .pre .0)
+put-requires c κs =
+    let start = c .before .before .before .before .before .before .before .before .before in
+    let latest-same-name = c .before .before .before .before .latest-same-name in
+    rw (other (start .args .l) (start .args .e) _ (latest-same-name .result .given) (latest-same-name .result .value) (latest-same-name .ensures)
+    (not-false (latest-same-name .result .given) (c .before .before .if1 .left)) (c .lookup-error .result) (c .lookup-error .ensures)) at (start .pre .0)
 
 same-length : tie.Need-same-length
 same-length c = search needs
 
 returns-2 : tie.Need-returns-2
-returns-2 c = rw (other (c .before .before .before .before .before .before .before .before .before .before .before .before .args .l) (c .before .before .before .before .before .before .before .before .before .before .before .before .args .e) _ (c .before .before .before .before .before .before .before .latest-same-name .result .given) (c .before .before .before .before .before .before .before .latest-same-name .result .value) (c .before .before .before .before .before .before .before .latest-same-name .ensures) (not-false (c .before .before .before .before .before .before .before .latest-same-name .result .given) (c .before .before .before .before .before .if1 .left)) (c .before .before .before .lookup-error .result) (c .before .before .before .lookup-error .ensures)) (c .before .before .put .ensures)
+returns-2 c =
+    let start = c .before .before .before .before .before .before .before .before .before .before .before .before in
+    let latest-same-name = c .before .before .before .before .before .before .before .latest-same-name in
+    let if1 = c .before .before .before .before .before .if1 in
+    let lookup-error-call = c .before .before .before .lookup-error in
+    rw (other (start .args .l) (start .args .e) _ (latest-same-name .result .given) (latest-same-name .result .value) (latest-same-name .ensures)
+    (not-false (latest-same-name .result .given) (if1 .left)) (lookup-error-call .result) (lookup-error-call .ensures)) (c .before .before .put .ensures)
 
 pub same-name-at-spec : {M : Type 1} → statement M
 same-name-at-spec =

@@ -20,9 +20,12 @@ use Rattle.rules.proofs.lookup_uses.check_by_marks.Tie as tie
 
 -- what the marks say is what the rule says
 said : (P : Pack) (m m′ : List Bool) (count : ℕ) → count ≡ length (P .lookups) → Clear m → Marked P m (λ n. referenced P n) m′
-    → concatBelow (λ l. report-if (not (referenced P (lookup-at (P .lookups) l .name))) (lookup-warning 22 1 l 0 0)) (length (P .lookups)) ≡ concatBelow (λ l. report-if (not (getD m′ l false)) (lookup-warning 22 1 l 0 0)) count
+    → concatBelow (λ l. report-if (not (referenced P (lookup-at (P .lookups) l .name))) (lookup-warning 22 1 l 0 0)) (length (P .lookups))
+    ≡ concatBelow (λ l. report-if (not (getD m′ l false)) (lookup-warning 22 1 l 0 0)) count
 said P m m′ count e z a =
-    concat-same (λ l. report-if (not (referenced P (lookup-at (P .lookups) l .name))) (lookup-warning 22 1 l 0 0)) (λ l. report-if (not (getD m′ l false)) (lookup-warning 22 1 l 0 0)) (length (P .lookups)) (λ l h. ap (λ (b : Bool). report-if (not b) (lookup-warning 22 1 l 0 0)) (sym (marks-are (λ n. referenced P n) z a l h)))
+    concat-same (λ l. report-if (not (referenced P (lookup-at (P .lookups) l .name))) (lookup-warning 22 1 l 0 0))
+    (λ l. report-if (not (getD m′ l false)) (lookup-warning 22 1 l 0 0)) (length (P .lookups))
+    (λ l h. ap (λ (b : Bool). report-if (not b) (lookup-warning 22 1 l 0 0)) (sym (marks-are (λ n. referenced P n) z a l h)))
     ∙ ap (concatBelow (λ l. report-if (not (getD m′ l false)) (lookup-warning 22 1 l 0 0))) (sym e)
 
 fits-as : {n : ℕ} {xs ys : List Finding} → xs ≡ ys → Fits n xs → Fits n ys
@@ -32,10 +35,18 @@ emitted-as : {o o′ : List ℕ} {n m : ℕ} {xs ys : List Finding} → xs ≡ y
 emitted-as e f = rw e f
 
 mark-referenced-requires : tie.Need-mark-referenced-requires
-mark-referenced-requires c κs = (c .before .before .before .before .before .pre .2, c .before .before .before .before .before .pre .3, c .before .before .before .before .before .pre .4)
+mark-referenced-requires c κs =
+    let start = c .before .before .before .before .before in
+    (start .pre .2, start .pre .3, start .pre .4)
 
 report-unmarked-requires : tie.Need-report-unmarked-requires
-report-unmarked-requires c κs = (fits-as (said (packOf (now (c .before .before .before .before .before .before .before .before .before .before .args .s))) (now (c .before .before .before .before .before .before .before .before .before .before .args .marks)) _ (c .before .before .before .before .before .before .before .before .before .before .args .index .lookups .count) (c .before .before .before .before .before .before .before .before .before .before .pre .4 .lookups) (c .before .before .before .before .before .before .before .before .before .before .pre .1) (c .before .before .before .before .mark-referenced .ensures)) (c .before .before .before .before .before .before .before .before .before .before .pre .0), omega (arith, c .before .before .before .before .before .before .before .before .before .before .pre .2, c .before .before .before .before .before .before .before .before .before .before .pre .4 .lookups, c .before .before .before .before .mark-referenced .kept .0))
+report-unmarked-requires c κs =
+    let start = c .before .before .before .before .before .before .before .before .before .before in
+    let mark-referenced = c .before .before .before .before .mark-referenced in (
+      fits-as (said (packOf (now (start .args .s))) (now (start .args .marks)) _ (start .args .index .lookups .count) (start .pre .4 .lookups) (start .pre .1)
+          (mark-referenced .ensures)) (start .pre .0),
+      omega (arith, start .pre .2, start .pre .4 .lookups, mark-referenced .kept .0),
+    )
 
 same-length : tie.Need-same-length
 same-length c = search needs
@@ -44,7 +55,12 @@ same-length-2 : tie.Need-same-length-2
 same-length-2 c = search needs
 
 returns : tie.Need-returns
-returns c = emitted-as (said (packOf (now (c .before .before .before .before .before .before .before .before .before .before .before .before .before .args .s))) (now (c .before .before .before .before .before .before .before .before .before .before .before .before .before .args .marks)) _ (c .before .before .before .before .before .before .before .before .before .before .before .before .before .args .index .lookups .count) (c .before .before .before .before .before .before .before .before .before .before .before .before .before .pre .4 .lookups) (c .before .before .before .before .before .before .before .before .before .before .before .before .before .pre .1) (c .before .before .before .before .before .before .before .mark-referenced .ensures)) (c .before .before .report-unmarked .ensures)
+returns c =
+    let back12 = c .before .before .before .before .before .before .before .before .before .before .before .before in
+    let start = back12 .before in
+    let mark-referenced = c .before .before .before .before .before .before .before .mark-referenced in
+    emitted-as (said (packOf (now (start .args .s))) (now (start .args .marks)) _ (start .args .index .lookups .count) (start .pre .4 .lookups) (start .pre .1)
+    (mark-referenced .ensures)) (c .before .before .report-unmarked .ensures)
 
 pub check-by-marks-spec : {M : Type 1} → statement M
 check-by-marks-spec =

@@ -26,56 +26,110 @@ use Rattle.rules.proofs.lookup_uses.check_by_search.Tie as tie
 abbrev of-lookup : List ℕ → ℕ → List Finding
 of-lookup s l = report-if (not (referenced (packOf s) (lookup-at (packOf s .lookups) l .name))) (lookup-warning 22 1 l 0 0)
 
-said : (s : List ℕ) (l : ℕ) (v : LookupView) → LookupIs s (lookup-at (packOf s .lookups) l) v → (b : Bool) → b ≡ referenced (packOf s) (bytesOf s (v .name)) → (F : Finding) → F ≡ lookup-warning 22 1 l 0 0
-    → of-lookup s l ≡ report-if (not b) F
+said : (s : List ℕ) (l : ℕ) (v : LookupView) → LookupIs s (lookup-at (packOf s .lookups) l) v → (b : Bool) → b ≡ referenced (packOf s) (bytesOf s (v .name))
+    → (F : Finding) → F ≡ lookup-warning 22 1 l 0 0 → of-lookup s l ≡ report-if (not b) F
 said s l v is b x F y =
     let e : b ≡ referenced (packOf s) (lookup-at (packOf s .lookups) l .name) = x ∙ ap (λ (L : Lookup). referenced (packOf s) (L .name)) (is .means) in
     sym (λ j. report-if (not (e j)) (y j))
 
 abbrev Inv-loop : tie.InvT-loop
-Inv-loop out₀ n s work index count m₀ p₀ l₀ out m p l = (l ≤ count) × (p ≡ lookupPlace (packOf s) l) × (length out ≡ length out₀) × Emitted out₀ n (concatBelow (of-lookup s) l) out m
+Inv-loop out₀ n s work index count m₀ p₀ l₀ out m p l =
+    (l ≤ count) × (p ≡ lookupPlace (packOf s) l) × (length out ≡ length out₀) × Emitted out₀ n (concatBelow (of-lookup s) l) out m
 
 abbrev μ-loop : tie.MeasureT-loop
 μ-loop out₀ n s work index count m₀ p₀ l₀ out m p l = count - l
 
 loop-holds : tie.Need-loop-holds Inv-loop μ-loop
-loop-holds c = (search needs, c .before .before .before .pre .2 .lookups-place, refl, emitted-none (now (c .before .before .before .args .out)) (c .before .before .before .args .n))
+loop-holds c =
+    let start = c .before .before .before in
+    (omega (arith, c), start .pre .2 .lookups-place, refl, emitted-none (now (start .args .out)) (start .args .n))
 
 lookup-of-requires : tie.Need-lookup-of-requires Inv-loop μ-loop
-lookup-of-requires c κs = (at-lookup (c .before .before .before .before .before .pre .1) (c .before .before .before .before .before .pre .2 .lookups) (c .before .loop .inv .1) (c .loop-test .taken))
+lookup-of-requires c κs =
+    let start = c .before .before .before .before .before in
+    (at-lookup (start .pre .1) (start .pre .2 .lookups) (c .before .loop .inv .1) (c .loop-test .taken))
 
 referenced-requires : tie.Need-referenced-requires Inv-loop μ-loop
-referenced-requires c κs = (c .before .before .before .before .before .before .pre .1, c .before .before .before .before .before .before .pre .2)
+referenced-requires c κs =
+    let start = c .before .before .before .before .before .before in
+    (start .pre .1, start .pre .2)
 
 lookup-warning-requires : tie.Need-lookup-warning-requires Inv-loop μ-loop
 lookup-warning-requires c κs = search needs
 
 put-if-requires : tie.Need-put-if-requires Inv-loop μ-loop
-put-if-requires c κs = rw (said (now (c .before .before .before .before .before .before .before .before .before .args .s)) (c .before .before .before .before .before .loop .l) (c .before .before .before .lookup-of .result) (c .before .before .before .lookup-of .ensures) (c .before .before .referenced .result) (c .before .before .referenced .ensures) (c .lookup-warning .result) (c .lookup-warning .ensures)) at (fits-turn (of-lookup (now (c .before .before .before .before .before .before .before .before .before .args .s))) (c .before .before .before .before .before .before .before .before .before .args .index .lookups .count) (c .before .before .before .before .before .loop .l) (c .before .before .before .before .loop-test .taken) (rw (← c .before .before .before .before .before .before .before .before .before .pre .2 .lookups) at (c .before .before .before .before .before .before .before .before .before .pre .0)) (c .before .before .before .before .before .loop .inv .3))
+put-if-requires c κs =
+    let start = c .before .before .before .before .before .before .before .before .before in
+    let loop = c .before .before .before .before .before .loop in
+    let loop-test = c .before .before .before .before .loop-test in
+    let lookup-of = c .before .before .before .lookup-of in
+    let referenced-call = c .before .before .referenced in
+    let s = now (start .args .s) in
+    rw (said s (loop .l) (lookup-of .result) (lookup-of .ensures) (referenced-call .result) (referenced-call .ensures) (c .lookup-warning .result)
+    (c .lookup-warning .ensures)) at (fits-turn (of-lookup s) (start .args .index .lookups .count) (loop .l) (loop-test .taken)
+    (rw (← start .pre .2 .lookups) at (start .pre .0)) (loop .inv .3))
 
 add-p : tie.Need-add-p Inv-loop μ-loop
-add-p c = omega (arith, entries-few (at-lookup (c .before .before .before .before .before .before .before .before .before .before .before .before .pre .1) (c .before .before .before .before .before .before .before .before .before .before .before .before .pre .2 .lookups) (c .before .before .before .before .before .before .before .before .loop .inv .1) (c .before .before .before .before .before .before .before .loop-test .taken)))
+add-p c =
+    let start = c .before .before .before .before .before .before .before .before .before .before .before .before in
+    let loop = c .before .before .before .before .before .before .before .before .loop in
+    let loop-test = c .before .before .before .before .before .before .before .loop-test in
+    omega (arith, entries-few (at-lookup (start .pre .1) (start .pre .2 .lookups) (loop .inv .1) (loop-test .taken)))
 
 cast-p : tie.Need-cast-p Inv-loop μ-loop
-cast-p c = omega (arith, entries-few (at-lookup (c .before .before .before .before .before .before .before .before .before .before .before .before .before .pre .1) (c .before .before .before .before .before .before .before .before .before .before .before .before .before .pre .2 .lookups) (c .before .before .before .before .before .before .before .before .before .loop .inv .1) (c .before .before .before .before .before .before .before .before .loop-test .taken)), c .before .before .before .before .before .before .before .lookup-of .ensures .entries)
+cast-p c =
+    let back12 = c .before .before .before .before .before .before .before .before .before .before .before .before in
+    let start = back12 .before in
+    let loop = c .before .before .before .before .before .before .before .before .before .loop in
+    let loop-test = c .before .before .before .before .before .before .before .before .loop-test in
+    let lookup-of = c .before .before .before .before .before .before .before .lookup-of in
+    omega (arith, entries-few (at-lookup (start .pre .1) (start .pre .2 .lookups) (loop .inv .1) (loop-test .taken)), lookup-of .ensures .entries)
 
 add-p-2 : tie.Need-add-p-2 Inv-loop μ-loop
-add-p-2 c = omega (arith, entries-few (at-lookup (c .before .before .before .before .before .before .before .before .before .before .before .before .before .pre .1) (c .before .before .before .before .before .before .before .before .before .before .before .before .before .pre .2 .lookups) (c .before .before .before .before .before .before .before .before .before .loop .inv .1) (c .before .before .before .before .before .before .before .before .loop-test .taken)), c .before .before .before .before .before .before .before .lookup-of .ensures .entries)
+add-p-2 c =
+    let back12 = c .before .before .before .before .before .before .before .before .before .before .before .before in
+    let start = back12 .before in
+    let loop = c .before .before .before .before .before .before .before .before .before .loop in
+    let loop-test = c .before .before .before .before .before .before .before .before .loop-test in
+    let lookup-of = c .before .before .before .before .before .before .before .lookup-of in
+    omega (arith, entries-few (at-lookup (start .pre .1) (start .pre .2 .lookups) (loop .inv .1) (loop-test .taken)), lookup-of .ensures .entries)
 
 add-l : tie.Need-add-l Inv-loop μ-loop
-add-l c = omega (arith, lookups-few (at-lookup (c .before .before .before .before .before .before .before .before .before .before .before .before .before .pre .1) (c .before .before .before .before .before .before .before .before .before .before .before .before .before .pre .2 .lookups) (c .before .before .before .before .before .before .before .before .before .loop .inv .1) (c .before .before .before .before .before .before .before .before .loop-test .taken)))
+add-l c =
+    let back12 = c .before .before .before .before .before .before .before .before .before .before .before .before in
+    let start = back12 .before in
+    let loop = c .before .before .before .before .before .before .before .before .before .loop in
+    let loop-test = c .before .before .before .before .before .before .before .before .loop-test in
+    omega (arith, lookups-few (at-lookup (start .pre .1) (start .pre .2 .lookups) (loop .inv .1) (loop-test .taken)))
 
 loop-less : tie.Need-loop-less Inv-loop μ-loop
 loop-less c = search needs
 
 loop-again : tie.Need-loop-again Inv-loop μ-loop
-loop-again c = (search needs, omega (arith, lookup-place-next (packOf (now (c .before .before .before .before .before .before .before .before .before .before .before .before .before .args .s))) (c .before .before .before .before .before .before .before .before .before .loop .l), c .before .before .before .before .before .before .before .lookup-of .ensures .entries, c .before .before .before .before .before .before .before .before .before .loop .inv .1), c .before .before .before .put-if .kept .0 ∙ c .before .before .before .before .before .before .before .before .before .loop .inv .2, emitted-turn (of-lookup (now (c .before .before .before .before .before .before .before .before .before .before .before .before .before .args .s))) (c .before .before .before .before .before .before .before .before .before .loop .l) (c .before .before .before .before .before .before .before .before .before .loop .inv .3) (rw (said (now (c .before .before .before .before .before .before .before .before .before .before .before .before .before .args .s)) (c .before .before .before .before .before .before .before .before .before .loop .l) (c .before .before .before .before .before .before .before .lookup-of .result) (c .before .before .before .before .before .before .before .lookup-of .ensures) (c .before .before .before .before .before .before .referenced .result) (c .before .before .before .before .before .before .referenced .ensures) (c .before .before .before .before .lookup-warning .result) (c .before .before .before .before .lookup-warning .ensures)) (c .before .before .before .put-if .ensures)))
+loop-again c =
+    let back12 = c .before .before .before .before .before .before .before .before .before .before .before .before in
+    let start = back12 .before in
+    let loop = c .before .before .before .before .before .before .before .before .before .loop in
+    let lookup-of = c .before .before .before .before .before .before .before .lookup-of in
+    let referenced-call = c .before .before .before .before .before .before .referenced in
+    let lookup-warning-call = c .before .before .before .before .lookup-warning in
+    let put-if = c .before .before .before .put-if in
+    let s = now (start .args .s) in (
+      omega (arith, c),
+      omega (arith, lookup-place-next (packOf s) (loop .l), lookup-of .ensures .entries, loop .inv .1),
+      put-if .kept .0 ∙ loop .inv .2,
+      emitted-turn (of-lookup s) (loop .l) (loop .inv .3) (rw (said s (loop .l) (lookup-of .result) (lookup-of .ensures) (referenced-call .result)
+          (referenced-call .ensures) (lookup-warning-call .result) (lookup-warning-call .ensures)) (put-if .ensures)),
+    )
 
 same-length : tie.Need-same-length Inv-loop μ-loop
 same-length c = c .before .loop .inv .2
 
 returns : tie.Need-returns Inv-loop μ-loop
-returns c = let e : c .before .before .before .before .before .args .index .lookups .count ≡ c .before .loop .l = omega (arith, c .before .loop .inv .0, c .loop-test .left) in rw (← c .before .before .before .before .before .pre .2 .lookups, e) (c .before .loop .inv .3)
+returns c =
+    let start = c .before .before .before .before .before in
+    let e : start .args .index .lookups .count ≡ c .before .loop .l = omega (arith, c .before .loop .inv .0, c .loop-test .left) in
+    rw (← start .pre .2 .lookups, e) (c .before .loop .inv .3)
 
 pub check-by-search-spec : {M : Type 1} → statement M
 check-by-search-spec =

@@ -8,7 +8,9 @@ use Rattle.rules.proofs.lookup_uses.check_lookup_uses.Statement.{statem
 use Rattle.rules.proofs.lookup_uses.check_lookup_uses.Tie as tie
 
 check-by-search-requires : tie.Need-check-by-search-requires
-check-by-search-requires c κs = (c .before .before .before .before .before .before .pre .0, c .before .before .before .before .before .before .pre .1, c .before .before .before .before .before .before .pre .2)
+check-by-search-requires c κs =
+    let start = c .before .before .before .before .before .before in
+    (start .pre .0, start .pre .1, start .pre .2)
 
 same-length : tie.Need-same-length
 same-length c = search needs
@@ -20,13 +22,22 @@ slice-aggregate-check-by-marks : tie.Need-slice-aggregate-check-by-marks
 slice-aggregate-check-by-marks c = search needs
 
 check-by-marks-requires : tie.Need-check-by-marks-requires
-check-by-marks-requires c κs = (c .before .before .before .before .before .before .before .pre .0, clear-replicate 4096, room-replicate 4096 (length (packOf (now (c .before .before .before .before .before .before .before .args .s)) .lookups)) (omega (arith, c .before .before .before .before .before .before .before .pre .2 .lookups, c .before .before .if1 .left)), c .before .before .before .before .before .before .before .pre .1, c .before .before .before .before .before .before .before .pre .2)
+check-by-marks-requires c κs =
+    let start = c .before .before .before .before .before .before .before in (
+      start .pre .0,
+      clear-replicate 4096,
+      room-replicate 4096 (length (packOf (now (start .args .s)) .lookups)) (omega (arith, start .pre .2 .lookups, c .before .before .if1 .left)),
+      start .pre .1,
+      start .pre .2,
+    )
 
 same-length-2 : tie.Need-same-length-2
 same-length-2 c = search needs
 
 returns-2 : tie.Need-returns-2
-returns-2 c = c .before .before .before .check-by-marks .ensures
+returns-2 c =
+    let check-by-marks = c .before .before .before .check-by-marks in
+    check-by-marks .ensures
 
 pub check-lookup-uses-spec : {M : Type 1} → statement M
 check-lookup-uses-spec =

@@ -3,14 +3,18 @@ use Rattle.rules.proofs.lookup_uses.referenced.Statement.{statement}
 use Rattle.rules.proofs.lookup_uses.referenced.Tie as tie
 
 referenced-by-trees-requires : tie.Need-referenced-by-trees-requires
-referenced-by-trees-requires c κs = (c .before .before .pre .0, c .before .before .pre .1)
+referenced-by-trees-requires c κs =
+    let start = c .before .before in
+    (start .pre .0, start .pre .1)
 
 returns : tie.Need-returns
 unfolding referenced
 returns c = rw (← c .before .referenced-by-trees .ensures, c .if1 .taken)
 
 referenced-by-lookups-requires : tie.Need-referenced-by-lookups-requires
-referenced-by-lookups-requires c κs = (c .before .before .before .before .pre .0, c .before .before .before .before .pre .1 .lookups, c .before .before .before .before .pre .1 .lookups-place)
+referenced-by-lookups-requires c κs =
+    let start = c .before .before .before .before in
+    (start .pre .0, start .pre .1 .lookups, start .pre .1 .lookups-place)
 
 returns-2 : tie.Need-returns-2
 unfolding referenced

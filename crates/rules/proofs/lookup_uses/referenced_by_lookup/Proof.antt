@@ -21,7 +21,8 @@ use Rattle.rules.proofs.lookup_uses.referenced_by_lookup.Tie as tie
 abbrev nests : List ℕ → ℕ → List ℕ → ℕ → Bool
 nests s l name e = is-text (getD (lookup-at (packOf s .lookups) l .entries) e noEntry .nested) name
 
-said : (s : List ℕ) (l : ℕ) (name : List ℕ) (e : ℕ) (v : EntryView) (r : Bool) → entryMeaning s v ≡ getD (lookup-at (packOf s .lookups) l .entries) e noEntry → r ≡ is-text (optBytes s (v .nested)) name → nests s l name e ≡ r
+said : (s : List ℕ) (l : ℕ) (name : List ℕ) (e : ℕ) (v : EntryView) (r : Bool) → entryMeaning s v ≡ getD (lookup-at (packOf s .lookups) l .entries) e noEntry
+    → r ≡ is-text (optBytes s (v .nested)) name → nests s l name e ≡ r
 said s l name e v r y h = sym (h ∙ (λ j. is-text (y j .nested) name))
 
 abbrev Inv-loop : tie.InvT-loop
@@ -31,21 +32,37 @@ abbrev μ-loop : tie.MeasureT-loop
 μ-loop s work l p name entries e₀ e = entries - e
 
 returns : tie.Need-returns Inv-loop μ-loop
-returns c = sym (not-nesting (now (c .before .before .before .before .args .s)) (bytesOf (now (c .before .before .before .before .args .s)) (c .before .before .before .before .args .name)) (lookup-at (packOf (now (c .before .before .before .before .args .s)) .lookups) (c .before .before .before .before .args .l)) (c .before .before .before .before .args .v) (c .before .before .before .before .pre .1) (c .if1 .taken))
+returns c =
+    let start = c .before .before .before .before in
+    let s = now (start .args .s) in
+    sym (not-nesting s (bytesOf s (start .args .name)) (lookup-at (packOf s .lookups) (start .args .l)) (start .args .v) (start .pre .1) (c .if1 .taken))
 
 loop-holds : tie.Need-loop-holds Inv-loop μ-loop
 loop-holds c = (search needs, refl)
 
 entry-of-requires : tie.Need-entry-of-requires Inv-loop μ-loop
-entry-of-requires c κs = (c .before .before .before .before .before .before .pre .0, sym (c .before .before .if1 .left) ∙ ap (λ (L : Lookup). L .kind) (c .before .before .before .before .before .before .pre .1 .means), omega (arith, c .before .before .before .before .before .before .pre .1 .entries, c .loop-test .taken))
+entry-of-requires c κs =
+    let start = c .before .before .before .before .before .before in (
+      start .pre .0,
+      sym (c .before .before .if1 .left) ∙ ap (λ (L : Lookup). L .kind) (start .pre .1 .means),
+      omega (arith, start .pre .1 .entries, c .loop-test .taken),
+    )
 
 is-text-requires : tie.Need-is-text-requires Inv-loop μ-loop
 is-text-requires c κs = search needs
 
 returns-2 : tie.Need-returns-2 Inv-loop μ-loop
 returns-2 c =
-    let h = said (now (c .before .before .before .before .before .before .before .before .before .args .s)) (c .before .before .before .before .before .before .before .before .before .args .l) (bytesOf (now (c .before .before .before .before .before .before .before .before .before .args .s)) (c .before .before .before .before .before .before .before .before .before .args .name)) (c .before .before .before .before .loop .e) (c .before .before .entry-of .result) (c .before .is-text .result) (c .before .before .entry-of .ensures) (c .before .is-text .ensures) in
-    sym (nesting (now (c .before .before .before .before .before .before .before .before .before .args .s)) (bytesOf (now (c .before .before .before .before .before .before .before .before .before .args .s)) (c .before .before .before .before .before .before .before .before .before .args .name)) (lookup-at (packOf (now (c .before .before .before .before .before .before .before .before .before .args .s)) .lookups) (c .before .before .before .before .before .before .before .before .before .args .l)) (c .before .before .before .before .before .before .before .before .before .args .v) (c .before .before .before .before .before .before .before .before .before .pre .1) (c .before .before .before .before .before .if1 .left) ∙ any-hit (nests (now (c .before .before .before .before .before .before .before .before .before .args .s)) (c .before .before .before .before .before .before .before .before .before .args .l) (bytesOf (now (c .before .before .before .before .before .before .before .before .before .args .s)) (c .before .before .before .before .before .before .before .before .before .args .name))) (length (lookup-at (packOf (now (c .before .before .before .before .before .before .before .before .before .args .s)) .lookups) (c .before .before .before .before .before .before .before .before .before .args .l) .entries)) (c .before .before .before .before .loop .e) (omega (arith, c .before .before .before .before .before .before .before .before .before .pre .1 .entries, c .before .before .before .loop-test .taken)) (h ∙ c .if2 .taken))
+    let start = c .before .before .before .before .before .before .before .before .before in
+    let if1 = c .before .before .before .before .before .if1 in
+    let loop = c .before .before .before .before .loop in
+    let loop-test = c .before .before .before .loop-test in
+    let entry-of = c .before .before .entry-of in
+    let s = now (start .args .s) in let l = start .args .l in let name = start .args .name in
+    let h = said s l (bytesOf s name) (loop .e) (entry-of .result) (c .before .is-text .result) (entry-of .ensures) (c .before .is-text .ensures) in
+    sym (nesting s (bytesOf s name) (lookup-at (packOf s .lookups) l) (start .args .v) (start .pre .1) (if1 .left)
+    ∙ any-hit (nests s l (bytesOf s name)) (length (lookup-at (packOf s .lookups) l .entries)) (loop .e)
+    (omega (arith, start .pre .1 .entries, loop-test .taken)) (h ∙ c .if2 .taken))
 
 add-e : tie.Need-add-e Inv-loop μ-loop
 add-e c = search needs
@@ -55,11 +72,21 @@ loop-less c = search needs
 
 loop-again : tie.Need-loop-again Inv-loop μ-loop
 loop-again c =
-    let h = said (now (c .before .before .before .before .before .before .before .before .before .args .s)) (c .before .before .before .before .before .before .before .before .before .args .l) (bytesOf (now (c .before .before .before .before .before .before .before .before .before .args .s)) (c .before .before .before .before .before .before .before .before .before .args .name)) (c .before .before .before .before .loop .e) (c .before .before .entry-of .result) (c .before .is-text .result) (c .before .before .entry-of .ensures) (c .before .is-text .ensures) in
-    (search needs, any-turn (nests (now (c .before .before .before .before .before .before .before .before .before .args .s)) (c .before .before .before .before .before .before .before .before .before .args .l) (bytesOf (now (c .before .before .before .before .before .before .before .before .before .args .s)) (c .before .before .before .before .before .before .before .before .before .args .name))) (c .before .before .before .before .loop .e) ∙ (rw (c .before .before .before .before .loop .inv .1, h ∙ c .if2 .left)))
+    let start = c .before .before .before .before .before .before .before .before .before in
+    let loop = c .before .before .before .before .loop in
+    let entry-of = c .before .before .entry-of in
+    let s = now (start .args .s) in let l = start .args .l in let name = start .args .name in
+    let h = said s l (bytesOf s name) (loop .e) (entry-of .result) (c .before .is-text .result) (entry-of .ensures) (c .before .is-text .ensures) in
+    (omega (arith, c), any-turn (nests s l (bytesOf s name)) (loop .e) ∙ (rw (loop .inv .1, h ∙ c .if2 .left)))
 
 returns-3 : tie.Need-returns-3 Inv-loop μ-loop
-returns-3 c = let q : length (lookup-at (packOf (now (c .before .before .before .before .before .before .args .s)) .lookups) (c .before .before .before .before .before .before .args .l) .entries) ≡ c .before .loop .e = omega (arith, c .before .before .before .before .before .before .pre .1 .entries, c .before .loop .inv .0, c .loop-test .left) in sym (nesting (now (c .before .before .before .before .before .before .args .s)) (bytesOf (now (c .before .before .before .before .before .before .args .s)) (c .before .before .before .before .before .before .args .name)) (lookup-at (packOf (now (c .before .before .before .before .before .before .args .s)) .lookups) (c .before .before .before .before .before .before .args .l)) (c .before .before .before .before .before .before .args .v) (c .before .before .before .before .before .before .pre .1) (c .before .before .if1 .left) ∙ (rw (q, c .before .loop .inv .1)))
+returns-3 c =
+    let start = c .before .before .before .before .before .before in
+    let s = now (start .args .s) in let l = start .args .l in
+    let q : length (lookup-at (packOf s .lookups) l .entries) ≡ c .before .loop .e =
+    omega (arith, start .pre .1 .entries, c .before .loop .inv .0, c .loop-test .left) in
+    sym (nesting s (bytesOf s (start .args .name)) (lookup-at (packOf s .lookups) l) (start .args .v) (start .pre .1) (c .before .before .if1 .left)
+    ∙ (rw (q, c .before .loop .inv .1)))
 
 pub referenced-by-lookup-spec : {M : Type 1} → statement M
 referenced-by-lookup-spec =

@@ -32,34 +32,74 @@ loop-holds : tie.Need-loop-holds Inv-loop μ-loop
 loop-holds c = (search needs, c .before .before .pre .2, refl)
 
 lookup-of-requires : tie.Need-lookup-of-requires Inv-loop μ-loop
-lookup-of-requires c κs = (at-lookup (c .before .before .before .before .pre .0) (c .before .before .before .before .pre .1) (c .before .loop .inv .1) (c .loop-test .taken))
+lookup-of-requires c κs =
+    let start = c .before .before .before .before in
+    (at-lookup (start .pre .0) (start .pre .1) (c .before .loop .inv .1) (c .loop-test .taken))
 
 referenced-by-lookup-requires : tie.Need-referenced-by-lookup-requires Inv-loop μ-loop
-referenced-by-lookup-requires c κs = ((at-lookup (c .before .before .before .before .before .pre .0) (c .before .before .before .before .before .pre .1) (c .before .before .loop .inv .1) (c .before .loop-test .taken)), c .lookup-of .ensures)
+referenced-by-lookup-requires c κs =
+    let start = c .before .before .before .before .before in
+    ((at-lookup (start .pre .0) (start .pre .1) (c .before .before .loop .inv .1) (c .before .loop-test .taken)), c .lookup-of .ensures)
 
 returns : tie.Need-returns Inv-loop μ-loop
-returns c = sym (any-hit (has (now (c .before .before .before .before .before .before .before .args .s)) (bytesOf (now (c .before .before .before .before .before .before .before .args .s)) (c .before .before .before .before .before .before .before .args .name))) (length (packOf (now (c .before .before .before .before .before .before .before .args .s)) .lookups)) (c .before .before .before .before .loop .l) (omega (arith, c .before .before .before .before .before .before .before .pre .1, c .before .before .before .loop-test .taken)) (sym (c .before .referenced-by-lookup .ensures) ∙ c .if1 .taken))
+returns c =
+    let start = c .before .before .before .before .before .before .before in
+    let loop = c .before .before .before .before .loop in
+    let loop-test = c .before .before .before .loop-test in
+    let s = now (start .args .s) in
+    sym (any-hit (has s (bytesOf s (start .args .name))) (length (packOf s .lookups)) (loop .l) (omega (arith, start .pre .1, loop-test .taken))
+    (sym (c .before .referenced-by-lookup .ensures) ∙ c .if1 .taken))
 
 add-p : tie.Need-add-p Inv-loop μ-loop
-add-p c = omega (arith, entries-few (at-lookup (c .before .before .before .before .before .before .before .pre .0) (c .before .before .before .before .before .before .before .pre .1) (c .before .before .before .before .loop .inv .1) (c .before .before .before .loop-test .taken)))
+add-p c =
+    let start = c .before .before .before .before .before .before .before in
+    let loop = c .before .before .before .before .loop in
+    let loop-test = c .before .before .before .loop-test in
+    omega (arith, entries-few (at-lookup (start .pre .0) (start .pre .1) (loop .inv .1) (loop-test .taken)))
 
 cast-p : tie.Need-cast-p Inv-loop μ-loop
-cast-p c = omega (arith, entries-few (at-lookup (c .before .before .before .before .before .before .before .before .pre .0) (c .before .before .before .before .before .before .before .before .pre .1) (c .before .before .before .before .before .loop .inv .1) (c .before .before .before .before .loop-test .taken)), c .before .before .before .lookup-of .ensures .entries)
+cast-p c =
+    let start = c .before .before .before .before .before .before .before .before in
+    let loop = c .before .before .before .before .before .loop in
+    let loop-test = c .before .before .before .before .loop-test in
+    let lookup-of = c .before .before .before .lookup-of in
+    omega (arith, entries-few (at-lookup (start .pre .0) (start .pre .1) (loop .inv .1) (loop-test .taken)), lookup-of .ensures .entries)
 
 add-p-2 : tie.Need-add-p-2 Inv-loop μ-loop
-add-p-2 c = omega (arith, entries-few (at-lookup (c .before .before .before .before .before .before .before .before .pre .0) (c .before .before .before .before .before .before .before .before .pre .1) (c .before .before .before .before .before .loop .inv .1) (c .before .before .before .before .loop-test .taken)), c .before .before .before .lookup-of .ensures .entries)
+add-p-2 c =
+    let start = c .before .before .before .before .before .before .before .before in
+    let loop = c .before .before .before .before .before .loop in
+    let loop-test = c .before .before .before .before .loop-test in
+    let lookup-of = c .before .before .before .lookup-of in
+    omega (arith, entries-few (at-lookup (start .pre .0) (start .pre .1) (loop .inv .1) (loop-test .taken)), lookup-of .ensures .entries)
 
 add-l : tie.Need-add-l Inv-loop μ-loop
-add-l c = omega (arith, lookups-few (at-lookup (c .before .before .before .before .before .before .before .before .pre .0) (c .before .before .before .before .before .before .before .before .pre .1) (c .before .before .before .before .before .loop .inv .1) (c .before .before .before .before .loop-test .taken)))
+add-l c =
+    let start = c .before .before .before .before .before .before .before .before in
+    let loop = c .before .before .before .before .before .loop in
+    let loop-test = c .before .before .before .before .loop-test in
+    omega (arith, lookups-few (at-lookup (start .pre .0) (start .pre .1) (loop .inv .1) (loop-test .taken)))
 
 loop-less : tie.Need-loop-less Inv-loop μ-loop
 loop-less c = search needs
 
 loop-again : tie.Need-loop-again Inv-loop μ-loop
-loop-again c = (search needs, omega (arith, lookup-place-next (packOf (now (c .before .before .before .before .before .before .before .before .args .s))) (c .before .before .before .before .before .loop .l), c .before .before .before .lookup-of .ensures .entries, c .before .before .before .before .before .loop .inv .1), any-turn (has (now (c .before .before .before .before .before .before .before .before .args .s)) (bytesOf (now (c .before .before .before .before .before .before .before .before .args .s)) (c .before .before .before .before .before .before .before .before .args .name))) (c .before .before .before .before .before .loop .l) ∙ (rw (c .before .before .before .before .before .loop .inv .2, sym (c .before .before .referenced-by-lookup .ensures) ∙ c .before .if1 .left)))
+loop-again c =
+    let start = c .before .before .before .before .before .before .before .before in
+    let loop = c .before .before .before .before .before .loop in
+    let lookup-of = c .before .before .before .lookup-of in
+    let s = now (start .args .s) in (
+      omega (arith, c),
+      omega (arith, lookup-place-next (packOf s) (loop .l), lookup-of .ensures .entries, loop .inv .1),
+      any-turn (has s (bytesOf s (start .args .name))) (loop .l)
+          ∙ (rw (loop .inv .2, sym (c .before .before .referenced-by-lookup .ensures) ∙ c .before .if1 .left)),
+    )
 
 returns-2 : tie.Need-returns-2 Inv-loop μ-loop
-returns-2 c = let q : length (packOf (now (c .before .before .before .before .args .s)) .lookups) ≡ c .before .loop .l = omega (arith, c .before .before .before .before .pre .1, c .before .loop .inv .0, c .loop-test .left) in rw (q, c .before .loop .inv .2)
+returns-2 c =
+    let start = c .before .before .before .before in
+    let q : length (packOf (now (start .args .s)) .lookups) ≡ c .before .loop .l = omega (arith, start .pre .1, c .before .loop .inv .0, c .loop-test .left) in
+    rw (q, c .before .loop .inv .2)
 
 pub referenced-by-lookups-spec : {M : Type 1} → statement M
 referenced-by-lookups-spec =

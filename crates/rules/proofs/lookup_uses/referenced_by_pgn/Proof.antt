@@ -20,7 +20,8 @@ use Rattle.rules.proofs.lookup_uses.referenced_by_pgn.Tie as tie
 abbrev refers : List ℕ → ℕ → ℕ → List ℕ → ℕ → Bool
 refers s t i name k = ref-is (field-at (pgn-at (packOf s) t i) k .reference) name
 
-said : (s : List ℕ) (t i : ℕ) (name : List ℕ) (k : ℕ) (v : FieldView) (r : Bool) → fieldMeaning s v ≡ field-at (pgn-at (packOf s) t i) k → r ≡ ref-is (optReference s (v .links .reference)) name → refers s t i name k ≡ r
+said : (s : List ℕ) (t i : ℕ) (name : List ℕ) (k : ℕ) (v : FieldView) (r : Bool) → fieldMeaning s v ≡ field-at (pgn-at (packOf s) t i) k
+    → r ≡ ref-is (optReference s (v .links .reference)) name → refers s t i name k ≡ r
 said s t i name k v r y h = sym (h ∙ (λ j. ref-is (y j .reference) name))
 
 abbrev Inv-loop : tie.InvT-loop
@@ -33,7 +34,9 @@ loop-holds : tie.Need-loop-holds Inv-loop μ-loop
 loop-holds c = (search needs, refl)
 
 field-of-requires : tie.Need-field-of-requires Inv-loop μ-loop
-field-of-requires c κs = (c .before .before .before .before .pre .0, omega (arith, c .before .before .before .before .pre .1, c .loop-test .taken))
+field-of-requires c κs =
+    let start = c .before .before .before .before in
+    (start .pre .0, omega (arith, start .pre .1, c .loop-test .taken))
 
 ref-is-requires : tie.Need-ref-is-requires Inv-loop μ-loop
 ref-is-requires c κs = search needs
@@ -41,8 +44,14 @@ ref-is-requires c κs = search needs
 returns : tie.Need-returns Inv-loop μ-loop
 unfolding referenced-by-pgn
 returns c =
-    let h = said (now (c .before .before .before .before .before .before .before .args .s)) (c .before .before .before .before .before .before .before .args .t) (c .before .before .before .before .before .before .before .args .i) (bytesOf (now (c .before .before .before .before .before .before .before .args .s)) (c .before .before .before .before .before .before .before .args .name)) (c .before .before .before .before .loop .k) (c .before .before .field-of .result) (c .before .ref-is .result) (c .before .before .field-of .ensures) (c .before .ref-is .ensures) in
-    sym (any-hit (refers (now (c .before .before .before .before .before .before .before .args .s)) (c .before .before .before .before .before .before .before .args .t) (c .before .before .before .before .before .before .before .args .i) (bytesOf (now (c .before .before .before .before .before .before .before .args .s)) (c .before .before .before .before .before .before .before .args .name))) (length (pgn-at (packOf (now (c .before .before .before .before .before .before .before .args .s))) (c .before .before .before .before .before .before .before .args .t) (c .before .before .before .before .before .before .before .args .i) .fields)) (c .before .before .before .before .loop .k) (omega (arith, c .before .before .before .before .before .before .before .pre .1, c .before .before .before .loop-test .taken)) (h ∙ c .if1 .taken))
+    let start = c .before .before .before .before .before .before .before in
+    let loop = c .before .before .before .before .loop in
+    let loop-test = c .before .before .before .loop-test in
+    let field-of = c .before .before .field-of in
+    let s = now (start .args .s) in let t = start .args .t in let i = start .args .i in let name = start .args .name in
+    let h = said s t i (bytesOf s name) (loop .k) (field-of .result) (c .before .ref-is .result) (field-of .ensures) (c .before .ref-is .ensures) in
+    sym (any-hit (refers s t i (bytesOf s name)) (length (pgn-at (packOf s) t i .fields)) (loop .k) (omega (arith, start .pre .1, loop-test .taken))
+    (h ∙ c .if1 .taken))
 
 add-k : tie.Need-add-k Inv-loop μ-loop
 add-k c = search needs
@@ -52,12 +61,20 @@ loop-less c = search needs
 
 loop-again : tie.Need-loop-again Inv-loop μ-loop
 loop-again c =
-    let h = said (now (c .before .before .before .before .before .before .before .args .s)) (c .before .before .before .before .before .before .before .args .t) (c .before .before .before .before .before .before .before .args .i) (bytesOf (now (c .before .before .before .before .before .before .before .args .s)) (c .before .before .before .before .before .before .before .args .name)) (c .before .before .before .before .loop .k) (c .before .before .field-of .result) (c .before .ref-is .result) (c .before .before .field-of .ensures) (c .before .ref-is .ensures) in
-    (search needs, any-turn (refers (now (c .before .before .before .before .before .before .before .args .s)) (c .before .before .before .before .before .before .before .args .t) (c .before .before .before .before .before .before .before .args .i) (bytesOf (now (c .before .before .before .before .before .before .before .args .s)) (c .before .before .before .before .before .before .before .args .name))) (c .before .before .before .before .loop .k) ∙ (rw (c .before .before .before .before .loop .inv .1, h ∙ c .if1 .left)))
+    let start = c .before .before .before .before .before .before .before in
+    let loop = c .before .before .before .before .loop in
+    let field-of = c .before .before .field-of in
+    let s = now (start .args .s) in let t = start .args .t in let i = start .args .i in let name = start .args .name in
+    let h = said s t i (bytesOf s name) (loop .k) (field-of .result) (c .before .ref-is .result) (field-of .ensures) (c .before .ref-is .ensures) in
+    (omega (arith, c), any-turn (refers s t i (bytesOf s name)) (loop .k) ∙ (rw (loop .inv .1, h ∙ c .if1 .left)))
 
 returns-2 : tie.Need-returns-2 Inv-loop μ-loop
 unfolding referenced-by-pgn
-returns-2 c = let q : length (pgn-at (packOf (now (c .before .before .before .before .args .s))) (c .before .before .before .before .args .t) (c .before .before .before .before .args .i) .fields) ≡ c .before .loop .k = omega (arith, c .before .before .before .before .pre .1, c .before .loop .inv .0, c .loop-test .left) in rw (q, c .before .loop .inv .1)
+returns-2 c =
+    let start = c .before .before .before .before in
+    let q : length (pgn-at (packOf (now (start .args .s))) (start .args .t) (start .args .i) .fields) ≡ c .before .loop .k =
+    omega (arith, start .pre .1, c .before .loop .inv .0, c .loop-test .left) in
+    rw (q, c .before .loop .inv .1)
 
 pub referenced-by-pgn-spec : {M : Type 1} → statement M
 referenced-by-pgn-spec =

@@ -32,36 +32,79 @@ loop-holds : tie.Need-loop-holds Inv-loop μ-loop
 loop-holds c = (search needs, omega (arith, c .before .before .pre .3), refl)
 
 pgn-of-requires : tie.Need-pgn-of-requires Inv-loop μ-loop
-pgn-of-requires c κs = (at-pgn (c .before .before .before .before .pre .0) (c .before .before .before .before .pre .1) (omega (arith, c .before .before .before .before .pre .2)) (c .loop-test .taken) (c .before .loop .inv .1))
+pgn-of-requires c κs =
+    let start = c .before .before .before .before in
+    (at-pgn (start .pre .0) (start .pre .1) (omega (arith, start .pre .2)) (c .loop-test .taken) (c .before .loop .inv .1))
 
 referenced-by-pgn-requires : tie.Need-referenced-by-pgn-requires Inv-loop μ-loop
-referenced-by-pgn-requires c κs = ((at-pgn (c .before .before .before .before .before .pre .0) (c .before .before .before .before .before .pre .1) (omega (arith, c .before .before .before .before .before .pre .2)) (c .before .loop-test .taken) (c .before .before .loop .inv .1)), c .pgn-of .ensures .fields)
+referenced-by-pgn-requires c κs =
+    let start = c .before .before .before .before .before in (
+      (at-pgn (start .pre .0) (start .pre .1) (omega (arith, start .pre .2)) (c .before .loop-test .taken) (c .before .before .loop .inv .1)),
+      c .pgn-of .ensures .fields,
+    )
 
 returns : tie.Need-returns Inv-loop μ-loop
 unfolding referenced-by-tree
-returns c = sym (any-hit (has (now (c .before .before .before .before .before .before .before .args .s)) (c .before .before .before .before .before .before .before .args .t) (bytesOf (now (c .before .before .before .before .before .before .before .args .s)) (c .before .before .before .before .before .before .before .args .name))) (length (pgns-of (packOf (now (c .before .before .before .before .before .before .before .args .s))) (c .before .before .before .before .before .before .before .args .t))) (c .before .before .before .before .loop .i) (omega (arith, c .before .before .before .before .before .before .before .pre .2, c .before .before .before .loop-test .taken)) (sym (c .before .referenced-by-pgn .ensures) ∙ c .if1 .taken))
+returns c =
+    let start = c .before .before .before .before .before .before .before in
+    let loop = c .before .before .before .before .loop in
+    let loop-test = c .before .before .before .loop-test in
+    let s = now (start .args .s) in let t = start .args .t in
+    sym (any-hit (has s t (bytesOf s (start .args .name))) (length (pgns-of (packOf s) t)) (loop .i) (omega (arith, start .pre .2, loop-test .taken))
+    (sym (c .before .referenced-by-pgn .ensures) ∙ c .if1 .taken))
 
 add-p : tie.Need-add-p Inv-loop μ-loop
-add-p c = omega (arith, fields-few (at-pgn (c .before .before .before .before .before .before .before .pre .0) (c .before .before .before .before .before .before .before .pre .1) (omega (arith, c .before .before .before .before .before .before .before .pre .2)) (c .before .before .before .loop-test .taken) (c .before .before .before .before .loop .inv .1)))
+add-p c =
+    let start = c .before .before .before .before .before .before .before in
+    let loop = c .before .before .before .before .loop in
+    let loop-test = c .before .before .before .loop-test in
+    omega (arith, fields-few (at-pgn (start .pre .0) (start .pre .1) (omega (arith, start .pre .2)) (loop-test .taken) (loop .inv .1)))
 
 cast-p : tie.Need-cast-p Inv-loop μ-loop
-cast-p c = omega (arith, fields-few (at-pgn (c .before .before .before .before .before .before .before .before .pre .0) (c .before .before .before .before .before .before .before .before .pre .1) (omega (arith, c .before .before .before .before .before .before .before .before .pre .2)) (c .before .before .before .before .loop-test .taken) (c .before .before .before .before .before .loop .inv .1)), c .before .before .before .pgn-of .ensures .fields)
+cast-p c =
+    let start = c .before .before .before .before .before .before .before .before in
+    let loop = c .before .before .before .before .before .loop in
+    let loop-test = c .before .before .before .before .loop-test in
+    let pgn-of = c .before .before .before .pgn-of in
+    omega (arith, fields-few (at-pgn (start .pre .0) (start .pre .1) (omega (arith, start .pre .2)) (loop-test .taken) (loop .inv .1)), pgn-of .ensures .fields)
 
 add-p-2 : tie.Need-add-p-2 Inv-loop μ-loop
-add-p-2 c = omega (arith, fields-few (at-pgn (c .before .before .before .before .before .before .before .before .pre .0) (c .before .before .before .before .before .before .before .before .pre .1) (omega (arith, c .before .before .before .before .before .before .before .before .pre .2)) (c .before .before .before .before .loop-test .taken) (c .before .before .before .before .before .loop .inv .1)), c .before .before .before .pgn-of .ensures .fields)
+add-p-2 c =
+    let start = c .before .before .before .before .before .before .before .before in
+    let loop = c .before .before .before .before .before .loop in
+    let loop-test = c .before .before .before .before .loop-test in
+    let pgn-of = c .before .before .before .pgn-of in
+    omega (arith, fields-few (at-pgn (start .pre .0) (start .pre .1) (omega (arith, start .pre .2)) (loop-test .taken) (loop .inv .1)), pgn-of .ensures .fields)
 
 add-i : tie.Need-add-i Inv-loop μ-loop
-add-i c = omega (arith, pgns-few (at-pgn (c .before .before .before .before .before .before .before .before .pre .0) (c .before .before .before .before .before .before .before .before .pre .1) (omega (arith, c .before .before .before .before .before .before .before .before .pre .2)) (c .before .before .before .before .loop-test .taken) (c .before .before .before .before .before .loop .inv .1)))
+add-i c =
+    let start = c .before .before .before .before .before .before .before .before in
+    let loop = c .before .before .before .before .before .loop in
+    let loop-test = c .before .before .before .before .loop-test in
+    omega (arith, pgns-few (at-pgn (start .pre .0) (start .pre .1) (omega (arith, start .pre .2)) (loop-test .taken) (loop .inv .1)))
 
 loop-less : tie.Need-loop-less Inv-loop μ-loop
 loop-less c = search needs
 
 loop-again : tie.Need-loop-again Inv-loop μ-loop
-loop-again c = (search needs, omega (arith, pgn-place-next (packOf (now (c .before .before .before .before .before .before .before .before .args .s))) (c .before .before .before .before .before .before .before .before .args .t) (c .before .before .before .before .before .loop .i), c .before .before .before .pgn-of .ensures .fields, c .before .before .before .before .before .loop .inv .1), any-turn (has (now (c .before .before .before .before .before .before .before .before .args .s)) (c .before .before .before .before .before .before .before .before .args .t) (bytesOf (now (c .before .before .before .before .before .before .before .before .args .s)) (c .before .before .before .before .before .before .before .before .args .name))) (c .before .before .before .before .before .loop .i) ∙ (rw (c .before .before .before .before .before .loop .inv .2, sym (c .before .before .referenced-by-pgn .ensures) ∙ c .before .if1 .left)))
+loop-again c =
+    let start = c .before .before .before .before .before .before .before .before in
+    let loop = c .before .before .before .before .before .loop in
+    let pgn-of = c .before .before .before .pgn-of in
+    let s = now (start .args .s) in let t = start .args .t in (
+      omega (arith, c),
+      omega (arith, pgn-place-next (packOf s) t (loop .i), pgn-of .ensures .fields, loop .inv .1),
+      any-turn (has s t (bytesOf s (start .args .name))) (loop .i)
+          ∙ (rw (loop .inv .2, sym (c .before .before .referenced-by-pgn .ensures) ∙ c .before .if1 .left)),
+    )
 
 returns-2 : tie.Need-returns-2 Inv-loop μ-loop
 unfolding referenced-by-tree
-returns-2 c = let q : length (pgns-of (packOf (now (c .before .before .before .before .args .s))) (c .before .before .before .before .args .t)) ≡ c .before .loop .i = omega (arith, c .before .before .before .before .pre .2, c .before .loop .inv .0, c .loop-test .left) in rw (q, c .before .loop .inv .2)
+returns-2 c =
+    let start = c .before .before .before .before in
+    let q : length (pgns-of (packOf (now (start .args .s))) (start .args .t)) ≡ c .before .loop .i =
+    omega (arith, start .pre .2, c .before .loop .inv .0, c .loop-test .left) in
+    rw (q, c .before .loop .inv .2)
 
 pub referenced-by-tree-spec : {M : Type 1} → statement M
 referenced-by-tree-spec =

@@ -35,23 +35,44 @@ section-requires c κs = search needs
 
 referenced-by-tree-requires : tie.Need-referenced-by-tree-requires Inv-loop μ-loop
 referenced-by-tree-requires c κs =
-    let a = at-tree (packOf (now (c .before .before .before .before .before .before .args .s))) (c .before .before .before .before .before .before .args .index) (c .before .before .before .before .before .before .pre .1) (c .before .before .before .loop .t) (c .before .before .loop-test .taken) (c .before .of-tree .result) (c .section .result) (c .before .of-tree .ensures) (c .section .ensures) in
-    (c .before .before .before .before .before .before .pre .0, c .before .before .loop-test .taken, a .0, a .1)
+    let start = c .before .before .before .before .before .before in
+    let loop = c .before .before .before .loop in
+    let loop-test = c .before .before .loop-test in
+    let a = at-tree (packOf (now (start .args .s))) (start .args .index) (start .pre .1) (loop .t) (loop-test .taken) (c .before .of-tree .result)
+    (c .section .result) (c .before .of-tree .ensures) (c .section .ensures) in
+    (start .pre .0, loop-test .taken, a .0, a .1)
 
 returns : tie.Need-returns Inv-loop μ-loop
-returns c = sym (any-hit (has (now (c .before .before .before .before .before .before .before .before .args .s)) (bytesOf (now (c .before .before .before .before .before .before .before .before .args .s)) (c .before .before .before .before .before .before .before .before .args .name))) 3 (c .before .before .before .before .before .loop .t) (c .before .before .before .before .loop-test .taken) (sym (c .before .referenced-by-tree .ensures) ∙ c .if1 .taken))
+returns c =
+    let start = c .before .before .before .before .before .before .before .before in
+    let loop = c .before .before .before .before .before .loop in
+    let loop-test = c .before .before .before .before .loop-test in
+    let s = now (start .args .s) in
+    sym (any-hit (has s (bytesOf s (start .args .name))) 3 (loop .t) (loop-test .taken) (sym (c .before .referenced-by-tree .ensures) ∙ c .if1 .taken))
 
 add-t : tie.Need-add-t Inv-loop μ-loop
-add-t c = omega (arith, c .before .before .before .before .loop-test .taken)
+add-t c =
+    let loop-test = c .before .before .before .before .loop-test in
+    omega (arith, loop-test .taken)
 
 loop-less : tie.Need-loop-less Inv-loop μ-loop
 loop-less c = search needs
 
 loop-again : tie.Need-loop-again Inv-loop μ-loop
-loop-again c = (search needs, any-turn (has (now (c .before .before .before .before .before .before .before .before .args .s)) (bytesOf (now (c .before .before .before .before .before .before .before .before .args .s)) (c .before .before .before .before .before .before .before .before .args .name))) (c .before .before .before .before .before .loop .t) ∙ (rw (c .before .before .before .before .before .loop .inv .1, sym (c .before .referenced-by-tree .ensures) ∙ c .if1 .left)))
+loop-again c =
+    let start = c .before .before .before .before .before .before .before .before in
+    let loop = c .before .before .before .before .before .loop in
+    let s = now (start .args .s) in (
+      omega (arith, c),
+      any-turn (has s (bytesOf s (start .args .name))) (loop .t) ∙ (rw (loop .inv .1, sym (c .before .referenced-by-tree .ensures) ∙ c .if1 .left)),
+    )
 
 returns-2 : tie.Need-returns-2 Inv-loop μ-loop
-returns-2 c = let q : c .before .loop .t ≡ 3 = omega (arith, c .before .loop .inv .0, c .loop-test .left) in sym (ap (anyBelow (has (now (c .before .before .before .before .args .s)) (bytesOf (now (c .before .before .before .before .args .s)) (c .before .before .before .before .args .name)))) (sym q) ∙ c .before .loop .inv .1)
+returns-2 c =
+    let start = c .before .before .before .before in
+    let s = now (start .args .s) in
+    let q : c .before .loop .t ≡ 3 = omega (arith, c .before .loop .inv .0, c .loop-test .left) in
+    sym (ap (anyBelow (has s (bytesOf s (start .args .name)))) (sym q) ∙ c .before .loop .inv .1)
 
 pub referenced-by-trees-spec : {M : Type 1} → statement M
 referenced-by-trees-spec =

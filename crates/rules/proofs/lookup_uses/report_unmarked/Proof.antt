@@ -28,19 +28,29 @@ abbrev μ-loop : tie.MeasureT-loop
 μ-loop out₀ n marks count m₀ l₀ out m l = count - l
 
 loop-holds : tie.Need-loop-holds Inv-loop μ-loop
-loop-holds c = (search needs, refl, emitted-none (now (c .before .before .args .out)) (c .before .before .args .n))
+loop-holds c =
+    let start = c .before .before in
+    (omega (arith, c), refl, emitted-none (now (start .args .out)) (start .args .n))
 
 cast-used : tie.Need-cast-used Inv-loop μ-loop
 cast-used c = search needs
 
 shared-slice-read-used : tie.Need-shared-slice-read-used Inv-loop μ-loop
-shared-slice-read-used c = omega (arith, c .before .loop-test .taken, c .before .before .before .before .before .pre .1)
+shared-slice-read-used c =
+    let start = c .before .before .before .before .before in
+    omega (arith, c .before .loop-test .taken, start .pre .1)
 
 lookup-warning-requires : tie.Need-lookup-warning-requires Inv-loop μ-loop
 lookup-warning-requires c κs = search needs
 
 put-if-requires : tie.Need-put-if-requires Inv-loop μ-loop
-put-if-requires c κs = rw (said (now (c .before .before .before .before .before .before .before .args .marks)) (c .before .before .before .before .loop .l) (c .lookup-warning .result) (c .lookup-warning .ensures)) at (fits-turn (of-mark (now (c .before .before .before .before .before .before .before .args .marks))) (c .before .before .before .before .before .before .before .args .count) (c .before .before .before .before .loop .l) (c .before .before .before .loop-test .taken) (c .before .before .before .before .before .before .before .pre .0) (c .before .before .before .before .loop .inv .2))
+put-if-requires c κs =
+    let start = c .before .before .before .before .before .before .before in
+    let loop = c .before .before .before .before .loop in
+    let loop-test = c .before .before .before .loop-test in
+    let marks = now (start .args .marks) in
+    rw (said marks (loop .l) (c .lookup-warning .result) (c .lookup-warning .ensures)) at
+    (fits-turn (of-mark marks) (start .args .count) (loop .l) (loop-test .taken) (start .pre .0) (loop .inv .2))
 
 add-l : tie.Need-add-l Inv-loop μ-loop
 add-l c = search needs
@@ -49,13 +59,26 @@ loop-less : tie.Need-loop-less Inv-loop μ-loop
 loop-less c = search needs
 
 loop-again : tie.Need-loop-again Inv-loop μ-loop
-loop-again c = (search needs, c .before .before .put-if .kept .0 ∙ c .before .before .before .before .before .before .before .loop .inv .1, emitted-turn (of-mark (now (c .before .before .before .before .before .before .before .before .before .before .args .marks))) (c .before .before .before .before .before .before .before .loop .l) (c .before .before .before .before .before .before .before .loop .inv .2) (rw (said (now (c .before .before .before .before .before .before .before .before .before .before .args .marks)) (c .before .before .before .before .before .before .before .loop .l) (c .before .before .before .lookup-warning .result) (c .before .before .before .lookup-warning .ensures)) (c .before .before .put-if .ensures)))
+loop-again c =
+    let start = c .before .before .before .before .before .before .before .before .before .before in
+    let loop = c .before .before .before .before .before .before .before .loop in
+    let lookup-warning-call = c .before .before .before .lookup-warning in
+    let put-if = c .before .before .put-if in
+    let marks = now (start .args .marks) in (
+      omega (arith, c),
+      put-if .kept .0 ∙ loop .inv .1,
+      emitted-turn (of-mark marks) (loop .l) (loop .inv .2)
+          (rw (said marks (loop .l) (lookup-warning-call .result) (lookup-warning-call .ensures)) (put-if .ensures)),
+    )
 
 same-length : tie.Need-same-length Inv-loop μ-loop
 same-length c = c .before .loop .inv .1
 
 returns : tie.Need-returns Inv-loop μ-loop
-returns c = let q : c .before .before .before .before .args .count ≡ c .before .loop .l = omega (arith, c .before .loop .inv .0, c .loop-test .left) in rw q (c .before .loop .inv .2)
+returns c =
+    let start = c .before .before .before .before in
+    let q : start .args .count ≡ c .before .loop .l = omega (arith, c .before .loop .inv .0, c .loop-test .left) in
+    rw q (c .before .loop .inv .2)
 
 pub report-unmarked-spec : {M : Type 1} → statement M
 report-unmarked-spec =

@@ -27,7 +27,9 @@ abbrev μ-loop : tie.MeasureT-loop
 μ-loop out₀ n s work index m₀ t₀ out m t = 3 - t
 
 loop-holds : tie.Need-loop-holds Inv-loop μ-loop
-loop-holds c = (search needs, refl, emitted-none (now (c .before .before .before .args .out)) (c .before .before .before .args .n))
+loop-holds c =
+    let start = c .before .before .before in
+    (omega (arith, c), refl, emitted-none (now (start .args .out)) (start .args .n))
 
 of-tree-requires : tie.Need-of-tree-requires Inv-loop μ-loop
 of-tree-requires c κs = search needs
@@ -37,17 +39,39 @@ section-requires c κs = search needs
 
 check-tree-refs-requires : tie.Need-check-tree-refs-requires Inv-loop μ-loop
 check-tree-refs-requires c κs =
-    let a = at-tree (packOf (now (c .before .before .before .before .before .before .before .before .args .s))) (c .before .before .before .before .before .before .before .before .args .index) (c .before .before .before .before .before .before .before .before .pre .2) (c .before .before .before .before .loop .t) (c .before .before .before .loop-test .taken) (c .before .before .of-tree .result) (c .before .section .result) (c .before .before .of-tree .ensures) (c .before .section .ensures) in
-    (fits-turn (of-tree (now (c .before .before .before .before .before .before .before .before .args .s))) 3 (c .before .before .before .before .loop .t) (c .before .before .before .loop-test .taken) (c .before .before .before .before .before .before .before .before .pre .0) (c .before .before .before .before .loop .inv .2), c .before .before .before .before .before .before .before .before .pre .1, c .before .before .before .before .before .before .before .before .pre .2 .lookups, c .before .before .before .before .before .before .before .before .pre .2 .lookups-place, c .before .before .before .loop-test .taken, a .0, a .1)
+    let start = c .before .before .before .before .before .before .before .before in
+    let loop = c .before .before .before .before .loop in
+    let loop-test = c .before .before .before .loop-test in
+    let of-tree-call = c .before .before .of-tree in
+    let s = now (start .args .s) in
+    let a = at-tree (packOf s) (start .args .index) (start .pre .2) (loop .t) (loop-test .taken) (of-tree-call .result) (c .before .section .result)
+    (of-tree-call .ensures) (c .before .section .ensures) in (
+      fits-turn (of-tree s) 3 (loop .t) (loop-test .taken) (start .pre .0) (loop .inv .2),
+      start .pre .1,
+      start .pre .2 .lookups,
+      start .pre .2 .lookups-place,
+      loop-test .taken,
+      a .0,
+      a .1,
+    )
 
 add-t : tie.Need-add-t Inv-loop μ-loop
-add-t c = omega (arith, c .before .before .before .before .before .before .loop-test .taken)
+add-t c =
+    let loop-test = c .before .before .before .before .before .before .loop-test in
+    omega (arith, loop-test .taken)
 
 loop-less : tie.Need-loop-less Inv-loop μ-loop
 loop-less c = search needs
 
 loop-again : tie.Need-loop-again Inv-loop μ-loop
-loop-again c = (search needs, c .before .before .check-tree-refs .kept .0 ∙ c .before .before .before .before .before .before .before .loop .inv .1, emitted-turn (of-tree (now (c .before .before .before .before .before .before .before .before .before .before .before .args .s))) (c .before .before .before .before .before .before .before .loop .t) (c .before .before .before .before .before .before .before .loop .inv .2) (c .before .before .check-tree-refs .ensures))
+loop-again c =
+    let start = c .before .before .before .before .before .before .before .before .before .before .before in
+    let loop = c .before .before .before .before .before .before .before .loop in
+    let check-tree-refs = c .before .before .check-tree-refs in (
+      omega (arith, c),
+      check-tree-refs .kept .0 ∙ loop .inv .1,
+      emitted-turn (of-tree (now (start .args .s))) (loop .t) (loop .inv .2) (check-tree-refs .ensures),
+    )
 
 same-length : tie.Need-same-length Inv-loop μ-loop
 same-length c = c .before .loop .inv .1

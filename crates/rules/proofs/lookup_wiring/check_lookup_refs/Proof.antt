@@ -25,7 +25,8 @@ module _ (s : List ℕ) (ls : List Lookup) (t i k : ℕ) (v : FieldView) (F : Fi
   asked : {m : ℕ} → Fits m (lookup-ref-at ls t i k F (F .reference)) → Fits m (lookup-ref-at ls t i k (fieldMeaning s v) (optReference s (v .links .reference)))
   asked h = rw (← is) at h
 
-  told : {o o′ : List ℕ} {n m : ℕ} → Emitted o n (lookup-ref-at ls t i k (fieldMeaning s v) (optReference s (v .links .reference))) o′ m → Emitted o n (lookup-ref-at ls t i k F (F .reference)) o′ m
+  told : {o o′ : List ℕ} {n m : ℕ} → Emitted o n (lookup-ref-at ls t i k (fieldMeaning s v) (optReference s (v .links .reference))) o′ m
+      → Emitted o n (lookup-ref-at ls t i k F (F .reference)) o′ m
   told h = rw (← is) h
 
 abbrev Inv-loop : tie.InvT-loop
@@ -35,30 +36,61 @@ abbrev μ-loop : tie.MeasureT-loop
 μ-loop out₀ n s work lookups t i p fields m₀ k₀ out m k = fields - k
 
 loop-holds : tie.Need-loop-holds Inv-loop μ-loop
-loop-holds c = (search needs, refl, emitted-none (now (c .before .before .before .args .out)) (c .before .before .before .args .n))
+loop-holds c =
+    let start = c .before .before .before in
+    (omega (arith, c), refl, emitted-none (now (start .args .out)) (start .args .n))
 
 field-of-requires : tie.Need-field-of-requires Inv-loop μ-loop
-field-of-requires c κs = (c .before .before .before .before .before .pre .1, omega (arith, c .before .before .before .before .before .pre .4, c .loop-test .taken))
+field-of-requires c κs =
+    let start = c .before .before .before .before .before in
+    (start .pre .1, omega (arith, start .pre .4, c .loop-test .taken))
 
 lookup-ref-at-requires : tie.Need-lookup-ref-at-requires Inv-loop μ-loop
 unfolding check-lookup-refs
-lookup-ref-at-requires c κs = (asked (now (c .before .before .before .before .before .before .before .args .s)) (packOf (now (c .before .before .before .before .before .before .before .args .s)) .lookups) (c .before .before .before .before .before .before .before .args .t) (c .before .before .before .before .before .before .before .args .i) (c .before .before .before .loop .k) (c .before .field-of .result) (field-at (pgn-at (packOf (now (c .before .before .before .before .before .before .before .args .s))) (c .before .before .before .before .before .before .before .args .t) (c .before .before .before .before .before .before .before .args .i)) (c .before .before .before .loop .k)) (c .before .field-of .ensures) (fits-turn (of-field (now (c .before .before .before .before .before .before .before .args .s)) (c .before .before .before .before .before .before .before .args .t) (c .before .before .before .before .before .before .before .args .i)) (c .before .before .before .before .before .before .before .args .fields) (c .before .before .before .loop .k) (c .before .before .loop-test .taken) (rw (← c .before .before .before .before .before .before .before .pre .4) at (c .before .before .before .before .before .before .before .pre .0)) (c .before .before .before .loop .inv .2)), c .before .before .before .before .before .before .before .pre .1 .ready, c .before .before .before .before .before .before .before .pre .2, c .before .before .before .before .before .before .before .pre .3)
+lookup-ref-at-requires c κs =
+    let start = c .before .before .before .before .before .before .before in
+    let loop = c .before .before .before .loop in
+    let s = now (start .args .s) in let t = start .args .t in let i = start .args .i in (
+      asked s (packOf s .lookups) t i (loop .k) (c .before .field-of .result) (field-at (pgn-at (packOf s) t i) (loop .k)) (c .before .field-of .ensures)
+          (fits-turn (of-field s t i) (start .args .fields) (loop .k) (c .before .before .loop-test .taken) (rw (← start .pre .4) at (start .pre .0))
+          (loop .inv .2)),
+      start .pre .1 .ready,
+      start .pre .2,
+      start .pre .3,
+    )
 
 add-k : tie.Need-add-k Inv-loop μ-loop
-add-k c = omega (arith, c .before .before .before .before .before .loop-test .taken, c .before .before .before .before .before .before .before .before .before .before .pre .4, fields-few (c .before .before .before .before .before .before .before .before .before .before .pre .1))
+add-k c =
+    let start = c .before .before .before .before .before .before .before .before .before .before in
+    let loop-test = c .before .before .before .before .before .loop-test in
+    omega (arith, loop-test .taken, start .pre .4, fields-few (start .pre .1))
 
 loop-less : tie.Need-loop-less Inv-loop μ-loop
 loop-less c = search needs
 
 loop-again : tie.Need-loop-again Inv-loop μ-loop
-loop-again c = (search needs, c .before .before .lookup-ref-at .kept .0 ∙ c .before .before .before .before .before .before .loop .inv .1, emitted-turn (of-field (now (c .before .before .before .before .before .before .before .before .before .before .args .s)) (c .before .before .before .before .before .before .before .before .before .before .args .t) (c .before .before .before .before .before .before .before .before .before .before .args .i)) (c .before .before .before .before .before .before .loop .k) (c .before .before .before .before .before .before .loop .inv .2) (told (now (c .before .before .before .before .before .before .before .before .before .before .args .s)) (packOf (now (c .before .before .before .before .before .before .before .before .before .before .args .s)) .lookups) (c .before .before .before .before .before .before .before .before .before .before .args .t) (c .before .before .before .before .before .before .before .before .before .before .args .i) (c .before .before .before .before .before .before .loop .k) (c .before .before .before .before .field-of .result) (field-at (pgn-at (packOf (now (c .before .before .before .before .before .before .before .before .before .before .args .s))) (c .before .before .before .before .before .before .before .before .before .before .args .t) (c .before .before .before .before .before .before .before .before .before .before .args .i)) (c .before .before .before .before .before .before .loop .k)) (c .before .before .before .before .field-of .ensures) (c .before .before .lookup-ref-at .ensures)))
+loop-again c =
+    let start = c .before .before .before .before .before .before .before .before .before .before in
+    let loop = c .before .before .before .before .before .before .loop in
+    let field-of = c .before .before .before .before .field-of in
+    let lookup-ref-at-call = c .before .before .lookup-ref-at in
+    let s = now (start .args .s) in let t = start .args .t in let i = start .args .i in (
+      omega (arith, c),
+      lookup-ref-at-call .kept .0 ∙ loop .inv .1,
+      emitted-turn (of-field s t i) (loop .k) (loop .inv .2) (told s (packOf s .lookups) t i (loop .k) (field-of .result)
+          (field-at (pgn-at (packOf s) t i) (loop .k)) (field-of .ensures) (lookup-ref-at-call .ensures)),
+    )
 
 same-length : tie.Need-same-length Inv-loop μ-loop
 same-length c = c .before .loop .inv .1
 
 returns : tie.Need-returns Inv-loop μ-loop
 unfolding check-lookup-refs
-returns c = let e : length (pgn-at (packOf (now (c .before .before .before .before .before .args .s))) (c .before .before .before .before .before .args .t) (c .before .before .before .before .before .args .i) .fields) ≡ c .before .loop .k = omega (arith, c .before .before .before .before .before .pre .4, c .before .loop .inv .0, c .loop-test .left) in rw e (c .before .loop .inv .2)
+returns c =
+    let start = c .before .before .before .before .before in
+    let e : length (pgn-at (packOf (now (start .args .s))) (start .args .t) (start .args .i) .fields) ≡ c .before .loop .k =
+    omega (arith, start .pre .4, c .before .loop .inv .0, c .loop-test .left) in
+    rw e (c .before .loop .inv .2)
 
 pub check-lookup-refs-spec : {M : Type 1} → statement M
 check-lookup-refs-spec =

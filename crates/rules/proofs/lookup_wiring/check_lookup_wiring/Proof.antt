@@ -24,22 +24,53 @@ unused P = concatBelow (λ l. report-if (not (referenced P (lookup-at (P .lookup
 
 check-all-refs-requires : tie.Need-check-all-refs-requires
 unfolding check-lookup-wiring
-check-all-refs-requires c κs = (fits-left (refs (packOf (now (c .before .before .before .before .args .s)))) (nested (packOf (now (c .before .before .before .before .args .s)))) (fits-left (refs (packOf (now (c .before .before .before .before .args .s))) ++ nested (packOf (now (c .before .before .before .before .args .s)))) (unused (packOf (now (c .before .before .before .before .args .s)))) (c .before .before .before .before .pre .0)), c .before .before .before .before .pre .1, c .before .before .before .before .pre .2)
+check-all-refs-requires c κs =
+    let start = c .before .before .before .before in
+    let s = now (start .args .s) in (
+      fits-left (refs (packOf s)) (nested (packOf s)) (fits-left (refs (packOf s) ++ nested (packOf s)) (unused (packOf s)) (start .pre .0)),
+      start .pre .1,
+      start .pre .2,
+    )
 
 check-all-nested-refs-requires : tie.Need-check-all-nested-refs-requires
 unfolding check-lookup-wiring
-check-all-nested-refs-requires c κs = (fits-right (refs (packOf (now (c .before .before .before .before .before .before .before .before .args .s)))) (nested (packOf (now (c .before .before .before .before .before .before .before .before .args .s)))) (fits-left (refs (packOf (now (c .before .before .before .before .before .before .before .before .args .s))) ++ nested (packOf (now (c .before .before .before .before .before .before .before .before .args .s)))) (unused (packOf (now (c .before .before .before .before .before .before .before .before .args .s)))) (c .before .before .before .before .before .before .before .before .pre .0)) (c .before .before .before .check-all-refs .ensures), c .before .before .before .before .before .before .before .before .pre .1, c .before .before .before .before .before .before .before .before .pre .2)
+check-all-nested-refs-requires c κs =
+    let start = c .before .before .before .before .before .before .before .before in
+    let check-all-refs = c .before .before .before .check-all-refs in
+    let s = now (start .args .s) in (
+      fits-right (refs (packOf s)) (nested (packOf s)) (fits-left (refs (packOf s) ++ nested (packOf s)) (unused (packOf s)) (start .pre .0))
+          (check-all-refs .ensures),
+      start .pre .1,
+      start .pre .2,
+    )
 
 check-lookup-uses-requires : tie.Need-check-lookup-uses-requires
 unfolding check-lookup-wiring
-check-lookup-uses-requires c κs = (fits-right (refs (packOf (now (c .before .before .before .before .before .before .before .before .before .before .before .before .args .s))) ++ nested (packOf (now (c .before .before .before .before .before .before .before .before .before .before .before .before .args .s)))) (unused (packOf (now (c .before .before .before .before .before .before .before .before .before .before .before .before .args .s)))) (c .before .before .before .before .before .before .before .before .before .before .before .before .pre .0) (emitted-append {xs = refs (packOf (now (c .before .before .before .before .before .before .before .before .before .before .before .before .args .s)))} {ys = nested (packOf (now (c .before .before .before .before .before .before .before .before .before .before .before .before .args .s)))} (c .before .before .before .before .before .before .before .check-all-refs .ensures) (c .before .before .before .check-all-nested-refs .ensures)), c .before .before .before .before .before .before .before .before .before .before .before .before .pre .1, c .before .before .before .before .before .before .before .before .before .before .before .before .pre .2)
+check-lookup-uses-requires c κs =
+    let start = c .before .before .before .before .before .before .before .before .before .before .before .before in
+    let check-all-refs = c .before .before .before .before .before .before .before .check-all-refs in
+    let check-all-nested-refs = c .before .before .before .check-all-nested-refs in
+    let s = now (start .args .s) in (
+      fits-right (refs (packOf s) ++ nested (packOf s)) (unused (packOf s)) (start .pre .0)
+          (emitted-append {xs = refs (packOf s)} {ys = nested (packOf s)} (check-all-refs .ensures) (check-all-nested-refs .ensures)),
+      start .pre .1,
+      start .pre .2,
+    )
 
 same-length : tie.Need-same-length
 same-length c = search needs
 
 returns : tie.Need-returns
 unfolding check-lookup-wiring
-returns c = emitted-append {xs = refs (packOf (now (c .before .before .before .before .before .before .before .before .before .before .before .before .before .before .before .args .s))) ++ nested (packOf (now (c .before .before .before .before .before .before .before .before .before .before .before .before .before .before .before .args .s)))} {ys = unused (packOf (now (c .before .before .before .before .before .before .before .before .before .before .before .before .before .before .before .args .s)))} (emitted-append {xs = refs (packOf (now (c .before .before .before .before .before .before .before .before .before .before .before .before .before .before .before .args .s)))} {ys = nested (packOf (now (c .before .before .before .before .before .before .before .before .before .before .before .before .before .before .before .args .s)))} (c .before .before .before .before .before .before .before .before .before .before .check-all-refs .ensures) (c .before .before .before .before .before .before .check-all-nested-refs .ensures)) (c .before .before .check-lookup-uses .ensures)
+returns c =
+    let back12 = c .before .before .before .before .before .before .before .before .before .before .before .before in
+    let start = back12 .before .before .before in
+    let check-all-refs = c .before .before .before .before .before .before .before .before .before .before .check-all-refs in
+    let check-all-nested-refs = c .before .before .before .before .before .before .check-all-nested-refs in
+    let s = now (start .args .s) in
+    emitted-append {xs = refs (packOf s) ++ nested (packOf s)} {ys = unused (packOf s)}
+    (emitted-append {xs = refs (packOf s)} {ys = nested (packOf s)} (check-all-refs .ensures) (check-all-nested-refs .ensures))
+    (c .before .before .check-lookup-uses .ensures)
 
 pub check-lookup-wiring-spec : {M : Type 1} → statement M
 check-lookup-wiring-spec =

@@ -19,28 +19,63 @@ use Rattle.rules.proofs.Emits.{emitted-append, fits-left, fits-right}
 use Rattle.rules.proofs.lookup_wiring.lookup_found_at.Statement.{statement}
 use Rattle.rules.proofs.lookup_wiring.lookup_found_at.Tie as tie
 
-parted : (s : List ℕ) (ls : List Lookup) (t i k l : ℕ) (f : FieldView) (v : LookupView) → LookupIs s (lookup-at ls l) v → (F : Finding) → F ≡ pgn-error 8 2 t i k l
-    → lookup-found-at ls t i k (fieldMeaning s f) (record { kind = f .links .reference .kind; name = bytesOf s (f .links .reference .name) }) (some l) ≡ report-if (not (v .kind == f .links .reference .kind)) F ++ lookup-width-at t i k (fieldMeaning s f) l (lookup-at ls l)
+parted : (s : List ℕ) (ls : List Lookup) (t i k l : ℕ) (f : FieldView) (v : LookupView) → LookupIs s (lookup-at ls l) v → (F : Finding)
+    → F ≡ pgn-error 8 2 t i k l
+    → lookup-found-at ls t i k (fieldMeaning s f) (record { kind = f .links .reference .kind; name = bytesOf s (f .links .reference .name) }) (some l)
+    ≡ report-if (not (v .kind == f .links .reference .kind)) F ++ lookup-width-at t i k (fieldMeaning s f) l (lookup-at ls l)
 unfolding lookup-found-at
-parted s ls t i k l f v is F y = sym (λ j. report-if (not (is .means j .kind == f .links .reference .kind)) (y j) ++ lookup-width-at t i k (fieldMeaning s f) l (lookup-at ls l))
+parted s ls t i k l f v is F y =
+    sym (λ j. report-if (not (is .means j .kind == f .links .reference .kind)) (y j) ++ lookup-width-at t i k (fieldMeaning s f) l (lookup-at ls l))
 
 lookup-of-requires : tie.Need-lookup-of-requires
-lookup-of-requires c κs = c .before .before .before .pre .1
+lookup-of-requires c κs =
+    let start = c .before .before .before in
+    start .pre .1
 
 pgn-error-requires : tie.Need-pgn-error-requires
 pgn-error-requires c κs = search needs
 
 put-if-requires : tie.Need-put-if-requires
-put-if-requires c κs = fits-left (report-if (not (c .before .before .before .before .lookup-of .result .kind == c .before .before .before .before .before .before .before .before .args .f .links .reference .kind)) (c .pgn-error .result)) (lookup-width-at (c .before .before .before .before .before .before .before .before .args .t) (c .before .before .before .before .before .before .before .before .args .i) (c .before .before .before .before .before .before .before .before .args .k) (fieldMeaning (now (c .before .before .before .before .before .before .before .before .args .s)) (c .before .before .before .before .before .before .before .before .args .f)) (c .before .before .before .before .before .before .before .before .args .l) (lookup-at (packOf (now (c .before .before .before .before .before .before .before .before .args .s)) .lookups) (c .before .before .before .before .before .before .before .before .args .l))) (rw (parted (now (c .before .before .before .before .before .before .before .before .args .s)) (packOf (now (c .before .before .before .before .before .before .before .before .args .s)) .lookups) (c .before .before .before .before .before .before .before .before .args .t) (c .before .before .before .before .before .before .before .before .args .i) (c .before .before .before .before .before .before .before .before .args .k) (c .before .before .before .before .before .before .before .before .args .l) (c .before .before .before .before .before .before .before .before .args .f) (c .before .before .before .before .lookup-of .result) (c .before .before .before .before .lookup-of .ensures) (c .pgn-error .result) (c .pgn-error .ensures)) at (c .before .before .before .before .before .before .before .before .pre .0))
+put-if-requires c κs =
+    let start = c .before .before .before .before .before .before .before .before in
+    let lookup-of = c .before .before .before .before .lookup-of in
+    let t = start .args .t in let i = start .args .i in let k = start .args .k in let s = now (start .args .s) in let f = start .args .f in
+    let l = start .args .l in
+    fits-left (report-if (not (lookup-of .result .kind == start .args .f .links .reference .kind)) (c .pgn-error .result))
+    (lookup-width-at t i k (fieldMeaning s f) l (lookup-at (packOf s .lookups) l))
+    (rw (parted s (packOf s .lookups) t i k l f (lookup-of .result) (lookup-of .ensures) (c .pgn-error .result) (c .pgn-error .ensures)) at (start .pre .0))
 
 lookup-width-at-requires : tie.Need-lookup-width-at-requires
-lookup-width-at-requires c κs = (fits-right (report-if (not (c .before .before .before .before .before .before .before .before .lookup-of .result .kind == c .before .before .before .before .before .before .before .before .before .before .before .before .args .f .links .reference .kind)) (c .before .before .before .before .pgn-error .result)) (lookup-width-at (c .before .before .before .before .before .before .before .before .before .before .before .before .args .t) (c .before .before .before .before .before .before .before .before .before .before .before .before .args .i) (c .before .before .before .before .before .before .before .before .before .before .before .before .args .k) (fieldMeaning (now (c .before .before .before .before .before .before .before .before .before .before .before .before .args .s)) (c .before .before .before .before .before .before .before .before .before .before .before .before .args .f)) (c .before .before .before .before .before .before .before .before .before .before .before .before .args .l) (lookup-at (packOf (now (c .before .before .before .before .before .before .before .before .before .before .before .before .args .s)) .lookups) (c .before .before .before .before .before .before .before .before .before .before .before .before .args .l))) (rw (parted (now (c .before .before .before .before .before .before .before .before .before .before .before .before .args .s)) (packOf (now (c .before .before .before .before .before .before .before .before .before .before .before .before .args .s)) .lookups) (c .before .before .before .before .before .before .before .before .before .before .before .before .args .t) (c .before .before .before .before .before .before .before .before .before .before .before .before .args .i) (c .before .before .before .before .before .before .before .before .before .before .before .before .args .k) (c .before .before .before .before .before .before .before .before .before .before .before .before .args .l) (c .before .before .before .before .before .before .before .before .before .before .before .before .args .f) (c .before .before .before .before .before .before .before .before .lookup-of .result) (c .before .before .before .before .before .before .before .before .lookup-of .ensures) (c .before .before .before .before .pgn-error .result) (c .before .before .before .before .pgn-error .ensures)) at (c .before .before .before .before .before .before .before .before .before .before .before .before .pre .0)) (c .before .before .before .put-if .ensures), c .before .before .before .before .before .before .before .before .before .before .before .before .pre .1, c .before .before .before .before .before .before .before .before .lookup-of .ensures)
+lookup-width-at-requires c κs =
+    let start = c .before .before .before .before .before .before .before .before .before .before .before .before in
+    let lookup-of = c .before .before .before .before .before .before .before .before .lookup-of in
+    let pgn-error-call = c .before .before .before .before .pgn-error in
+    let put-if = c .before .before .before .put-if in
+    let t = start .args .t in let i = start .args .i in let k = start .args .k in let s = now (start .args .s) in let f = start .args .f in
+    let l = start .args .l in (
+      fits-right (report-if (not (lookup-of .result .kind == start .args .f .links .reference .kind)) (pgn-error-call .result))
+          (lookup-width-at t i k (fieldMeaning s f) l (lookup-at (packOf s .lookups) l))
+          (rw (parted s (packOf s .lookups) t i k l f (lookup-of .result) (lookup-of .ensures) (pgn-error-call .result) (pgn-error-call .ensures)) at
+          (start .pre .0)) (put-if .ensures),
+      start .pre .1,
+      lookup-of .ensures,
+    )
 
 same-length : tie.Need-same-length
 same-length c = search needs
 
 returns : tie.Need-returns
-returns c = rw (parted (now (c .before .before .before .before .before .before .before .before .before .before .before .before .before .before .before .args .s)) (packOf (now (c .before .before .before .before .before .before .before .before .before .before .before .before .before .before .before .args .s)) .lookups) (c .before .before .before .before .before .before .before .before .before .before .before .before .before .before .before .args .t) (c .before .before .before .before .before .before .before .before .before .before .before .before .before .before .before .args .i) (c .before .before .before .before .before .before .before .before .before .before .before .before .before .before .before .args .k) (c .before .before .before .before .before .before .before .before .before .before .before .before .before .before .before .args .l) (c .before .before .before .before .before .before .before .before .before .before .before .before .before .before .before .args .f) (c .before .before .before .before .before .before .before .before .before .before .before .lookup-of .result) (c .before .before .before .before .before .before .before .before .before .before .before .lookup-of .ensures) (c .before .before .before .before .before .before .before .pgn-error .result) (c .before .before .before .before .before .before .before .pgn-error .ensures)) (emitted-append {xs = report-if (not (c .before .before .before .before .before .before .before .before .before .before .before .lookup-of .result .kind == c .before .before .before .before .before .before .before .before .before .before .before .before .before .before .before .args .f .links .reference .kind)) (c .before .before .before .before .before .before .before .pgn-error .result)} {ys = lookup-width-at (c .before .before .before .before .before .before .before .before .before .before .before .before .before .before .before .args .t) (c .before .before .before .before .before .before .before .before .before .before .before .before .before .before .before .args .i) (c .before .before .before .before .before .before .before .before .before .before .before .before .before .before .before .args .k) (fieldMeaning (now (c .before .before .before .before .before .before .before .before .before .before .before .before .before .before .before .args .s)) (c .before .before .before .before .before .before .before .before .before .before .before .before .before .before .before .args .f)) (c .before .before .before .before .before .before .before .before .before .before .before .before .before .before .before .args .l) (lookup-at (packOf (now (c .before .before .before .before .before .before .before .before .before .before .before .before .before .before .before .args .s)) .lookups) (c .before .before .before .before .before .before .before .before .before .before .before .before .before .before .before .args .l))} (c .before .before .before .before .before .before .put-if .ensures) (c .before .before .lookup-width-at .ensures))
+returns c =
+    let back12 = c .before .before .before .before .before .before .before .before .before .before .before .before in
+    let start = back12 .before .before .before in
+    let lookup-of = c .before .before .before .before .before .before .before .before .before .before .before .lookup-of in
+    let pgn-error-call = c .before .before .before .before .before .before .before .pgn-error in
+    let put-if = c .before .before .before .before .before .before .put-if in
+    let s = now (start .args .s) in let t = start .args .t in let i = start .args .i in let k = start .args .k in let l = start .args .l in
+    let f = start .args .f in
+    rw (parted s (packOf s .lookups) t i k l f (lookup-of .result) (lookup-of .ensures) (pgn-error-call .result) (pgn-error-call .ensures))
+    (emitted-append {xs = report-if (not (lookup-of .result .kind == start .args .f .links .reference .kind)) (pgn-error-call .result)}
+    {ys = lookup-width-at t i k (fieldMeaning s f) l (lookup-at (packOf s .lookups) l)} (put-if .ensures) (c .before .before .lookup-width-at .ensures))
 
 pub lookup-found-at-spec : {M : Type 1} → statement M
 lookup-found-at-spec =

@@ -34,31 +34,73 @@ module _ (s : List ℕ) (ls : List Lookup) (t i k : ℕ) (F : Field) (r : OptRef
     known d = rw (h, ← e, d)
 
 returns : tie.Need-returns
-returns c = rw (absent (now (c .before .before .before .before .before .args .s)) (packOf (now (c .before .before .before .before .before .args .s)) .lookups) (c .before .before .before .before .before .args .t) (c .before .before .before .before .before .args .i) (c .before .before .before .before .before .args .k) (fieldMeaning (now (c .before .before .before .before .before .args .s)) (c .before .before .before .before .before .args .f)) (c .before .before .before .before .before .args .f .links .reference) (not-true (c .before .before .before .before .before .args .f .links .reference .given) (c .if1 .taken))) (emitted-none (now (c .before .before .before .before .before .args .out)) (c .before .before .before .before .before .args .n))
+returns c =
+    let start = c .before .before .before .before .before in
+    let s = now (start .args .s) in
+    rw (absent s (packOf s .lookups) (start .args .t) (start .args .i) (start .args .k) (fieldMeaning s (start .args .f)) (start .args .f .links .reference)
+    (not-true (start .args .f .links .reference .given) (c .if1 .taken))) (emitted-none (now (start .args .out)) (start .args .n))
 
 find-lookup-requires : tie.Need-find-lookup-requires
-find-lookup-requires c κs = (c .before .before .before .before .before .pre .1, c .before .before .before .before .before .pre .2, c .before .before .before .before .before .pre .3)
+find-lookup-requires c κs =
+    let start = c .before .before .before .before .before in
+    (start .pre .1, start .pre .2, start .pre .3)
 
 pgn-error-requires : tie.Need-pgn-error-requires
 pgn-error-requires c κs = search needs
 
 put-requires : tie.Need-put-requires
-put-requires c κs = rw (unknown (now (c .before .before .before .before .before .before .before .before .before .before .args .s)) (packOf (now (c .before .before .before .before .before .before .before .before .before .before .args .s)) .lookups) (c .before .before .before .before .before .before .before .before .before .before .args .t) (c .before .before .before .before .before .before .before .before .before .before .args .i) (c .before .before .before .before .before .before .before .before .before .before .args .k) (fieldMeaning (now (c .before .before .before .before .before .before .before .before .before .before .args .s)) (c .before .before .before .before .before .before .before .before .before .before .args .f)) (c .before .before .before .before .before .before .before .before .before .before .args .f .links .reference) (not-false (c .before .before .before .before .before .before .before .before .before .before .args .f .links .reference .given) (c .before .before .before .before .before .if1 .left)) (c .before .before .before .before .find-lookup .result .given) (c .before .before .before .before .find-lookup .result .index) (c .before .before .before .before .find-lookup .ensures .0) (not-true (c .before .before .before .before .find-lookup .result .given) (c .before .before .if2 .taken)) (c .pgn-error .result) (c .pgn-error .ensures)) at (c .before .before .before .before .before .before .before .before .before .before .pre .0)
+put-requires c κs =
+    let start = c .before .before .before .before .before .before .before .before .before .before in
+    let if1 = c .before .before .before .before .before .if1 in
+    let find-lookup-call = c .before .before .before .before .find-lookup in
+    let s = now (start .args .s) in
+    rw (unknown s (packOf s .lookups) (start .args .t) (start .args .i) (start .args .k) (fieldMeaning s (start .args .f)) (start .args .f .links .reference)
+    (not-false (start .args .f .links .reference .given) (if1 .left)) (find-lookup-call .result .given) (find-lookup-call .result .index)
+    (find-lookup-call .ensures .0) (not-true (find-lookup-call .result .given) (c .before .before .if2 .taken)) (c .pgn-error .result) (c .pgn-error .ensures))
+    at (start .pre .0)
 
 same-length : tie.Need-same-length
 same-length c = search needs
 
 returns-2 : tie.Need-returns-2
-returns-2 c = rw (unknown (now (c .before .before .before .before .before .before .before .before .before .before .before .before .before .args .s)) (packOf (now (c .before .before .before .before .before .before .before .before .before .before .before .before .before .args .s)) .lookups) (c .before .before .before .before .before .before .before .before .before .before .before .before .before .args .t) (c .before .before .before .before .before .before .before .before .before .before .before .before .before .args .i) (c .before .before .before .before .before .before .before .before .before .before .before .before .before .args .k) (fieldMeaning (now (c .before .before .before .before .before .before .before .before .before .before .before .before .before .args .s)) (c .before .before .before .before .before .before .before .before .before .before .before .before .before .args .f)) (c .before .before .before .before .before .before .before .before .before .before .before .before .before .args .f .links .reference) (not-false (c .before .before .before .before .before .before .before .before .before .before .before .before .before .args .f .links .reference .given) (c .before .before .before .before .before .before .before .before .if1 .left)) (c .before .before .before .before .before .before .before .find-lookup .result .given) (c .before .before .before .before .before .before .before .find-lookup .result .index) (c .before .before .before .before .before .before .before .find-lookup .ensures .0) (not-true (c .before .before .before .before .before .before .before .find-lookup .result .given) (c .before .before .before .before .before .if2 .taken)) (c .before .before .before .pgn-error .result) (c .before .before .before .pgn-error .ensures)) (c .before .before .put .ensures)
+returns-2 c =
+    let back12 = c .before .before .before .before .before .before .before .before .before .before .before .before in
+    let start = back12 .before in
+    let if1 = c .before .before .before .before .before .before .before .before .if1 in
+    let find-lookup-call = c .before .before .before .before .before .before .before .find-lookup in
+    let if2 = c .before .before .before .before .before .if2 in
+    let pgn-error-call = c .before .before .before .pgn-error in
+    let s = now (start .args .s) in
+    rw (unknown s (packOf s .lookups) (start .args .t) (start .args .i) (start .args .k) (fieldMeaning s (start .args .f)) (start .args .f .links .reference)
+    (not-false (start .args .f .links .reference .given) (if1 .left)) (find-lookup-call .result .given) (find-lookup-call .result .index)
+    (find-lookup-call .ensures .0) (not-true (find-lookup-call .result .given) (if2 .taken)) (pgn-error-call .result) (pgn-error-call .ensures))
+    (c .before .before .put .ensures)
 
 lookup-found-at-requires : tie.Need-lookup-found-at-requires
-lookup-found-at-requires c κs = (rw (known (now (c .before .before .before .before .before .before .before .before .before .args .s)) (packOf (now (c .before .before .before .before .before .before .before .before .before .args .s)) .lookups) (c .before .before .before .before .before .before .before .before .before .args .t) (c .before .before .before .before .before .before .before .before .before .args .i) (c .before .before .before .before .before .before .before .before .before .args .k) (fieldMeaning (now (c .before .before .before .before .before .before .before .before .before .args .s)) (c .before .before .before .before .before .before .before .before .before .args .f)) (c .before .before .before .before .before .before .before .before .before .args .f .links .reference) (not-false (c .before .before .before .before .before .before .before .before .before .args .f .links .reference .given) (c .before .before .before .before .if1 .left)) (c .before .before .before .find-lookup .result .given) (c .before .before .before .find-lookup .result .index) (c .before .before .before .find-lookup .ensures .0) (not-false (c .before .before .before .find-lookup .result .given) (c .before .if2 .left))) at (c .before .before .before .before .before .before .before .before .before .pre .0), c .before .before .before .find-lookup .ensures .1 (not-false (c .before .before .before .find-lookup .result .given) (c .before .if2 .left)))
+lookup-found-at-requires c κs =
+    let start = c .before .before .before .before .before .before .before .before .before in
+    let if1 = c .before .before .before .before .if1 in
+    let find-lookup-call = c .before .before .before .find-lookup in
+    let s = now (start .args .s) in (
+      rw (known s (packOf s .lookups) (start .args .t) (start .args .i) (start .args .k) (fieldMeaning s (start .args .f)) (start .args .f .links .reference)
+          (not-false (start .args .f .links .reference .given) (if1 .left)) (find-lookup-call .result .given) (find-lookup-call .result .index)
+          (find-lookup-call .ensures .0) (not-false (find-lookup-call .result .given) (c .before .if2 .left))) at (start .pre .0),
+      find-lookup-call .ensures .1 (not-false (find-lookup-call .result .given) (c .before .if2 .left)),
+    )
 
 same-length-2 : tie.Need-same-length-2
 same-length-2 c = search needs
 
 returns-3 : tie.Need-returns-3
-returns-3 c = rw (known (now (c .before .before .before .before .before .before .before .before .before .before .before .before .args .s)) (packOf (now (c .before .before .before .before .before .before .before .before .before .before .before .before .args .s)) .lookups) (c .before .before .before .before .before .before .before .before .before .before .before .before .args .t) (c .before .before .before .before .before .before .before .before .before .before .before .before .args .i) (c .before .before .before .before .before .before .before .before .before .before .before .before .args .k) (fieldMeaning (now (c .before .before .before .before .before .before .before .before .before .before .before .before .args .s)) (c .before .before .before .before .before .before .before .before .before .before .before .before .args .f)) (c .before .before .before .before .before .before .before .before .before .before .before .before .args .f .links .reference) (not-false (c .before .before .before .before .before .before .before .before .before .before .before .before .args .f .links .reference .given) (c .before .before .before .before .before .before .before .if1 .left)) (c .before .before .before .before .before .before .find-lookup .result .given) (c .before .before .before .before .before .before .find-lookup .result .index) (c .before .before .before .before .before .before .find-lookup .ensures .0) (not-false (c .before .before .before .before .before .before .find-lookup .result .given) (c .before .before .before .before .if2 .left))) (c .before .before .lookup-found-at .ensures)
+returns-3 c =
+    let start = c .before .before .before .before .before .before .before .before .before .before .before .before in
+    let if1 = c .before .before .before .before .before .before .before .if1 in
+    let find-lookup-call = c .before .before .before .before .before .before .find-lookup in
+    let if2 = c .before .before .before .before .if2 in
+    let s = now (start .args .s) in
+    rw (known s (packOf s .lookups) (start .args .t) (start .args .i) (start .args .k) (fieldMeaning s (start .args .f)) (start .args .f .links .reference)
+    (not-false (start .args .f .links .reference .given) (if1 .left)) (find-lookup-call .result .given) (find-lookup-call .result .index)
+    (find-lookup-call .ensures .0) (not-false (find-lookup-call .result .given) (if2 .left))) (c .before .before .lookup-found-at .ensures)
 
 pub lookup-ref-at-spec : {M : Type 1} → statement M
 lookup-ref-at-spec =

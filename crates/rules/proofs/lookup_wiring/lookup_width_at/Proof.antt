@@ -30,7 +30,9 @@ module _ (s : List ℕ) (t i k l width : ℕ) (f : FieldView) (L : Lookup) (v : 
       let q : shared ≡ ((L .kind == 2) && f .flags .mismatch) = y ∙ ap (λ (M : Lookup). (M .kind == 2) && f .flags .mismatch) (is .means) in
       sym (z ∙ (λ j. p j && not (q j)))
 
-  by-tests : (equal : Bool) → (width == v .bits) ≡ equal → lookup-width-at t i k (fieldMeaning s f) l L ≡ chosen bad equal (f .flags .mismatch) (pgn-error 8 3 t i k l) (pgn-error 8 4 t i k l) (pgn-warning 8 5 t i k l)
+  by-tests : (equal : Bool) → (width == v .bits) ≡ equal
+      → lookup-width-at t i k (fieldMeaning s f) l L
+      ≡ chosen bad equal (f .flags .mismatch) (pgn-error 8 3 t i k l) (pgn-error 8 4 t i k l) (pgn-warning 8 5 t i k l)
   unfolding lookup-width-at
   by-tests equal d =
       let q : (value-bits (fieldMeaning s f) == L .bits) ≡ equal = sym (λ j. w j == is .means j .bits) ∙ d in
@@ -39,17 +41,21 @@ module _ (s : List ℕ) (t i k l width : ℕ) (f : FieldView) (L : Lookup) (v : 
   beyond : bad ≡ true → (F : Finding) → F ≡ pgn-error 8 3 t i k l → lookup-width-at t i k (fieldMeaning s f) l L ≡ F ∷ []
   beyond h F e = by-tests (width == v .bits) refl ∙ (rw (h, e))
 
-  other : bad ≡ false → (width ≡ v .bits → ⊥) → (F : Finding) → F ≡ pgn-error 8 4 t i k l → lookup-width-at t i k (fieldMeaning s f) l L ≡ report-if (not (f .flags .mismatch)) F
+  other : bad ≡ false → (width ≡ v .bits → ⊥) → (F : Finding) → F ≡ pgn-error 8 4 t i k l
+      → lookup-width-at t i k (fieldMeaning s f) l L ≡ report-if (not (f .flags .mismatch)) F
   other h d F e = by-tests false (ne-eqb width (v .bits) d) ∙ (rw (h, e))
 
-  same : bad ≡ false → width ≡ v .bits → (F : Finding) → F ≡ pgn-warning 8 5 t i k l → lookup-width-at t i k (fieldMeaning s f) l L ≡ report-if (f .flags .mismatch) F
+  same : bad ≡ false → width ≡ v .bits → (F : Finding) → F ≡ pgn-warning 8 5 t i k l
+      → lookup-width-at t i k (fieldMeaning s f) l L ≡ report-if (f .flags .mismatch) F
   same h d F e = by-tests true (eq-eqb width (v .bits) d) ∙ (rw (h, e))
 
 value-bits-requires : tie.Need-value-bits-requires
 value-bits-requires c κs = search needs
 
 unreachable-requires : tie.Need-unreachable-requires
-unreachable-requires c κs = (c .before .before .before .before .pre .1, c .before .before .before .before .pre .2)
+unreachable-requires c κs =
+    let start = c .before .before .before .before in
+    (start .pre .1, start .pre .2)
 
 shares-bits-requires : tie.Need-shares-bits-requires
 shares-bits-requires c κs = search needs
@@ -61,13 +67,34 @@ pgn-error-requires : tie.Need-pgn-error-requires
 pgn-error-requires c κs = search needs
 
 put-requires : tie.Need-put-requires
-put-requires c κs = rw (beyond (now (c .before .before .before .before .before .before .before .before .before .before .args .s)) (c .before .before .before .before .before .before .before .before .before .before .args .t) (c .before .before .before .before .before .before .before .before .before .before .args .i) (c .before .before .before .before .before .before .before .before .before .before .args .k) (c .before .before .before .before .before .before .before .before .before .before .args .l) (c .before .before .before .before .before .before .value-bits .result) (c .before .before .before .before .before .before .before .before .before .before .args .f) (lookup-at (packOf (now (c .before .before .before .before .before .before .before .before .before .before .args .s)) .lookups) (c .before .before .before .before .before .before .before .before .before .before .args .l)) (c .before .before .before .before .before .before .before .before .before .before .args .v) (c .before .before .before .before .before .before .before .before .before .before .pre .2) (c .before .before .before .before .before .before .value-bits .ensures) (c .before .before .before .before .before .unreachable .result) (c .before .before .before .before .shares-bits .result) (c .before .before .before .and-not .result) (c .before .before .before .before .before .unreachable .ensures) (c .before .before .before .before .shares-bits .ensures) (c .before .before .before .and-not .ensures) (c .before .before .if1 .taken) (c .pgn-error .result) (c .pgn-error .ensures)) at (c .before .before .before .before .before .before .before .before .before .before .pre .0)
+put-requires c κs =
+    let start = c .before .before .before .before .before .before .before .before .before .before in
+    let value-bits-call = c .before .before .before .before .before .before .value-bits in
+    let unreachable-call = c .before .before .before .before .before .unreachable in
+    let shares-bits = c .before .before .before .before .shares-bits in
+    let and-not = c .before .before .before .and-not in
+    let s = now (start .args .s) in let l = start .args .l in
+    rw (beyond s (start .args .t) (start .args .i) (start .args .k) l (value-bits-call .result) (start .args .f) (lookup-at (packOf s .lookups) l)
+    (start .args .v) (start .pre .2) (value-bits-call .ensures) (unreachable-call .result) (shares-bits .result) (and-not .result) (unreachable-call .ensures)
+    (shares-bits .ensures) (and-not .ensures) (c .before .before .if1 .taken) (c .pgn-error .result) (c .pgn-error .ensures)) at (start .pre .0)
 
 same-length : tie.Need-same-length
 same-length c = search needs
 
 returns : tie.Need-returns
-returns c = rw (beyond (now (c .before .before .before .before .before .before .before .before .before .before .before .before .before .args .s)) (c .before .before .before .before .before .before .before .before .before .before .before .before .before .args .t) (c .before .before .before .before .before .before .before .before .before .before .before .before .before .args .i) (c .before .before .before .before .before .before .before .before .before .before .before .before .before .args .k) (c .before .before .before .before .before .before .before .before .before .before .before .before .before .args .l) (c .before .before .before .before .before .before .before .before .before .value-bits .result) (c .before .before .before .before .before .before .before .before .before .before .before .before .before .args .f) (lookup-at (packOf (now (c .before .before .before .before .before .before .before .before .before .before .before .before .before .args .s)) .lookups) (c .before .before .before .before .before .before .before .before .before .before .before .before .before .args .l)) (c .before .before .before .before .before .before .before .before .before .before .before .before .before .args .v) (c .before .before .before .before .before .before .before .before .before .before .before .before .before .pre .2) (c .before .before .before .before .before .before .before .before .before .value-bits .ensures) (c .before .before .before .before .before .before .before .before .unreachable .result) (c .before .before .before .before .before .before .before .shares-bits .result) (c .before .before .before .before .before .before .and-not .result) (c .before .before .before .before .before .before .before .before .unreachable .ensures) (c .before .before .before .before .before .before .before .shares-bits .ensures) (c .before .before .before .before .before .before .and-not .ensures) (c .before .before .before .before .before .if1 .taken) (c .before .before .before .pgn-error .result) (c .before .before .before .pgn-error .ensures)) (c .before .before .put .ensures)
+returns c =
+    let back12 = c .before .before .before .before .before .before .before .before .before .before .before .before in
+    let start = back12 .before in
+    let value-bits-call = c .before .before .before .before .before .before .before .before .before .value-bits in
+    let unreachable-call = c .before .before .before .before .before .before .before .before .unreachable in
+    let shares-bits = c .before .before .before .before .before .before .before .shares-bits in
+    let and-not = c .before .before .before .before .before .before .and-not in
+    let if1 = c .before .before .before .before .before .if1 in
+    let pgn-error-call = c .before .before .before .pgn-error in
+    let s = now (start .args .s) in let l = start .args .l in
+    rw (beyond s (start .args .t) (start .args .i) (start .args .k) l (value-bits-call .result) (start .args .f) (lookup-at (packOf s .lookups) l)
+    (start .args .v) (start .pre .2) (value-bits-call .ensures) (unreachable-call .result) (shares-bits .result) (and-not .result) (unreachable-call .ensures)
+    (shares-bits .ensures) (and-not .ensures) (if1 .taken) (pgn-error-call .result) (pgn-error-call .ensures)) (c .before .before .put .ensures)
 
 cast-if2 : tie.Need-cast-if2
 cast-if2 c = search needs
@@ -76,25 +103,72 @@ pgn-error-requires-2 : tie.Need-pgn-error-requires-2
 pgn-error-requires-2 c κs = search needs
 
 put-if-requires : tie.Need-put-if-requires
-put-if-requires c κs = rw (other (now (c .before .before .before .before .before .before .before .before .before .before .before .before .args .s)) (c .before .before .before .before .before .before .before .before .before .before .before .before .args .t) (c .before .before .before .before .before .before .before .before .before .before .before .before .args .i) (c .before .before .before .before .before .before .before .before .before .before .before .before .args .k) (c .before .before .before .before .before .before .before .before .before .before .before .before .args .l) (c .before .before .before .before .before .before .before .before .value-bits .result) (c .before .before .before .before .before .before .before .before .before .before .before .before .args .f) (lookup-at (packOf (now (c .before .before .before .before .before .before .before .before .before .before .before .before .args .s)) .lookups) (c .before .before .before .before .before .before .before .before .before .before .before .before .args .l)) (c .before .before .before .before .before .before .before .before .before .before .before .before .args .v) (c .before .before .before .before .before .before .before .before .before .before .before .before .pre .2) (c .before .before .before .before .before .before .before .before .value-bits .ensures) (c .before .before .before .before .before .before .before .unreachable .result) (c .before .before .before .before .before .before .shares-bits .result) (c .before .before .before .before .before .and-not .result) (c .before .before .before .before .before .before .before .unreachable .ensures) (c .before .before .before .before .before .before .shares-bits .ensures) (c .before .before .before .before .before .and-not .ensures) (c .before .before .before .before .if1 .left) (c .before .before .if2 .taken) (c .pgn-error2 .result) (c .pgn-error2 .ensures)) at (c .before .before .before .before .before .before .before .before .before .before .before .before .pre .0)
+put-if-requires c κs =
+    let start = c .before .before .before .before .before .before .before .before .before .before .before .before in
+    let value-bits-call = c .before .before .before .before .before .before .before .before .value-bits in
+    let unreachable-call = c .before .before .before .before .before .before .before .unreachable in
+    let shares-bits = c .before .before .before .before .before .before .shares-bits in
+    let and-not = c .before .before .before .before .before .and-not in
+    let if1 = c .before .before .before .before .if1 in
+    let s = now (start .args .s) in let l = start .args .l in
+    rw (other s (start .args .t) (start .args .i) (start .args .k) l (value-bits-call .result) (start .args .f) (lookup-at (packOf s .lookups) l)
+    (start .args .v) (start .pre .2) (value-bits-call .ensures) (unreachable-call .result) (shares-bits .result) (and-not .result) (unreachable-call .ensures)
+    (shares-bits .ensures) (and-not .ensures) (if1 .left) (c .before .before .if2 .taken) (c .pgn-error2 .result) (c .pgn-error2 .ensures)) at (start .pre .0)
 
 same-length-2 : tie.Need-same-length-2
 same-length-2 c = search needs
 
 returns-2 : tie.Need-returns-2
-returns-2 c = rw (other (now (c .before .before .before .before .before .before .before .before .before .before .before .before .before .before .before .args .s)) (c .before .before .before .before .before .before .before .before .before .before .before .before .before .before .before .args .t) (c .before .before .before .before .before .before .before .before .before .before .before .before .before .before .before .args .i) (c .before .before .before .before .before .before .before .before .before .before .before .before .before .before .before .args .k) (c .before .before .before .before .before .before .before .before .before .before .before .before .before .before .before .args .l) (c .before .before .before .before .before .before .before .before .before .before .before .value-bits .result) (c .before .before .before .before .before .before .before .before .before .before .before .before .before .before .before .args .f) (lookup-at (packOf (now (c .before .before .before .before .before .before .before .before .before .before .before .before .before .before .before .args .s)) .lookups) (c .before .before .before .before .before .before .before .before .before .before .before .before .before .before .before .args .l)) (c .before .before .before .before .before .before .before .before .before .before .before .before .before .before .before .args .v) (c .before .before .before .before .before .before .before .before .before .before .before .before .before .before .before .pre .2) (c .before .before .before .before .before .before .before .before .before .before .before .value-bits .ensures) (c .before .before .before .before .before .before .before .before .before .before .unreachable .result) (c .before .before .before .before .before .before .before .before .before .shares-bits .result) (c .before .before .before .before .before .before .before .before .and-not .result) (c .before .before .before .before .before .before .before .before .before .before .unreachable .ensures) (c .before .before .before .before .before .before .before .before .before .shares-bits .ensures) (c .before .before .before .before .before .before .before .before .and-not .ensures) (c .before .before .before .before .before .before .before .if1 .left) (c .before .before .before .before .before .if2 .taken) (c .before .before .before .pgn-error2 .result) (c .before .before .before .pgn-error2 .ensures)) (c .before .before .put-if .ensures)
+returns-2 c =
+    let back12 = c .before .before .before .before .before .before .before .before .before .before .before .before in
+    let start = back12 .before .before .before in
+    let value-bits-call = c .before .before .before .before .before .before .before .before .before .before .before .value-bits in
+    let unreachable-call = c .before .before .before .before .before .before .before .before .before .before .unreachable in
+    let shares-bits = c .before .before .before .before .before .before .before .before .before .shares-bits in
+    let and-not = c .before .before .before .before .before .before .before .before .and-not in
+    let if1 = c .before .before .before .before .before .before .before .if1 in
+    let if2 = c .before .before .before .before .before .if2 in
+    let pgn-error2 = c .before .before .before .pgn-error2 in
+    let s = now (start .args .s) in let l = start .args .l in
+    rw (other s (start .args .t) (start .args .i) (start .args .k) l (value-bits-call .result) (start .args .f) (lookup-at (packOf s .lookups) l)
+    (start .args .v) (start .pre .2) (value-bits-call .ensures) (unreachable-call .result) (shares-bits .result) (and-not .result) (unreachable-call .ensures)
+    (shares-bits .ensures) (and-not .ensures) (if1 .left) (if2 .taken) (pgn-error2 .result) (pgn-error2 .ensures)) (c .before .before .put-if .ensures)
 
 pgn-warning-requires : tie.Need-pgn-warning-requires
 pgn-warning-requires c κs = search needs
 
 put-if-requires-2 : tie.Need-put-if-requires-2
-put-if-requires-2 c κs = rw (same (now (c .before .before .before .before .before .before .before .before .before .before .before .before .args .s)) (c .before .before .before .before .before .before .before .before .before .before .before .before .args .t) (c .before .before .before .before .before .before .before .before .before .before .before .before .args .i) (c .before .before .before .before .before .before .before .before .before .before .before .before .args .k) (c .before .before .before .before .before .before .before .before .before .before .before .before .args .l) (c .before .before .before .before .before .before .before .before .value-bits .result) (c .before .before .before .before .before .before .before .before .before .before .before .before .args .f) (lookup-at (packOf (now (c .before .before .before .before .before .before .before .before .before .before .before .before .args .s)) .lookups) (c .before .before .before .before .before .before .before .before .before .before .before .before .args .l)) (c .before .before .before .before .before .before .before .before .before .before .before .before .args .v) (c .before .before .before .before .before .before .before .before .before .before .before .before .pre .2) (c .before .before .before .before .before .before .before .before .value-bits .ensures) (c .before .before .before .before .before .before .before .unreachable .result) (c .before .before .before .before .before .before .shares-bits .result) (c .before .before .before .before .before .and-not .result) (c .before .before .before .before .before .before .before .unreachable .ensures) (c .before .before .before .before .before .before .shares-bits .ensures) (c .before .before .before .before .before .and-not .ensures) (c .before .before .before .before .if1 .left) (c .before .before .if2 .left) (c .pgn-warning .result) (c .pgn-warning .ensures)) at (c .before .before .before .before .before .before .before .before .before .before .before .before .pre .0)
+put-if-requires-2 c κs =
+    let start = c .before .before .before .before .before .before .before .before .before .before .before .before in
+    let value-bits-call = c .before .before .before .before .before .before .before .before .value-bits in
+    let unreachable-call = c .before .before .before .before .before .before .before .unreachable in
+    let shares-bits = c .before .before .before .before .before .before .shares-bits in
+    let and-not = c .before .before .before .before .before .and-not in
+    let if1 = c .before .before .before .before .if1 in
+    let s = now (start .args .s) in let l = start .args .l in
+    rw (same s (start .args .t) (start .args .i) (start .args .k) l (value-bits-call .result) (start .args .f) (lookup-at (packOf s .lookups) l)
+    (start .args .v) (start .pre .2) (value-bits-call .ensures) (unreachable-call .result) (shares-bits .result) (and-not .result) (unreachable-call .ensures)
+    (shares-bits .ensures) (and-not .ensures) (if1 .left) (c .before .before .if2 .left) (c .pgn-warning .result) (c .pgn-warning .ensures)) at (start .pre .0)
 
 same-length-3 : tie.Need-same-length-3
 same-length-3 c = search needs
 
 returns-3 : tie.Need-returns-3
-returns-3 c = rw (same (now (c .before .before .before .before .before .before .before .before .before .before .before .before .before .before .before .args .s)) (c .before .before .before .before .before .before .before .before .before .before .before .before .before .before .before .args .t) (c .before .before .before .before .before .before .before .before .before .before .before .before .before .before .before .args .i) (c .before .before .before .before .before .before .before .before .before .before .before .before .before .before .before .args .k) (c .before .before .before .before .before .before .before .before .before .before .before .before .before .before .before .args .l) (c .before .before .before .before .before .before .before .before .before .before .before .value-bits .result) (c .before .before .before .before .before .before .before .before .before .before .before .before .before .before .before .args .f) (lookup-at (packOf (now (c .before .before .before .before .before .before .before .before .before .before .before .before .before .before .before .args .s)) .lookups) (c .before .before .before .before .before .before .before .before .before .before .before .before .before .before .before .args .l)) (c .before .before .before .before .before .before .before .before .before .before .before .before .before .before .before .args .v) (c .before .before .before .before .before .before .before .before .before .before .before .before .before .before .before .pre .2) (c .before .before .before .before .before .before .before .before .before .before .before .value-bits .ensures) (c .before .before .before .before .before .before .before .before .before .before .unreachable .result) (c .before .before .before .before .before .before .before .before .before .shares-bits .result) (c .before .before .before .before .before .before .before .before .and-not .result) (c .before .before .before .before .before .before .before .before .before .before .unreachable .ensures) (c .before .before .before .before .before .before .before .before .before .shares-bits .ensures) (c .before .before .before .before .before .before .before .before .and-not .ensures) (c .before .before .before .before .before .before .before .if1 .left) (c .before .before .before .before .before .if2 .left) (c .before .before .before .pgn-warning .result) (c .before .before .before .pgn-warning .ensures)) (c .before .before .put-if2 .ensures)
+returns-3 c =
+    let back12 = c .before .before .before .before .before .before .before .before .before .before .before .before in
+    let start = back12 .before .before .before in
+    let value-bits-call = c .before .before .before .before .before .before .before .before .before .before .before .value-bits in
+    let unreachable-call = c .before .before .before .before .before .before .before .before .before .before .unreachable in
+    let shares-bits = c .before .before .before .before .before .before .before .before .before .shares-bits in
+    let and-not = c .before .before .before .before .before .before .before .before .and-not in
+    let if1 = c .before .before .before .before .before .before .before .if1 in
+    let if2 = c .before .before .before .before .before .if2 in
+    let pgn-warning-call = c .before .before .before .pgn-warning in
+    let s = now (start .args .s) in let l = start .args .l in
+    rw (same s (start .args .t) (start .args .i) (start .args .k) l (value-bits-call .result) (start .args .f) (lookup-at (packOf s .lookups) l)
+    (start .args .v) (start .pre .2) (value-bits-call .ensures) (unreachable-call .result) (shares-bits .result) (and-not .result) (unreachable-call .ensures)
+    (shares-bits .ensures) (and-not .ensures) (if1 .left) (if2 .left) (pgn-warning-call .result) (pgn-warning-call .ensures))
+    (c .before .before .put-if2 .ensures)
 
 pub lookup-width-at-spec : {M : Type 1} → statement M
 lookup-width-at-spec =

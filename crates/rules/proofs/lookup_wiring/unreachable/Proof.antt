@@ -20,7 +20,8 @@ use Rattle.rules.proofs.lookup_wiring.unreachable.Tie as tie
 abbrev beyond : List ℕ → ℕ → ℕ → ℕ → Bool
 beyond s l width e = beyond-width (lookup-at (packOf s .lookups) l .kind) width (getD (lookup-at (packOf s .lookups) l .entries) e noEntry .value)
 
-said : (s : List ℕ) (l width e k : ℕ) (v : EntryView) (r : Bool) → k ≡ lookup-at (packOf s .lookups) l .kind → entryMeaning s v ≡ getD (lookup-at (packOf s .lookups) l .entries) e noEntry → r ≡ beyond-width k width (v .value) → beyond s l width e ≡ r
+said : (s : List ℕ) (l width e k : ℕ) (v : EntryView) (r : Bool) → k ≡ lookup-at (packOf s .lookups) l .kind
+    → entryMeaning s v ≡ getD (lookup-at (packOf s .lookups) l .entries) e noEntry → r ≡ beyond-width k width (v .value) → beyond s l width e ≡ r
 said s l width e k v r x y h = sym (h ∙ (λ j. beyond-width (x j) width (y j .value)))
 
 abbrev Inv-loop : tie.InvT-loop
@@ -33,7 +34,9 @@ loop-holds : tie.Need-loop-holds Inv-loop μ-loop
 loop-holds c = (search needs, refl)
 
 entry-of-requires : tie.Need-entry-of-requires Inv-loop μ-loop
-entry-of-requires c κs = (c .before .before .before .before .pre .0, ap (λ (L : Lookup). L .kind) (c .before .before .before .before .pre .1 .means), omega (arith, c .before .before .before .before .pre .1 .entries, c .loop-test .taken))
+entry-of-requires c κs =
+    let start = c .before .before .before .before in
+    (start .pre .0, ap (λ (L : Lookup). L .kind) (start .pre .1 .means), omega (arith, start .pre .1 .entries, c .loop-test .taken))
 
 beyond-width-requires : tie.Need-beyond-width-requires Inv-loop μ-loop
 beyond-width-requires c κs = search needs
@@ -41,23 +44,42 @@ beyond-width-requires c κs = search needs
 returns : tie.Need-returns Inv-loop μ-loop
 unfolding unreachable
 returns c =
-    let h = said (now (c .before .before .before .before .before .before .before .args .s)) (c .before .before .before .before .before .before .before .args .l) (c .before .before .before .before .before .before .before .args .width) (c .before .before .before .before .loop .e) (c .before .before .before .before .before .before .before .args .v .kind) (c .before .before .entry-of .result) (c .before .beyond-width .result) (ap (λ (L : Lookup). L .kind) (c .before .before .before .before .before .before .before .pre .1 .means)) (c .before .before .entry-of .ensures) (c .before .beyond-width .ensures) in
-    sym (any-hit (beyond (now (c .before .before .before .before .before .before .before .args .s)) (c .before .before .before .before .before .before .before .args .l) (c .before .before .before .before .before .before .before .args .width)) (length (lookup-at (packOf (now (c .before .before .before .before .before .before .before .args .s)) .lookups) (c .before .before .before .before .before .before .before .args .l) .entries)) (c .before .before .before .before .loop .e) (omega (arith, c .before .before .before .before .before .before .before .pre .1 .entries, c .before .before .before .loop-test .taken)) (h ∙ c .if1 .taken))
+    let start = c .before .before .before .before .before .before .before in
+    let loop = c .before .before .before .before .loop in
+    let loop-test = c .before .before .before .loop-test in
+    let entry-of = c .before .before .entry-of in
+    let s = now (start .args .s) in let l = start .args .l in let width = start .args .width in
+    let h = said s l width (loop .e) (start .args .v .kind) (entry-of .result) (c .before .beyond-width .result)
+    (ap (λ (L : Lookup). L .kind) (start .pre .1 .means)) (entry-of .ensures) (c .before .beyond-width .ensures) in
+    sym (any-hit (beyond s l width) (length (lookup-at (packOf s .lookups) l .entries)) (loop .e) (omega (arith, start .pre .1 .entries, loop-test .taken))
+    (h ∙ c .if1 .taken))
 
 add-e : tie.Need-add-e Inv-loop μ-loop
-add-e c = omega (arith, c .before .before .before .loop-test .taken, c .before .before .before .before .before .before .before .pre .1 .entries, entries-few (c .before .before .before .before .before .before .before .pre .0))
+add-e c =
+    let start = c .before .before .before .before .before .before .before in
+    let loop-test = c .before .before .before .loop-test in
+    omega (arith, loop-test .taken, start .pre .1 .entries, entries-few (start .pre .0))
 
 loop-less : tie.Need-loop-less Inv-loop μ-loop
 loop-less c = search needs
 
 loop-again : tie.Need-loop-again Inv-loop μ-loop
 loop-again c =
-    let h = said (now (c .before .before .before .before .before .before .before .args .s)) (c .before .before .before .before .before .before .before .args .l) (c .before .before .before .before .before .before .before .args .width) (c .before .before .before .before .loop .e) (c .before .before .before .before .before .before .before .args .v .kind) (c .before .before .entry-of .result) (c .before .beyond-width .result) (ap (λ (L : Lookup). L .kind) (c .before .before .before .before .before .before .before .pre .1 .means)) (c .before .before .entry-of .ensures) (c .before .beyond-width .ensures) in
-    (search needs, any-turn (beyond (now (c .before .before .before .before .before .before .before .args .s)) (c .before .before .before .before .before .before .before .args .l) (c .before .before .before .before .before .before .before .args .width)) (c .before .before .before .before .loop .e) ∙ (rw (c .before .before .before .before .loop .inv .1, h ∙ c .if1 .left)))
+    let start = c .before .before .before .before .before .before .before in
+    let loop = c .before .before .before .before .loop in
+    let entry-of = c .before .before .entry-of in
+    let s = now (start .args .s) in let l = start .args .l in let width = start .args .width in
+    let h = said s l width (loop .e) (start .args .v .kind) (entry-of .result) (c .before .beyond-width .result)
+    (ap (λ (L : Lookup). L .kind) (start .pre .1 .means)) (entry-of .ensures) (c .before .beyond-width .ensures) in
+    (omega (arith, c), any-turn (beyond s l width) (loop .e) ∙ (rw (loop .inv .1, h ∙ c .if1 .left)))
 
 returns-2 : tie.Need-returns-2 Inv-loop μ-loop
 unfolding unreachable
-returns-2 c = let q : length (lookup-at (packOf (now (c .before .before .before .before .args .s)) .lookups) (c .before .before .before .before .args .l) .entries) ≡ c .before .loop .e = omega (arith, c .before .before .before .before .pre .1 .entries, c .before .loop .inv .0, c .loop-test .left) in rw (q, c .before .loop .inv .1)
+returns-2 c =
+    let start = c .before .before .before .before in
+    let q : length (lookup-at (packOf (now (start .args .s)) .lookups) (start .args .l) .entries) ≡ c .before .loop .e =
+    omega (arith, start .pre .1 .entries, c .before .loop .inv .0, c .loop-test .left) in
+    rw (q, c .before .loop .inv .1)
 
 pub unreachable-spec : {M : Type 1} → statement M
 unreachable-spec =

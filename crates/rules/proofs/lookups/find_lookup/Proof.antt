@@ -34,7 +34,9 @@ loop-holds : tie.Need-loop-holds Inv-loop μ-loop
 loop-holds c = (search needs, c .before .before .pre .2, refl)
 
 lookup-of-requires : tie.Need-lookup-of-requires Inv-loop μ-loop
-lookup-of-requires c κs = at-lookup (c .before .before .before .before .pre .0) (c .before .before .before .before .pre .1) (c .before .loop .inv .1) (c .loop-test .taken)
+lookup-of-requires c κs =
+    let start = c .before .before .before .before in
+    at-lookup (start .pre .0) (start .pre .1) (c .before .loop .inv .1) (c .loop-test .taken)
 
 same-text-requires : tie.Need-same-text-requires Inv-loop μ-loop
 same-text-requires c κs = search needs
@@ -42,19 +44,34 @@ same-text-requires c κs = search needs
 returns : tie.Need-returns Inv-loop μ-loop
 unfolding find-lookup
 returns c =
-    let s = now (c .before .before .before .before .before .before .before .args .s) in
-    let b = bytesOf s (c .before .before .before .before .before .before .before .args .name) in
-    let e : named s b (c .before .before .before .before .loop .index) ≡ true = rw (← ap (λ (L : Lookup). L .name) (c .before .before .lookup-of .ensures .means), ← c .before .same-text .ensures) (c .if1 .taken) in
-    (sym (rw (c .before .before .before .before .before .before .before .pre .1) at (first-hit (named s b) (c .before .before .before .before .before .before .before .args .lookups .count) (c .before .before .before .before .loop .index) (c .before .before .before .loop-test .taken) (c .before .before .before .before .loop .inv .2) e)), λ _. at-lookup (c .before .before .before .before .before .before .before .pre .0) (c .before .before .before .before .before .before .before .pre .1) (c .before .before .before .before .loop .inv .1) (c .before .before .before .loop-test .taken))
+    let start = c .before .before .before .before .before .before .before in
+    let loop = c .before .before .before .before .loop in
+    let loop-test = c .before .before .before .loop-test in
+    let s = now (start .args .s) in
+    let b = bytesOf s (start .args .name) in
+    let e : named s b (loop .index) ≡ true =
+    rw (← ap (λ (L : Lookup). L .name) (c .before .before .lookup-of .ensures .means), ← c .before .same-text .ensures) (c .if1 .taken) in (
+      sym (rw (start .pre .1) at (first-hit (named s b) (start .args .lookups .count) (loop .index) (loop-test .taken) (loop .inv .2) e)),
+      λ _. at-lookup (start .pre .0) (start .pre .1) (loop .inv .1) (loop-test .taken),
+    )
 
 add-place : tie.Need-add-place Inv-loop μ-loop
-add-place c = omega (arith, lookup-room (at-lookup (c .before .before .before .before .before .before .before .pre .0) (c .before .before .before .before .before .before .before .pre .1) (c .before .before .before .before .loop .inv .1) (c .before .before .before .loop-test .taken)))
+add-place c =
+    let start = c .before .before .before .before .before .before .before in
+    let loop = c .before .before .before .before .loop in
+    let loop-test = c .before .before .before .loop-test in
+    omega (arith, lookup-room (at-lookup (start .pre .0) (start .pre .1) (loop .inv .1) (loop-test .taken)))
 
 cast-place : tie.Need-cast-place Inv-loop μ-loop
 cast-place c = search needs
 
 add-place-2 : tie.Need-add-place-2 Inv-loop μ-loop
-add-place-2 c = omega (arith, c .before .before .before .lookup-of .ensures .entries, lookup-room (at-lookup (c .before .before .before .before .before .before .before .before .pre .0) (c .before .before .before .before .before .before .before .before .pre .1) (c .before .before .before .before .before .loop .inv .1) (c .before .before .before .before .loop-test .taken)))
+add-place-2 c =
+    let start = c .before .before .before .before .before .before .before .before in
+    let loop = c .before .before .before .before .before .loop in
+    let loop-test = c .before .before .before .before .loop-test in
+    let lookup-of = c .before .before .before .lookup-of in
+    omega (arith, lookup-of .ensures .entries, lookup-room (at-lookup (start .pre .0) (start .pre .1) (loop .inv .1) (loop-test .taken)))
 
 add-index : tie.Need-add-index Inv-loop μ-loop
 add-index c = search needs
@@ -64,15 +81,24 @@ loop-less c = search needs
 
 loop-again : tie.Need-loop-again Inv-loop μ-loop
 loop-again c =
-    let s = now (c .before .before .before .before .before .before .before .before .args .s) in
-    let b = bytesOf s (c .before .before .before .before .before .before .before .before .args .name) in
-    let e : named s b (c .before .before .before .before .before .loop .index) ≡ false = rw (← ap (λ (L : Lookup). L .name) (c .before .before .before .lookup-of .ensures .means), ← c .before .before .same-text .ensures) (c .before .if1 .left) in
-    (search needs, omega (arith, lookup-place-next (packOf s) (c .before .before .before .before .before .loop .index), c .before .before .before .lookup-of .ensures .entries, c .before .before .before .before .before .loop .inv .1), first-turn (named s b) (c .before .before .before .before .before .loop .index) ∙ (rw (c .before .before .before .before .before .loop .inv .2, e)))
+    let start = c .before .before .before .before .before .before .before .before in
+    let loop = c .before .before .before .before .before .loop in
+    let lookup-of = c .before .before .before .lookup-of in
+    let s = now (start .args .s) in
+    let b = bytesOf s (start .args .name) in
+    let e : named s b (loop .index) ≡ false =
+    rw (← ap (λ (L : Lookup). L .name) (lookup-of .ensures .means), ← c .before .before .same-text .ensures) (c .before .if1 .left) in (
+      omega (arith, c),
+      omega (arith, lookup-place-next (packOf s) (loop .index), lookup-of .ensures .entries, loop .inv .1),
+      first-turn (named s b) (loop .index) ∙ (rw (loop .inv .2, e)),
+    )
 
 returns-2 : tie.Need-returns-2 Inv-loop μ-loop
 unfolding find-lookup
 returns-2 c =
-    let e : length (packOf (now (c .before .before .before .before .args .s)) .lookups) ≡ c .before .loop .index = omega (arith, c .before .before .before .before .pre .1, c .before .loop .inv .0, c .loop-test .left) in
+    let start = c .before .before .before .before in
+    let e : length (packOf (now (start .args .s)) .lookups) ≡ c .before .loop .index =
+    omega (arith, start .pre .1, c .before .loop .inv .0, c .loop-test .left) in
     ((rw (e, c .before .loop .inv .2)), λ z. absurd (false≢true z))
 
 pub find-lookup-spec : {M : Type 1} → statement M

@@ -34,19 +34,38 @@ has-match-requires : tie.Need-has-match-requires
 has-match-requires c κs = search needs
 
 returns : tie.Need-returns
-returns c = first-none (pgn-at (packOf (now (c .before .before .before .before .args .s))) (c .before .before .before .before .args .t) (c .before .before .before .before .args .i)) (pgn-at (packOf (now (c .before .before .before .before .args .s))) (c .before .before .before .before .args .t) (c .before .before .before .before .args .j)) (c .before .before .before .before .args .m) (c .before .before .before .before .args .n) (c .before .before .before .before .pre .1) (c .before .before .before .before .pre .3) (sym (c .before .has-match .ensures) ∙ not-true (c .before .has-match .result) (c .if1 .taken))
+returns c =
+    let start = c .before .before .before .before in
+    let s = now (start .args .s) in let t = start .args .t in
+    first-none (pgn-at (packOf s) t (start .args .i)) (pgn-at (packOf s) t (start .args .j)) (start .args .m) (start .args .n) (start .pre .1) (start .pre .3)
+    (sym (c .before .has-match .ensures) ∙ not-true (c .before .has-match .result) (c .if1 .taken))
 
 has-match-requires-2 : tie.Need-has-match-requires-2
 has-match-requires-2 c κs = search needs
 
 returns-2 : tie.Need-returns-2
-returns-2 c = second-none (pgn-at (packOf (now (c .before .before .before .before .before .before .args .s))) (c .before .before .before .before .before .before .args .t) (c .before .before .before .before .before .before .args .i)) (pgn-at (packOf (now (c .before .before .before .before .before .before .args .s))) (c .before .before .before .before .before .before .args .t) (c .before .before .before .before .before .before .args .j)) (c .before .before .before .before .before .before .args .m) (c .before .before .before .before .before .before .args .n) (c .before .before .before .before .before .before .pre .1) (c .before .before .before .before .before .before .pre .3) (sym (c .before .before .before .has-match .ensures) ∙ not-false (c .before .before .before .has-match .result) (c .before .before .if1 .left)) (sym (c .before .has-match2 .ensures) ∙ not-true (c .before .has-match2 .result) (c .if2 .taken))
+returns-2 c =
+    let start = c .before .before .before .before .before .before in
+    let has-match-call = c .before .before .before .has-match in
+    let s = now (start .args .s) in let t = start .args .t in
+    second-none (pgn-at (packOf s) t (start .args .i)) (pgn-at (packOf s) t (start .args .j)) (start .args .m) (start .args .n) (start .pre .1) (start .pre .3)
+    (sym (has-match-call .ensures) ∙ not-false (has-match-call .result) (c .before .before .if1 .left))
+    (sym (c .before .has-match2 .ensures) ∙ not-true (c .before .has-match2 .result) (c .if2 .taken))
 
 same-key-requires : tie.Need-same-key-requires
 same-key-requires c κs = search needs
 
 returns-3 : tie.Need-returns-3
-returns-3 c = c .same-key .ensures ∙ both (pgn-at (packOf (now (c .before .before .before .before .before .before .before .args .s))) (c .before .before .before .before .before .before .before .args .t) (c .before .before .before .before .before .before .before .args .i)) (pgn-at (packOf (now (c .before .before .before .before .before .before .before .args .s))) (c .before .before .before .before .before .before .before .args .t) (c .before .before .before .before .before .before .before .args .j)) (c .before .before .before .before .before .before .before .args .m) (c .before .before .before .before .before .before .before .args .n) (c .before .before .before .before .before .before .before .pre .1) (c .before .before .before .before .before .before .before .pre .3) (sym (c .before .before .before .before .has-match .ensures) ∙ not-false (c .before .before .before .before .has-match .result) (c .before .before .before .if1 .left)) (sym (c .before .before .has-match2 .ensures) ∙ not-false (c .before .before .has-match2 .result) (c .before .if2 .left))
+returns-3 c =
+    let start = c .before .before .before .before .before .before .before in
+    let has-match-call = c .before .before .before .before .has-match in
+    let if1 = c .before .before .before .if1 in
+    let has-match2 = c .before .before .has-match2 in
+    let s = now (start .args .s) in let t = start .args .t in
+    c .same-key .ensures
+    ∙ both (pgn-at (packOf s) t (start .args .i)) (pgn-at (packOf s) t (start .args .j)) (start .args .m) (start .args .n) (start .pre .1) (start .pre .3)
+    (sym (has-match-call .ensures) ∙ not-false (has-match-call .result) (if1 .left))
+    (sym (has-match2 .ensures) ∙ not-false (has-match2 .result) (c .before .if2 .left))
 
 pub duplicates-spec : {M : Type 1} → statement M
 duplicates-spec =

@@ -34,11 +34,18 @@ loop-holds : tie.Need-loop-holds Inv-loop μ-loop
 loop-holds c = (search needs, refl)
 
 field-of-requires : tie.Need-field-of-requires Inv-loop μ-loop
-field-of-requires c κs = (c .before .before .before .before .pre .0, omega (arith, c .before .before .before .before .pre .1, c .loop-test .taken))
+field-of-requires c κs =
+    let start = c .before .before .before .before in
+    (start .pre .0, omega (arith, start .pre .1, c .loop-test .taken))
 
 returns : tie.Need-returns Inv-loop μ-loop
 unfolding has-match
-returns c = sym (any-hit (has (pgn-at (packOf (now (c .before .before .before .before .before .before .args .s))) (c .before .before .before .before .before .before .args .t) (c .before .before .before .before .before .before .args .i))) (c .before .before .before .before .before .before .args .fields) (c .before .before .before .loop .k) (c .before .before .loop-test .taken) (said (now (c .before .before .before .before .before .before .args .s)) (pgn-at (packOf (now (c .before .before .before .before .before .before .args .s))) (c .before .before .before .before .before .before .args .t) (c .before .before .before .before .before .before .args .i)) (c .before .before .before .loop .k) (c .before .field-of .result) (c .before .field-of .ensures) ∙ c .if1 .taken))
+returns c =
+    let start = c .before .before .before .before .before .before in
+    let loop = c .before .before .before .loop in
+    let s = now (start .args .s) in let t = start .args .t in let i = start .args .i in
+    sym (any-hit (has (pgn-at (packOf s) t i)) (start .args .fields) (loop .k) (c .before .before .loop-test .taken)
+    (said s (pgn-at (packOf s) t i) (loop .k) (c .before .field-of .result) (c .before .field-of .ensures) ∙ c .if1 .taken))
 
 add-k : tie.Need-add-k Inv-loop μ-loop
 add-k c = search needs
@@ -47,11 +54,21 @@ loop-less : tie.Need-loop-less Inv-loop μ-loop
 loop-less c = search needs
 
 loop-again : tie.Need-loop-again Inv-loop μ-loop
-loop-again c = (search needs, any-turn (has (pgn-at (packOf (now (c .before .before .before .before .before .before .args .s))) (c .before .before .before .before .before .before .args .t) (c .before .before .before .before .before .before .args .i))) (c .before .before .before .loop .k) ∙ (rw (c .before .before .before .loop .inv .1) (said (now (c .before .before .before .before .before .before .args .s)) (pgn-at (packOf (now (c .before .before .before .before .before .before .args .s))) (c .before .before .before .before .before .before .args .t) (c .before .before .before .before .before .before .args .i)) (c .before .before .before .loop .k) (c .before .field-of .result) (c .before .field-of .ensures) ∙ c .if1 .left)))
+loop-again c =
+    let start = c .before .before .before .before .before .before in
+    let loop = c .before .before .before .loop in
+    let s = now (start .args .s) in let t = start .args .t in let i = start .args .i in (
+      omega (arith, c),
+      any-turn (has (pgn-at (packOf s) t i)) (loop .k)
+          ∙ (rw (loop .inv .1) (said s (pgn-at (packOf s) t i) (loop .k) (c .before .field-of .result) (c .before .field-of .ensures) ∙ c .if1 .left)),
+    )
 
 returns-2 : tie.Need-returns-2 Inv-loop μ-loop
 unfolding has-match
-returns-2 c = let e : c .before .before .before .before .args .fields ≡ c .before .loop .k = omega (arith, c .before .loop .inv .0, c .loop-test .left) in rw e (sym (c .before .loop .inv .1))
+returns-2 c =
+    let start = c .before .before .before .before in
+    let e : start .args .fields ≡ c .before .loop .k = omega (arith, c .before .loop .inv .0, c .loop-test .left) in
+    rw e (sym (c .before .loop .inv .1))
 
 pub has-match-spec : {M : Type 1} → statement M
 has-match-spec =

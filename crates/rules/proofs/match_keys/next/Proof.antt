@@ -20,7 +20,12 @@ add-t18 : tie.Need-add-t18
 add-t18 c = search needs
 
 returns-2 : tie.Need-returns-2
-returns-2 c = (head-byte (now (c .before .before .before .before .before .args .s)) (pgn-at (packOf (now (c .before .before .before .before .before .args .s))) (c .before .before .before .before .before .args .t) (c .before .before .before .before .before .args .i)) (c .before .before .before .before .before .args .key) (omega (arith, c .before .before .before .before .before .pre .3, c .before .before .if1 .left)), (c .before .before .before .before .before .pre .2, c .before .before .before .before .before .pre .3))
+returns-2 c =
+    let start = c .before .before .before .before .before in
+    let s = now (start .args .s) in (
+      head-byte s (pgn-at (packOf s) (start .args .t) (start .args .i)) (start .args .key) (omega (arith, start .pre .3, c .before .before .if1 .left)),
+      (start .pre .2, start .pre .3),
+    )
 
 pub next-spec : {M : Type 1} → statement M
 next-spec = tie.close (tie.spec next-of-text-requires returns array-read-byte add-t18 returns-2)

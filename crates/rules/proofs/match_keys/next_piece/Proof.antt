@@ -16,17 +16,20 @@ use Rattle.pack.specs.Meaning.{packOf, fieldMeaning}
 use Rattle.rules.proofs.match_keys.next_piece.Statement.{statement}
 use Rattle.rules.proofs.match_keys.next_piece.Tie as tie
 
-matched : (s : List ℕ) (p : Pgn) (k : ℕ) (f : FieldView) → fieldMeaning s f ≡ field-at p k → field-at p k .match ≡ optional (f .authored .matched .given) (bytesOf s (f .authored .matched .text))
+matched : (s : List ℕ) (p : Pgn) (k : ℕ) (f : FieldView) → fieldMeaning s f ≡ field-at p k
+    → field-at p k .match ≡ optional (f .authored .matched .given) (bytesOf s (f .authored .matched .text))
 matched s p k f e = ap (λ (x : Field). x .match) (sym e)
 
-skipped : (s : List ℕ) (p : Pgn) (k n : ℕ) (f : FieldView) → k < n → fieldMeaning s f ≡ field-at p k → f .authored .matched .given ≡ false → pieces-from p k (n - k) ≡ pieces-from p (k + 1) (n - (k + 1))
+skipped : (s : List ℕ) (p : Pgn) (k n : ℕ) (f : FieldView) → k < n → fieldMeaning s f ≡ field-at p k → f .authored .matched .given ≡ false
+    → pieces-from p k (n - k) ≡ pieces-from p (k + 1) (n - (k + 1))
 skipped s p k n f h e g = pieces-next p k n h ∙ (rw (matched s p k f e, g))
 
 given-text : (b : Bool) (m : Bytes) → b ≡ true → optional b m ≡ some m
 given-text b m e = rw e
 
 abbrev Inv-loop : tie.InvT-loop
-Inv-loop s work t i p fields from k₀ k = (k ≤ fields) × (pieces-from (pgn-at (packOf s) t i) from (fields - from) ≡ pieces-from (pgn-at (packOf s) t i) k (fields - k))
+Inv-loop s work t i p fields from k₀ k =
+    (k ≤ fields) × (pieces-from (pgn-at (packOf s) t i) from (fields - from) ≡ pieces-from (pgn-at (packOf s) t i) k (fields - k))
 
 abbrev μ-loop : tie.MeasureT-loop
 μ-loop s work t i p fields from k₀ k = fields - k
@@ -35,13 +38,27 @@ loop-holds : tie.Need-loop-holds Inv-loop μ-loop
 loop-holds c = (c .before .before .pre .2, refl)
 
 field-of-requires : tie.Need-field-of-requires Inv-loop μ-loop
-field-of-requires c κs = (c .before .before .before .before .pre .0, omega (arith, c .before .before .before .before .pre .1, c .loop-test .taken))
+field-of-requires c κs =
+    let start = c .before .before .before .before in
+    (start .pre .0, omega (arith, start .pre .1, c .loop-test .taken))
 
 begun-requires : tie.Need-begun-requires Inv-loop μ-loop
 begun-requires c κs = search needs
 
 returns : tie.Need-returns Inv-loop μ-loop
-returns c = (c .before .before .before .before .loop .inv .1 ∙ piece-begun (now (c .before .before .before .before .before .before .before .args .s)) (pgn-at (packOf (now (c .before .before .before .before .before .before .before .args .s))) (c .before .before .before .before .before .before .before .args .t) (c .before .before .before .before .before .before .before .args .i)) (c .before .before .before .before .loop .k) (c .before .before .before .before .before .before .before .args .fields) (c .before .before .field-of .result .authored .matched .text) (c .begun .result) (c .before .before .before .loop-test .taken) (c .before .before .before .before .before .before .before .pre .1) (matched (now (c .before .before .before .before .before .before .before .args .s)) (pgn-at (packOf (now (c .before .before .before .before .before .before .before .args .s))) (c .before .before .before .before .before .before .before .args .t) (c .before .before .before .before .before .before .before .args .i)) (c .before .before .before .before .loop .k) (c .before .before .field-of .result) (c .before .before .field-of .ensures) ∙ given-text (c .before .before .field-of .result .authored .matched .given) (bytesOf (now (c .before .before .before .before .before .before .before .args .s)) (c .before .before .field-of .result .authored .matched .text)) (c .before .if1 .taken)) (c .begun .ensures), (omega (arith, c .begun .ensures .4, c .before .before .before .loop-test .taken), c .begun .ensures .5))
+returns c =
+    let start = c .before .before .before .before .before .before .before in
+    let loop = c .before .before .before .before .loop in
+    let loop-test = c .before .before .before .loop-test in
+    let field-of = c .before .before .field-of in
+    let s = now (start .args .s) in let t = start .args .t in let i = start .args .i in (
+      loop .inv .1
+          ∙ piece-begun s (pgn-at (packOf s) t i) (loop .k) (start .args .fields) (field-of .result .authored .matched .text) (c .begun .result)
+          (loop-test .taken) (start .pre .1) (matched s (pgn-at (packOf s) t i) (loop .k) (field-of .result) (field-of .ensures)
+          ∙ given-text (field-of .result .authored .matched .given) (bytesOf s (field-of .result .authored .matched .text)) (c .before .if1 .taken))
+          (c .begun .ensures),
+      (omega (arith, c .begun .ensures .4, loop-test .taken), c .begun .ensures .5),
+    )
 
 add-k : tie.Need-add-k Inv-loop μ-loop
 add-k c = search needs
@@ -50,13 +67,28 @@ loop-less : tie.Need-loop-less Inv-loop μ-loop
 loop-less c = search needs
 
 loop-again : tie.Need-loop-again Inv-loop μ-loop
-loop-again c = (search needs, c .before .before .before .loop .inv .1 ∙ skipped (now (c .before .before .before .before .before .before .args .s)) (pgn-at (packOf (now (c .before .before .before .before .before .before .args .s))) (c .before .before .before .before .before .before .args .t) (c .before .before .before .before .before .before .args .i)) (c .before .before .before .loop .k) (c .before .before .before .before .before .before .args .fields) (c .before .field-of .result) (c .before .before .loop-test .taken) (c .before .field-of .ensures) (c .if1 .left))
+loop-again c =
+    let start = c .before .before .before .before .before .before in
+    let loop = c .before .before .before .loop in
+    let s = now (start .args .s) in (
+      omega (arith, c),
+      loop .inv .1
+          ∙ skipped s (pgn-at (packOf s) (start .args .t) (start .args .i)) (loop .k) (start .args .fields) (c .before .field-of .result)
+          (c .before .before .loop-test .taken) (c .before .field-of .ensures) (c .if1 .left),
+    )
 
 before-requires : tie.Need-before-requires Inv-loop μ-loop
 before-requires c κs = search needs
 
 returns-2 : tie.Need-returns-2 Inv-loop μ-loop
-returns-2 c = (c .before .before .loop .inv .1 ∙ pieces-ended (pgn-at (packOf (now (c .before .before .before .before .before .args .s))) (c .before .before .before .before .before .args .t) (c .before .before .before .before .before .args .i)) (c .before .before .loop .k) (c .before .before .before .before .before .args .fields) (c .before .loop-test .left), (omega (arith, c .before2 .ensures .2), c .before2 .ensures .3))
+returns-2 c =
+    let start = c .before .before .before .before .before in
+    let loop = c .before .before .loop in (
+      loop .inv .1
+          ∙ pieces-ended (pgn-at (packOf (now (start .args .s))) (start .args .t) (start .args .i)) (loop .k) (start .args .fields)
+          (c .before .loop-test .left),
+      (omega (arith, c .before2 .ensures .2), c .before2 .ensures .3),
+    )
 
 pub next-piece-spec : {M : Type 1} → statement M
 next-piece-spec =

@@ -15,36 +15,66 @@ use Rattle.rules.proofs.match_values.check_match_values.Statement.{stat
 use Rattle.rules.proofs.match_values.check_match_values.Tie as tie
 
 abbrev Inv-loop : tie.InvT-loop
-Inv-loop out₀ n s work lookups t i p fields m₀ k₀ out m k = (k ≤ fields) × (length out ≡ length out₀) × Emitted out₀ n (concatBelow (match-value-at (packOf s .lookups) t i (pgn-at (packOf s) t i)) k) out m
+Inv-loop out₀ n s work lookups t i p fields m₀ k₀ out m k =
+    (k ≤ fields) × (length out ≡ length out₀) × Emitted out₀ n (concatBelow (match-value-at (packOf s .lookups) t i (pgn-at (packOf s) t i)) k) out m
 
 abbrev μ-loop : tie.MeasureT-loop
 μ-loop out₀ n s work lookups t i p fields m₀ k₀ out m k = fields - k
 
 loop-holds : tie.Need-loop-holds Inv-loop μ-loop
-loop-holds c = (search needs, refl, emitted-none (now (c .before .before .before .args .out)) (c .before .before .before .args .n))
+loop-holds c =
+    let start = c .before .before .before in
+    (omega (arith, c), refl, emitted-none (now (start .args .out)) (start .args .n))
 
 field-of-requires : tie.Need-field-of-requires Inv-loop μ-loop
-field-of-requires c κs = (c .before .before .before .before .before .pre .1, omega (arith, c .before .before .before .before .before .pre .4 .fields, c .loop-test .taken))
+field-of-requires c κs =
+    let start = c .before .before .before .before .before in
+    (start .pre .1, omega (arith, start .pre .4 .fields, c .loop-test .taken))
 
 match-value-at-requires : tie.Need-match-value-at-requires Inv-loop μ-loop
 unfolding check-match-values
-match-value-at-requires c κs = (fits-turn (match-value-at (packOf (now (c .before .before .before .before .before .before .before .args .s)) .lookups) (c .before .before .before .before .before .before .before .args .t) (c .before .before .before .before .before .before .before .args .i) (pgn-at (packOf (now (c .before .before .before .before .before .before .before .args .s))) (c .before .before .before .before .before .before .before .args .t) (c .before .before .before .before .before .before .before .args .i))) (c .before .before .before .before .before .before .before .args .g .fields) (c .before .before .before .loop .k) (c .before .before .loop-test .taken) (rw (← c .before .before .before .before .before .before .before .pre .4 .fields) at (c .before .before .before .before .before .before .before .pre .0)) (c .before .before .before .loop .inv .2), c .before .before .before .before .before .before .before .pre .1 .ready, c .before .before .before .before .before .before .before .pre .2, c .before .before .before .before .before .before .before .pre .3, c .before .field-of .ensures)
+match-value-at-requires c κs =
+    let start = c .before .before .before .before .before .before .before in
+    let loop = c .before .before .before .loop in
+    let s = now (start .args .s) in let t = start .args .t in let i = start .args .i in (
+      fits-turn (match-value-at (packOf s .lookups) t i (pgn-at (packOf s) t i)) (start .args .g .fields) (loop .k) (c .before .before .loop-test .taken)
+          (rw (← start .pre .4 .fields) at (start .pre .0)) (loop .inv .2),
+      start .pre .1 .ready,
+      start .pre .2,
+      start .pre .3,
+      c .before .field-of .ensures,
+    )
 
 add-k : tie.Need-add-k Inv-loop μ-loop
-add-k c = omega (arith, c .before .before .before .before .before .loop-test .taken, c .before .before .before .before .before .before .before .before .before .before .pre .4 .fields, fields-few (c .before .before .before .before .before .before .before .before .before .before .pre .1))
+add-k c =
+    let start = c .before .before .before .before .before .before .before .before .before .before in
+    let loop-test = c .before .before .before .before .before .loop-test in
+    omega (arith, loop-test .taken, start .pre .4 .fields, fields-few (start .pre .1))
 
 loop-less : tie.Need-loop-less Inv-loop μ-loop
 loop-less c = search needs
 
 loop-again : tie.Need-loop-again Inv-loop μ-loop
-loop-again c = (search needs, c .before .before .match-value-at .kept .0 ∙ c .before .before .before .before .before .before .loop .inv .1, emitted-turn (match-value-at (packOf (now (c .before .before .before .before .before .before .before .before .before .before .args .s)) .lookups) (c .before .before .before .before .before .before .before .before .before .before .args .t) (c .before .before .before .before .before .before .before .before .before .before .args .i) (pgn-at (packOf (now (c .before .before .before .before .before .before .before .before .before .before .args .s))) (c .before .before .before .before .before .before .before .before .before .before .args .t) (c .before .before .before .before .before .before .before .before .before .before .args .i))) (c .before .before .before .before .before .before .loop .k) (c .before .before .before .before .before .before .loop .inv .2) (c .before .before .match-value-at .ensures))
+loop-again c =
+    let start = c .before .before .before .before .before .before .before .before .before .before in
+    let loop = c .before .before .before .before .before .before .loop in
+    let match-value-at-call = c .before .before .match-value-at in
+    let s = now (start .args .s) in let t = start .args .t in let i = start .args .i in (
+      omega (arith, c),
+      match-value-at-call .kept .0 ∙ loop .inv .1,
+      emitted-turn (match-value-at (packOf s .lookups) t i (pgn-at (packOf s) t i)) (loop .k) (loop .inv .2) (match-value-at-call .ensures),
+    )
 
 same-length : tie.Need-same-length Inv-loop μ-loop
 same-length c = c .before .loop .inv .1
 
 returns : tie.Need-returns Inv-loop μ-loop
 unfolding check-match-values
-returns c = let e : length (pgn-at (packOf (now (c .before .before .before .before .before .args .s))) (c .before .before .before .before .before .args .t) (c .before .before .before .before .before .args .i) .fields) ≡ c .before .loop .k = omega (arith, c .before .before .before .before .before .pre .4 .fields, c .before .loop .inv .0, c .loop-test .left) in rw e (c .before .loop .inv .2)
+returns c =
+    let start = c .before .before .before .before .before in
+    let e : length (pgn-at (packOf (now (start .args .s))) (start .args .t) (start .args .i) .fields) ≡ c .before .loop .k =
+    omega (arith, start .pre .4 .fields, c .before .loop .inv .0, c .loop-test .left) in
+    rw e (c .before .loop .inv .2)
 
 pub check-match-values-spec : {M : Type 1} → statement M
 check-match-values-spec =

@@ -37,27 +37,53 @@ module _ (s : List ℕ) (ls : List Lookup) (t i k : ℕ) (p : Pgn) (f : FieldVie
     unfolding match-value-at resolved-at
     unresolved x F y = rw (← is, ← e, h, x, y)
 
-    resolved : g ≡ true → (b : Bool) → b ≡ ((f .scaling .bits <ᵇ 64) && (2 ^ f .scaling .bits ≤ᵇ v)) → (F : Finding) → F ≡ pgn-error 13 2 t i k 0 → match-value-at ls t i p k ≡ report-if b F
+    resolved : g ≡ true → (b : Bool) → b ≡ ((f .scaling .bits <ᵇ 64) && (2 ^ f .scaling .bits ≤ᵇ v)) → (F : Finding) → F ≡ pgn-error 13 2 t i k 0
+        → match-value-at ls t i p k ≡ report-if b F
     unfolding match-value-at resolved-at
     resolved x b z F y = rw (← is, ← e, h, x, y, z, less-one (2 ^ f .scaling .bits) v (pow-pos (f .scaling .bits)))
 
 returns : tie.Need-returns
-returns c = rw (unmatched (now (c .before .before .before .before .before .args .s)) (packOf (now (c .before .before .before .before .before .args .s)) .lookups) (c .before .before .before .before .before .args .t) (c .before .before .before .before .before .args .i) (c .before .before .before .before .before .args .k) (pgn-at (packOf (now (c .before .before .before .before .before .args .s))) (c .before .before .before .before .before .args .t) (c .before .before .before .before .before .args .i)) (c .before .before .before .before .before .args .f) (c .before .before .before .before .before .pre .4) (not-true (c .before .before .before .before .before .args .f .authored .matched .given) (c .if1 .taken))) (emitted-none (now (c .before .before .before .before .before .args .out)) (c .before .before .before .before .before .args .n))
+returns c =
+    let start = c .before .before .before .before .before in
+    let s = now (start .args .s) in let t = start .args .t in let i = start .args .i in
+    rw (unmatched s (packOf s .lookups) t i (start .args .k) (pgn-at (packOf s) t i) (start .args .f) (start .pre .4)
+    (not-true (start .args .f .authored .matched .given) (c .if1 .taken))) (emitted-none (now (start .args .out)) (start .args .n))
 
 resolve-match-requires : tie.Need-resolve-match-requires
-resolve-match-requires c κs = (c .before .before .before .before .before .pre .1, c .before .before .before .before .before .pre .2, c .before .before .before .before .before .pre .3)
+resolve-match-requires c κs =
+    let start = c .before .before .before .before .before in
+    (start .pre .1, start .pre .2, start .pre .3)
 
 pgn-error-requires : tie.Need-pgn-error-requires
 pgn-error-requires c κs = search needs
 
 put-requires : tie.Need-put-requires
-put-requires c κs = rw (unresolved (now (c .before .before .before .before .before .before .before .before .before .before .args .s)) (packOf (now (c .before .before .before .before .before .before .before .before .before .before .args .s)) .lookups) (c .before .before .before .before .before .before .before .before .before .before .args .t) (c .before .before .before .before .before .before .before .before .before .before .args .i) (c .before .before .before .before .before .before .before .before .before .before .args .k) (pgn-at (packOf (now (c .before .before .before .before .before .before .before .before .before .before .args .s))) (c .before .before .before .before .before .before .before .before .before .before .args .t) (c .before .before .before .before .before .before .before .before .before .before .args .i)) (c .before .before .before .before .before .before .before .before .before .before .args .f) (c .before .before .before .before .before .before .before .before .before .before .pre .4) (not-false (c .before .before .before .before .before .before .before .before .before .before .args .f .authored .matched .given) (c .before .before .before .before .before .if1 .left)) (c .before .before .before .before .resolve-match .result .given) (c .before .before .before .before .resolve-match .result .value) (c .before .before .before .before .resolve-match .ensures) (not-true (c .before .before .before .before .resolve-match .result .given) (c .before .before .if2 .taken)) (c .pgn-error .result) (c .pgn-error .ensures)) at (c .before .before .before .before .before .before .before .before .before .before .pre .0)
+put-requires c κs =
+    let start = c .before .before .before .before .before .before .before .before .before .before in
+    let if1 = c .before .before .before .before .before .if1 in
+    let resolve-match-call = c .before .before .before .before .resolve-match in
+    let s = now (start .args .s) in let t = start .args .t in let i = start .args .i in
+    rw (unresolved s (packOf s .lookups) t i (start .args .k) (pgn-at (packOf s) t i) (start .args .f) (start .pre .4)
+    (not-false (start .args .f .authored .matched .given) (if1 .left)) (resolve-match-call .result .given) (resolve-match-call .result .value)
+    (resolve-match-call .ensures) (not-true (resolve-match-call .result .given) (c .before .before .if2 .taken)) (c .pgn-error .result)
+    (c .pgn-error .ensures)) at (start .pre .0)
 
 same-length : tie.Need-same-length
 same-length c = search needs
 
 returns-2 : tie.Need-returns-2
-returns-2 c = rw (unresolved (now (c .before .before .before .before .before .before .before .before .before .before .before .before .before .args .s)) (packOf (now (c .before .before .before .before .before .before .before .before .before .before .before .before .before .args .s)) .lookups) (c .before .before .before .before .before .before .before .before .before .before .before .before .before .args .t) (c .before .before .before .before .before .before .before .before .before .before .before .before .before .args .i) (c .before .before .before .before .before .before .before .before .before .before .before .before .before .args .k) (pgn-at (packOf (now (c .before .before .before .before .before .before .before .before .before .before .before .before .before .args .s))) (c .before .before .before .before .before .before .before .before .before .before .before .before .before .args .t) (c .before .before .before .before .before .before .before .before .before .before .before .before .before .args .i)) (c .before .before .before .before .before .before .before .before .before .before .before .before .before .args .f) (c .before .before .before .before .before .before .before .before .before .before .before .before .before .pre .4) (not-false (c .before .before .before .before .before .before .before .before .before .before .before .before .before .args .f .authored .matched .given) (c .before .before .before .before .before .before .before .before .if1 .left)) (c .before .before .before .before .before .before .before .resolve-match .result .given) (c .before .before .before .before .before .before .before .resolve-match .result .value) (c .before .before .before .before .before .before .before .resolve-match .ensures) (not-true (c .before .before .before .before .before .before .before .resolve-match .result .given) (c .before .before .before .before .before .if2 .taken)) (c .before .before .before .pgn-error .result) (c .before .before .before .pgn-error .ensures)) (c .before .before .put .ensures)
+returns-2 c =
+    let back12 = c .before .before .before .before .before .before .before .before .before .before .before .before in
+    let start = back12 .before in
+    let if1 = c .before .before .before .before .before .before .before .before .if1 in
+    let resolve-match-call = c .before .before .before .before .before .before .before .resolve-match in
+    let if2 = c .before .before .before .before .before .if2 in
+    let pgn-error-call = c .before .before .before .pgn-error in
+    let s = now (start .args .s) in let t = start .args .t in let i = start .args .i in
+    rw (unresolved s (packOf s .lookups) t i (start .args .k) (pgn-at (packOf s) t i) (start .args .f) (start .pre .4)
+    (not-false (start .args .f .authored .matched .given) (if1 .left)) (resolve-match-call .result .given) (resolve-match-call .result .value)
+    (resolve-match-call .ensures) (not-true (resolve-match-call .result .given) (if2 .taken)) (pgn-error-call .result) (pgn-error-call .ensures))
+    (c .before .before .put .ensures)
 
 exceeds-requires : tie.Need-exceeds-requires
 exceeds-requires c κs = search needs
@@ -66,13 +92,35 @@ pgn-error-requires-2 : tie.Need-pgn-error-requires-2
 pgn-error-requires-2 c κs = search needs
 
 put-if-requires : tie.Need-put-if-requires
-put-if-requires c κs = rw (resolved (now (c .before .before .before .before .before .before .before .before .before .before .before .args .s)) (packOf (now (c .before .before .before .before .before .before .before .before .before .before .before .args .s)) .lookups) (c .before .before .before .before .before .before .before .before .before .before .before .args .t) (c .before .before .before .before .before .before .before .before .before .before .before .args .i) (c .before .before .before .before .before .before .before .before .before .before .before .args .k) (pgn-at (packOf (now (c .before .before .before .before .before .before .before .before .before .before .before .args .s))) (c .before .before .before .before .before .before .before .before .before .before .before .args .t) (c .before .before .before .before .before .before .before .before .before .before .before .args .i)) (c .before .before .before .before .before .before .before .before .before .before .before .args .f) (c .before .before .before .before .before .before .before .before .before .before .before .pre .4) (not-false (c .before .before .before .before .before .before .before .before .before .before .before .args .f .authored .matched .given) (c .before .before .before .before .before .before .if1 .left)) (c .before .before .before .before .before .resolve-match .result .given) (c .before .before .before .before .before .resolve-match .result .value) (c .before .before .before .before .before .resolve-match .ensures) (not-false (c .before .before .before .before .before .resolve-match .result .given) (c .before .before .before .if2 .left)) (c .before .before .exceeds .result) (c .before .before .exceeds .ensures) (c .pgn-error2 .result) (c .pgn-error2 .ensures)) at (c .before .before .before .before .before .before .before .before .before .before .before .pre .0)
+put-if-requires c κs =
+    let start = c .before .before .before .before .before .before .before .before .before .before .before in
+    let if1 = c .before .before .before .before .before .before .if1 in
+    let resolve-match-call = c .before .before .before .before .before .resolve-match in
+    let if2 = c .before .before .before .if2 in
+    let exceeds = c .before .before .exceeds in
+    let s = now (start .args .s) in let t = start .args .t in let i = start .args .i in
+    rw (resolved s (packOf s .lookups) t i (start .args .k) (pgn-at (packOf s) t i) (start .args .f) (start .pre .4)
+    (not-false (start .args .f .authored .matched .given) (if1 .left)) (resolve-match-call .result .given) (resolve-match-call .result .value)
+    (resolve-match-call .ensures) (not-false (resolve-match-call .result .given) (if2 .left)) (exceeds .result) (exceeds .ensures) (c .pgn-error2 .result)
+    (c .pgn-error2 .ensures)) at (start .pre .0)
 
 same-length-2 : tie.Need-same-length-2
 same-length-2 c = search needs
 
 returns-3 : tie.Need-returns-3
-returns-3 c = rw (resolved (now (c .before .before .before .before .before .before .before .before .before .before .before .before .before .before .args .s)) (packOf (now (c .before .before .before .before .before .before .before .before .before .before .before .before .before .before .args .s)) .lookups) (c .before .before .before .before .before .before .before .before .before .before .before .before .before .before .args .t) (c .before .before .before .before .before .before .before .before .before .before .before .before .before .before .args .i) (c .before .before .before .before .before .before .before .before .before .before .before .before .before .before .args .k) (pgn-at (packOf (now (c .before .before .before .before .before .before .before .before .before .before .before .before .before .before .args .s))) (c .before .before .before .before .before .before .before .before .before .before .before .before .before .before .args .t) (c .before .before .before .before .before .before .before .before .before .before .before .before .before .before .args .i)) (c .before .before .before .before .before .before .before .before .before .before .before .before .before .before .args .f) (c .before .before .before .before .before .before .before .before .before .before .before .before .before .before .pre .4) (not-false (c .before .before .before .before .before .before .before .before .before .before .before .before .before .before .args .f .authored .matched .given) (c .before .before .before .before .before .before .before .before .before .if1 .left)) (c .before .before .before .before .before .before .before .before .resolve-match .result .given) (c .before .before .before .before .before .before .before .before .resolve-match .result .value) (c .before .before .before .before .before .before .before .before .resolve-match .ensures) (not-false (c .before .before .before .before .before .before .before .before .resolve-match .result .given) (c .before .before .before .before .before .before .if2 .left)) (c .before .before .before .before .before .exceeds .result) (c .before .before .before .before .before .exceeds .ensures) (c .before .before .before .pgn-error2 .result) (c .before .before .before .pgn-error2 .ensures)) (c .before .before .put-if .ensures)
+returns-3 c =
+    let back12 = c .before .before .before .before .before .before .before .before .before .before .before .before in
+    let start = back12 .before .before in
+    let if1 = c .before .before .before .before .before .before .before .before .before .if1 in
+    let resolve-match-call = c .before .before .before .before .before .before .before .before .resolve-match in
+    let if2 = c .before .before .before .before .before .before .if2 in
+    let exceeds = c .before .before .before .before .before .exceeds in
+    let pgn-error2 = c .before .before .before .pgn-error2 in
+    let s = now (start .args .s) in let t = start .args .t in let i = start .args .i in
+    rw (resolved s (packOf s .lookups) t i (start .args .k) (pgn-at (packOf s) t i) (start .args .f) (start .pre .4)
+    (not-false (start .args .f .authored .matched .given) (if1 .left)) (resolve-match-call .result .given) (resolve-match-call .result .value)
+    (resolve-match-call .ensures) (not-false (resolve-match-call .result .given) (if2 .left)) (exceeds .result) (exceeds .ensures) (pgn-error2 .result)
+    (pgn-error2 .ensures)) (c .before .before .put-if .ensures)
 
 pub match-value-at-spec : {M : Type 1} → statement M
 match-value-at-spec =

@@ -61,10 +61,22 @@ shared-slice-read-c : tie.Need-shared-slice-read-c Inv-loop μ-loop
 shared-slice-read-c c = search needs
 
 returns : tie.Need-returns Inv-loop μ-loop
-returns c = sym (c .before .before .before .loop .inv .1 ∙ (rw (drop-cons (now (c .before .before .before .before .args .b)) (c .before .before .before .loop .i) 0 (c .before .before .loop-test .taken)) (low (c .before .before .before .loop .given) (c .before .before .before .loop .value) (getD (now (c .before .before .before .before .args .b)) (c .before .before .before .loop .i) 0) (drop (suc (c .before .before .before .loop .i)) (now (c .before .before .before .before .args .b))) (c .if1 .taken))))
+returns c =
+    let start = c .before .before .before .before in
+    let loop = c .before .before .before .loop in
+    let b = now (start .args .b) in
+    sym (loop .inv .1
+    ∙ (rw (drop-cons b (loop .i) 0 (c .before .before .loop-test .taken))
+    (low (loop .given) (loop .value) (getD b (loop .i) 0) (drop (suc (loop .i)) b) (c .if1 .taken))))
 
 returns-2 : tie.Need-returns-2 Inv-loop μ-loop
-returns-2 c = sym (c .before .before .before .before .loop .inv .1 ∙ (rw (drop-cons (now (c .before .before .before .before .before .args .b)) (c .before .before .before .before .loop .i) 0 (c .before .before .before .loop-test .taken)) (high (c .before .before .before .before .loop .given) (c .before .before .before .before .loop .value) (getD (now (c .before .before .before .before .before .args .b)) (c .before .before .before .before .loop .i) 0) (drop (suc (c .before .before .before .before .loop .i)) (now (c .before .before .before .before .before .args .b))) (c .if2 .taken))))
+returns-2 c =
+    let start = c .before .before .before .before .before in
+    let loop = c .before .before .before .before .loop in
+    let loop-test = c .before .before .before .loop-test in
+    let b = now (start .args .b) in
+    sym (loop .inv .1
+    ∙ (rw (drop-cons b (loop .i) 0 (loop-test .taken)) (high (loop .given) (loop .value) (getD b (loop .i) 0) (drop (suc (loop .i)) b) (c .if2 .taken))))
 
 cast-digit : tie.Need-cast-digit Inv-loop μ-loop
 cast-digit c = search needs
@@ -73,7 +85,14 @@ sub-if3 : tie.Need-sub-if3 Inv-loop μ-loop
 sub-if3 c = search needs
 
 returns-3 : tie.Need-returns-3 Inv-loop μ-loop
-returns-3 c = sym (c .before .before .before .before .before .loop .inv .1 ∙ (rw (drop-cons (now (c .before .before .before .before .before .before .args .b)) (c .before .before .before .before .before .loop .i) 0 (c .before .before .before .before .loop-test .taken)) (big (c .before .before .before .before .before .loop .given) (c .before .before .before .before .before .loop .value) (getD (now (c .before .before .before .before .before .before .args .b)) (c .before .before .before .before .before .loop .i) 0) (drop (suc (c .before .before .before .before .before .loop .i)) (now (c .before .before .before .before .before .before .args .b))) (omega (arith, c .before .before .if1 .left, c .before .if2 .left, c .if3 .taken)))))
+returns-3 c =
+    let start = c .before .before .before .before .before .before in
+    let loop = c .before .before .before .before .before .loop in
+    let loop-test = c .before .before .before .before .loop-test in
+    let b = now (start .args .b) in
+    sym (loop .inv .1
+    ∙ (rw (drop-cons b (loop .i) 0 (loop-test .taken)) (big (loop .given) (loop .value) (getD b (loop .i) 0) (drop (suc (loop .i)) b)
+    (omega (arith, c .before .before .if1 .left, c .before .if2 .left, c .if3 .taken)))))
 
 mul-value : tie.Need-mul-value Inv-loop μ-loop
 mul-value c = search needs
@@ -88,10 +107,22 @@ loop-less : tie.Need-loop-less Inv-loop μ-loop
 loop-less c = search needs
 
 loop-again : tie.Need-loop-again Inv-loop μ-loop
-loop-again c = (search needs, c .before .before .before .before .before .loop .inv .1 ∙ (rw (add-one (c .before .before .before .before .before .loop .i), drop-cons (now (c .before .before .before .before .before .before .args .b)) (c .before .before .before .before .before .loop .i) 0 (c .before .before .before .before .loop-test .taken)) (turn (c .before .before .before .before .before .loop .given) (c .before .before .before .before .before .loop .value) (getD (now (c .before .before .before .before .before .before .args .b)) (c .before .before .before .before .before .loop .i) 0) (drop (suc (c .before .before .before .before .before .loop .i)) (now (c .before .before .before .before .before .before .args .b))) (omega (arith, c .before .before .if1 .left)) (omega (arith, c .before .if2 .left)) (omega (arith, c .before .before .if1 .left, c .before .if2 .left, c .if3 .left)))))
+loop-again c =
+    let start = c .before .before .before .before .before .before in
+    let loop = c .before .before .before .before .before .loop in
+    let loop-test = c .before .before .before .before .loop-test in
+    let if1 = c .before .before .if1 in
+    let b = now (start .args .b) in (
+      omega (arith, c),
+      loop .inv .1
+          ∙ (rw (add-one (loop .i), drop-cons b (loop .i) 0 (loop-test .taken))
+          (turn (loop .given) (loop .value) (getD b (loop .i) 0) (drop (suc (loop .i)) b) (omega (arith, if1 .left)) (omega (arith, c .before .if2 .left))
+          (omega (arith, if1 .left, c .before .if2 .left, c .if3 .left)))),
+    )
 
 returns-4 : tie.Need-returns-4 Inv-loop μ-loop
-returns-4 c = sym (c .before .loop .inv .1 ∙ (rw (drop-of-length-le (now (c .before .before .args .b)) {i = c .before .loop .i} (omega (arith, c .loop-test .left)))))
+returns-4 c =
+    sym (c .before .loop .inv .1 ∙ (rw (drop-of-length-le (now (c .before .before .args .b)) {i = c .before .loop .i} (omega (arith, c .loop-test .left)))))
 
 pub parse-digits-spec : {M : Type 1} → statement M
 parse-digits-spec =

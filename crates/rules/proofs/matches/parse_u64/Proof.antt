@@ -36,13 +36,19 @@ parse-digits-requires : tie.Need-parse-digits-requires
 parse-digits-requires c κs = search needs
 
 returns-2 : tie.Need-returns-2
-returns-2 c = c .parse-digits .ensures ∙ sym (plus (now (c .before .before .before .before .before .args .b)) (c .before .before .before .if1 .left) (c .before .if2 .taken))
+returns-2 c =
+    let start = c .before .before .before .before .before in
+    let if1 = c .before .before .before .if1 in
+    c .parse-digits .ensures ∙ sym (plus (now (start .args .b)) (if1 .left) (c .before .if2 .taken))
 
 parse-digits-requires-2 : tie.Need-parse-digits-requires-2
 parse-digits-requires-2 c κs = search needs
 
 returns-3 : tie.Need-returns-3
-returns-3 c = c .parse-digits2 .ensures ∙ sym (plain (now (c .before .before .before .before .before .args .b)) (c .before .before .before .if1 .left) (c .before .if2 .left))
+returns-3 c =
+    let start = c .before .before .before .before .before in
+    let if1 = c .before .before .before .if1 in
+    c .parse-digits2 .ensures ∙ sym (plain (now (start .args .b)) (if1 .left) (c .before .if2 .left))
 
 pub parse-u64-spec : {M : Type 1} → statement M
 parse-u64-spec =

@@ -25,7 +25,9 @@ module _ (ls : List Lookup) (r : Option Reference) (m : Bytes) (g : Bool) (v : �
 
 returns : tie.Need-returns
 unfolding resolve-match resolve-text
-returns c = rw (not-true (c .before .before .before .before .args .f .authored .matched .given) (c .if1 .taken))
+returns c =
+    let start = c .before .before .before .before in
+    rw (not-true (start .args .f .authored .matched .given) (c .if1 .taken))
 
 part-requires : tie.Need-part-requires
 part-requires c κs = search needs
@@ -35,14 +37,30 @@ parse-u64-requires c κs = search needs
 
 returns-2 : tie.Need-returns-2
 unfolding resolve-match
-returns-2 c = rw (not-false (c .before .before .before .before .before .before .before .before .args .f .authored .matched .given) (c .before .before .before .before .if1 .left)) (sym (by-number (packOf (now (c .before .before .before .before .before .before .before .before .args .s)) .lookups) (optReference (now (c .before .before .before .before .before .before .before .before .args .s)) (c .before .before .before .before .before .before .before .before .args .f .links .reference)) (bytesOf (now (c .before .before .before .before .before .before .before .before .args .s)) (c .before .before .before .before .before .before .before .before .args .f .authored .matched .text)) (c .before .parse-u64 .result .given) (c .before .parse-u64 .result .value) (c .before .parse-u64 .ensures ∙ ap parse-u64 (c .before .before .part .ensures)) (c .if2 .taken)))
+returns-2 c =
+    let start = c .before .before .before .before .before .before .before .before in
+    let if1 = c .before .before .before .before .if1 in
+    let s = now (start .args .s) in
+    rw (not-false (start .args .f .authored .matched .given) (if1 .left))
+    (sym (by-number (packOf s .lookups) (optReference s (start .args .f .links .reference)) (bytesOf s (start .args .f .authored .matched .text))
+    (c .before .parse-u64 .result .given) (c .before .parse-u64 .result .value)
+    (c .before .parse-u64 .ensures ∙ ap parse-u64 (c .before .before .part .ensures)) (c .if2 .taken)))
 
 resolve-name-requires : tie.Need-resolve-name-requires
 resolve-name-requires c κs = search needs
 
 returns-3 : tie.Need-returns-3
 unfolding resolve-match
-returns-3 c = rw (not-false (c .before .before .before .before .before .before .before .before .before .args .f .authored .matched .given) (c .before .before .before .before .before .if1 .left)) (c .resolve-name .ensures ∙ sym (by-name (packOf (now (c .before .before .before .before .before .before .before .before .before .args .s)) .lookups) (optReference (now (c .before .before .before .before .before .before .before .before .before .args .s)) (c .before .before .before .before .before .before .before .before .before .args .f .links .reference)) (bytesOf (now (c .before .before .before .before .before .before .before .before .before .args .s)) (c .before .before .before .before .before .before .before .before .before .args .f .authored .matched .text)) (c .before .before .parse-u64 .result .given) (c .before .before .parse-u64 .result .value) (c .before .before .parse-u64 .ensures ∙ ap parse-u64 (c .before .before .before .part .ensures)) (c .before .if2 .left)))
+returns-3 c =
+    let start = c .before .before .before .before .before .before .before .before .before in
+    let if1 = c .before .before .before .before .before .if1 in
+    let part = c .before .before .before .part in
+    let parse-u64-call = c .before .before .parse-u64 in
+    let s = now (start .args .s) in
+    rw (not-false (start .args .f .authored .matched .given) (if1 .left))
+    (c .resolve-name .ensures
+    ∙ sym (by-name (packOf s .lookups) (optReference s (start .args .f .links .reference)) (bytesOf s (start .args .f .authored .matched .text))
+    (parse-u64-call .result .given) (parse-u64-call .result .value) (parse-u64-call .ensures ∙ ap parse-u64 (part .ensures)) (c .before .if2 .left)))
 
 pub resolve-match-spec : {M : Type 1} → statement M
 resolve-match-spec =

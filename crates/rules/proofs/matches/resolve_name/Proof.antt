@@ -24,44 +24,83 @@ module _ (ls : List Lookup) (m : Bytes) (r : Reference) where
   cut true es = refl
   cut false es = refl
 
-  known : (l k : ℕ) (g b : Bool) → optional g l ≡ find-lookup ls (r .name) → g ≡ true → k ≡ lookup-at ls l .kind → b ≡ (if r .kind == 3 then k == 3 else ((k == 0) || (k == 2)))
+  known : (l k : ℕ) (g b : Bool) → optional g l ≡ find-lookup ls (r .name) → g ≡ true → k ≡ lookup-at ls l .kind
+      → b ≡ (if r .kind == 3 then k == 3 else ((k == 0) || (k == 2)))
       → resolve-name ls m (some r) ≡ (if b then value-named (lookup-at ls l .entries) m else none)
   unfolding resolve-name resolve-in fieldtypes pairs
   known l k g b e h f x = rw (← e, h, x, f) (go (r .kind == 3))
     where
       go : (c : Bool)
-          → value-named (if c then fieldtypes (lookup-at ls l) else pairs (lookup-at ls l)) m ≡ (if (if c then lookup-at ls l .kind == 3 else ((lookup-at ls l .kind == 0) || (lookup-at ls l .kind == 2))) then value-named (lookup-at ls l .entries) m else none)
+          → value-named (if c then fieldtypes (lookup-at ls l) else pairs (lookup-at ls l)) m
+          ≡ (if (if c then lookup-at ls l .kind == 3 else ((lookup-at ls l .kind == 0) || (lookup-at ls l .kind == 2))) then value-named
+          (lookup-at ls l .entries) m else none)
       go true = cut (lookup-at ls l .kind == 3) (lookup-at ls l .entries)
       go false = cut ((lookup-at ls l .kind == 0) || (lookup-at ls l .kind == 2)) (lookup-at ls l .entries)
 
 returns : tie.Need-returns
 unfolding resolve-name
-returns c = rw (not-true (c .before .before .before .before .args .r .given) (c .if1 .taken))
+returns c =
+    let start = c .before .before .before .before in
+    rw (not-true (start .args .r .given) (c .if1 .taken))
 
 find-lookup-requires : tie.Need-find-lookup-requires
 find-lookup-requires c κs = search needs
 
 returns-2 : tie.Need-returns-2
-returns-2 c = rw (not-false (c .before .before .before .before .before .before .before .args .r .given) (c .before .before .before .if1 .left)) (sym (unknown (packOf (now (c .before .before .before .before .before .before .before .args .s)) .lookups) (bytesOf (now (c .before .before .before .before .before .before .before .args .s)) (c .before .before .before .before .before .before .before .args .m)) (record { kind = c .before .before .before .before .before .before .before .args .r .kind; name = bytesOf (now (c .before .before .before .before .before .before .before .args .s)) (c .before .before .before .before .before .before .before .args .r .name) }) (c .before .before .find-lookup .result .index) (c .before .before .find-lookup .result .given) (c .before .before .find-lookup .ensures .0) (not-true (c .before .before .find-lookup .result .given) (c .if2 .taken))))
+returns-2 c =
+    let start = c .before .before .before .before .before .before .before in
+    let if1 = c .before .before .before .if1 in
+    let find-lookup-call = c .before .before .find-lookup in
+    let s = now (start .args .s) in
+    rw (not-false (start .args .r .given) (if1 .left)) (sym (unknown (packOf s .lookups) (bytesOf s (start .args .m))
+    (record { kind = start .args .r .kind; name = bytesOf s (start .args .r .name) }) (find-lookup-call .result .index) (find-lookup-call .result .given)
+    (find-lookup-call .ensures .0) (not-true (find-lookup-call .result .given) (c .if2 .taken))))
 
 lookup-of-requires : tie.Need-lookup-of-requires
-lookup-of-requires c κs = c .before .before .find-lookup .ensures .1 (not-false (c .before .before .find-lookup .result .given) (c .if2 .left))
+lookup-of-requires c κs =
+    let find-lookup-call = c .before .before .find-lookup in
+    find-lookup-call .ensures .1 (not-false (find-lookup-call .result .given) (c .if2 .left))
 
 has-entries-requires : tie.Need-has-entries-requires
 has-entries-requires c κs = search needs
 
 returns-3 : tie.Need-returns-3
 returns-3 c =
-    let e = known (packOf (now (c .before .before .before .before .before .before .before .before .before .before .args .s)) .lookups) (bytesOf (now (c .before .before .before .before .before .before .before .before .before .before .args .s)) (c .before .before .before .before .before .before .before .before .before .before .args .m)) (record { kind = c .before .before .before .before .before .before .before .before .before .before .args .r .kind; name = bytesOf (now (c .before .before .before .before .before .before .before .before .before .before .args .s)) (c .before .before .before .before .before .before .before .before .before .before .args .r .name) }) (c .before .before .before .before .before .find-lookup .result .index) (c .before .before .lookup-of .result .kind) (c .before .before .before .before .before .find-lookup .result .given) (c .before .has-entries .result) (c .before .before .before .before .before .find-lookup .ensures .0) (not-false (c .before .before .before .before .before .find-lookup .result .given) (c .before .before .before .if2 .left)) (ap (λ (L : Lookup). L .kind) (c .before .before .lookup-of .ensures .means)) (c .before .has-entries .ensures) in
-    rw (not-false (c .before .before .before .before .before .before .before .before .before .before .args .r .given) (c .before .before .before .before .before .before .if1 .left), e, not-true (c .before .has-entries .result) (c .if3 .taken))
+    let start = c .before .before .before .before .before .before .before .before .before .before in
+    let if1 = c .before .before .before .before .before .before .if1 in
+    let find-lookup-call = c .before .before .before .before .before .find-lookup in
+    let if2 = c .before .before .before .if2 in
+    let lookup-of = c .before .before .lookup-of in
+    let s = now (start .args .s) in
+    let e = known (packOf s .lookups) (bytesOf s (start .args .m)) (record { kind = start .args .r .kind; name = bytesOf s (start .args .r .name) })
+    (find-lookup-call .result .index) (lookup-of .result .kind) (find-lookup-call .result .given) (c .before .has-entries .result)
+    (find-lookup-call .ensures .0) (not-false (find-lookup-call .result .given) (if2 .left)) (ap (λ (L : Lookup). L .kind) (lookup-of .ensures .means))
+    (c .before .has-entries .ensures) in
+    rw (not-false (start .args .r .given) (if1 .left), e, not-true (c .before .has-entries .result) (c .if3 .taken))
 
 value-named-requires : tie.Need-value-named-requires
-value-named-requires c κs = (c .before .before .before .before .before .find-lookup .ensures .1 (not-false (c .before .before .before .before .before .find-lookup .result .given) (c .before .before .before .if2 .left)), ap (λ (L : Lookup). L .kind) (c .before .before .lookup-of .ensures .means), c .before .before .lookup-of .ensures .entries)
+value-named-requires c κs =
+    let find-lookup-call = c .before .before .before .before .before .find-lookup in
+    let if2 = c .before .before .before .if2 in
+    let lookup-of = c .before .before .lookup-of in (
+      find-lookup-call .ensures .1 (not-false (find-lookup-call .result .given) (if2 .left)),
+      ap (λ (L : Lookup). L .kind) (lookup-of .ensures .means),
+      lookup-of .ensures .entries,
+    )
 
 returns-4 : tie.Need-returns-4
 returns-4 c =
-    let e = known (packOf (now (c .before .before .before .before .before .before .before .before .before .before .before .args .s)) .lookups) (bytesOf (now (c .before .before .before .before .before .before .before .before .before .before .before .args .s)) (c .before .before .before .before .before .before .before .before .before .before .before .args .m)) (record { kind = c .before .before .before .before .before .before .before .before .before .before .before .args .r .kind; name = bytesOf (now (c .before .before .before .before .before .before .before .before .before .before .before .args .s)) (c .before .before .before .before .before .before .before .before .before .before .before .args .r .name) }) (c .before .before .before .before .before .before .find-lookup .result .index) (c .before .before .before .lookup-of .result .kind) (c .before .before .before .before .before .before .find-lookup .result .given) (c .before .before .has-entries .result) (c .before .before .before .before .before .before .find-lookup .ensures .0) (not-false (c .before .before .before .before .before .before .find-lookup .result .given) (c .before .before .before .before .if2 .left)) (ap (λ (L : Lookup). L .kind) (c .before .before .before .lookup-of .ensures .means)) (c .before .before .has-entries .ensures) in
-    rw (not-false (c .before .before .before .before .before .before .before .before .before .before .before .args .r .given) (c .before .before .before .before .before .before .before .if1 .left), e, not-false (c .before .before .has-entries .result) (c .before .if3 .left)) (c .value-named .ensures)
+    let start = c .before .before .before .before .before .before .before .before .before .before .before in
+    let if1 = c .before .before .before .before .before .before .before .if1 in
+    let find-lookup-call = c .before .before .before .before .before .before .find-lookup in
+    let if2 = c .before .before .before .before .if2 in
+    let lookup-of = c .before .before .before .lookup-of in
+    let has-entries = c .before .before .has-entries in
+    let s = now (start .args .s) in
+    let e = known (packOf s .lookups) (bytesOf s (start .args .m)) (record { kind = start .args .r .kind; name = bytesOf s (start .args .r .name) })
+    (find-lookup-call .result .index) (lookup-of .result .kind) (find-lookup-call .result .given) (has-entries .result) (find-lookup-call .ensures .0)
+    (not-false (find-lookup-call .result .given) (if2 .left)) (ap (λ (L : Lookup). L .kind) (lookup-of .ensures .means)) (has-entries .ensures) in
+    rw (not-false (start .args .r .given) (if1 .left), e, not-false (has-entries .result) (c .before .if3 .left)) (c .value-named .ensures)
 
 pub resolve-name-spec : {M : Type 1} → statement M
 resolve-name-spec =

@@ -31,7 +31,9 @@ loop-holds : tie.Need-loop-holds Inv-loop μ-loop
 loop-holds c = (search needs, refl)
 
 entry-of-requires : tie.Need-entry-of-requires Inv-loop μ-loop
-entry-of-requires c κs = (c .before .before .before .before .pre .0, c .before .before .before .before .pre .1, omega (arith, c .before .before .before .before .pre .2, c .loop-test .taken))
+entry-of-requires c κs =
+    let start = c .before .before .before .before in
+    (start .pre .0, start .pre .1, omega (arith, start .pre .2, c .loop-test .taken))
 
 same-text-requires : tie.Need-same-text-requires Inv-loop μ-loop
 same-text-requires c κs = search needs
@@ -39,10 +41,14 @@ same-text-requires c κs = search needs
 returns : tie.Need-returns Inv-loop μ-loop
 unfolding value-named
 returns c =
-    let s = now (c .before .before .before .before .before .before .before .args .s) in
-    let b = bytesOf s (c .before .before .before .before .before .before .before .args .name) in
-    let h : named s (c .before .before .before .before .before .before .before .args .l) b (c .before .before .before .before .loop .e) ≡ true = rw (← ap (λ (x : Entry). x .name) (c .before .before .entry-of .ensures), ← c .before .same-text .ensures) (c .if1 .taken) in
-    rw (← c .before .before .before .before .before .before .before .pre .2, first-hit (named s (c .before .before .before .before .before .before .before .args .l) b) (c .before .before .before .before .before .before .before .args .n) (c .before .before .before .before .loop .e) (c .before .before .before .loop-test .taken) (c .before .before .before .before .loop .inv .1) h, ← c .before .before .entry-of .ensures)
+    let start = c .before .before .before .before .before .before .before in
+    let loop = c .before .before .before .before .loop in
+    let loop-test = c .before .before .before .loop-test in
+    let entry-of = c .before .before .entry-of in
+    let s = now (start .args .s) in let l = start .args .l in
+    let b = bytesOf s (start .args .name) in
+    let h : named s l b (loop .e) ≡ true = rw (← ap (λ (x : Entry). x .name) (entry-of .ensures), ← c .before .same-text .ensures) (c .if1 .taken) in
+    rw (← start .pre .2, first-hit (named s l b) (start .args .n) (loop .e) (loop-test .taken) (loop .inv .1) h, ← entry-of .ensures)
 
 add-e : tie.Need-add-e Inv-loop μ-loop
 add-e c = search needs
@@ -52,15 +58,20 @@ loop-less c = search needs
 
 loop-again : tie.Need-loop-again Inv-loop μ-loop
 loop-again c =
-    let s = now (c .before .before .before .before .before .before .before .args .s) in
-    let b = bytesOf s (c .before .before .before .before .before .before .before .args .name) in
-    let h : named s (c .before .before .before .before .before .before .before .args .l) b (c .before .before .before .before .loop .e) ≡ false = rw (← ap (λ (x : Entry). x .name) (c .before .before .entry-of .ensures), ← c .before .same-text .ensures) (c .if1 .left) in
-    (search needs, first-turn (named s (c .before .before .before .before .before .before .before .args .l) b) (c .before .before .before .before .loop .e) ∙ (rw (c .before .before .before .before .loop .inv .1, h)))
+    let start = c .before .before .before .before .before .before .before in
+    let loop = c .before .before .before .before .loop in
+    let s = now (start .args .s) in let l = start .args .l in
+    let b = bytesOf s (start .args .name) in
+    let h : named s l b (loop .e) ≡ false =
+    rw (← ap (λ (x : Entry). x .name) (c .before .before .entry-of .ensures), ← c .before .same-text .ensures) (c .if1 .left) in
+    (omega (arith, c), first-turn (named s l b) (loop .e) ∙ (rw (loop .inv .1, h)))
 
 returns-2 : tie.Need-returns-2 Inv-loop μ-loop
 unfolding value-named
 returns-2 c =
-    let e : length (lookup-at (packOf (now (c .before .before .before .before .args .s)) .lookups) (c .before .before .before .before .args .l) .entries) ≡ c .before .loop .e = omega (arith, c .before .before .before .before .pre .2, c .before .loop .inv .0, c .loop-test .left) in
+    let start = c .before .before .before .before in
+    let e : length (lookup-at (packOf (now (start .args .s)) .lookups) (start .args .l) .entries) ≡ c .before .loop .e =
+    omega (arith, start .pre .2, c .before .loop .inv .0, c .loop-test .left) in
     rw (e, c .before .loop .inv .1)
 
 pub value-named-spec : {M : Type 1} → statement M

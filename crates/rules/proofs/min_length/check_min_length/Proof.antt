@@ -28,16 +28,28 @@ module _ (s : List ℕ) (t i : ℕ) (G : Pgn) (g : PgnView) (is : PgnIs s G g) w
   absent e = rw (minimum, e)
 
 min-length-at-requires : tie.Need-min-length-at-requires
-min-length-at-requires c κs = (rw (given (now (c .before .before .before .before .before .before .args .s)) (c .before .before .before .before .before .before .args .t) (c .before .before .before .before .before .before .args .i) _ (c .before .before .before .before .before .before .args .g) (c .before .before .before .before .before .before .pre .2) (c .before .if1 .taken)) at (c .before .before .before .before .before .before .pre .0), c .before .before .before .before .before .before .pre .1, c .before .before .before .before .before .before .pre .2)
+min-length-at-requires c κs =
+    let start = c .before .before .before .before .before .before in (
+      rw (given (now (start .args .s)) (start .args .t) (start .args .i) _ (start .args .g) (start .pre .2) (c .before .if1 .taken)) at (start .pre .0),
+      start .pre .1,
+      start .pre .2,
+    )
 
 same-length : tie.Need-same-length
 same-length c = search needs
 
 returns : tie.Need-returns
-returns c = rw (given (now (c .before .before .before .before .before .before .before .before .before .args .s)) (c .before .before .before .before .before .before .before .before .before .args .t) (c .before .before .before .before .before .before .before .before .before .args .i) _ (c .before .before .before .before .before .before .before .before .before .args .g) (c .before .before .before .before .before .before .before .before .before .pre .2) (c .before .before .before .before .if1 .taken)) (c .before .before .min-length-at .ensures)
+returns c =
+    let start = c .before .before .before .before .before .before .before .before .before in
+    let if1 = c .before .before .before .before .if1 in
+    rw (given (now (start .args .s)) (start .args .t) (start .args .i) _ (start .args .g) (start .pre .2) (if1 .taken))
+    (c .before .before .min-length-at .ensures)
 
 returns-2 : tie.Need-returns-2
-returns-2 c = rw (absent (now (c .before .before .before .before .before .args .s)) (c .before .before .before .before .before .args .t) (c .before .before .before .before .before .args .i) _ (c .before .before .before .before .before .args .g) (c .before .before .before .before .before .pre .2) (c .if1 .left)) (emitted-none (now (c .before .before .before .before .before .args .out)) (c .before .before .before .before .before .args .n))
+returns-2 c =
+    let start = c .before .before .before .before .before in
+    rw (absent (now (start .args .s)) (start .args .t) (start .args .i) _ (start .args .g) (start .pre .2) (c .if1 .left))
+    (emitted-none (now (start .args .out)) (start .args .n))
 
 pub check-min-length-spec : {M : Type 1} → statement M
 check-min-length-spec = tie.close (tie.spec min-length-at-requires same-length returns returns-2)

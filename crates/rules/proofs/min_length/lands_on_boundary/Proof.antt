@@ -35,7 +35,8 @@ module _ (s : List ℕ) (t i least bits k : ℕ) (v : FieldView) (is : fieldMean
   missed a e = rw (any-turn (ends s t i least) k, a) (ne-eqb (sumBelow (width s t i) k + width s t i k) (least * 8) (λ q. e (grown ∙ q)))
 
 abbrev Inv-loop : tie.InvT-loop
-Inv-loop s work t i p fields least boundary bits₀ k₀ bits k = (k ≤ fields) × (bits ≡ sumBelow (width s t i) k) × (bits ≤ k * 4294967295) × (anyBelow (ends s t i least) k ≡ false)
+Inv-loop s work t i p fields least boundary bits₀ k₀ bits k =
+    (k ≤ fields) × (bits ≡ sumBelow (width s t i) k) × (bits ≤ k * 4294967295) × (anyBelow (ends s t i least) k ≡ false)
 
 abbrev μ-loop : tie.MeasureT-loop
 μ-loop s work t i p fields least boundary bits₀ k₀ bits k = fields - k
@@ -47,7 +48,9 @@ loop-holds : tie.Need-loop-holds Inv-loop μ-loop
 loop-holds c = (omega arith, refl, omega arith, refl)
 
 field-of-requires : tie.Need-field-of-requires Inv-loop μ-loop
-field-of-requires c κs = (c .before .before .before .before .pre .0, omega (arith, c .before .before .before .before .pre .1))
+field-of-requires c κs =
+    let start = c .before .before .before .before in
+    (start .pre .0, omega (arith, start .pre .1))
 
 cast-bits : tie.Need-cast-bits Inv-loop μ-loop
 cast-bits c = search needs
@@ -57,7 +60,13 @@ add-bits c = search needs
 
 returns : tie.Need-returns Inv-loop μ-loop
 unfolding lands-on-boundary
-returns c = sym (hit (now (c .before .before .before .before .before .before .before .args .s)) (c .before .before .before .before .before .before .before .args .t) (c .before .before .before .before .before .before .before .args .i) (c .before .before .before .before .before .before .before .args .least) (c .before .before .before .before .loop .bits) (c .before .before .before .before .loop .k) (c .before .before .field-of .result) (c .before .before .field-of .ensures) (c .before .before .before .before .loop .inv .1) (length (pgn-at (packOf (now (c .before .before .before .before .before .before .before .args .s))) (c .before .before .before .before .before .before .before .args .t) (c .before .before .before .before .before .before .before .args .i) .fields)) (omega (arith, c .before .before .before .before .before .before .before .pre .1)) (c .if1 .taken))
+returns c =
+    let start = c .before .before .before .before .before .before .before in
+    let loop = c .before .before .before .before .loop in
+    let field-of = c .before .before .field-of in
+    let s = now (start .args .s) in let t = start .args .t in let i = start .args .i in
+    sym (hit s t i (start .args .least) (loop .bits) (loop .k) (field-of .result) (field-of .ensures) (loop .inv .1) (length (pgn-at (packOf s) t i .fields))
+    (omega (arith, start .pre .1)) (c .if1 .taken))
 
 add-k : tie.Need-add-k Inv-loop μ-loop
 add-k c = search needs
@@ -66,11 +75,23 @@ loop-less : tie.Need-loop-less Inv-loop μ-loop
 loop-less c = search needs
 
 loop-again : tie.Need-loop-again Inv-loop μ-loop
-loop-again c = (omega arith, grown (now (c .before .before .before .before .before .before .before .args .s)) (c .before .before .before .before .before .before .before .args .t) (c .before .before .before .before .before .before .before .args .i) (c .before .before .before .before .before .before .before .args .least) (c .before .before .before .before .loop .bits) (c .before .before .before .before .loop .k) (c .before .before .field-of .result) (c .before .before .field-of .ensures) (c .before .before .before .before .loop .inv .1) ∙ sym (sum-turn (width (now (c .before .before .before .before .before .before .before .args .s)) (c .before .before .before .before .before .before .before .args .t) (c .before .before .before .before .before .before .before .args .i)) (c .before .before .before .before .loop .k)), omega (arith, c .before .struct-known .given), missed (now (c .before .before .before .before .before .before .before .args .s)) (c .before .before .before .before .before .before .before .args .t) (c .before .before .before .before .before .before .before .args .i) (c .before .before .before .before .before .before .before .args .least) (c .before .before .before .before .loop .bits) (c .before .before .before .before .loop .k) (c .before .before .field-of .result) (c .before .before .field-of .ensures) (c .before .before .before .before .loop .inv .1) (c .before .before .before .before .loop .inv .3) (c .if1 .left))
+loop-again c =
+    let start = c .before .before .before .before .before .before .before in
+    let loop = c .before .before .before .before .loop in
+    let field-of = c .before .before .field-of in
+    let s = now (start .args .s) in let t = start .args .t in let i = start .args .i in let least = start .args .least in (
+      omega (arith, c),
+      grown s t i least (loop .bits) (loop .k) (field-of .result) (field-of .ensures) (loop .inv .1) ∙ sym (sum-turn (width s t i) (loop .k)),
+      omega (arith, c .before .struct-known .given),
+      missed s t i least (loop .bits) (loop .k) (field-of .result) (field-of .ensures) (loop .inv .1) (loop .inv .3) (c .if1 .left),
+    )
 
 returns-2 : tie.Need-returns-2 Inv-loop μ-loop
 unfolding lands-on-boundary
-returns-2 c = let e : c .before .loop .k ≡ length (pgn-at (packOf (now (c .before .before .before .before .args .s))) (c .before .before .before .before .args .t) (c .before .before .before .before .args .i) .fields) = omega (arith, c .before .before .before .before .pre .1) in rw (← e) (sym (c .before .loop .inv .3))
+returns-2 c =
+    let start = c .before .before .before .before in
+    let e : c .before .loop .k ≡ length (pgn-at (packOf (now (start .args .s))) (start .args .t) (start .args .i) .fields) = omega (arith, start .pre .1) in
+    rw (← e) (sym (c .before .loop .inv .3))
 
 pub lands-on-boundary-spec : {M : Type 1} → statement M
 lands-on-boundary-spec =

@@ -16,7 +16,8 @@ use lib.ListN.{length}
 use Rattle.rules.proofs.min_length.min_length_at.Statement.{statement}
 use Rattle.rules.proofs.min_length.min_length_at.Tie as tie
 
-chosen : (a b z y : Bool) (p q f h : Finding) → a ≡ false → b ≡ false → z ≡ y → f ≡ h → (if a then p ∷ [] else if b then q ∷ [] else report-if (not y) h) ≡ report-if (not z) f
+chosen : (a b z y : Bool) (p q f h : Finding) → a ≡ false → b ≡ false → z ≡ y → f ≡ h
+    → (if a then p ∷ [] else if b then q ∷ [] else report-if (not y) h) ≡ report-if (not z) f
 chosen a b z y p q f h e d w x = rw (e, d, w, x)
 
 -- the rule, said of the view: a variable PGN, a minimum out of range, one to look up
@@ -46,13 +47,21 @@ pgn-error-requires : tie.Need-pgn-error-requires
 pgn-error-requires c κs = search needs
 
 put-requires : tie.Need-put-requires
-put-requires c κs = rw (variable (now (c .before .before .before .before .before .before .args .s)) (c .before .before .before .before .before .before .args .t) (c .before .before .before .before .before .before .args .i) (c .before .before .before .before .before .before .args .least) _ (c .before .before .before .before .before .before .args .g) (c .before .before .before .before .before .before .pre .2) _ (c .before .before .if1 .taken) (c .pgn-error .ensures)) at (c .before .before .before .before .before .before .pre .0)
+put-requires c κs =
+    let start = c .before .before .before .before .before .before in
+    rw (variable (now (start .args .s)) (start .args .t) (start .args .i) (start .args .least) _ (start .args .g) (start .pre .2) _
+    (c .before .before .if1 .taken) (c .pgn-error .ensures)) at (start .pre .0)
 
 same-length : tie.Need-same-length
 same-length c = search needs
 
 returns : tie.Need-returns
-returns c = rw (variable (now (c .before .before .before .before .before .before .before .before .before .args .s)) (c .before .before .before .before .before .before .before .before .before .args .t) (c .before .before .before .before .before .before .before .before .before .args .i) (c .before .before .before .before .before .before .before .before .before .args .least) _ (c .before .before .before .before .before .before .before .before .before .args .g) (c .before .before .before .before .before .before .before .before .before .pre .2) _ (c .before .before .before .before .before .if1 .taken) (c .before .before .before .pgn-error .ensures)) (c .before .before .put .ensures)
+returns c =
+    let start = c .before .before .before .before .before .before .before .before .before in
+    let if1 = c .before .before .before .before .before .if1 in
+    let pgn-error-call = c .before .before .before .pgn-error in
+    rw (variable (now (start .args .s)) (start .args .t) (start .args .i) (start .args .least) _ (start .args .g) (start .pre .2) _ (if1 .taken)
+    (pgn-error-call .ensures)) (c .before .before .put .ensures)
 
 not-shorter-requires : tie.Need-not-shorter-requires
 not-shorter-requires c κs = search needs
@@ -61,28 +70,56 @@ pgn-error-requires-2 : tie.Need-pgn-error-requires-2
 pgn-error-requires-2 c κs = search needs
 
 put-requires-2 : tie.Need-put-requires-2
-put-requires-2 c κs = rw (unfit (now (c .before .before .before .before .before .before .before .before .args .s)) (c .before .before .before .before .before .before .before .before .args .t) (c .before .before .before .before .before .before .before .before .args .i) (c .before .before .before .before .before .before .before .before .args .least) _ (c .before .before .before .before .before .before .before .before .args .g) (c .before .before .before .before .before .before .before .before .pre .2) _ (c .before .before .before .before .if1 .left) (sym (c .before .before .before .not-shorter .ensures) ∙ c .before .before .if2 .taken) (c .pgn-error2 .ensures)) at (c .before .before .before .before .before .before .before .before .pre .0)
+put-requires-2 c κs =
+    let start = c .before .before .before .before .before .before .before .before in
+    let if1 = c .before .before .before .before .if1 in
+    let not-shorter = c .before .before .before .not-shorter in
+    rw (unfit (now (start .args .s)) (start .args .t) (start .args .i) (start .args .least) _ (start .args .g) (start .pre .2) _ (if1 .left)
+    (sym (not-shorter .ensures) ∙ c .before .before .if2 .taken) (c .pgn-error2 .ensures)) at (start .pre .0)
 
 same-length-2 : tie.Need-same-length-2
 same-length-2 c = search needs
 
 returns-2 : tie.Need-returns-2
-returns-2 c = rw (unfit (now (c .before .before .before .before .before .before .before .before .before .before .before .args .s)) (c .before .before .before .before .before .before .before .before .before .before .before .args .t) (c .before .before .before .before .before .before .before .before .before .before .before .args .i) (c .before .before .before .before .before .before .before .before .before .before .before .args .least) _ (c .before .before .before .before .before .before .before .before .before .before .before .args .g) (c .before .before .before .before .before .before .before .before .before .before .before .pre .2) _ (c .before .before .before .before .before .before .before .if1 .left) (sym (c .before .before .before .before .before .before .not-shorter .ensures) ∙ c .before .before .before .before .before .if2 .taken) (c .before .before .before .pgn-error2 .ensures)) (c .before .before .put2 .ensures)
+returns-2 c =
+    let start = c .before .before .before .before .before .before .before .before .before .before .before in
+    let if1 = c .before .before .before .before .before .before .before .if1 in
+    let not-shorter = c .before .before .before .before .before .before .not-shorter in
+    let if2 = c .before .before .before .before .before .if2 in
+    let pgn-error2 = c .before .before .before .pgn-error2 in
+    rw (unfit (now (start .args .s)) (start .args .t) (start .args .i) (start .args .least) _ (start .args .g) (start .pre .2) _ (if1 .left)
+    (sym (not-shorter .ensures) ∙ if2 .taken) (pgn-error2 .ensures)) (c .before .before .put2 .ensures)
 
 lands-on-boundary-requires : tie.Need-lands-on-boundary-requires
-lands-on-boundary-requires c κs = (c .before .before .before .before .before .before .pre .1, c .before .before .before .before .before .before .pre .2 .fields)
+lands-on-boundary-requires c κs =
+    let start = c .before .before .before .before .before .before in
+    (start .pre .1, start .pre .2 .fields)
 
 pgn-error-requires-3 : tie.Need-pgn-error-requires-3
 pgn-error-requires-3 c κs = search needs
 
 put-if-requires : tie.Need-put-if-requires
-put-if-requires c κs = rw (fit (now (c .before .before .before .before .before .before .before .before .before .args .s)) (c .before .before .before .before .before .before .before .before .before .args .t) (c .before .before .before .before .before .before .before .before .before .args .i) (c .before .before .before .before .before .before .before .before .before .args .least) _ (c .before .before .before .before .before .before .before .before .before .args .g) (c .before .before .before .before .before .before .before .before .before .pre .2) _ (c .before .before .before .before .before .if1 .left) (sym (c .before .before .before .before .not-shorter .ensures) ∙ c .before .before .before .if2 .left) _ (c .before .before .lands-on-boundary .ensures) (c .pgn-error3 .ensures)) at (c .before .before .before .before .before .before .before .before .before .pre .0)
+put-if-requires c κs =
+    let start = c .before .before .before .before .before .before .before .before .before in
+    let if1 = c .before .before .before .before .before .if1 in
+    let not-shorter = c .before .before .before .before .not-shorter in
+    let if2 = c .before .before .before .if2 in
+    rw (fit (now (start .args .s)) (start .args .t) (start .args .i) (start .args .least) _ (start .args .g) (start .pre .2) _ (if1 .left)
+    (sym (not-shorter .ensures) ∙ if2 .left) _ (c .before .before .lands-on-boundary .ensures) (c .pgn-error3 .ensures)) at (start .pre .0)
 
 same-length-3 : tie.Need-same-length-3
 same-length-3 c = search needs
 
 returns-3 : tie.Need-returns-3
-returns-3 c = rw (fit (now (c .before .before .before .before .before .before .before .before .before .before .before .before .args .s)) (c .before .before .before .before .before .before .before .before .before .before .before .before .args .t) (c .before .before .before .before .before .before .before .before .before .before .before .before .args .i) (c .before .before .before .before .before .before .before .before .before .before .before .before .args .least) _ (c .before .before .before .before .before .before .before .before .before .before .before .before .args .g) (c .before .before .before .before .before .before .before .before .before .before .before .before .pre .2) _ (c .before .before .before .before .before .before .before .before .if1 .left) (sym (c .before .before .before .before .before .before .before .not-shorter .ensures) ∙ c .before .before .before .before .before .before .if2 .left) _ (c .before .before .before .before .before .lands-on-boundary .ensures) (c .before .before .before .pgn-error3 .ensures)) (c .before .before .put-if .ensures)
+returns-3 c =
+    let start = c .before .before .before .before .before .before .before .before .before .before .before .before in
+    let if1 = c .before .before .before .before .before .before .before .before .if1 in
+    let not-shorter = c .before .before .before .before .before .before .before .not-shorter in
+    let if2 = c .before .before .before .before .before .before .if2 in
+    let lands-on-boundary-call = c .before .before .before .before .before .lands-on-boundary in
+    let pgn-error3 = c .before .before .before .pgn-error3 in
+    rw (fit (now (start .args .s)) (start .args .t) (start .args .i) (start .args .least) _ (start .args .g) (start .pre .2) _ (if1 .left)
+    (sym (not-shorter .ensures) ∙ if2 .left) _ (lands-on-boundary-call .ensures) (pgn-error3 .ensures)) (c .before .before .put-if .ensures)
 
 pub min-length-at-spec : {M : Type 1} → statement M
 min-length-at-spec =

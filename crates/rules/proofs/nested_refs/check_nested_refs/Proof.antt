@@ -49,31 +49,69 @@ abbrev μ-loop : tie.MeasureT-loop
 μ-loop out₀ n s work index l p entries m₀ e₀ out m e = entries - e
 
 returns : tie.Need-returns Inv-loop μ-loop
-returns c = rw (others (now (c .before .before .before .before .before .args .s)) (packOf (now (c .before .before .before .before .before .args .s))) (lookup-at (packOf (now (c .before .before .before .before .before .args .s)) .lookups) (c .before .before .before .before .before .args .l)) (c .before .before .before .before .before .args .v) (c .before .before .before .before .before .pre .2) (c .before .before .before .before .before .args .l) (c .if1 .taken)) (emitted-none (now (c .before .before .before .before .before .args .out)) (c .before .before .before .before .before .args .n))
+returns c =
+    let start = c .before .before .before .before .before in
+    let s = now (start .args .s) in let l = start .args .l in
+    rw (others s (packOf s) (lookup-at (packOf s .lookups) l) (start .args .v) (start .pre .2) l (c .if1 .taken))
+    (emitted-none (now (start .args .out)) (start .args .n))
 
 loop-holds : tie.Need-loop-holds Inv-loop μ-loop
-loop-holds c = (search needs, refl, emitted-none (now (c .before .before .before .before .before .args .out)) (c .before .before .before .before .before .args .n))
+loop-holds c =
+    let start = c .before .before .before .before .before in
+    (omega (arith, c), refl, emitted-none (now (start .args .out)) (start .args .n))
 
 entry-of-requires : tie.Need-entry-of-requires Inv-loop μ-loop
-entry-of-requires c κs = (c .before .before .before .before .before .before .before .pre .1, sym (c .before .before .if1 .left) ∙ ap (λ (L : Lookup). L .kind) (c .before .before .before .before .before .before .before .pre .2 .means), omega (arith, c .before .before .before .before .before .before .before .pre .2 .entries, c .loop-test .taken))
+entry-of-requires c κs =
+    let start = c .before .before .before .before .before .before .before in (
+      start .pre .1,
+      sym (c .before .before .if1 .left) ∙ ap (λ (L : Lookup). L .kind) (start .pre .2 .means),
+      omega (arith, start .pre .2 .entries, c .loop-test .taken),
+    )
 
 fieldtype-entry-at-requires : tie.Need-fieldtype-entry-at-requires Inv-loop μ-loop
-fieldtype-entry-at-requires c κs = (asked (now (c .before .before .before .before .before .before .before .before .before .args .s)) (packOf (now (c .before .before .before .before .before .before .before .before .before .args .s))) (c .before .before .before .before .before .before .before .before .before .args .l) (c .before .before .before .loop .e) (c .before .entry-of .result) (getD (lookup-at (packOf (now (c .before .before .before .before .before .before .before .before .before .args .s)) .lookups) (c .before .before .before .before .before .before .before .before .before .args .l) .entries) (c .before .before .before .loop .e) noEntry) (c .before .entry-of .ensures) (fits-turn (of-entry (now (c .before .before .before .before .before .before .before .before .before .args .s)) (c .before .before .before .before .before .before .before .before .before .args .l)) (c .before .before .before .before .before .before .before .before .before .args .v .entries) (c .before .before .before .loop .e) (c .before .before .loop-test .taken) (rw (nesting (now (c .before .before .before .before .before .before .before .before .before .args .s)) (packOf (now (c .before .before .before .before .before .before .before .before .before .args .s))) (lookup-at (packOf (now (c .before .before .before .before .before .before .before .before .before .args .s)) .lookups) (c .before .before .before .before .before .before .before .before .before .args .l)) (c .before .before .before .before .before .before .before .before .before .args .v) (c .before .before .before .before .before .before .before .before .before .pre .2) (c .before .before .before .before .before .before .before .before .before .args .l) (c .before .before .before .before .if1 .left)) at (c .before .before .before .before .before .before .before .before .before .pre .0)) (c .before .before .before .loop .inv .2)), c .before .before .before .before .before .before .before .before .before .pre .1 .ready, c .before .before .before .before .before .before .before .before .before .pre .3)
+fieldtype-entry-at-requires c κs =
+    let start = c .before .before .before .before .before .before .before .before .before in
+    let if1 = c .before .before .before .before .if1 in
+    let loop = c .before .before .before .loop in
+    let s = now (start .args .s) in let l = start .args .l in (
+      asked s (packOf s) l (loop .e) (c .before .entry-of .result) (getD (lookup-at (packOf s .lookups) l .entries) (loop .e) noEntry)
+          (c .before .entry-of .ensures) (fits-turn (of-entry s l) (start .args .v .entries) (loop .e) (c .before .before .loop-test .taken)
+          (rw (nesting s (packOf s) (lookup-at (packOf s .lookups) l) (start .args .v) (start .pre .2) l (if1 .left)) at (start .pre .0)) (loop .inv .2)),
+      start .pre .1 .ready,
+      start .pre .3,
+    )
 
 add-e : tie.Need-add-e Inv-loop μ-loop
-add-e c = omega (arith, c .before .before .before .before .before .loop-test .taken, c .before .before .before .before .before .before .before .before .before .before .before .before .pre .2 .entries, entries-few (c .before .before .before .before .before .before .before .before .before .before .before .before .pre .1))
+add-e c =
+    let start = c .before .before .before .before .before .before .before .before .before .before .before .before in
+    let loop-test = c .before .before .before .before .before .loop-test in
+    omega (arith, loop-test .taken, start .pre .2 .entries, entries-few (start .pre .1))
 
 loop-less : tie.Need-loop-less Inv-loop μ-loop
 loop-less c = search needs
 
 loop-again : tie.Need-loop-again Inv-loop μ-loop
-loop-again c = (search needs, c .before .before .fieldtype-entry-at .kept .0 ∙ c .before .before .before .before .before .before .loop .inv .1, emitted-turn (of-entry (now (c .before .before .before .before .before .before .before .before .before .before .before .before .args .s)) (c .before .before .before .before .before .before .before .before .before .before .before .before .args .l)) (c .before .before .before .before .before .before .loop .e) (c .before .before .before .before .before .before .loop .inv .2) (told (now (c .before .before .before .before .before .before .before .before .before .before .before .before .args .s)) (packOf (now (c .before .before .before .before .before .before .before .before .before .before .before .before .args .s))) (c .before .before .before .before .before .before .before .before .before .before .before .before .args .l) (c .before .before .before .before .before .before .loop .e) (c .before .before .before .before .entry-of .result) (getD (lookup-at (packOf (now (c .before .before .before .before .before .before .before .before .before .before .before .before .args .s)) .lookups) (c .before .before .before .before .before .before .before .before .before .before .before .before .args .l) .entries) (c .before .before .before .before .before .before .loop .e) noEntry) (c .before .before .before .before .entry-of .ensures) (c .before .before .fieldtype-entry-at .ensures)))
+loop-again c =
+    let start = c .before .before .before .before .before .before .before .before .before .before .before .before in
+    let loop = c .before .before .before .before .before .before .loop in
+    let entry-of = c .before .before .before .before .entry-of in
+    let fieldtype-entry-at-call = c .before .before .fieldtype-entry-at in
+    let s = now (start .args .s) in let l = start .args .l in (
+      omega (arith, c),
+      fieldtype-entry-at-call .kept .0 ∙ loop .inv .1,
+      emitted-turn (of-entry s l) (loop .e) (loop .inv .2) (told s (packOf s) l (loop .e) (entry-of .result)
+          (getD (lookup-at (packOf s .lookups) l .entries) (loop .e) noEntry) (entry-of .ensures) (fieldtype-entry-at-call .ensures)),
+    )
 
 same-length : tie.Need-same-length Inv-loop μ-loop
 same-length c = c .before .loop .inv .1
 
 returns-2 : tie.Need-returns-2 Inv-loop μ-loop
-returns-2 c = let q : c .before .before .before .before .before .before .before .args .v .entries ≡ c .before .loop .e = omega (arith, c .before .loop .inv .0, c .loop-test .left) in rw (nesting (now (c .before .before .before .before .before .before .before .args .s)) (packOf (now (c .before .before .before .before .before .before .before .args .s))) (lookup-at (packOf (now (c .before .before .before .before .before .before .before .args .s)) .lookups) (c .before .before .before .before .before .before .before .args .l)) (c .before .before .before .before .before .before .before .args .v) (c .before .before .before .before .before .before .before .pre .2) (c .before .before .before .before .before .before .before .args .l) (c .before .before .if1 .left), q) (c .before .loop .inv .2)
+returns-2 c =
+    let start = c .before .before .before .before .before .before .before in
+    let s = now (start .args .s) in let l = start .args .l in
+    let q : start .args .v .entries ≡ c .before .loop .e = omega (arith, c .before .loop .inv .0, c .loop-test .left) in
+    rw (nesting s (packOf s) (lookup-at (packOf s .lookups) l) (start .args .v) (start .pre .2) l (c .before .before .if1 .left), q) (c .before .loop .inv .2)
 
 pub check-nested-refs-spec : {M : Type 1} → statement M
 check-nested-refs-spec =

@@ -15,28 +15,61 @@ use Rattle.rules.proofs.Emits.{emitted-append, fits-left, fits-right}
 use Rattle.rules.proofs.nested_refs.fieldtype_entry_at.Statement.{statement}
 use Rattle.rules.proofs.nested_refs.fieldtype_entry_at.Tie as tie
 
-parted : (s : List ℕ) (P : Pack) (l e : ℕ) (v : EntryView) (b : Bool) → b ≡ is-fieldtype (P .fieldtypes) (bytesOf s (v .fieldtype)) → (F : Finding) → F ≡ lookup-error 8 6 l e 0
+parted : (s : List ℕ) (P : Pack) (l e : ℕ) (v : EntryView) (b : Bool) → b ≡ is-fieldtype (P .fieldtypes) (bytesOf s (v .fieldtype)) → (F : Finding)
+    → F ≡ lookup-error 8 6 l e 0
     → fieldtype-entry-at P l e (entryMeaning s v) ≡ report-if (not b) F ++ nested-lookup-at (P .lookups) l e (optBytes s (v .nested))
 unfolding fieldtype-entry-at
 parted s P l e v b x F y = rw (x, y)
 
 is-fieldtype-requires : tie.Need-is-fieldtype-requires
-is-fieldtype-requires c κs = (c .before .before .before .pre .1, c .before .before .before .pre .2 .types)
+is-fieldtype-requires c κs =
+    let start = c .before .before .before in
+    (start .pre .1, start .pre .2 .types)
 
 lookup-error-requires : tie.Need-lookup-error-requires
 lookup-error-requires c κs = search needs
 
 put-if-requires : tie.Need-put-if-requires
-put-if-requires c κs = fits-left (report-if (not (c .before .before .is-fieldtype .result)) (c .lookup-error .result)) (nested-lookup-at (packOf (now (c .before .before .before .before .before .before .args .s)) .lookups) (c .before .before .before .before .before .before .args .l) (c .before .before .before .before .before .before .args .e) (optBytes (now (c .before .before .before .before .before .before .args .s)) (c .before .before .before .before .before .before .args .entry .nested))) (rw (parted (now (c .before .before .before .before .before .before .args .s)) (packOf (now (c .before .before .before .before .before .before .args .s))) (c .before .before .before .before .before .before .args .l) (c .before .before .before .before .before .before .args .e) (c .before .before .before .before .before .before .args .entry) (c .before .before .is-fieldtype .result) (c .before .before .is-fieldtype .ensures) (c .lookup-error .result) (c .lookup-error .ensures)) at (c .before .before .before .before .before .before .pre .0))
+put-if-requires c κs =
+    let start = c .before .before .before .before .before .before in
+    let is-fieldtype-call = c .before .before .is-fieldtype in
+    let s = now (start .args .s) in let l = start .args .l in let e = start .args .e in
+    fits-left (report-if (not (is-fieldtype-call .result)) (c .lookup-error .result))
+    (nested-lookup-at (packOf s .lookups) l e (optBytes s (start .args .entry .nested)))
+    (rw
+    (parted s (packOf s) l e (start .args .entry) (is-fieldtype-call .result) (is-fieldtype-call .ensures) (c .lookup-error .result) (c .lookup-error .ensures))
+    at (start .pre .0))
 
 nested-lookup-at-requires : tie.Need-nested-lookup-at-requires
-nested-lookup-at-requires c κs = (fits-right (report-if (not (c .before .before .before .before .before .before .is-fieldtype .result)) (c .before .before .before .before .lookup-error .result)) (nested-lookup-at (packOf (now (c .before .before .before .before .before .before .before .before .before .before .args .s)) .lookups) (c .before .before .before .before .before .before .before .before .before .before .args .l) (c .before .before .before .before .before .before .before .before .before .before .args .e) (optBytes (now (c .before .before .before .before .before .before .before .before .before .before .args .s)) (c .before .before .before .before .before .before .before .before .before .before .args .entry .nested))) (rw (parted (now (c .before .before .before .before .before .before .before .before .before .before .args .s)) (packOf (now (c .before .before .before .before .before .before .before .before .before .before .args .s))) (c .before .before .before .before .before .before .before .before .before .before .args .l) (c .before .before .before .before .before .before .before .before .before .before .args .e) (c .before .before .before .before .before .before .before .before .before .before .args .entry) (c .before .before .before .before .before .before .is-fieldtype .result) (c .before .before .before .before .before .before .is-fieldtype .ensures) (c .before .before .before .before .lookup-error .result) (c .before .before .before .before .lookup-error .ensures)) at (c .before .before .before .before .before .before .before .before .before .before .pre .0)) (c .before .before .before .put-if .ensures), c .before .before .before .before .before .before .before .before .before .before .pre .1, c .before .before .before .before .before .before .before .before .before .before .pre .2 .lookups, c .before .before .before .before .before .before .before .before .before .before .pre .2 .lookups-place)
+nested-lookup-at-requires c κs =
+    let start = c .before .before .before .before .before .before .before .before .before .before in
+    let is-fieldtype-call = c .before .before .before .before .before .before .is-fieldtype in
+    let lookup-error-call = c .before .before .before .before .lookup-error in
+    let put-if = c .before .before .before .put-if in
+    let s = now (start .args .s) in let l = start .args .l in let e = start .args .e in (
+      fits-right (report-if (not (is-fieldtype-call .result)) (lookup-error-call .result))
+          (nested-lookup-at (packOf s .lookups) l e (optBytes s (start .args .entry .nested)))
+          (rw (parted s (packOf s) l e (start .args .entry) (is-fieldtype-call .result) (is-fieldtype-call .ensures) (lookup-error-call .result)
+          (lookup-error-call .ensures)) at (start .pre .0)) (put-if .ensures),
+      start .pre .1,
+      start .pre .2 .lookups,
+      start .pre .2 .lookups-place,
+    )
 
 same-length : tie.Need-same-length
 same-length c = search needs
 
 returns : tie.Need-returns
-returns c = rw (parted (now (c .before .before .before .before .before .before .before .before .before .before .before .before .before .args .s)) (packOf (now (c .before .before .before .before .before .before .before .before .before .before .before .before .before .args .s))) (c .before .before .before .before .before .before .before .before .before .before .before .before .before .args .l) (c .before .before .before .before .before .before .before .before .before .before .before .before .before .args .e) (c .before .before .before .before .before .before .before .before .before .before .before .before .before .args .entry) (c .before .before .before .before .before .before .before .before .before .is-fieldtype .result) (c .before .before .before .before .before .before .before .before .before .is-fieldtype .ensures) (c .before .before .before .before .before .before .before .lookup-error .result) (c .before .before .before .before .before .before .before .lookup-error .ensures)) (emitted-append {xs = report-if (not (c .before .before .before .before .before .before .before .before .before .is-fieldtype .result)) (c .before .before .before .before .before .before .before .lookup-error .result)} {ys = nested-lookup-at (packOf (now (c .before .before .before .before .before .before .before .before .before .before .before .before .before .args .s)) .lookups) (c .before .before .before .before .before .before .before .before .before .before .before .before .before .args .l) (c .before .before .before .before .before .before .before .before .before .before .before .before .before .args .e) (optBytes (now (c .before .before .before .before .before .before .before .before .before .before .before .before .before .args .s)) (c .before .before .before .before .before .before .before .before .before .before .before .before .before .args .entry .nested))} (c .before .before .before .before .before .before .put-if .ensures) (c .before .before .nested-lookup-at .ensures))
+returns c =
+    let back12 = c .before .before .before .before .before .before .before .before .before .before .before .before in
+    let start = back12 .before in
+    let is-fieldtype-call = c .before .before .before .before .before .before .before .before .before .is-fieldtype in
+    let lookup-error-call = c .before .before .before .before .before .before .before .lookup-error in
+    let put-if = c .before .before .before .before .before .before .put-if in
+    let s = now (start .args .s) in let l = start .args .l in let e = start .args .e in
+    rw (parted s (packOf s) l e (start .args .entry) (is-fieldtype-call .result) (is-fieldtype-call .ensures) (lookup-error-call .result)
+    (lookup-error-call .ensures)) (emitted-append {xs = report-if (not (is-fieldtype-call .result)) (lookup-error-call .result)}
+    {ys = nested-lookup-at (packOf s .lookups) l e (optBytes s (start .args .entry .nested))} (put-if .ensures) (c .before .before .nested-lookup-at .ensures))
 
 pub fieldtype-entry-at-spec : {M : Type 1} → statement M
 fieldtype-entry-at-spec =

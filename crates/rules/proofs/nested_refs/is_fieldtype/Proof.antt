@@ -21,7 +21,8 @@ use Rattle.rules.proofs.nested_refs.is_fieldtype.Tie as tie
 abbrev named : List ℕ → List ℕ → ℕ → Bool
 named s name j = getD (packOf s .fieldtypes) j noFieldType .name ≐ name
 
-said : (s name : List ℕ) (j : ℕ) (v : FieldTypeView) (r : Bool) → typeMeaning s v ≡ getD (packOf s .fieldtypes) j noFieldType → r ≡ (bytesOf s (v .name) ≐ name) → named s name j ≡ r
+said : (s name : List ℕ) (j : ℕ) (v : FieldTypeView) (r : Bool) → typeMeaning s v ≡ getD (packOf s .fieldtypes) j noFieldType → r ≡ (bytesOf s (v .name) ≐ name)
+    → named s name j ≡ r
 said s name j v r y h = sym (h ∙ (λ k. y k .name ≐ name))
 
 abbrev Inv-loop : tie.InvT-loop
@@ -34,7 +35,9 @@ loop-holds : tie.Need-loop-holds Inv-loop μ-loop
 loop-holds c = (search needs, refl)
 
 type-of-requires : tie.Need-type-of-requires Inv-loop μ-loop
-type-of-requires c κs = (c .before .before .before .before .pre .0, omega (arith, c .before .before .before .before .pre .1, c .loop-test .taken))
+type-of-requires c κs =
+    let start = c .before .before .before .before in
+    (start .pre .0, omega (arith, start .pre .1, c .loop-test .taken))
 
 same-text-requires : tie.Need-same-text-requires Inv-loop μ-loop
 same-text-requires c κs = search needs
@@ -42,8 +45,13 @@ same-text-requires c κs = search needs
 returns : tie.Need-returns Inv-loop μ-loop
 unfolding is-fieldtype
 returns c =
-    let h = said (now (c .before .before .before .before .before .before .before .args .s)) (bytesOf (now (c .before .before .before .before .before .before .before .args .s)) (c .before .before .before .before .before .before .before .args .name)) (c .before .before .before .before .loop .j) (c .before .before .type-of .result) (c .before .same-text .result) (c .before .before .type-of .ensures) (c .before .same-text .ensures) in
-    sym (any-hit (named (now (c .before .before .before .before .before .before .before .args .s)) (bytesOf (now (c .before .before .before .before .before .before .before .args .s)) (c .before .before .before .before .before .before .before .args .name))) (length (packOf (now (c .before .before .before .before .before .before .before .args .s)) .fieldtypes)) (c .before .before .before .before .loop .j) (omega (arith, c .before .before .before .before .before .before .before .pre .1, c .before .before .before .loop-test .taken)) (h ∙ c .if1 .taken))
+    let start = c .before .before .before .before .before .before .before in
+    let loop = c .before .before .before .before .loop in
+    let loop-test = c .before .before .before .loop-test in
+    let type-of = c .before .before .type-of in
+    let s = now (start .args .s) in let name = start .args .name in
+    let h = said s (bytesOf s name) (loop .j) (type-of .result) (c .before .same-text .result) (type-of .ensures) (c .before .same-text .ensures) in
+    sym (any-hit (named s (bytesOf s name)) (length (packOf s .fieldtypes)) (loop .j) (omega (arith, start .pre .1, loop-test .taken)) (h ∙ c .if1 .taken))
 
 add-j : tie.Need-add-j Inv-loop μ-loop
 add-j c = search needs
@@ -53,12 +61,20 @@ loop-less c = search needs
 
 loop-again : tie.Need-loop-again Inv-loop μ-loop
 loop-again c =
-    let h = said (now (c .before .before .before .before .before .before .before .args .s)) (bytesOf (now (c .before .before .before .before .before .before .before .args .s)) (c .before .before .before .before .before .before .before .args .name)) (c .before .before .before .before .loop .j) (c .before .before .type-of .result) (c .before .same-text .result) (c .before .before .type-of .ensures) (c .before .same-text .ensures) in
-    (search needs, any-turn (named (now (c .before .before .before .before .before .before .before .args .s)) (bytesOf (now (c .before .before .before .before .before .before .before .args .s)) (c .before .before .before .before .before .before .before .args .name))) (c .before .before .before .before .loop .j) ∙ (rw (c .before .before .before .before .loop .inv .1, h ∙ c .if1 .left)))
+    let start = c .before .before .before .before .before .before .before in
+    let loop = c .before .before .before .before .loop in
+    let type-of = c .before .before .type-of in
+    let s = now (start .args .s) in let name = start .args .name in
+    let h = said s (bytesOf s name) (loop .j) (type-of .result) (c .before .same-text .result) (type-of .ensures) (c .before .same-text .ensures) in
+    (omega (arith, c), any-turn (named s (bytesOf s name)) (loop .j) ∙ (rw (loop .inv .1, h ∙ c .if1 .left)))
 
 returns-2 : tie.Need-returns-2 Inv-loop μ-loop
 unfolding is-fieldtype
-returns-2 c = let q : length (packOf (now (c .before .before .before .before .args .s)) .fieldtypes) ≡ c .before .loop .j = omega (arith, c .before .before .before .before .pre .1, c .before .loop .inv .0, c .loop-test .left) in rw (q, c .before .loop .inv .1)
+returns-2 c =
+    let start = c .before .before .before .before in
+    let q : length (packOf (now (start .args .s)) .fieldtypes) ≡ c .before .loop .j =
+    omega (arith, start .pre .1, c .before .loop .inv .0, c .loop-test .left) in
+    rw (q, c .before .loop .inv .1)
 
 pub is-fieldtype-spec : {M : Type 1} → statement M
 is-fieldtype-spec =

@@ -24,12 +24,17 @@ module _ (s : List ℕ) (ls : List Lookup) (l e : ℕ) (o : OptText) where
   unfolding nested-lookup-at
   absent h = rw h
 
-  nested : o .given ≡ true → (g : Bool) (v : ℕ) → optional g v ≡ find-lookup ls (bytesOf s (o .text)) → (F : Finding) → F ≡ lookup-error 8 7 l e 0 → nested-lookup-at ls l e (optBytes s o) ≡ report-if (not g) F
+  nested : o .given ≡ true → (g : Bool) (v : ℕ) → optional g v ≡ find-lookup ls (bytesOf s (o .text)) → (F : Finding) → F ≡ lookup-error 8 7 l e 0
+      → nested-lookup-at ls l e (optBytes s o) ≡ report-if (not g) F
   unfolding nested-lookup-at
   nested h g v x F y = rw (h, ← x, given-is g v, y)
 
 returns : tie.Need-returns
-returns c = rw (absent (now (c .before .before .before .before .before .args .s)) (packOf (now (c .before .before .before .before .before .args .s)) .lookups) (c .before .before .before .before .before .args .l) (c .before .before .before .before .before .args .e) (c .before .before .before .before .before .args .nested) (not-true (c .before .before .before .before .before .args .nested .given) (c .if1 .taken))) (emitted-none (now (c .before .before .before .before .before .args .out)) (c .before .before .before .before .before .args .n))
+returns c =
+    let start = c .before .before .before .before .before in
+    let s = now (start .args .s) in
+    rw (absent s (packOf s .lookups) (start .args .l) (start .args .e) (start .args .nested) (not-true (start .args .nested .given) (c .if1 .taken)))
+    (emitted-none (now (start .args .out)) (start .args .n))
 
 find-lookup-requires : tie.Need-find-lookup-requires
 find-lookup-requires c κs = search needs
@@ -38,13 +43,28 @@ lookup-error-requires : tie.Need-lookup-error-requires
 lookup-error-requires c κs = search needs
 
 put-if-requires : tie.Need-put-if-requires
-put-if-requires c κs = rw (nested (now (c .before .before .before .before .before .before .before .before .before .args .s)) (packOf (now (c .before .before .before .before .before .before .before .before .before .args .s)) .lookups) (c .before .before .before .before .before .before .before .before .before .args .l) (c .before .before .before .before .before .before .before .before .before .args .e) (c .before .before .before .before .before .before .before .before .before .args .nested) (not-false (c .before .before .before .before .before .before .before .before .before .args .nested .given) (c .before .before .before .before .if1 .left)) (c .before .before .before .find-lookup .result .given) (c .before .before .before .find-lookup .result .index) (c .before .before .before .find-lookup .ensures .0) (c .lookup-error .result) (c .lookup-error .ensures)) at (c .before .before .before .before .before .before .before .before .before .pre .0)
+put-if-requires c κs =
+    let start = c .before .before .before .before .before .before .before .before .before in
+    let if1 = c .before .before .before .before .if1 in
+    let find-lookup-call = c .before .before .before .find-lookup in
+    let s = now (start .args .s) in
+    rw (nested s (packOf s .lookups) (start .args .l) (start .args .e) (start .args .nested) (not-false (start .args .nested .given) (if1 .left))
+    (find-lookup-call .result .given) (find-lookup-call .result .index) (find-lookup-call .ensures .0) (c .lookup-error .result) (c .lookup-error .ensures)) at
+    (start .pre .0)
 
 same-length : tie.Need-same-length
 same-length c = search needs
 
 returns-2 : tie.Need-returns-2
-returns-2 c = rw (nested (now (c .before .before .before .before .before .before .before .before .before .before .before .before .args .s)) (packOf (now (c .before .before .before .before .before .before .before .before .before .before .before .before .args .s)) .lookups) (c .before .before .before .before .before .before .before .before .before .before .before .before .args .l) (c .before .before .before .before .before .before .before .before .before .before .before .before .args .e) (c .before .before .before .before .before .before .before .before .before .before .before .before .args .nested) (not-false (c .before .before .before .before .before .before .before .before .before .before .before .before .args .nested .given) (c .before .before .before .before .before .before .before .if1 .left)) (c .before .before .before .before .before .before .find-lookup .result .given) (c .before .before .before .before .before .before .find-lookup .result .index) (c .before .before .before .before .before .before .find-lookup .ensures .0) (c .before .before .before .lookup-error .result) (c .before .before .before .lookup-error .ensures)) (c .before .before .put-if .ensures)
+returns-2 c =
+    let start = c .before .before .before .before .before .before .before .before .before .before .before .before in
+    let if1 = c .before .before .before .before .before .before .before .if1 in
+    let find-lookup-call = c .before .before .before .before .before .before .find-lookup in
+    let lookup-error-call = c .before .before .before .lookup-error in
+    let s = now (start .args .s) in
+    rw (nested s (packOf s .lookups) (start .args .l) (start .args .e) (start .args .nested) (not-false (start .args .nested .given) (if1 .left))
+    (find-lookup-call .result .given) (find-lookup-call .result .index) (find-lookup-call .ensures .0) (lookup-error-call .result)
+    (lookup-error-call .ensures)) (c .before .before .put-if .ensures)
 
 pub nested-lookup-at-spec : {M : Type 1} → statement M
 nested-lookup-at-spec =

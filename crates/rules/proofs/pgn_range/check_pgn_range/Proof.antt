@@ -43,7 +43,10 @@ neither (inl e) = omega arith
 neither (inr e) = omega arith
 
 returns : tie.Need-returns
-returns c = rw (pseudo (now (c .before .before .before .before .args .s)) (c .before .before .before .before .args .t) (c .before .before .before .before .args .i) _ (c .before .before .before .before .args .g) (c .before .before .before .before .pre .1) (c .if1 .taken)) (emitted-none (now (c .before .before .before .before .args .out)) (c .before .before .before .before .args .n))
+returns c =
+    let start = c .before .before .before .before in
+    rw (pseudo (now (start .args .s)) (start .args .t) (start .args .i) _ (start .args .g) (start .pre .1) (c .if1 .taken))
+    (emitted-none (now (start .args .out)) (start .args .n))
 
 of-tree-requires : tie.Need-of-tree-requires
 of-tree-requires c κs = search needs
@@ -52,25 +55,55 @@ enum-told : tie.Need-enum-told
 enum-told c = search needs
 
 quick-range-requires : tie.Need-quick-range-requires
-quick-range-requires c κs = (rw (in-quick (now (c .before .before .before .before .before .before .before .before .args .s)) (c .before .before .before .before .before .before .before .before .args .t) (c .before .before .before .before .before .before .before .before .args .i) _ (c .before .before .before .before .before .before .before .before .args .g) (c .before .before .before .before .before .before .before .before .pre .1) (c .before .before .before .before .if1 .left) (sym (tree-of (c .before .before .before .before .before .before .before .before .args .t) (c .before .before .before .before .before .before .before .before .pre .2)) ∙ ap treeNumber (sym (c .before .before .before .of-tree .ensures) ∙ c .before .enum-told .given .1))) at (c .before .before .before .before .before .before .before .before .pre .0), c .before .before .before .before .before .before .before .before .pre .1)
+quick-range-requires c κs =
+    let start = c .before .before .before .before .before .before .before .before in
+    let if1 = c .before .before .before .before .if1 in
+    let of-tree = c .before .before .before .of-tree in
+    let t = start .args .t in (
+      rw (in-quick (now (start .args .s)) t (start .args .i) _ (start .args .g) (start .pre .1) (if1 .left)
+          (sym (tree-of t (start .pre .2)) ∙ ap treeNumber (sym (of-tree .ensures) ∙ c .before .enum-told .given .1))) at (start .pre .0),
+      start .pre .1,
+    )
 
 same-length : tie.Need-same-length
 same-length c = search needs
 
 returns-2 : tie.Need-returns-2
-returns-2 c = rw (in-quick (now (c .before .before .before .before .before .before .before .before .before .before .before .args .s)) (c .before .before .before .before .before .before .before .before .before .before .before .args .t) (c .before .before .before .before .before .before .before .before .before .before .before .args .i) _ (c .before .before .before .before .before .before .before .before .before .before .before .args .g) (c .before .before .before .before .before .before .before .before .before .before .before .pre .1) (c .before .before .before .before .before .before .before .if1 .left) (sym (tree-of (c .before .before .before .before .before .before .before .before .before .before .before .args .t) (c .before .before .before .before .before .before .before .before .before .before .before .pre .2)) ∙ ap treeNumber (sym (c .before .before .before .before .before .before .of-tree .ensures) ∙ c .before .before .before .before .enum-told .given .1))) (c .before .before .quick-range .ensures)
+returns-2 c =
+    let start = c .before .before .before .before .before .before .before .before .before .before .before in
+    let if1 = c .before .before .before .before .before .before .before .if1 in
+    let of-tree = c .before .before .before .before .before .before .of-tree in
+    let enum-told-here = c .before .before .before .before .enum-told in
+    let t = start .args .t in
+    rw (in-quick (now (start .args .s)) t (start .args .i) _ (start .args .g) (start .pre .1) (if1 .left)
+    (sym (tree-of t (start .pre .2)) ∙ ap treeNumber (sym (of-tree .ensures) ∙ enum-told-here .given .1))) (c .before .before .quick-range .ensures)
 
 find-range-requires : tie.Need-find-range-requires
 find-range-requires c κs = search needs
 
 found-range-requires : tie.Need-found-range-requires
-found-range-requires c κs = (rw (in-range (now (c .before .before .before .before .before .before .before .before .args .s)) (c .before .before .before .before .before .before .before .before .args .t) (c .before .before .before .before .before .before .before .before .args .i) _ (c .before .before .before .before .before .before .before .before .args .g) (c .before .before .before .before .before .before .before .before .pre .1) (c .before .before .before .before .if1 .left) (λ e. neither (rw (c .before .before .before .of-tree .ensures, e) at (c .before .before .match .keys2)))) at (c .before .before .before .before .before .before .before .before .pre .0), c .before .before .before .before .before .before .before .before .pre .1, (rw (c .before .before .before .of-tree .ensures, tree-of (c .before .before .before .before .before .before .before .before .args .t) (c .before .before .before .before .before .before .before .before .pre .2)) at (c .before .find-range .ensures)))
+found-range-requires c κs =
+    let start = c .before .before .before .before .before .before .before .before in
+    let if1 = c .before .before .before .before .if1 in
+    let of-tree = c .before .before .before .of-tree in
+    let t = start .args .t in (
+      rw (in-range (now (start .args .s)) t (start .args .i) _ (start .args .g) (start .pre .1) (if1 .left)
+          (λ e. neither (rw (of-tree .ensures, e) at (c .before .before .match .keys2)))) at (start .pre .0),
+      start .pre .1,
+      (rw (of-tree .ensures, tree-of t (start .pre .2)) at (c .before .find-range .ensures)),
+    )
 
 same-length-2 : tie.Need-same-length-2
 same-length-2 c = search needs
 
 returns-3 : tie.Need-returns-3
-returns-3 c = rw (in-range (now (c .before .before .before .before .before .before .before .before .before .before .before .args .s)) (c .before .before .before .before .before .before .before .before .before .before .before .args .t) (c .before .before .before .before .before .before .before .before .before .before .before .args .i) _ (c .before .before .before .before .before .before .before .before .before .before .before .args .g) (c .before .before .before .before .before .before .before .before .before .before .before .pre .1) (c .before .before .before .before .before .before .before .if1 .left) (λ e. neither (rw (c .before .before .before .before .before .before .of-tree .ensures, e) at (c .before .before .before .before .before .match .keys2)))) (c .before .before .found-range .ensures)
+returns-3 c =
+    let start = c .before .before .before .before .before .before .before .before .before .before .before in
+    let if1 = c .before .before .before .before .before .before .before .if1 in
+    let of-tree = c .before .before .before .before .before .before .of-tree in
+    let match = c .before .before .before .before .before .match in
+    rw (in-range (now (start .args .s)) (start .args .t) (start .args .i) _ (start .args .g) (start .pre .1) (if1 .left)
+    (λ e. neither (rw (of-tree .ensures, e) at (match .keys2)))) (c .before .before .found-range .ensures)
 
 pub check-pgn-range-spec : {M : Type 1} → statement M
 check-pgn-range-spec =

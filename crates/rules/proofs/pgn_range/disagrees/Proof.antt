@@ -13,7 +13,9 @@ returns : tie.Need-returns
 returns c = rw (eq-eqb _ _ (c .if1 .taken))
 
 returns-2 : tie.Need-returns-2
-returns-2 c = rw (eq-eqb _ _ (c .if2 .taken), or-true (c .before .before .args .range == c .before .before .args .kind))
+returns-2 c =
+    let start = c .before .before in
+    rw (eq-eqb _ _ (c .if2 .taken), or-true (start .args .range == start .args .kind))
 
 returns-3 : tie.Need-returns-3
 returns-3 c = rw (ne-eqb _ _ (c .before .if1 .left), ne-eqb _ _ (c .if2 .left))

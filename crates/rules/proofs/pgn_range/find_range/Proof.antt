@@ -26,7 +26,10 @@ unfolding find-range
 ended rs n j h = let x = drop-of-length-le rs {i = j} h in rw x
 
 abbrev Inv-loop : tie.InvT-loop
-Inv-loop protocol pgn count j₀ j = (count ≡ length (ranges-of (treeNumber protocol))) × (j ≤ count) × (find-range (ranges-of (treeNumber protocol)) pgn ≡ find-range (drop j (ranges-of (treeNumber protocol))) pgn)
+Inv-loop protocol pgn count j₀ j =
+    (count ≡ length (ranges-of (treeNumber protocol)))
+    × (j ≤ count)
+    × (find-range (ranges-of (treeNumber protocol)) pgn ≡ find-range (drop j (ranges-of (treeNumber protocol))) pgn)
 
 abbrev μ-loop : tie.MeasureT-loop
 μ-loop protocol pgn count j₀ j = count - j
@@ -41,7 +44,10 @@ range-at-requires : tie.Need-range-at-requires Inv-loop μ-loop
 range-at-requires c κs = omega arith
 
 returns : tie.Need-returns Inv-loop μ-loop
-returns c = c .before .before .before .before .loop .inv .2 ∙ hit (ranges-of (treeNumber (c .before .before .before .before .before .before .args .protocol))) (c .before .before .before .before .before .before .args .pgn) (c .before .before .before .before .loop .j) _ (c .before .before .range-at .ensures) (c .if1 .taken)
+returns c =
+    let start = c .before .before .before .before .before .before in
+    let loop = c .before .before .before .before .loop in
+    loop .inv .2 ∙ hit (ranges-of (treeNumber (start .args .protocol))) (start .args .pgn) (loop .j) _ (c .before .before .range-at .ensures) (c .if1 .taken)
 
 add-j : tie.Need-add-j Inv-loop μ-loop
 add-j c = search needs
@@ -50,10 +56,19 @@ loop-less : tie.Need-loop-less Inv-loop μ-loop
 loop-less c = search needs
 
 loop-again : tie.Need-loop-again Inv-loop μ-loop
-loop-again c = (c .before .before .before .before .loop .inv .0, omega arith, c .before .before .before .before .loop .inv .2 ∙ missed (ranges-of (treeNumber (c .before .before .before .before .before .before .args .protocol))) (c .before .before .before .before .before .before .args .pgn) (c .before .before .before .before .loop .j) _ (c .before .before .range-at .ensures) (c .if1 .left))
+loop-again c =
+    let start = c .before .before .before .before .before .before in
+    let loop = c .before .before .before .before .loop in (
+      loop .inv .0,
+      omega (arith, c),
+      loop .inv .2
+          ∙ missed (ranges-of (treeNumber (start .args .protocol))) (start .args .pgn) (loop .j) _ (c .before .before .range-at .ensures) (c .if1 .left),
+    )
 
 returns-2 : tie.Need-returns-2 Inv-loop μ-loop
-returns-2 c = c .before .loop .inv .2 ∙ ended (ranges-of (treeNumber (c .before .before .before .args .protocol))) (c .before .before .before .args .pgn) (c .before .loop .j) (omega arith)
+returns-2 c =
+    let start = c .before .before .before in
+    c .before .loop .inv .2 ∙ ended (ranges-of (treeNumber (start .args .protocol))) (start .args .pgn) (c .before .loop .j) (omega (arith, c))
 
 pub find-range-spec : {M : Type 1} → statement M
 find-range-spec =

@@ -27,12 +27,13 @@ module _ (s : List ℕ) (t i : ℕ) (G : Pgn) (g : PgnView) (is : PgnIs s G g) (
   unfolding found-range
   beyond e f x = rw (found, e, x)
 
-  outside : v .given ≡ true → g .pgn < v .range .start → (f : Finding) → f ≡ pgn-error 2 4 t i 0 0 → found-range t i G (find-range (ranges-of t) (g .pgn)) ≡ f ∷ []
+  outside : v .given ≡ true → g .pgn < v .range .start → (f : Finding) → f ≡ pgn-error 2 4 t i 0 0
+      → found-range t i G (find-range (ranges-of t) (g .pgn)) ≡ f ∷ []
   unfolding found-range
   outside e l f x = rw (found, e, ← is .means, lt-ltb _ _ l, x)
 
-  inside : v .given ≡ true → v .range .start ≤ g .pgn → (a b : Bool) (f h : Finding) → a ≡ (pdu1 (g .pgn) && not (g .pgn % 256 == 0)) → f ≡ pgn-error 2 5 t i 0 0
-      → b ≡ not ((v .range .kind == g .kind) || (v .range .kind == 3) || (g .kind == 2)) → h ≡ pgn-error 2 6 t i 0 0
+  inside : v .given ≡ true → v .range .start ≤ g .pgn → (a b : Bool) (f h : Finding) → a ≡ (pdu1 (g .pgn) && not (g .pgn % 256 == 0))
+      → f ≡ pgn-error 2 5 t i 0 0 → b ≡ not ((v .range .kind == g .kind) || (v .range .kind == 3) || (g .kind == 2)) → h ≡ pgn-error 2 6 t i 0 0
       → found-range t i G (find-range (ranges-of t) (g .pgn)) ≡ report-if a f ++ report-if b h
   unfolding found-range
   inside e l a b f h x y z w =
@@ -43,13 +44,23 @@ pgn-error-requires : tie.Need-pgn-error-requires
 pgn-error-requires c κs = search needs
 
 put-requires : tie.Need-put-requires
-put-requires c κs = rw (outside (now (c .before .before .before .before .before .before .before .before .args .s)) (c .before .before .before .before .before .before .before .before .args .t) (c .before .before .before .before .before .before .before .before .args .i) _ (c .before .before .before .before .before .before .before .before .args .g) (c .before .before .before .before .before .before .before .before .pre .1) (c .before .before .before .before .before .before .before .before .args .found) (c .before .before .before .before .before .before .before .before .pre .2) (c .before .before .before .before .before .if1 .taken) (c .before .before .if2 .taken) _ (c .pgn-error .ensures)) at (c .before .before .before .before .before .before .before .before .pre .0)
+put-requires c κs =
+    let start = c .before .before .before .before .before .before .before .before in
+    let if1 = c .before .before .before .before .before .if1 in
+    rw (outside (now (start .args .s)) (start .args .t) (start .args .i) _ (start .args .g) (start .pre .1) (start .args .found) (start .pre .2) (if1 .taken)
+    (c .before .before .if2 .taken) _ (c .pgn-error .ensures)) at (start .pre .0)
 
 same-length : tie.Need-same-length
 same-length c = search needs
 
 returns : tie.Need-returns
-returns c = rw (outside (now (c .before .before .before .before .before .before .before .before .before .before .before .args .s)) (c .before .before .before .before .before .before .before .before .before .before .before .args .t) (c .before .before .before .before .before .before .before .before .before .before .before .args .i) _ (c .before .before .before .before .before .before .before .before .before .before .before .args .g) (c .before .before .before .before .before .before .before .before .before .before .before .pre .1) (c .before .before .before .before .before .before .before .before .before .before .before .args .found) (c .before .before .before .before .before .before .before .before .before .before .before .pre .2) (c .before .before .before .before .before .before .before .before .if1 .taken) (c .before .before .before .before .before .if2 .taken) _ (c .before .before .before .pgn-error .ensures)) (c .before .before .put .ensures)
+returns c =
+    let start = c .before .before .before .before .before .before .before .before .before .before .before in
+    let if1 = c .before .before .before .before .before .before .before .before .if1 in
+    let if2 = c .before .before .before .before .before .if2 in
+    let pgn-error-call = c .before .before .before .pgn-error in
+    rw (outside (now (start .args .s)) (start .args .t) (start .args .i) _ (start .args .g) (start .pre .1) (start .args .found) (start .pre .2) (if1 .taken)
+    (if2 .taken) _ (pgn-error-call .ensures)) (c .before .before .put .ensures)
 
 pdu1-unended-requires : tie.Need-pdu1-unended-requires
 pdu1-unended-requires c κs = search needs
@@ -58,7 +69,12 @@ pgn-error-requires-2 : tie.Need-pgn-error-requires-2
 pgn-error-requires-2 c κs = search needs
 
 put-if-requires : tie.Need-put-if-requires
-put-if-requires c κs = fits-left _ _ (rw (inside (now (c .before .before .before .before .before .before .before .before .before .args .s)) (c .before .before .before .before .before .before .before .before .before .args .t) (c .before .before .before .before .before .before .before .before .before .args .i) _ (c .before .before .before .before .before .before .before .before .before .args .g) (c .before .before .before .before .before .before .before .before .before .pre .1) (c .before .before .before .before .before .before .before .before .before .args .found) (c .before .before .before .before .before .before .before .before .before .pre .2) (c .before .before .before .before .before .before .if1 .taken) (c .before .before .before .if2 .left) _ _ _ _ (c .before .before .pdu1-unended .ensures) (c .pgn-error2 .ensures) refl refl) at (c .before .before .before .before .before .before .before .before .before .pre .0))
+put-if-requires c κs =
+    let start = c .before .before .before .before .before .before .before .before .before in
+    let if1 = c .before .before .before .before .before .before .if1 in
+    let if2 = c .before .before .before .if2 in
+    fits-left _ _ (rw (inside (now (start .args .s)) (start .args .t) (start .args .i) _ (start .args .g) (start .pre .1) (start .args .found) (start .pre .2)
+    (if1 .taken) (if2 .left) _ _ _ _ (c .before .before .pdu1-unended .ensures) (c .pgn-error2 .ensures) refl refl) at (start .pre .0))
 
 disagrees-requires : tie.Need-disagrees-requires
 disagrees-requires c κs = search needs
@@ -67,25 +83,56 @@ pgn-error-requires-3 : tie.Need-pgn-error-requires-3
 pgn-error-requires-3 c κs = search needs
 
 put-if-requires-2 : tie.Need-put-if-requires-2
-put-if-requires-2 c κs = fits-right (report-if (c .before .before .before .before .before .before .before .before .pdu1-unended .result) (c .before .before .before .before .before .before .pgn-error2 .result)) _ (rw (inside (now (c .before .before .before .before .before .before .before .before .before .before .before .before .before .before .before .args .s)) (c .before .before .before .before .before .before .before .before .before .before .before .before .before .before .before .args .t) (c .before .before .before .before .before .before .before .before .before .before .before .before .before .before .before .args .i) _ (c .before .before .before .before .before .before .before .before .before .before .before .before .before .before .before .args .g) (c .before .before .before .before .before .before .before .before .before .before .before .before .before .before .before .pre .1) (c .before .before .before .before .before .before .before .before .before .before .before .before .before .before .before .args .found) (c .before .before .before .before .before .before .before .before .before .before .before .before .before .before .before .pre .2) (c .before .before .before .before .before .before .before .before .before .before .before .before .if1 .taken) (c .before .before .before .before .before .before .before .before .before .if2 .left) _ _ _ _ (c .before .before .before .before .before .before .before .before .pdu1-unended .ensures) (c .before .before .before .before .before .before .pgn-error2 .ensures) (c .before .before .disagrees .ensures) (c .pgn-error3 .ensures)) at (c .before .before .before .before .before .before .before .before .before .before .before .before .before .before .before .pre .0)) (c .before .before .before .before .before .put-if .ensures)
+put-if-requires-2 c κs =
+    let back12 = c .before .before .before .before .before .before .before .before .before .before .before .before in
+    let start = back12 .before .before .before in
+    let if1 = c .before .before .before .before .before .before .before .before .before .before .before .before .if1 in
+    let if2 = c .before .before .before .before .before .before .before .before .before .if2 in
+    let pdu1-unended = c .before .before .before .before .before .before .before .before .pdu1-unended in
+    let pgn-error2 = c .before .before .before .before .before .before .pgn-error2 in
+    let put-if = c .before .before .before .before .before .put-if in
+    fits-right (report-if (pdu1-unended .result) (pgn-error2 .result)) _
+    (rw (inside (now (start .args .s)) (start .args .t) (start .args .i) _ (start .args .g) (start .pre .1) (start .args .found) (start .pre .2) (if1 .taken)
+    (if2 .left) _ _ _ _ (pdu1-unended .ensures) (pgn-error2 .ensures) (c .before .before .disagrees .ensures) (c .pgn-error3 .ensures)) at (start .pre .0))
+    (put-if .ensures)
 
 same-length-2 : tie.Need-same-length-2
 same-length-2 c = search needs
 
 returns-2 : tie.Need-returns-2
-returns-2 c = rw (inside (now (c .before .before .before .before .before .before .before .before .before .before .before .before .before .before .before .before .before .before .args .s)) (c .before .before .before .before .before .before .before .before .before .before .before .before .before .before .before .before .before .before .args .t) (c .before .before .before .before .before .before .before .before .before .before .before .before .before .before .before .before .before .before .args .i) _ (c .before .before .before .before .before .before .before .before .before .before .before .before .before .before .before .before .before .before .args .g) (c .before .before .before .before .before .before .before .before .before .before .before .before .before .before .before .before .before .before .pre .1) (c .before .before .before .before .before .before .before .before .before .before .before .before .before .before .before .before .before .before .args .found) (c .before .before .before .before .before .before .before .before .before .before .before .before .before .before .before .before .before .before .pre .2) (c .before .before .before .before .before .before .before .before .before .before .before .before .before .before .before .if1 .taken) (c .before .before .before .before .before .before .before .before .before .before .before .before .if2 .left) _ _ _ _ (c .before .before .before .before .before .before .before .before .before .before .before .pdu1-unended .ensures) (c .before .before .before .before .before .before .before .before .before .pgn-error2 .ensures) (c .before .before .before .before .before .disagrees .ensures) (c .before .before .before .pgn-error3 .ensures)) (emitted-append (c .before .before .before .before .before .before .before .before .put-if .ensures) (c .before .before .put-if2 .ensures))
+returns-2 c =
+    let back12 = c .before .before .before .before .before .before .before .before .before .before .before .before in
+    let start = back12 .before .before .before .before .before .before in
+    let if1 = back12 .before .before .before .if1 in
+    let if2 = c .before .before .before .before .before .before .before .before .before .before .before .before .if2 in
+    let pdu1-unended = c .before .before .before .before .before .before .before .before .before .before .before .pdu1-unended in
+    let pgn-error2 = c .before .before .before .before .before .before .before .before .before .pgn-error2 in
+    let put-if = c .before .before .before .before .before .before .before .before .put-if in
+    let disagrees = c .before .before .before .before .before .disagrees in
+    let pgn-error3 = c .before .before .before .pgn-error3 in
+    rw (inside (now (start .args .s)) (start .args .t) (start .args .i) _ (start .args .g) (start .pre .1) (start .args .found) (start .pre .2) (if1 .taken)
+    (if2 .left) _ _ _ _ (pdu1-unended .ensures) (pgn-error2 .ensures) (disagrees .ensures) (pgn-error3 .ensures))
+    (emitted-append (put-if .ensures) (c .before .before .put-if2 .ensures))
 
 pgn-error-requires-4 : tie.Need-pgn-error-requires-4
 pgn-error-requires-4 c κs = search needs
 
 put-requires-2 : tie.Need-put-requires-2
-put-requires-2 c κs = rw (beyond (now (c .before .before .before .before .before .args .s)) (c .before .before .before .before .before .args .t) (c .before .before .before .before .before .args .i) _ (c .before .before .before .before .before .args .g) (c .before .before .before .before .before .pre .1) (c .before .before .before .before .before .args .found) (c .before .before .before .before .before .pre .2) (c .before .before .if1 .left) _ (c .pgn-error4 .ensures)) at (c .before .before .before .before .before .pre .0)
+put-requires-2 c κs =
+    let start = c .before .before .before .before .before in
+    rw (beyond (now (start .args .s)) (start .args .t) (start .args .i) _ (start .args .g) (start .pre .1) (start .args .found) (start .pre .2)
+    (c .before .before .if1 .left) _ (c .pgn-error4 .ensures)) at (start .pre .0)
 
 same-length-3 : tie.Need-same-length-3
 same-length-3 c = search needs
 
 returns-3 : tie.Need-returns-3
-returns-3 c = rw (beyond (now (c .before .before .before .before .before .before .before .before .args .s)) (c .before .before .before .before .before .before .before .before .args .t) (c .before .before .before .before .before .before .before .before .args .i) _ (c .before .before .before .before .before .before .before .before .args .g) (c .before .before .before .before .before .before .before .before .pre .1) (c .before .before .before .before .before .before .before .before .args .found) (c .before .before .before .before .before .before .before .before .pre .2) (c .before .before .before .before .before .if1 .left) _ (c .before .before .before .pgn-error4 .ensures)) (c .before .before .put2 .ensures)
+returns-3 c =
+    let start = c .before .before .before .before .before .before .before .before in
+    let if1 = c .before .before .before .before .before .if1 in
+    let pgn-error4 = c .before .before .before .pgn-error4 in
+    rw (beyond (now (start .args .s)) (start .args .t) (start .args .i) _ (start .args .g) (start .pre .1) (start .args .found) (start .pre .2) (if1 .left) _
+    (pgn-error4 .ensures)) (c .before .before .put2 .ensures)
 
 pub found-range-spec : {M : Type 1} → statement M
 found-range-spec =

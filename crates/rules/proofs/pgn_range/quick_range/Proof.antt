@@ -25,19 +25,36 @@ pgn-error-requires : tie.Need-pgn-error-requires
 pgn-error-requires c κs = search needs
 
 put-if-requires : tie.Need-put-if-requires
-put-if-requires c κs = fits-left _ _ (rw (viewed (now (c .before .before .before .before .before .args .s)) (c .before .before .before .before .before .args .t) (c .before .before .before .before .before .args .i) _ (c .before .before .before .before .before .args .g) (c .before .before .before .before .before .pre .1) _ _ (c .pgn-error .ensures) refl) at (c .before .before .before .before .before .pre .0))
+put-if-requires c κs =
+    let start = c .before .before .before .before .before in
+    fits-left _ _ (rw (viewed (now (start .args .s)) (start .args .t) (start .args .i) _ (start .args .g) (start .pre .1) _ _ (c .pgn-error .ensures) refl) at
+    (start .pre .0))
 
 pgn-error-requires-2 : tie.Need-pgn-error-requires-2
 pgn-error-requires-2 c κs = search needs
 
 put-if-requires-2 : tie.Need-put-if-requires-2
-put-if-requires-2 c κs = fits-right (report-if (2047 <ᵇ c .before .before .before .before .before .before .before .before .before .before .before .args .g .pgn) (c .before .before .before .before .before .before .pgn-error .result)) _ (rw (viewed (now (c .before .before .before .before .before .before .before .before .before .before .before .args .s)) (c .before .before .before .before .before .before .before .before .before .before .before .args .t) (c .before .before .before .before .before .before .before .before .before .before .before .args .i) _ (c .before .before .before .before .before .before .before .before .before .before .before .args .g) (c .before .before .before .before .before .before .before .before .before .before .before .pre .1) _ _ (c .before .before .before .before .before .before .pgn-error .ensures) (c .pgn-error2 .ensures)) at (c .before .before .before .before .before .before .before .before .before .before .before .pre .0)) (c .before .before .before .before .before .put-if .ensures)
+put-if-requires-2 c κs =
+    let start = c .before .before .before .before .before .before .before .before .before .before .before in
+    let pgn-error-call = c .before .before .before .before .before .before .pgn-error in
+    let put-if = c .before .before .before .before .before .put-if in
+    fits-right (report-if (2047 <ᵇ start .args .g .pgn) (pgn-error-call .result)) _
+    (rw
+    (viewed (now (start .args .s)) (start .args .t) (start .args .i) _ (start .args .g) (start .pre .1) _ _ (pgn-error-call .ensures) (c .pgn-error2 .ensures))
+    at (start .pre .0)) (put-if .ensures)
 
 same-length : tie.Need-same-length
 same-length c = search needs
 
 returns : tie.Need-returns
-returns c = rw (viewed (now (c .before .before .before .before .before .before .before .before .before .before .before .before .before .before .args .s)) (c .before .before .before .before .before .before .before .before .before .before .before .before .before .before .args .t) (c .before .before .before .before .before .before .before .before .before .before .before .before .before .before .args .i) _ (c .before .before .before .before .before .before .before .before .before .before .before .before .before .before .args .g) (c .before .before .before .before .before .before .before .before .before .before .before .before .before .before .pre .1) _ _ (c .before .before .before .before .before .before .before .before .before .pgn-error .ensures) (c .before .before .before .pgn-error2 .ensures)) (emitted-append (c .before .before .before .before .before .before .before .before .put-if .ensures) (c .before .before .put-if2 .ensures))
+returns c =
+    let back12 = c .before .before .before .before .before .before .before .before .before .before .before .before in
+    let start = back12 .before .before in
+    let pgn-error-call = c .before .before .before .before .before .before .before .before .before .pgn-error in
+    let put-if = c .before .before .before .before .before .before .before .before .put-if in
+    let pgn-error2 = c .before .before .before .pgn-error2 in
+    rw (viewed (now (start .args .s)) (start .args .t) (start .args .i) _ (start .args .g) (start .pre .1) _ _ (pgn-error-call .ensures) (pgn-error2 .ensures))
+    (emitted-append (put-if .ensures) (c .before .before .put-if2 .ensures))
 
 pub quick-range-spec : {M : Type 1} → statement M
 quick-range-spec =

@@ -53,7 +53,10 @@ enum-told : tie.Need-enum-told
 enum-told c = search needs
 
 mul-result : tie.Need-mul-result
-mul-result c = let h : c .before .before .args .j < 10 = rw (c .enum-told .given .1) at (c .before .before .pre) in omega arith
+mul-result c =
+    let start = c .before .before in
+    let h : start .args .j < 10 = rw (c .enum-told .given .1) at (start .pre) in
+    omega (arith, c)
 
 array-copy-out-result : tie.Need-array-copy-out-result
 array-copy-out-result c = rw (c .enum-told .given .1) at (c .before .before .pre)
@@ -62,7 +65,10 @@ enum-told-2 : tie.Need-enum-told-2
 enum-told-2 c = search needs
 
 mul-result-2 : tie.Need-mul-result-2
-mul-result-2 c = let h : c .before .before .args .j < 8 = rw (c .enum-told2 .given .1) at (c .before .before .pre) in omega arith
+mul-result-2 c =
+    let start = c .before .before in
+    let h : start .args .j < 8 = rw (c .enum-told2 .given .1) at (start .pre) in
+    omega (arith, c)
 
 array-copy-out-result-2 : tie.Need-array-copy-out-result-2
 array-copy-out-result-2 c = rw (c .enum-told2 .given .1) at (c .before .before .pre)
@@ -71,22 +77,31 @@ enum-told-3 : tie.Need-enum-told-3
 enum-told-3 c = search needs
 
 mul-result-3 : tie.Need-mul-result-3
-mul-result-3 c = let h : c .before .before .args .j < 8 = rw (c .enum-told3 .given .1) at (c .before .before .pre) in omega arith
+mul-result-3 c =
+    let start = c .before .before in
+    let h : start .args .j < 8 = rw (c .enum-told3 .given .1) at (start .pre) in
+    omega (arith, c)
 
 array-copy-out-result-3 : tie.Need-array-copy-out-result-3
 array-copy-out-result-3 c = rw (c .enum-told3 .given .1) at (c .before .before .pre)
 
 returns : tie.Need-returns
 unfolding pdu1
-returns c = rw (c .before .enum-told .given .1) (row j1939 (entry 0 0 0) (c .before .before .before .args .j) (rw (c .before .enum-told .given .1) at (c .before .before .before .pre)))
+returns c =
+    let start = c .before .before .before in
+    rw (c .before .enum-told .given .1) (row j1939 (entry 0 0 0) (start .args .j) (rw (c .before .enum-told .given .1) at (start .pre)))
 
 returns-2 : tie.Need-returns-2
 unfolding pdu1
-returns-2 c = rw (c .before .enum-told2 .given .1) (row nmea2000 (entry 0 0 0) (c .before .before .before .args .j) (rw (c .before .enum-told2 .given .1) at (c .before .before .before .pre)))
+returns-2 c =
+    let start = c .before .before .before in
+    rw (c .before .enum-told2 .given .1) (row nmea2000 (entry 0 0 0) (start .args .j) (rw (c .before .enum-told2 .given .1) at (start .pre)))
 
 returns-3 : tie.Need-returns-3
 unfolding pdu1
-returns-3 c = rw (c .before .enum-told3 .given .1) (row nmea2000 (entry 0 0 0) (c .before .before .before .args .j) (rw (c .before .enum-told3 .given .1) at (c .before .before .before .pre)))
+returns-3 c =
+    let start = c .before .before .before in
+    rw (c .before .enum-told3 .given .1) (row nmea2000 (entry 0 0 0) (start .args .j) (rw (c .before .enum-told3 .given .1) at (start .pre)))
 
 pub range-at-spec : {M : Type 1} → statement M
 range-at-spec =

@@ -17,13 +17,24 @@ enum-known-index : tie.Need-enum-known-index
 enum-known-index c = search needs
 
 write-named-requires : tie.Need-write-named-requires
-write-named-requires c κs = let l = load-law (now (c .before .before .before .before .before .before .before .before .before .before .before .before .args .pack)) (now (c .before .before .before .before .before .before .before .before .before .before .before .before .args .work)) (c .before .before .before .index .given .0 .0) (sym (c .before .before .before .before .before .before .before .load .ensures .answer) ∙ c .before .before .before .index .given .1) in (rw (c .before .before .before .before .before .before .before .load .ensures .work) (l .0), rw (l .1) (index-law (now (c .before .before .before .before .before .before .before .before .before .before .before .before .args .pack))))
+write-named-requires c κs =
+    let start = c .before .before .before .before .before .before .before .before .before .before .before .before in
+    let load = c .before .before .before .before .before .before .before .load in
+    let index = c .before .before .before .index in
+    let pack = now (start .args .pack) in
+    let l = load-law pack (now (start .args .work)) (index .given .0 .0) (sym (load .ensures .answer) ∙ index .given .1) in
+    (rw (load .ensures .work) (l .0), rw (l .1) (index-law pack))
 
 same-length : tie.Need-same-length
 same-length c = search needs
 
 returns : tie.Need-returns
-returns c = let a = not-loaded (now (c .before .before .before .before .before .before .before .before .before .before .args .pack)) (length (now (c .before .before .before .before .before .before .before .before .before .before .args .work))) (c .before .before .before .before .before .before .before .before .before .before .args .place) (c .before .before .before .before .before .before .before .before .before .before .args .tree) (c .before .before .before .before .before .before .before .before .before .before .args .item) (now (c .before .before .before .before .before .before .before .before .before .before .args .text)) (c .before .refusal .given .0 .0) (sym (c .before .before .before .before .before .load .ensures .answer) ∙ c .before .refusal .given .1) in promised _ _ _ _ _ _ _ _ _ a (c .before .before .before .before .before .load .ensures .work)
+returns c =
+    let start = c .before .before .before .before .before .before .before .before .before .before in
+    let load = c .before .before .before .before .before .load in
+    let a = not-loaded (now (start .args .pack)) (length (now (start .args .work))) (start .args .place) (start .args .tree) (start .args .item)
+    (now (start .args .text)) (c .before .refusal .given .0 .0) (sym (load .ensures .answer) ∙ c .before .refusal .given .1) in
+    promised _ _ _ _ _ _ _ _ _ a (load .ensures .work)
 
 same-length-2 : tie.Need-same-length-2
 same-length-2 c = search needs
@@ -32,7 +43,15 @@ same-length-3 : tie.Need-same-length-3
 same-length-3 c = search needs
 
 returns-2 : tie.Need-returns-2
-returns-2 c = let a = is-loaded (now (c .before .before .before .before .before .before .before .before .before .before .before .before .before .before .before .args .pack)) (length (now (c .before .before .before .before .before .before .before .before .before .before .before .before .before .before .before .args .work))) (c .before .before .before .before .before .before .before .before .before .before .before .before .before .before .before .args .place) (c .before .before .before .before .before .before .before .before .before .before .before .before .before .before .before .args .tree) (c .before .before .before .before .before .before .before .before .before .before .before .before .before .before .before .args .item) (now (c .before .before .before .before .before .before .before .before .before .before .before .before .before .before .before .args .text)) (c .before .before .before .before .before .before .index .given .0 .0) (sym (c .before .before .before .before .before .before .before .before .before .before .load .ensures .answer) ∙ c .before .before .before .before .before .before .index .given .1) _ _ (c .before .before .write-named .ensures .0) (c .before .before .write-named .ensures .1) in promised _ _ _ _ _ _ _ _ _ a (c .before .before .before .before .before .before .before .before .before .before .load .ensures .work)
+returns-2 c =
+    let back12 = c .before .before .before .before .before .before .before .before .before .before .before .before in
+    let start = back12 .before .before .before in
+    let load = c .before .before .before .before .before .before .before .before .before .before .load in
+    let index = c .before .before .before .before .before .before .index in
+    let write-named = c .before .before .write-named in
+    let a = is-loaded (now (start .args .pack)) (length (now (start .args .work))) (start .args .place) (start .args .tree) (start .args .item)
+    (now (start .args .text)) (index .given .0 .0) (sym (load .ensures .answer) ∙ index .given .1) _ _ (write-named .ensures .0) (write-named .ensures .1) in
+    promised _ _ _ _ _ _ _ _ _ a (load .ensures .work)
 
 pub place-text-spec : {M : Type 1} → statement M
 place-text-spec =

@@ -14,7 +14,13 @@ find-loc-requires : tie.Need-find-loc-requires
 find-loc-requires c κs = search needs
 
 returns : tie.Need-returns
-returns c = let a = not-there (place-text (packOf (now (c .before .before .before .before .before .before .args .pack))) (c .before .before .before .before .before .before .args .place) (c .before .before .before .before .before .before .args .tree) (c .before .before .before .before .before .before .args .item)) (c .before .before .find-loc .result .given) (loc-text (now (c .before .before .before .before .before .before .args .pack)) (c .before .before .find-loc .result .loc)) (c .before .before .find-loc .ensures) (now (c .before .before .before .before .before .before .args .text)) (not-true (c .before .before .find-loc .result .given) (c .if1 .taken)) in (a .answer, a .text)
+returns c =
+    let start = c .before .before .before .before .before .before in
+    let find-loc = c .before .before .find-loc in
+    let pack = now (start .args .pack) in
+    let a = not-there (place-text (packOf pack) (start .args .place) (start .args .tree) (start .args .item)) (find-loc .result .given)
+    (loc-text pack (find-loc .result .loc)) (find-loc .ensures) (now (start .args .text)) (not-true (find-loc .result .given) (c .if1 .taken)) in
+    (a .answer, a .text)
 
 slice-relend-prefix-put-loc : tie.Need-slice-relend-prefix-put-loc
 slice-relend-prefix-put-loc c = search needs
@@ -30,8 +36,15 @@ same-length c = search needs
 
 returns-2 : tie.Need-returns-2
 returns-2 c =
-    let x = empty-part (c .before .before .before .put-loc .last .0) (now (c .before .before .before .before .before .before .before .before .before .before .before .args .text)) (c .before .before .before .put-loc .kept .0) in
-    let a = too-short (place-text (packOf (now (c .before .before .before .before .before .before .before .before .before .before .before .args .pack))) (c .before .before .before .before .before .before .before .before .before .before .before .args .place) (c .before .before .before .before .before .before .before .before .before .before .before .args .tree) (c .before .before .before .before .before .before .before .before .before .before .before .args .item)) (c .before .before .before .before .before .before .before .find-loc .result .given) (loc-text (now (c .before .before .before .before .before .before .before .before .before .before .before .args .pack)) (c .before .before .before .before .before .before .before .find-loc .result .loc)) (c .before .before .before .before .before .before .before .find-loc .ensures) (now (c .before .before .before .before .before .before .before .before .before .before .before .args .text)) (not-false (c .before .before .before .before .before .before .before .find-loc .result .given) (c .before .before .before .before .before .if1 .left)) (c .before .before .before .put-loc .result) (c .before .before .before .put-loc .ensures .count) (rw x at (c .if2 .taken)) in
+    let start = c .before .before .before .before .before .before .before .before .before .before .before in
+    let find-loc = c .before .before .before .before .before .before .before .find-loc in
+    let if1 = c .before .before .before .before .before .if1 in
+    let put-loc = c .before .before .before .put-loc in
+    let text = now (start .args .text) in let pack = now (start .args .pack) in
+    let x = empty-part (put-loc .last .0) text (put-loc .kept .0) in
+    let a = too-short (place-text (packOf pack) (start .args .place) (start .args .tree) (start .args .item)) (find-loc .result .given)
+    (loc-text pack (find-loc .result .loc)) (find-loc .ensures) text (not-false (find-loc .result .given) (if1 .left)) (put-loc .result)
+    (put-loc .ensures .count) (rw x at (c .if2 .taken)) in
     (a .answer, x ∙ a .text)
 
 put-loc-requires-2 : tie.Need-put-loc-requires-2
@@ -42,8 +55,18 @@ same-length-2 c = search needs
 
 returns-3 : tie.Need-returns-3
 returns-3 c =
-    let x = empty-part (c .before .before .before .before .before .before .before .put-loc .last .0) (now (c .before .before .before .before .before .before .before .before .before .before .before .before .before .before .before .args .text)) (c .before .before .before .before .before .before .before .put-loc .kept .0) in
-    let a = all-written (place-text (packOf (now (c .before .before .before .before .before .before .before .before .before .before .before .before .before .before .before .args .pack))) (c .before .before .before .before .before .before .before .before .before .before .before .before .before .before .before .args .place) (c .before .before .before .before .before .before .before .before .before .before .before .before .before .before .before .args .tree) (c .before .before .before .before .before .before .before .before .before .before .before .before .before .before .before .args .item)) (c .before .before .before .before .before .before .before .before .before .before .before .find-loc .result .given) (loc-text (now (c .before .before .before .before .before .before .before .before .before .before .before .before .before .before .before .args .pack)) (c .before .before .before .before .before .before .before .before .before .before .before .find-loc .result .loc)) (c .before .before .before .before .before .before .before .before .before .before .before .find-loc .ensures) (now (c .before .before .before .before .before .before .before .before .before .before .before .before .before .before .before .args .text)) (not-false (c .before .before .before .before .before .before .before .before .before .before .before .find-loc .result .given) (c .before .before .before .before .before .before .before .before .before .if1 .left)) (c .before .before .before .before .before .before .before .put-loc .result) (c .before .before .before .before .before .before .before .put-loc .ensures .count) (rw x at (c .before .before .before .before .if2 .left)) (c .before .before .put-loc2 .last .0) (c .before .before .put-loc2 .result) (rw x at (c .before .before .put-loc2 .ensures)) in
+    let back12 = c .before .before .before .before .before .before .before .before .before .before .before .before in
+    let start = back12 .before .before .before in
+    let find-loc = c .before .before .before .before .before .before .before .before .before .before .before .find-loc in
+    let if1 = c .before .before .before .before .before .before .before .before .before .if1 in
+    let put-loc = c .before .before .before .before .before .before .before .put-loc in
+    let if2 = c .before .before .before .before .if2 in
+    let put-loc2 = c .before .before .put-loc2 in
+    let text = now (start .args .text) in let pack = now (start .args .pack) in
+    let x = empty-part (put-loc .last .0) text (put-loc .kept .0) in
+    let a = all-written (place-text (packOf pack) (start .args .place) (start .args .tree) (start .args .item)) (find-loc .result .given)
+    (loc-text pack (find-loc .result .loc)) (find-loc .ensures) text (not-false (find-loc .result .given) (if1 .left)) (put-loc .result)
+    (put-loc .ensures .count) (rw x at (if2 .left)) (put-loc2 .last .0) (put-loc2 .result) (rw x at (put-loc2 .ensures)) in
     (a .answer, a .text)
 
 pub write-named-spec : {M : Type 1} → statement M

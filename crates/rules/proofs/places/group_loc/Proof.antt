@@ -10,7 +10,9 @@ absent-requires : tie.Need-absent-requires
 absent-requires c κs = search needs
 
 returns : tie.Need-returns
-returns c = rw (c .absent .ensures, le-ltb (c .before .before .before .before .args .tree) 3 (c .before .if1 .taken))
+returns c =
+    let start = c .before .before .before .before in
+    rw (c .absent .ensures, le-ltb (start .args .tree) 3 (c .before .if1 .taken))
 
 of-tree-requires : tie.Need-of-tree-requires
 of-tree-requires c κs = search needs
@@ -19,10 +21,18 @@ section-requires : tie.Need-section-requires
 section-requires c κs = search needs
 
 has-number-requires : tie.Need-has-number-requires
-has-number-requires c κs = let a = at-tree (packOf (now (c .before .before .before .before .before .args .s))) (c .before .before .before .before .before .args .index) (c .before .before .before .before .before .pre .1) (c .before .before .before .before .before .args .tree) (c .before .before .if1 .left) (c .before .of-tree .result) (c .section .result) (c .before .of-tree .ensures) (c .section .ensures) in (c .before .before .before .before .before .pre .0, c .before .before .if1 .left, a .0, a .1)
+has-number-requires c κs =
+    let start = c .before .before .before .before .before in
+    let if1 = c .before .before .if1 in
+    let a = at-tree (packOf (now (start .args .s))) (start .args .index) (start .pre .1) (start .args .tree) (if1 .left) (c .before .of-tree .result)
+    (c .section .result) (c .before .of-tree .ensures) (c .section .ensures) in
+    (start .pre .0, if1 .left, a .0, a .1)
 
 returns-2 : tie.Need-returns-2
-returns-2 c = rw (lt-ltb (c .before .before .before .before .before .before .args .tree) 3 (c .before .before .before .if1 .left), c .has-number .ensures)
+returns-2 c =
+    let start = c .before .before .before .before .before .before in
+    let if1 = c .before .before .before .if1 in
+    rw (lt-ltb (start .args .tree) 3 (if1 .left), c .has-number .ensures)
 
 pub group-loc-spec : {M : Type 1} → statement M
 group-loc-spec =

@@ -33,37 +33,74 @@ loop-holds : tie.Need-loop-holds Inv-loop μ-loop
 loop-holds c = (omega arith, omega (arith, c .before .before .pre .3), refl)
 
 pgn-of-requires : tie.Need-pgn-of-requires Inv-loop μ-loop
-pgn-of-requires c κs = at-pgn (c .before .before .before .before .pre .0) (c .before .before .before .before .pre .1) (omega (arith, c .before .before .before .before .pre .2)) (c .loop-test .taken) (c .before .loop .inv .1)
+pgn-of-requires c κs =
+    let start = c .before .before .before .before in
+    at-pgn (start .pre .0) (start .pre .1) (omega (arith, start .pre .2)) (c .loop-test .taken) (c .before .loop .inv .1)
 
 returns : tie.Need-returns Inv-loop μ-loop
 unfolding has-number
 returns c =
-    let e : numbered (now (c .before .before .before .before .before .before .before .args .s)) (c .before .before .before .before .before .before .before .args .t) (c .before .before .before .before .before .before .before .args .number) (c .before .before .before .before .loop .i) ≡ true = eq-eqb _ _ (sym (ap (λ (G : Pgn). G .pgn) (c .before .before .pgn-of .ensures .means)) ∙ c .if1 .taken) in
-    sym (any-hit (numbered (now (c .before .before .before .before .before .before .before .args .s)) (c .before .before .before .before .before .before .before .args .t) (c .before .before .before .before .before .before .before .args .number)) (length (pgns-of (packOf (now (c .before .before .before .before .before .before .before .args .s))) (c .before .before .before .before .before .before .before .args .t))) (c .before .before .before .before .loop .i) (omega (arith, c .before .before .before .loop-test .taken, c .before .before .before .before .before .before .before .pre .2)) e)
+    let start = c .before .before .before .before .before .before .before in
+    let loop = c .before .before .before .before .loop in
+    let loop-test = c .before .before .before .loop-test in
+    let s = now (start .args .s) in let t = start .args .t in let number = start .args .number in
+    let e : numbered s t number (loop .i) ≡ true = eq-eqb _ _ (sym (ap (λ (G : Pgn). G .pgn) (c .before .before .pgn-of .ensures .means)) ∙ c .if1 .taken) in
+    sym (any-hit (numbered s t number) (length (pgns-of (packOf s) t)) (loop .i) (omega (arith, loop-test .taken, start .pre .2)) e)
 
 add-p : tie.Need-add-p Inv-loop μ-loop
-add-p c = omega (arith, fields-few (at-pgn (c .before .before .before .before .before .before .before .pre .0) (c .before .before .before .before .before .before .before .pre .1) (omega (arith, c .before .before .before .before .before .before .before .pre .2)) (c .before .before .before .loop-test .taken) (c .before .before .before .before .loop .inv .1)))
+add-p c =
+    let start = c .before .before .before .before .before .before .before in
+    let loop = c .before .before .before .before .loop in
+    let loop-test = c .before .before .before .loop-test in
+    omega (arith, fields-few (at-pgn (start .pre .0) (start .pre .1) (omega (arith, start .pre .2)) (loop-test .taken) (loop .inv .1)))
 
 cast-p : tie.Need-cast-p Inv-loop μ-loop
-cast-p c = omega (arith, fields-few (at-pgn (c .before .before .before .before .before .before .before .before .pre .0) (c .before .before .before .before .before .before .before .before .pre .1) (omega (arith, c .before .before .before .before .before .before .before .before .pre .2)) (c .before .before .before .before .loop-test .taken) (c .before .before .before .before .before .loop .inv .1)), c .before .before .before .pgn-of .ensures .fields)
+cast-p c =
+    let start = c .before .before .before .before .before .before .before .before in
+    let loop = c .before .before .before .before .before .loop in
+    let loop-test = c .before .before .before .before .loop-test in
+    let pgn-of = c .before .before .before .pgn-of in
+    omega (arith, fields-few (at-pgn (start .pre .0) (start .pre .1) (omega (arith, start .pre .2)) (loop-test .taken) (loop .inv .1)), pgn-of .ensures .fields)
 
 add-p-2 : tie.Need-add-p-2 Inv-loop μ-loop
-add-p-2 c = omega (arith, fields-few (at-pgn (c .before .before .before .before .before .before .before .before .pre .0) (c .before .before .before .before .before .before .before .before .pre .1) (omega (arith, c .before .before .before .before .before .before .before .before .pre .2)) (c .before .before .before .before .loop-test .taken) (c .before .before .before .before .before .loop .inv .1)), c .before .before .before .pgn-of .ensures .fields)
+add-p-2 c =
+    let start = c .before .before .before .before .before .before .before .before in
+    let loop = c .before .before .before .before .before .loop in
+    let loop-test = c .before .before .before .before .loop-test in
+    let pgn-of = c .before .before .before .pgn-of in
+    omega (arith, fields-few (at-pgn (start .pre .0) (start .pre .1) (omega (arith, start .pre .2)) (loop-test .taken) (loop .inv .1)), pgn-of .ensures .fields)
 
 add-i : tie.Need-add-i Inv-loop μ-loop
-add-i c = omega (arith, pgns-few (at-pgn (c .before .before .before .before .before .before .before .before .pre .0) (c .before .before .before .before .before .before .before .before .pre .1) (omega (arith, c .before .before .before .before .before .before .before .before .pre .2)) (c .before .before .before .before .loop-test .taken) (c .before .before .before .before .before .loop .inv .1)))
+add-i c =
+    let start = c .before .before .before .before .before .before .before .before in
+    let loop = c .before .before .before .before .before .loop in
+    let loop-test = c .before .before .before .before .loop-test in
+    omega (arith, pgns-few (at-pgn (start .pre .0) (start .pre .1) (omega (arith, start .pre .2)) (loop-test .taken) (loop .inv .1)))
 
 loop-less : tie.Need-loop-less Inv-loop μ-loop
 loop-less c = search needs
 
 loop-again : tie.Need-loop-again Inv-loop μ-loop
 loop-again c =
-    let e : numbered (now (c .before .before .before .before .before .before .before .before .args .s)) (c .before .before .before .before .before .before .before .before .args .t) (c .before .before .before .before .before .before .before .before .args .number) (c .before .before .before .before .before .loop .i) ≡ false = rw (← ap (λ (G : Pgn). G .pgn) (c .before .before .before .pgn-of .ensures .means)) (ne-eqb (c .before .before .before .pgn-of .result .pgn) (c .before .before .before .before .before .before .before .before .args .number) (c .before .if1 .left)) in
-    (omega (arith, c .before .before .before .before .loop-test .taken), omega (arith, pgn-place-next (packOf (now (c .before .before .before .before .before .before .before .before .args .s))) (c .before .before .before .before .before .before .before .before .args .t) (c .before .before .before .before .before .loop .i), c .before .before .before .pgn-of .ensures .fields, c .before .before .before .before .before .loop .inv .1), any-turn (numbered (now (c .before .before .before .before .before .before .before .before .args .s)) (c .before .before .before .before .before .before .before .before .args .t) (c .before .before .before .before .before .before .before .before .args .number)) (c .before .before .before .before .before .loop .i) ∙ (rw (c .before .before .before .before .before .loop .inv .2, e)))
+    let start = c .before .before .before .before .before .before .before .before in
+    let loop = c .before .before .before .before .before .loop in
+    let loop-test = c .before .before .before .before .loop-test in
+    let pgn-of = c .before .before .before .pgn-of in
+    let s = now (start .args .s) in let t = start .args .t in let number = start .args .number in
+    let e : numbered s t number (loop .i) ≡ false =
+    rw (← ap (λ (G : Pgn). G .pgn) (pgn-of .ensures .means)) (ne-eqb (pgn-of .result .pgn) number (c .before .if1 .left)) in (
+      omega (arith, loop-test .taken),
+      omega (arith, pgn-place-next (packOf s) t (loop .i), pgn-of .ensures .fields, loop .inv .1),
+      any-turn (numbered s t number) (loop .i) ∙ (rw (loop .inv .2, e)),
+    )
 
 returns-2 : tie.Need-returns-2 Inv-loop μ-loop
 unfolding has-number
-returns-2 c = let e : length (pgns-of (packOf (now (c .before .before .before .before .args .s))) (c .before .before .before .before .args .t)) ≡ c .before .loop .i = omega (arith, c .before .loop .inv .0, c .loop-test .left, c .before .before .before .before .pre .2) in rw e (sym (c .before .loop .inv .2))
+returns-2 c =
+    let start = c .before .before .before .before in
+    let e : length (pgns-of (packOf (now (start .args .s))) (start .args .t)) ≡ c .before .loop .i =
+    omega (arith, c .before .loop .inv .0, c .loop-test .left, start .pre .2) in
+    rw e (sym (c .before .loop .inv .2))
 
 pub has-number-spec : {M : Type 1} → statement M
 has-number-spec =

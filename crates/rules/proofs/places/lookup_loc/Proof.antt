@@ -28,16 +28,36 @@ absent-requires : tie.Need-absent-requires
 absent-requires c κs = search needs
 
 returns : tie.Need-returns
-returns c = let e : ((c .before .before .before .before .before .args .tree == 0) && (c .before .before .before .before .before .args .item <ᵇ length (packOf (now (c .before .before .before .before .before .args .s)) .lookups))) ≡ false = rw (← c .before .before .before .before .before .pre .1) (sym (c .before .before .in-first-tree .ensures) ∙ not-true (c .before .before .in-first-tree .result) (c .before .if1 .taken)) in rw (c .absent .ensures, e)
+returns c =
+    let start = c .before .before .before .before .before in
+    let in-first-tree = c .before .before .in-first-tree in
+    let e : ((start .args .tree == 0) && (start .args .item <ᵇ length (packOf (now (start .args .s)) .lookups))) ≡ false =
+    rw (← start .pre .1) (sym (in-first-tree .ensures) ∙ not-true (in-first-tree .result) (c .before .if1 .taken)) in
+    rw (c .absent .ensures, e)
 
 lookup-position-requires : tie.Need-lookup-position-requires
-lookup-position-requires c κs = (c .before .before .before .before .pre .0, c .before .before .before .before .pre .2, omega (arith, c .before .before .before .before .pre .1, inside (c .before .before .before .before .args .tree) (c .before .before .before .before .args .item) (c .before .before .before .before .args .lookups .count) (sym (c .before .in-first-tree .ensures) ∙ not-false (c .before .in-first-tree .result) (c .if1 .left))))
+lookup-position-requires c κs =
+    let start = c .before .before .before .before in (
+      start .pre .0,
+      start .pre .2,
+      omega (
+        arith,
+        start .pre .1,
+        inside (start .args .tree) (start .args .item) (start .args .lookups .count)
+            (sym (c .before .in-first-tree .ensures) ∙ not-false (c .before .in-first-tree .result) (c .if1 .left)),
+      ),
+    )
 
 lookup-name-of-requires : tie.Need-lookup-name-of-requires
 lookup-name-of-requires c κs = search needs
 
 returns-2 : tie.Need-returns-2
-returns-2 c = let e : ((c .before .before .before .before .before .before .args .tree == 0) && (c .before .before .before .before .before .before .args .item <ᵇ length (packOf (now (c .before .before .before .before .before .before .args .s)) .lookups))) ≡ true = rw (← c .before .before .before .before .before .before .pre .1) (sym (c .before .before .before .in-first-tree .ensures) ∙ not-false (c .before .before .before .in-first-tree .result) (c .before .before .if1 .left)) in rw e (ap (λ (x : Bytes). some (lookup-loc x)) (c .lookup-name-of .ensures))
+returns-2 c =
+    let start = c .before .before .before .before .before .before in
+    let in-first-tree = c .before .before .before .in-first-tree in
+    let e : ((start .args .tree == 0) && (start .args .item <ᵇ length (packOf (now (start .args .s)) .lookups))) ≡ true =
+    rw (← start .pre .1) (sym (in-first-tree .ensures) ∙ not-false (in-first-tree .result) (c .before .before .if1 .left)) in
+    rw e (ap (λ (x : Bytes). some (lookup-loc x)) (c .lookup-name-of .ensures))
 
 pub lookup-loc-spec : {M : Type 1} → statement M
 lookup-loc-spec =

@@ -25,16 +25,42 @@ loop-holds : tie.Need-loop-holds Inv-loop μ-loop
 loop-holds c = (omega arith, c .before .before .pre .1)
 
 lookup-of-requires : tie.Need-lookup-of-requires Inv-loop μ-loop
-lookup-of-requires c κs = there (now (c .before .before .before .before .args .s)) (now (c .before .before .before .before .args .work)) (c .before .before .before .before .args .item) (c .before .loop .l) (c .before .loop .p) (c .before .before .before .before .pre .0) (c .before .before .before .before .pre .2) (c .loop-test .taken) (c .before .loop .inv .1)
+lookup-of-requires c κs =
+    let start = c .before .before .before .before in
+    there (now (start .args .s)) (now (start .args .work)) (start .args .item) (c .before .loop .l) (c .before .loop .p) (start .pre .0) (start .pre .2)
+    (c .loop-test .taken) (c .before .loop .inv .1)
 
 add-p : tie.Need-add-p Inv-loop μ-loop
-add-p c = omega (arith, entries-few (there (now (c .before .before .before .before .before .args .s)) (now (c .before .before .before .before .before .args .work)) (c .before .before .before .before .before .args .item) (c .before .before .loop .l) (c .before .before .loop .p) (c .before .before .before .before .before .pre .0) (c .before .before .before .before .before .pre .2) (c .before .loop-test .taken) (c .before .before .loop .inv .1)))
+add-p c =
+    let start = c .before .before .before .before .before in
+    let loop = c .before .before .loop in
+    omega (
+      arith,
+      entries-few (there (now (start .args .s)) (now (start .args .work)) (start .args .item) (loop .l) (loop .p) (start .pre .0) (start .pre .2)
+          (c .before .loop-test .taken) (loop .inv .1)),
+    )
 
 cast-p : tie.Need-cast-p Inv-loop μ-loop
-cast-p c = omega (arith, entries-few (there (now (c .before .before .before .before .before .before .args .s)) (now (c .before .before .before .before .before .before .args .work)) (c .before .before .before .before .before .before .args .item) (c .before .before .before .loop .l) (c .before .before .before .loop .p) (c .before .before .before .before .before .before .pre .0) (c .before .before .before .before .before .before .pre .2) (c .before .before .loop-test .taken) (c .before .before .before .loop .inv .1)), c .before .lookup-of .ensures .entries)
+cast-p c =
+    let start = c .before .before .before .before .before .before in
+    let loop = c .before .before .before .loop in
+    omega (
+      arith,
+      entries-few (there (now (start .args .s)) (now (start .args .work)) (start .args .item) (loop .l) (loop .p) (start .pre .0) (start .pre .2)
+          (c .before .before .loop-test .taken) (loop .inv .1)),
+      c .before .lookup-of .ensures .entries,
+    )
 
 add-p-2 : tie.Need-add-p-2 Inv-loop μ-loop
-add-p-2 c = omega (arith, entries-few (there (now (c .before .before .before .before .before .before .args .s)) (now (c .before .before .before .before .before .before .args .work)) (c .before .before .before .before .before .before .args .item) (c .before .before .before .loop .l) (c .before .before .before .loop .p) (c .before .before .before .before .before .before .pre .0) (c .before .before .before .before .before .before .pre .2) (c .before .before .loop-test .taken) (c .before .before .before .loop .inv .1)), c .before .lookup-of .ensures .entries)
+add-p-2 c =
+    let start = c .before .before .before .before .before .before in
+    let loop = c .before .before .before .loop in
+    omega (
+      arith,
+      entries-few (there (now (start .args .s)) (now (start .args .work)) (start .args .item) (loop .l) (loop .p) (start .pre .0) (start .pre .2)
+          (c .before .before .loop-test .taken) (loop .inv .1)),
+      c .before .lookup-of .ensures .entries,
+    )
 
 add-l : tie.Need-add-l Inv-loop μ-loop
 add-l c = search needs
@@ -43,10 +69,18 @@ loop-less : tie.Need-loop-less Inv-loop μ-loop
 loop-less c = search needs
 
 loop-again : tie.Need-loop-again Inv-loop μ-loop
-loop-again c = (omega (arith, c .before .before .loop-test .taken), omega (arith, lookup-place-next (packOf (now (c .before .before .before .before .before .before .args .s))) (c .before .before .before .loop .l), c .before .lookup-of .ensures .entries, c .before .before .before .loop .inv .1))
+loop-again c =
+    let start = c .before .before .before .before .before .before in
+    let loop = c .before .before .before .loop in (
+      omega (arith, c .before .before .loop-test .taken),
+      omega (arith, lookup-place-next (packOf (now (start .args .s))) (loop .l), c .before .lookup-of .ensures .entries, loop .inv .1),
+    )
 
 returns : tie.Need-returns Inv-loop μ-loop
-returns c = let e : c .before .loop .l ≡ c .before .before .before .before .args .item = omega (arith, c .before .loop .inv .0, c .loop-test .left) in record { ready = c .before .before .before .before .pre .0; lookup = c .before .before .before .before .pre .2; place = (rw (← e) (c .before .loop .inv .1)) }
+returns c =
+    let start = c .before .before .before .before in
+    let e : c .before .loop .l ≡ start .args .item = omega (arith, c .before .loop .inv .0, c .loop-test .left) in
+    record { ready = start .pre .0; lookup = start .pre .2; place = (rw (← e) (c .before .loop .inv .1)) }
 
 pub lookup-position-spec : {M : Type 1} → statement M
 lookup-position-spec =

@@ -26,7 +26,9 @@ absent-requires : tie.Need-absent-requires
 absent-requires c κs = search needs
 
 returns : tie.Need-returns
-returns c = rw (c .absent .ensures, le-ltb (c .before .before .before .before .args .tree) 3 (c .before .if1 .taken))
+returns c =
+    let start = c .before .before .before .before in
+    rw (c .absent .ensures, le-ltb (start .args .tree) 3 (c .before .if1 .taken))
 
 of-tree-requires : tie.Need-of-tree-requires
 of-tree-requires c κs = search needs
@@ -38,16 +40,42 @@ absent-requires-2 : tie.Need-absent-requires-2
 absent-requires-2 c κs = search needs
 
 returns-2 : tie.Need-returns-2
-returns-2 c = let a = at-tree (packOf (now (c .before .before .before .before .before .before .before .before .args .s))) (c .before .before .before .before .before .before .before .before .args .index) (c .before .before .before .before .before .before .before .before .pre .1) (c .before .before .before .before .before .before .before .before .args .tree) (c .before .before .before .before .before .if1 .left) (c .before .before .before .before .of-tree .result) (c .before .before .before .section .result) (c .before .before .before .before .of-tree .ensures) (c .before .before .before .section .ensures) in rw (c .absent2 .ensures, lt-ltb (c .before .before .before .before .before .before .before .before .args .tree) 3 (c .before .before .before .before .before .if1 .left), le-ltb (c .before .before .before .before .before .before .before .before .args .item) (length (pgns-of (packOf (now (c .before .before .before .before .before .before .before .before .args .s))) (c .before .before .before .before .before .before .before .before .args .tree))) (omega (arith, a .0, c .before .if2 .taken)))
+returns-2 c =
+    let start = c .before .before .before .before .before .before .before .before in
+    let if1 = c .before .before .before .before .before .if1 in
+    let of-tree = c .before .before .before .before .of-tree in
+    let section = c .before .before .before .section in
+    let s = now (start .args .s) in let tree = start .args .tree in
+    let a =
+    at-tree (packOf s) (start .args .index) (start .pre .1) tree (if1 .left) (of-tree .result) (section .result) (of-tree .ensures) (section .ensures) in
+    rw
+    (c .absent2 .ensures, lt-ltb tree 3 (if1 .left), le-ltb (start .args .item) (length (pgns-of (packOf s) tree)) (omega (arith, a .0, c .before .if2 .taken)))
 
 pgn-position-requires : tie.Need-pgn-position-requires
-pgn-position-requires c κs = let a = at-tree (packOf (now (c .before .before .before .before .before .before .before .args .s))) (c .before .before .before .before .before .before .before .args .index) (c .before .before .before .before .before .before .before .pre .1) (c .before .before .before .before .before .before .before .args .tree) (c .before .before .before .before .if1 .left) (c .before .before .before .of-tree .result) (c .before .before .section .result) (c .before .before .before .of-tree .ensures) (c .before .before .section .ensures) in (c .before .before .before .before .before .before .before .pre .0, c .before .before .before .before .if1 .left, a .1, omega (arith, a .0, c .if2 .left))
+pgn-position-requires c κs =
+    let start = c .before .before .before .before .before .before .before in
+    let if1 = c .before .before .before .before .if1 in
+    let of-tree = c .before .before .before .of-tree in
+    let section = c .before .before .section in
+    let a = at-tree (packOf (now (start .args .s))) (start .args .index) (start .pre .1) (start .args .tree) (if1 .left) (of-tree .result) (section .result)
+    (of-tree .ensures) (section .ensures) in
+    (start .pre .0, if1 .left, a .1, omega (arith, a .0, c .if2 .left))
 
 pgn-of-requires : tie.Need-pgn-of-requires
 pgn-of-requires c κs = search needs
 
 returns-3 : tie.Need-returns-3
-returns-3 c = let a = at-tree (packOf (now (c .before .before .before .before .before .before .before .before .before .before .args .s))) (c .before .before .before .before .before .before .before .before .before .before .args .index) (c .before .before .before .before .before .before .before .before .before .before .pre .1) (c .before .before .before .before .before .before .before .before .before .before .args .tree) (c .before .before .before .before .before .before .before .if1 .left) (c .before .before .before .before .before .before .of-tree .result) (c .before .before .before .before .before .section .result) (c .before .before .before .before .before .before .of-tree .ensures) (c .before .before .before .before .before .section .ensures) in rw (lt-ltb (c .before .before .before .before .before .before .before .before .before .before .args .tree) 3 (c .before .before .before .before .before .before .before .if1 .left), lt-ltb (c .before .before .before .before .before .before .before .before .before .before .args .item) (length (pgns-of (packOf (now (c .before .before .before .before .before .before .before .before .before .before .args .s))) (c .before .before .before .before .before .before .before .before .before .before .args .tree))) (omega (arith, a .0, c .before .before .before .if2 .left))) (ap some (text-is (now (c .before .before .before .before .before .before .before .before .before .before .args .s)) (c .before .before .before .before .before .before .before .before .before .before .args .tree) (pgn-at (packOf (now (c .before .before .before .before .before .before .before .before .before .before .args .s))) (c .before .before .before .before .before .before .before .before .before .before .args .tree) (c .before .before .before .before .before .before .before .before .before .before .args .item)) (c .before .pgn-of .result) (c .before .pgn-of .ensures)))
+returns-3 c =
+    let start = c .before .before .before .before .before .before .before .before .before .before in
+    let if1 = c .before .before .before .before .before .before .before .if1 in
+    let of-tree = c .before .before .before .before .before .before .of-tree in
+    let section = c .before .before .before .before .before .section in
+    let if2 = c .before .before .before .if2 in
+    let s = now (start .args .s) in let tree = start .args .tree in let item = start .args .item in
+    let a =
+    at-tree (packOf s) (start .args .index) (start .pre .1) tree (if1 .left) (of-tree .result) (section .result) (of-tree .ensures) (section .ensures) in
+    rw (lt-ltb tree 3 (if1 .left), lt-ltb item (length (pgns-of (packOf s) tree)) (omega (arith, a .0, if2 .left)))
+    (ap some (text-is s tree (pgn-at (packOf s) tree item) (c .before .pgn-of .result) (c .before .pgn-of .ensures)))
 
 pub pgn-loc-spec : {M : Type 1} → statement M
 pgn-loc-spec =

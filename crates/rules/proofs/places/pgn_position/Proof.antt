@@ -20,16 +20,35 @@ loop-holds : tie.Need-loop-holds Inv-loop μ-loop
 loop-holds c = (omega arith, omega (arith, c .before .before .pre .2))
 
 pgn-of-requires : tie.Need-pgn-of-requires Inv-loop μ-loop
-pgn-of-requires c κs = at-pgn (c .before .before .before .before .pre .0) (c .before .before .before .before .pre .1) (omega (arith, c .before .before .before .before .pre .3)) (c .loop-test .taken) (c .before .loop .inv .1)
+pgn-of-requires c κs =
+    let start = c .before .before .before .before in
+    at-pgn (start .pre .0) (start .pre .1) (omega (arith, start .pre .3)) (c .loop-test .taken) (c .before .loop .inv .1)
 
 add-p : tie.Need-add-p Inv-loop μ-loop
-add-p c = omega (arith, fields-few (at-pgn (c .before .before .before .before .before .pre .0) (c .before .before .before .before .before .pre .1) (omega (arith, c .before .before .before .before .before .pre .3)) (c .before .loop-test .taken) (c .before .before .loop .inv .1)))
+add-p c =
+    let start = c .before .before .before .before .before in
+    omega
+    (arith, fields-few (at-pgn (start .pre .0) (start .pre .1) (omega (arith, start .pre .3)) (c .before .loop-test .taken) (c .before .before .loop .inv .1)))
 
 cast-p : tie.Need-cast-p Inv-loop μ-loop
-cast-p c = omega (arith, fields-few (at-pgn (c .before .before .before .before .before .before .pre .0) (c .before .before .before .before .before .before .pre .1) (omega (arith, c .before .before .before .before .before .before .pre .3)) (c .before .before .loop-test .taken) (c .before .before .before .loop .inv .1)), c .before .pgn-of .ensures .fields)
+cast-p c =
+    let start = c .before .before .before .before .before .before in
+    let loop = c .before .before .before .loop in
+    omega (
+      arith,
+      fields-few (at-pgn (start .pre .0) (start .pre .1) (omega (arith, start .pre .3)) (c .before .before .loop-test .taken) (loop .inv .1)),
+      c .before .pgn-of .ensures .fields,
+    )
 
 add-p-2 : tie.Need-add-p-2 Inv-loop μ-loop
-add-p-2 c = omega (arith, fields-few (at-pgn (c .before .before .before .before .before .before .pre .0) (c .before .before .before .before .before .before .pre .1) (omega (arith, c .before .before .before .before .before .before .pre .3)) (c .before .before .loop-test .taken) (c .before .before .before .loop .inv .1)), c .before .pgn-of .ensures .fields)
+add-p-2 c =
+    let start = c .before .before .before .before .before .before in
+    let loop = c .before .before .before .loop in
+    omega (
+      arith,
+      fields-few (at-pgn (start .pre .0) (start .pre .1) (omega (arith, start .pre .3)) (c .before .before .loop-test .taken) (loop .inv .1)),
+      c .before .pgn-of .ensures .fields,
+    )
 
 add-i : tie.Need-add-i Inv-loop μ-loop
 add-i c = search needs
@@ -38,10 +57,18 @@ loop-less : tie.Need-loop-less Inv-loop μ-loop
 loop-less c = search needs
 
 loop-again : tie.Need-loop-again Inv-loop μ-loop
-loop-again c = (omega (arith, c .before .before .loop-test .taken), omega (arith, pgn-place-next (packOf (now (c .before .before .before .before .before .before .args .s))) (c .before .before .before .before .before .before .args .t) (c .before .before .before .loop .i), c .before .pgn-of .ensures .fields, c .before .before .before .loop .inv .1))
+loop-again c =
+    let start = c .before .before .before .before .before .before in
+    let loop = c .before .before .before .loop in (
+      omega (arith, c .before .before .loop-test .taken),
+      omega (arith, pgn-place-next (packOf (now (start .args .s))) (start .args .t) (loop .i), c .before .pgn-of .ensures .fields, loop .inv .1),
+    )
 
 returns : tie.Need-returns Inv-loop μ-loop
-returns c = let e : c .before .loop .i ≡ c .before .before .before .before .args .item = omega (arith, c .before .loop .inv .0, c .loop-test .left) in record { ready = c .before .before .before .before .pre .0; tree = c .before .before .before .before .pre .1; pgn = c .before .before .before .before .pre .3; place = (rw (← e) (c .before .loop .inv .1)) }
+returns c =
+    let start = c .before .before .before .before in
+    let e : c .before .loop .i ≡ start .args .item = omega (arith, c .before .loop .inv .0, c .loop-test .left) in
+    record { ready = start .pre .0; tree = start .pre .1; pgn = start .pre .3; place = (rw (← e) (c .before .loop .inv .1)) }
 
 pub pgn-position-spec : {M : Type 1} → statement M
 pgn-position-spec =

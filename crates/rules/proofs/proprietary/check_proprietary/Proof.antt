@@ -16,7 +16,8 @@ use denote.Ref.{now}
 use Rattle.rules.proofs.proprietary.check_proprietary.Statement.{statement}
 use Rattle.rules.proofs.proprietary.check_proprietary.Tie as tie
 
-chosen : (a b z y : Bool) (f h : Finding) → a ≡ false → b ≡ false → z ≡ y → f ≡ h → (if a then [] else if b then [] else report-if (not y) h) ≡ report-if (not z) f
+chosen : (a b z y : Bool) (f h : Finding) → a ≡ false → b ≡ false → z ≡ y → f ≡ h
+    → (if a then [] else if b then [] else report-if (not y) h) ≡ report-if (not z) f
 chosen a b z y f h e d w x = rw (e, d, w, x)
 
 -- the rule, said of the view: an exempt PGN, one that declares MissingCompanyFields, another
@@ -35,8 +36,8 @@ module _ (s : List ℕ) (fts : List FieldType) (t i : ℕ) (G : Pgn) (g : PgnVie
   unfolding check-proprietary
   declared e d = rw (exempt false e, missing true d)
 
-  judged : (not (is-manufacturer-pgn (g .pgn)) || g .flags .fallback) ≡ false → g .flags .incomplete ≡ false → (z : Bool) → z ≡ company-fields fts G → (f : Finding) → f ≡ pgn-error 7 1 t i 0 0
-      → check-proprietary fts t i G ≡ report-if (not z) f
+  judged : (not (is-manufacturer-pgn (g .pgn)) || g .flags .fallback) ≡ false → g .flags .incomplete ≡ false → (z : Bool) → z ≡ company-fields fts G
+      → (f : Finding) → f ≡ pgn-error 7 1 t i 0 0 → check-proprietary fts t i G ≡ report-if (not z) f
   unfolding check-proprietary
   judged e d z q f x = chosen _ _ z (company-fields fts G) f _ (exempt false e) (missing false d) q x
 
@@ -44,25 +45,52 @@ is-exempt-requires : tie.Need-is-exempt-requires
 is-exempt-requires c κs = search needs
 
 returns : tie.Need-returns
-returns c = rw (free (now (c .before .before .before .before .before .args .s)) (packOf (now (c .before .before .before .before .before .args .s)) .fieldtypes) (c .before .before .before .before .before .args .t) (c .before .before .before .before .before .args .i) _ (c .before .before .before .before .before .args .g) (c .before .before .before .before .before .pre .2) (sym (c .before .is-exempt .ensures) ∙ c .if1 .taken)) (emitted-none (now (c .before .before .before .before .before .args .out)) (c .before .before .before .before .before .args .n))
+returns c =
+    let start = c .before .before .before .before .before in
+    let s = now (start .args .s) in
+    rw
+    (free s (packOf s .fieldtypes) (start .args .t) (start .args .i) _ (start .args .g) (start .pre .2) (sym (c .before .is-exempt .ensures) ∙ c .if1 .taken))
+    (emitted-none (now (start .args .out)) (start .args .n))
 
 returns-2 : tie.Need-returns-2
-returns-2 c = rw (declared (now (c .before .before .before .before .before .before .args .s)) (packOf (now (c .before .before .before .before .before .before .args .s)) .fieldtypes) (c .before .before .before .before .before .before .args .t) (c .before .before .before .before .before .before .args .i) _ (c .before .before .before .before .before .before .args .g) (c .before .before .before .before .before .before .pre .2) (sym (c .before .before .is-exempt .ensures) ∙ c .before .if1 .left) (c .if2 .taken)) (emitted-none (now (c .before .before .before .before .before .before .args .out)) (c .before .before .before .before .before .before .args .n))
+returns-2 c =
+    let start = c .before .before .before .before .before .before in
+    let s = now (start .args .s) in
+    rw (declared s (packOf s .fieldtypes) (start .args .t) (start .args .i) _ (start .args .g) (start .pre .2)
+    (sym (c .before .before .is-exempt .ensures) ∙ c .before .if1 .left) (c .if2 .taken)) (emitted-none (now (start .args .out)) (start .args .n))
 
 company-fields-requires : tie.Need-company-fields-requires
-company-fields-requires c κs = (c .before .before .before .before .before .before .pre .1, c .before .before .before .before .before .before .pre .2 .fields)
+company-fields-requires c κs =
+    let start = c .before .before .before .before .before .before in
+    (start .pre .1, start .pre .2 .fields)
 
 pgn-error-requires : tie.Need-pgn-error-requires
 pgn-error-requires c κs = search needs
 
 put-if-requires : tie.Need-put-if-requires
-put-if-requires c κs = rw (judged (now (c .before .before .before .before .before .before .before .before .before .args .s)) (packOf (now (c .before .before .before .before .before .before .before .before .before .args .s)) .fieldtypes) (c .before .before .before .before .before .before .before .before .before .args .t) (c .before .before .before .before .before .before .before .before .before .args .i) _ (c .before .before .before .before .before .before .before .before .before .args .g) (c .before .before .before .before .before .before .before .before .before .pre .2) (sym (c .before .before .before .before .before .is-exempt .ensures) ∙ c .before .before .before .before .if1 .left) (c .before .before .before .if2 .left) _ (c .before .before .company-fields .ensures) _ (c .pgn-error .ensures)) at (c .before .before .before .before .before .before .before .before .before .pre .0)
+put-if-requires c κs =
+    let start = c .before .before .before .before .before .before .before .before .before in
+    let is-exempt = c .before .before .before .before .before .is-exempt in
+    let if1 = c .before .before .before .before .if1 in
+    let if2 = c .before .before .before .if2 in
+    let s = now (start .args .s) in
+    rw (judged s (packOf s .fieldtypes) (start .args .t) (start .args .i) _ (start .args .g) (start .pre .2) (sym (is-exempt .ensures) ∙ if1 .left) (if2 .left)
+    _ (c .before .before .company-fields .ensures) _ (c .pgn-error .ensures)) at (start .pre .0)
 
 same-length : tie.Need-same-length
 same-length c = search needs
 
 returns-3 : tie.Need-returns-3
-returns-3 c = rw (judged (now (c .before .before .before .before .before .before .before .before .before .before .before .before .args .s)) (packOf (now (c .before .before .before .before .before .before .before .before .before .before .before .before .args .s)) .fieldtypes) (c .before .before .before .before .before .before .before .before .before .before .before .before .args .t) (c .before .before .before .before .before .before .before .before .before .before .before .before .args .i) _ (c .before .before .before .before .before .before .before .before .before .before .before .before .args .g) (c .before .before .before .before .before .before .before .before .before .before .before .before .pre .2) (sym (c .before .before .before .before .before .before .before .before .is-exempt .ensures) ∙ c .before .before .before .before .before .before .before .if1 .left) (c .before .before .before .before .before .before .if2 .left) _ (c .before .before .before .before .before .company-fields .ensures) _ (c .before .before .before .pgn-error .ensures)) (c .before .before .put-if .ensures)
+returns-3 c =
+    let start = c .before .before .before .before .before .before .before .before .before .before .before .before in
+    let is-exempt = c .before .before .before .before .before .before .before .before .is-exempt in
+    let if1 = c .before .before .before .before .before .before .before .if1 in
+    let if2 = c .before .before .before .before .before .before .if2 in
+    let company-fields-call = c .before .before .before .before .before .company-fields in
+    let pgn-error-call = c .before .before .before .pgn-error in
+    let s = now (start .args .s) in
+    rw (judged s (packOf s .fieldtypes) (start .args .t) (start .args .i) _ (start .args .g) (start .pre .2) (sym (is-exempt .ensures) ∙ if1 .left) (if2 .left)
+    _ (company-fields-call .ensures) _ (pgn-error-call .ensures)) (c .before .before .put-if .ensures)
 
 pub check-proprietary-spec : {M : Type 1} → statement M
 check-proprietary-spec =

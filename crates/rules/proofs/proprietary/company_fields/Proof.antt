@@ -63,10 +63,8 @@ module _ (s : List ℕ) (fts : List FieldType) (P : Pgn) where
   parted : company-fields fts P ≡ ((3 ≤ᵇ length (P .fields)) && (coded P && (spared fts P && grouped P)))
   unfolding company-fields
   parted =
-      regroup (3 ≤ᵇ length (P .fields)) (pair-is (field-at P 0 .reference) MANUFACTURER-CODE) (field-at P 0 .res-bits == 11) (root-of fts (field-at P 1) ≐ RESERVED)
-      (field-at P 1 .res-bits == 2)
-      (pair-is (field-at P 2 .reference) INDUSTRY-CODE)
-      (field-at P 2 .res-bits == 3)
+      regroup (3 ≤ᵇ length (P .fields)) (pair-is (field-at P 0 .reference) MANUFACTURER-CODE) (field-at P 0 .res-bits == 11)
+      (root-of fts (field-at P 1) ≐ RESERVED) (field-at P 1 .res-bits == 2) (pair-is (field-at P 2 .reference) INDUSTRY-CODE) (field-at P 2 .res-bits == 3)
 
   first : (u : FieldView) → fieldMeaning s u ≡ field-at P 0 → pair s u MANUFACTURER-CODE 11 ≡ false → company-fields fts P ≡ false
   first u e x = parted ∙ at-first (3 ≤ᵇ length (P .fields)) (coded P) (spared fts P && grouped P) (rw (← e) x)
@@ -80,10 +78,15 @@ module _ (s : List ℕ) (fts : List FieldType) (P : Pgn) where
       parted ∙ at-third (3 ≤ᵇ length (P .fields)) (coded P) (spared fts P) (grouped P) (le-leb 3 (length (P .fields)) h) (rw (← a) x) (rw (← b) y) ∙ (rw (← c))
 
 returns : tie.Need-returns
-returns c = sym (few (now (c .before .before .before .args .s)) (packOf (now (c .before .before .before .args .s)) .fieldtypes) (pgn-at (packOf (now (c .before .before .before .args .s))) (c .before .before .before .args .t) (c .before .before .before .args .i)) (omega (arith, c .before .before .before .pre .1, c .if1 .taken)))
+returns c =
+    let start = c .before .before .before in
+    let s = now (start .args .s) in
+    sym (few s (packOf s .fieldtypes) (pgn-at (packOf s) (start .args .t) (start .args .i)) (omega (arith, start .pre .1, c .if1 .taken)))
 
 field-of-requires : tie.Need-field-of-requires
-field-of-requires c κs = (c .before .before .before .pre .0, omega (arith, c .before .before .before .pre .1, c .if1 .left))
+field-of-requires c κs =
+    let start = c .before .before .before in
+    (start .pre .0, omega (arith, start .pre .1, c .if1 .left))
 
 slice-aggregate-is-pair : tie.Need-slice-aggregate-is-pair
 slice-aggregate-is-pair c = search needs
@@ -92,19 +95,42 @@ is-pair-requires : tie.Need-is-pair-requires
 is-pair-requires c κs = search needs
 
 returns-2 : tie.Need-returns-2
-returns-2 c = sym (first (now (c .before .before .before .before .before .before .before .args .s)) (packOf (now (c .before .before .before .before .before .before .before .args .s)) .fieldtypes) (pgn-at (packOf (now (c .before .before .before .before .before .before .before .args .s))) (c .before .before .before .before .before .before .before .args .t) (c .before .before .before .before .before .before .before .args .i)) (c .before .before .before .field-of .result) (c .before .before .before .field-of .ensures) (sym (c .before .is-pair .ensures) ∙ not-true (c .before .is-pair .result) (c .if2 .taken)))
+returns-2 c =
+    let start = c .before .before .before .before .before .before .before in
+    let field-of = c .before .before .before .field-of in
+    let s = now (start .args .s) in
+    sym (first s (packOf s .fieldtypes) (pgn-at (packOf s) (start .args .t) (start .args .i)) (field-of .result) (field-of .ensures)
+    (sym (c .before .is-pair .ensures) ∙ not-true (c .before .is-pair .result) (c .if2 .taken)))
 
 field-of-requires-2 : tie.Need-field-of-requires-2
-field-of-requires-2 c κs = (c .before .before .before .before .before .before .before .pre .0, omega (arith, c .before .before .before .before .before .before .before .pre .1, c .before .before .before .before .if1 .left))
+field-of-requires-2 c κs =
+    let start = c .before .before .before .before .before .before .before in
+    let if1 = c .before .before .before .before .if1 in
+    (start .pre .0, omega (arith, start .pre .1, if1 .left))
 
 is-reserved-requires : tie.Need-is-reserved-requires
-is-reserved-requires c κs = (c .before .before .before .before .before .before .before .before .pre .0 .ready, (let e : c .field-of2 .result .ft ≡ field-at (pgn-at (packOf (now (c .before .before .before .before .before .before .before .before .args .s))) (c .before .before .before .before .before .before .before .before .args .t) (c .before .before .before .before .before .before .before .before .args .i)) 1 .ft = ap (λ (F : Field). F .ft) (c .field-of2 .ensures) in omega (arith, e, field-ft-law (c .before .before .before .before .before .before .before .before .pre .0) 1 (omega (arith, c .before .before .before .before .before .before .before .before .pre .1, c .before .before .before .before .before .if1 .left)))))
+is-reserved-requires c κs =
+    let start = c .before .before .before .before .before .before .before .before in
+    let if1 = c .before .before .before .before .before .if1 in (
+      start .pre .0 .ready,
+      (let e : c .field-of2 .result .ft ≡ field-at (pgn-at (packOf (now (start .args .s))) (start .args .t) (start .args .i)) 1 .ft =
+          ap (λ (F : Field). F .ft) (c .field-of2 .ensures) in
+          omega (arith, e, field-ft-law (start .pre .0) 1 (omega (arith, start .pre .1, if1 .left)))),
+    )
 
 returns-3 : tie.Need-returns-3
-returns-3 c = sym (second (now (c .before .before .before .before .before .before .before .before .before .before .args .s)) (packOf (now (c .before .before .before .before .before .before .before .before .before .before .args .s)) .fieldtypes) (pgn-at (packOf (now (c .before .before .before .before .before .before .before .before .before .before .args .s))) (c .before .before .before .before .before .before .before .before .before .before .args .t) (c .before .before .before .before .before .before .before .before .before .before .args .i)) (c .before .before .field-of2 .result) (c .before .before .field-of2 .ensures) (sym (c .before .is-reserved .ensures) ∙ not-true (c .before .is-reserved .result) (c .if3 .taken)))
+returns-3 c =
+    let start = c .before .before .before .before .before .before .before .before .before .before in
+    let field-of2 = c .before .before .field-of2 in
+    let s = now (start .args .s) in
+    sym (second s (packOf s .fieldtypes) (pgn-at (packOf s) (start .args .t) (start .args .i)) (field-of2 .result) (field-of2 .ensures)
+    (sym (c .before .is-reserved .ensures) ∙ not-true (c .before .is-reserved .result) (c .if3 .taken)))
 
 field-of-requires-3 : tie.Need-field-of-requires-3
-field-of-requires-3 c κs = (c .before .before .before .before .before .before .before .before .before .before .pre .0, omega (arith, c .before .before .before .before .before .before .before .before .before .before .pre .1, c .before .before .before .before .before .before .before .if1 .left))
+field-of-requires-3 c κs =
+    let start = c .before .before .before .before .before .before .before .before .before .before in
+    let if1 = c .before .before .before .before .before .before .before .if1 in
+    (start .pre .0, omega (arith, start .pre .1, if1 .left))
 
 slice-aggregate-is-pair-2 : tie.Need-slice-aggregate-is-pair-2
 slice-aggregate-is-pair-2 c = search needs
@@ -113,7 +139,22 @@ is-pair-requires-2 : tie.Need-is-pair-requires-2
 is-pair-requires-2 c κs = search needs
 
 returns-4 : tie.Need-returns-4
-returns-4 c = c .is-pair2 .ensures ∙ sym (third (now (c .before .before .before .before .before .before .before .before .before .before .before .before .before .args .s)) (packOf (now (c .before .before .before .before .before .before .before .before .before .before .before .before .before .args .s)) .fieldtypes) (pgn-at (packOf (now (c .before .before .before .before .before .before .before .before .before .before .before .before .before .args .s))) (c .before .before .before .before .before .before .before .before .before .before .before .before .before .args .t) (c .before .before .before .before .before .before .before .before .before .before .before .before .before .args .i)) (c .before .before .before .before .before .before .before .before .before .field-of .result) (c .before .before .before .before .before .field-of2 .result) (c .before .before .field-of3 .result) (omega (arith, c .before .before .before .before .before .before .before .before .before .before .before .before .before .pre .1, c .before .before .before .before .before .before .before .before .before .before .if1 .left)) (c .before .before .before .before .before .before .before .before .before .field-of .ensures) (c .before .before .before .before .before .field-of2 .ensures) (c .before .before .field-of3 .ensures) (sym (c .before .before .before .before .before .before .before .is-pair .ensures) ∙ not-false (c .before .before .before .before .before .before .before .is-pair .result) (c .before .before .before .before .before .before .if2 .left)) (sym (c .before .before .before .before .is-reserved .ensures) ∙ not-false (c .before .before .before .before .is-reserved .result) (c .before .before .before .if3 .left)))
+returns-4 c =
+    let back12 = c .before .before .before .before .before .before .before .before .before .before .before .before in
+    let start = back12 .before in
+    let if1 = c .before .before .before .before .before .before .before .before .before .before .if1 in
+    let field-of = c .before .before .before .before .before .before .before .before .before .field-of in
+    let is-pair = c .before .before .before .before .before .before .before .is-pair in
+    let if2 = c .before .before .before .before .before .before .if2 in
+    let field-of2 = c .before .before .before .before .before .field-of2 in
+    let is-reserved = c .before .before .before .before .is-reserved in
+    let if3 = c .before .before .before .if3 in
+    let field-of3 = c .before .before .field-of3 in
+    let s = now (start .args .s) in
+    c .is-pair2 .ensures
+    ∙ sym (third s (packOf s .fieldtypes) (pgn-at (packOf s) (start .args .t) (start .args .i)) (field-of .result) (field-of2 .result) (field-of3 .result)
+    (omega (arith, start .pre .1, if1 .left)) (field-of .ensures) (field-of2 .ensures) (field-of3 .ensures)
+    (sym (is-pair .ensures) ∙ not-false (is-pair .result) (if2 .left)) (sym (is-reserved .ensures) ∙ not-false (is-reserved .result) (if3 .left)))
 
 pub company-fields-spec : {M : Type 1} → statement M
 company-fields-spec =

@@ -12,10 +12,14 @@ text-is-requires : tie.Need-text-is-requires
 text-is-requires c κs = search needs
 
 returns : tie.Need-returns
-returns c = rw (← c .before .before .before .before .root-of .ensures, ← c .before .before .text-is .ensures, c .before .if1 .taken)
+returns c =
+    let root-of = c .before .before .before .before .root-of in
+    rw (← root-of .ensures, ← c .before .before .text-is .ensures, c .before .if1 .taken)
 
 returns-2 : tie.Need-returns-2
-returns-2 c = rw (← c .before .before .before .root-of .ensures, ← c .before .text-is .ensures, c .if1 .left)
+returns-2 c =
+    let root-of = c .before .before .before .root-of in
+    rw (← root-of .ensures, ← c .before .text-is .ensures, c .if1 .left)
 
 pub is-reserved-spec : {M : Type 1} → statement M
 is-reserved-spec =

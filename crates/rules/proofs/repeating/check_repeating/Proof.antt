@@ -15,21 +15,35 @@ use Rattle.rules.proofs.repeating.check_repeating.Tie as tie
 
 -- the rule, said of the view
 viewed : (s : List ℕ) (t i : ℕ) (G : Pgn) (g : PgnView) → PgnIs s G g
-    → check-repeating t i G ≡ check-set t i 1 (g .fields) none (optRepeating (g .repeating1)) ++ check-set t i 2 (g .fields) (optRepeating (g .repeating1)) (optRepeating (g .repeating2))
+    → check-repeating t i G
+    ≡ check-set t i 1 (g .fields) none (optRepeating (g .repeating1))
+    ++ check-set t i 2 (g .fields) (optRepeating (g .repeating1)) (optRepeating (g .repeating2))
 unfolding check-repeating
 viewed s t i G g is = rw (is .fields, ← is .means)
 
 check-set-requires : tie.Need-check-set-requires
-check-set-requires c κs = fits-left _ _ (rw (viewed (now (c .before .before .before .before .before .before .args .s)) (c .before .before .before .before .before .before .args .t) (c .before .before .before .before .before .before .args .i) _ (c .before .before .before .before .before .before .args .g) (c .before .before .before .before .before .before .pre .1)) at (c .before .before .before .before .before .before .pre .0))
+check-set-requires c κs =
+    let start = c .before .before .before .before .before .before in
+    fits-left _ _ (rw (viewed (now (start .args .s)) (start .args .t) (start .args .i) _ (start .args .g) (start .pre .1)) at (start .pre .0))
 
 check-set-requires-2 : tie.Need-check-set-requires-2
-check-set-requires-2 c κs = fits-right (check-set (c .before .before .before .before .before .before .before .before .before .before .args .t) (c .before .before .before .before .before .before .before .before .before .before .args .i) 1 (c .before .before .before .before .before .before .before .before .before .before .args .g .fields) none (optRepeating (c .before .before .before .before .before .before .before .before .before .before .args .g .repeating1))) _ (rw (viewed (now (c .before .before .before .before .before .before .before .before .before .before .args .s)) (c .before .before .before .before .before .before .before .before .before .before .args .t) (c .before .before .before .before .before .before .before .before .before .before .args .i) _ (c .before .before .before .before .before .before .before .before .before .before .args .g) (c .before .before .before .before .before .before .before .before .before .before .pre .1)) at (c .before .before .before .before .before .before .before .before .before .before .pre .0)) (c .before .before .before .check-set .ensures)
+check-set-requires-2 c κs =
+    let start = c .before .before .before .before .before .before .before .before .before .before in
+    let check-set-call = c .before .before .before .check-set in
+    let t = start .args .t in let i = start .args .i in
+    fits-right (check-set t i 1 (start .args .g .fields) none (optRepeating (start .args .g .repeating1))) _
+    (rw (viewed (now (start .args .s)) t i _ (start .args .g) (start .pre .1)) at (start .pre .0)) (check-set-call .ensures)
 
 same-length : tie.Need-same-length
 same-length c = search needs
 
 returns : tie.Need-returns
-returns c = rw (viewed (now (c .before .before .before .before .before .before .before .before .before .before .before .before .before .args .s)) (c .before .before .before .before .before .before .before .before .before .before .before .before .before .args .t) (c .before .before .before .before .before .before .before .before .before .before .before .before .before .args .i) _ (c .before .before .before .before .before .before .before .before .before .before .before .before .before .args .g) (c .before .before .before .before .before .before .before .before .before .before .before .before .before .pre .1)) (emitted-append (c .before .before .before .before .before .before .check-set .ensures) (c .before .before .check-set2 .ensures))
+returns c =
+    let back12 = c .before .before .before .before .before .before .before .before .before .before .before .before in
+    let start = back12 .before in
+    let check-set-call = c .before .before .before .before .before .before .check-set in
+    rw (viewed (now (start .args .s)) (start .args .t) (start .args .i) _ (start .args .g) (start .pre .1))
+    (emitted-append (check-set-call .ensures) (c .before .before .check-set2 .ensures))
 
 pub check-repeating-spec : {M : Type 1} → statement M
 check-repeating-spec =

@@ -18,13 +18,16 @@ use Rattle.rules.proofs.repeating.check_set.Statement.{statement}
 use Rattle.rules.proofs.repeating.check_set.Tie as tie
 
 module _ (t i part fields : ℕ) (outer : Option Repeating) where
-  empty : (given : Bool) (v : RepeatingView) → (given && not (v .count == 0)) ≡ false → check-set t i part fields outer (optional given (repeatingMeaning v)) ≡ []
+  empty : (given : Bool) (v : RepeatingView) → (given && not (v .count == 0)) ≡ false
+      → check-set t i part fields outer (optional given (repeatingMeaning v)) ≡ []
   unfolding check-set
   empty true v e = rw (not-false (v .count == 0) e)
   empty false v e = refl
 
-  filled : (given : Bool) (v : RepeatingView) → (given && not (v .count == 0)) ≡ true → (rest : List Finding) → (if v .nested then set-nesting t i part outer (repeatingMeaning v) else []) ≡ rest
-      → check-set t i part fields outer (optional given (repeatingMeaning v)) ≡ set-bounds t i part fields (repeatingMeaning v) ++ set-count-field t i part (v .start) (optNumber (v .counter)) ++ rest
+  filled : (given : Bool) (v : RepeatingView) → (given && not (v .count == 0)) ≡ true → (rest : List Finding)
+      → (if v .nested then set-nesting t i part outer (repeatingMeaning v) else []) ≡ rest
+      → check-set t i part fields outer (optional given (repeatingMeaning v))
+      ≡ set-bounds t i part fields (repeatingMeaning v) ++ set-count-field t i part (v .start) (optNumber (v .counter)) ++ rest
   unfolding check-set
   filled true v e rest d = rw (not-true (v .count == 0) e, d)
   filled false v e rest d = absurd (false≢true e)
@@ -39,28 +42,73 @@ is-nonempty-requires : tie.Need-is-nonempty-requires
 is-nonempty-requires c κs = search needs
 
 set-bounds-requires : tie.Need-set-bounds-requires
-set-bounds-requires c κs = fits-left _ _ (fits-left _ _ (rw (filled (c .before .before .before .before .before .before .args .t) (c .before .before .before .before .before .before .args .i) (c .before .before .before .before .before .before .args .part) (c .before .before .before .before .before .before .args .fields) (optRepeating (c .before .before .before .before .before .before .args .outer)) (c .before .before .before .before .before .before .args .set .given) (c .before .before .before .before .before .before .args .set .set) (sym (c .before .before .before .before .is-nonempty .ensures) ∙ c .before .before .before .if1 .taken) _ refl) at (c .before .before .before .before .before .before .pre)))
+set-bounds-requires c κs =
+    let start = c .before .before .before .before .before .before in
+    let is-nonempty = c .before .before .before .before .is-nonempty in
+    let if1 = c .before .before .before .if1 in
+    fits-left _ _ (fits-left _ _ (rw (filled (start .args .t) (start .args .i) (start .args .part) (start .args .fields) (optRepeating (start .args .outer))
+    (start .args .set .given) (start .args .set .set) (sym (is-nonempty .ensures) ∙ if1 .taken) _ refl) at (start .pre)))
 
 set-count-field-requires : tie.Need-set-count-field-requires
-set-count-field-requires c κs = fits-right (set-bounds (c .before .before .before .before .before .before .before .before .before .before .args .t) (c .before .before .before .before .before .before .before .before .before .before .args .i) (c .before .before .before .before .before .before .before .before .before .before .args .part) (c .before .before .before .before .before .before .before .before .before .before .args .fields) (repeatingMeaning (c .before .before .before .before .before .before .before .before .before .before .args .set .set))) _ (fits-left _ _ (rw (filled (c .before .before .before .before .before .before .before .before .before .before .args .t) (c .before .before .before .before .before .before .before .before .before .before .args .i) (c .before .before .before .before .before .before .before .before .before .before .args .part) (c .before .before .before .before .before .before .before .before .before .before .args .fields) (optRepeating (c .before .before .before .before .before .before .before .before .before .before .args .outer)) (c .before .before .before .before .before .before .before .before .before .before .args .set .given) (c .before .before .before .before .before .before .before .before .before .before .args .set .set) (sym (c .before .before .before .before .before .before .before .before .is-nonempty .ensures) ∙ c .before .before .before .before .before .before .before .if1 .taken) _ refl) at (c .before .before .before .before .before .before .before .before .before .before .pre))) (c .before .before .before .set-bounds .ensures)
+set-count-field-requires c κs =
+    let start = c .before .before .before .before .before .before .before .before .before .before in
+    let is-nonempty = c .before .before .before .before .before .before .before .before .is-nonempty in
+    let if1 = c .before .before .before .before .before .before .before .if1 in
+    let set-bounds-call = c .before .before .before .set-bounds in
+    let t = start .args .t in let i = start .args .i in let part = start .args .part in let fields = start .args .fields in
+    fits-right (set-bounds t i part fields (repeatingMeaning (start .args .set .set))) _
+    (fits-left _ _ (rw (filled t i part fields (optRepeating (start .args .outer)) (start .args .set .given) (start .args .set .set)
+    (sym (is-nonempty .ensures) ∙ if1 .taken) _ refl) at (start .pre))) (set-bounds-call .ensures)
 
 set-nesting-requires : tie.Need-set-nesting-requires
-set-nesting-requires c κs = fits-right _ _ (rw (filled (c .before .before .before .before .before .before .before .before .before .before .before .before .before .before .before .args .t) (c .before .before .before .before .before .before .before .before .before .before .before .before .before .before .before .args .i) (c .before .before .before .before .before .before .before .before .before .before .before .before .before .before .before .args .part) (c .before .before .before .before .before .before .before .before .before .before .before .before .before .before .before .args .fields) (optRepeating (c .before .before .before .before .before .before .before .before .before .before .before .before .before .before .before .args .outer)) (c .before .before .before .before .before .before .before .before .before .before .before .before .before .before .before .args .set .given) (c .before .before .before .before .before .before .before .before .before .before .before .before .before .before .before .args .set .set) (sym (c .before .before .before .before .before .before .before .before .before .before .before .before .before .is-nonempty .ensures) ∙ c .before .before .before .before .before .before .before .before .before .before .before .before .if1 .taken) _ (chosen (c .before .before .before .before .before .before .before .before .before .before .before .before .before .before .before .args .set .set .nested) _ (c .before .if2 .taken))) at (c .before .before .before .before .before .before .before .before .before .before .before .before .before .before .before .pre)) (emitted-append (c .before .before .before .before .before .before .before .before .set-bounds .ensures) (c .before .before .before .before .set-count-field .ensures))
+set-nesting-requires c κs =
+    let back12 = c .before .before .before .before .before .before .before .before .before .before .before .before in
+    let start = back12 .before .before .before in
+    let is-nonempty = back12 .before .is-nonempty in
+    let if1 = c .before .before .before .before .before .before .before .before .before .before .before .before .if1 in
+    let set-bounds-call = c .before .before .before .before .before .before .before .before .set-bounds in
+    let set-count-field-call = c .before .before .before .before .set-count-field in
+    fits-right _ _ (rw (filled (start .args .t) (start .args .i) (start .args .part) (start .args .fields) (optRepeating (start .args .outer))
+    (start .args .set .given) (start .args .set .set) (sym (is-nonempty .ensures) ∙ if1 .taken) _
+    (chosen (start .args .set .set .nested) _ (c .before .if2 .taken))) at (start .pre))
+    (emitted-append (set-bounds-call .ensures) (set-count-field-call .ensures))
 
 same-length : tie.Need-same-length
 same-length c = search needs
 
 returns : tie.Need-returns
-returns c = rw (filled (c .before .before .before .before .before .before .before .before .before .before .before .before .before .before .before .before .before .before .args .t) (c .before .before .before .before .before .before .before .before .before .before .before .before .before .before .before .before .before .before .args .i) (c .before .before .before .before .before .before .before .before .before .before .before .before .before .before .before .before .before .before .args .part) (c .before .before .before .before .before .before .before .before .before .before .before .before .before .before .before .before .before .before .args .fields) (optRepeating (c .before .before .before .before .before .before .before .before .before .before .before .before .before .before .before .before .before .before .args .outer)) (c .before .before .before .before .before .before .before .before .before .before .before .before .before .before .before .before .before .before .args .set .given) (c .before .before .before .before .before .before .before .before .before .before .before .before .before .before .before .before .before .before .args .set .set) (sym (c .before .before .before .before .before .before .before .before .before .before .before .before .before .before .before .before .is-nonempty .ensures) ∙ c .before .before .before .before .before .before .before .before .before .before .before .before .before .before .before .if1 .taken) _ (chosen (c .before .before .before .before .before .before .before .before .before .before .before .before .before .before .before .before .before .before .args .set .set .nested) _ (c .before .before .before .before .if2 .taken))) (emitted-append (emitted-append (c .before .before .before .before .before .before .before .before .before .before .before .set-bounds .ensures) (c .before .before .before .before .before .before .before .set-count-field .ensures)) (c .before .before .set-nesting .ensures))
+returns c =
+    let back12 = c .before .before .before .before .before .before .before .before .before .before .before .before in
+    let start = back12 .before .before .before .before .before .before in
+    let is-nonempty = back12 .before .before .before .before .is-nonempty in
+    let if1 = back12 .before .before .before .if1 in
+    let set-bounds-call = c .before .before .before .before .before .before .before .before .before .before .before .set-bounds in
+    let set-count-field-call = c .before .before .before .before .before .before .before .set-count-field in
+    let if2 = c .before .before .before .before .if2 in
+    rw (filled (start .args .t) (start .args .i) (start .args .part) (start .args .fields) (optRepeating (start .args .outer)) (start .args .set .given)
+    (start .args .set .set) (sym (is-nonempty .ensures) ∙ if1 .taken) _ (chosen (start .args .set .set .nested) _ (if2 .taken)))
+    (emitted-append (emitted-append (set-bounds-call .ensures) (set-count-field-call .ensures)) (c .before .before .set-nesting .ensures))
 
 same-length-2 : tie.Need-same-length-2
 same-length-2 c = search needs
 
 returns-2 : tie.Need-returns-2
-returns-2 c = rw (filled (c .before .before .before .before .before .before .before .before .before .before .before .before .before .before .args .t) (c .before .before .before .before .before .before .before .before .before .before .before .before .before .before .args .i) (c .before .before .before .before .before .before .before .before .before .before .before .before .before .before .args .part) (c .before .before .before .before .before .before .before .before .before .before .before .before .before .before .args .fields) (optRepeating (c .before .before .before .before .before .before .before .before .before .before .before .before .before .before .args .outer)) (c .before .before .before .before .before .before .before .before .before .before .before .before .before .before .args .set .given) (c .before .before .before .before .before .before .before .before .before .before .before .before .before .before .args .set .set) (sym (c .before .before .before .before .before .before .before .before .before .before .before .before .is-nonempty .ensures) ∙ c .before .before .before .before .before .before .before .before .before .before .before .if1 .taken) _ (left-out (c .before .before .before .before .before .before .before .before .before .before .before .before .before .before .args .set .set .nested) _ (c .if2 .left))) (emitted-append (emitted-append (c .before .before .before .before .before .before .before .set-bounds .ensures) (c .before .before .before .set-count-field .ensures)) (emitted-none _ _))
+returns-2 c =
+    let back12 = c .before .before .before .before .before .before .before .before .before .before .before .before in
+    let start = back12 .before .before in
+    let is-nonempty = c .before .before .before .before .before .before .before .before .before .before .before .before .is-nonempty in
+    let if1 = c .before .before .before .before .before .before .before .before .before .before .before .if1 in
+    let set-bounds-call = c .before .before .before .before .before .before .before .set-bounds in
+    let set-count-field-call = c .before .before .before .set-count-field in
+    rw (filled (start .args .t) (start .args .i) (start .args .part) (start .args .fields) (optRepeating (start .args .outer)) (start .args .set .given)
+    (start .args .set .set) (sym (is-nonempty .ensures) ∙ if1 .taken) _ (left-out (start .args .set .set .nested) _ (c .if2 .left)))
+    (emitted-append (emitted-append (set-bounds-call .ensures) (set-count-field-call .ensures)) (emitted-none _ _))
 
 returns-3 : tie.Need-returns-3
-returns-3 c = rw (empty (c .before .before .before .args .t) (c .before .before .before .args .i) (c .before .before .before .args .part) (c .before .before .before .args .fields) (optRepeating (c .before .before .before .args .outer)) (c .before .before .before .args .set .given) (c .before .before .before .args .set .set) (sym (c .before .is-nonempty .ensures) ∙ c .if1 .left)) (emitted-none (now (c .before .before .before .args .out)) (c .before .before .before .args .n))
+returns-3 c =
+    let start = c .before .before .before in
+    rw (empty (start .args .t) (start .args .i) (start .args .part) (start .args .fields) (optRepeating (start .args .outer)) (start .args .set .given)
+    (start .args .set .set) (sym (c .before .is-nonempty .ensures) ∙ c .if1 .left)) (emitted-none (now (start .args .out)) (start .args .n))
 
 pub check-set-spec : {M : Type 1} → statement M
 check-set-spec =

@@ -26,13 +26,21 @@ pgn-error-requires : tie.Need-pgn-error-requires
 pgn-error-requires c κs = search needs
 
 put-requires : tie.Need-put-requires
-put-requires c κs = rw (missing (c .before .before .before .before .before .args .t) (c .before .before .before .before .before .args .i) (c .before .before .before .before .before .args .part) (c .before .before .before .before .before .args .fields) (c .before .before .before .before .before .args .set) _ (c .before .before .if1 .taken) (c .pgn-error .ensures)) at (c .before .before .before .before .before .pre)
+put-requires c κs =
+    let start = c .before .before .before .before .before in
+    rw (missing (start .args .t) (start .args .i) (start .args .part) (start .args .fields) (start .args .set) _ (c .before .before .if1 .taken)
+    (c .pgn-error .ensures)) at (start .pre)
 
 same-length : tie.Need-same-length
 same-length c = search needs
 
 returns : tie.Need-returns
-returns c = rw (missing (c .before .before .before .before .before .before .before .before .args .t) (c .before .before .before .before .before .before .before .before .args .i) (c .before .before .before .before .before .before .before .before .args .part) (c .before .before .before .before .before .before .before .before .args .fields) (c .before .before .before .before .before .before .before .before .args .set) _ (c .before .before .before .before .before .if1 .taken) (c .before .before .before .pgn-error .ensures)) (c .before .before .put .ensures)
+returns c =
+    let start = c .before .before .before .before .before .before .before .before in
+    let if1 = c .before .before .before .before .before .if1 in
+    let pgn-error-call = c .before .before .before .pgn-error in
+    rw (missing (start .args .t) (start .args .i) (start .args .part) (start .args .fields) (start .args .set) _ (if1 .taken) (pgn-error-call .ensures))
+    (c .before .before .put .ensures)
 
 sub-last : tie.Need-sub-last
 sub-last c = search needs
@@ -50,13 +58,22 @@ pgn-error-requires-2 : tie.Need-pgn-error-requires-2
 pgn-error-requires-2 c κs = search needs
 
 put-if-requires : tie.Need-put-if-requires
-put-if-requires c κs = rw (there (c .before .before .before .before .before .before .before .args .t) (c .before .before .before .before .before .before .before .args .i) (c .before .before .before .before .before .before .before .args .part) (c .before .before .before .before .before .before .before .args .fields) (c .before .before .before .before .before .before .before .args .set) _ (c .before .before .before .before .if1 .left) (c .pgn-error2 .ensures)) at (c .before .before .before .before .before .before .before .pre)
+put-if-requires c κs =
+    let start = c .before .before .before .before .before .before .before in
+    let if1 = c .before .before .before .before .if1 in
+    rw (there (start .args .t) (start .args .i) (start .args .part) (start .args .fields) (start .args .set) _ (if1 .left) (c .pgn-error2 .ensures)) at
+    (start .pre)
 
 same-length-2 : tie.Need-same-length-2
 same-length-2 c = search needs
 
 returns-2 : tie.Need-returns-2
-returns-2 c = rw (there (c .before .before .before .before .before .before .before .before .before .before .args .t) (c .before .before .before .before .before .before .before .before .before .before .args .i) (c .before .before .before .before .before .before .before .before .before .before .args .part) (c .before .before .before .before .before .before .before .before .before .before .args .fields) (c .before .before .before .before .before .before .before .before .before .before .args .set) _ (c .before .before .before .before .before .before .before .if1 .left) (c .before .before .before .pgn-error2 .ensures)) (c .before .before .put-if .ensures)
+returns-2 c =
+    let start = c .before .before .before .before .before .before .before .before .before .before in
+    let if1 = c .before .before .before .before .before .before .before .if1 in
+    let pgn-error2 = c .before .before .before .pgn-error2 in
+    rw (there (start .args .t) (start .args .i) (start .args .part) (start .args .fields) (start .args .set) _ (if1 .left) (pgn-error2 .ensures))
+    (c .before .before .put-if .ensures)
 
 pub set-bounds-spec : {M : Type 1} → statement M
 set-bounds-spec =

@@ -19,7 +19,8 @@ module _ (t i part start : ℕ) (v : OptNumber) where
   unfolding set-count-field
   absent e = rw e
 
-  given : v .given ≡ true → (a : Bool) → a ≡ ((v .value == 0) || (start ≤ᵇ v .value)) → (f : Finding) → f ≡ pgn-error 5 3 t i part 0 → set-count-field t i part start (optNumber v) ≡ report-if a f
+  given : v .given ≡ true → (a : Bool) → a ≡ ((v .value == 0) || (start ≤ᵇ v .value)) → (f : Finding) → f ≡ pgn-error 5 3 t i part 0
+      → set-count-field t i part start (optNumber v) ≡ report-if a f
   unfolding set-count-field
   given e a d f x = rw (e, d, x)
 
@@ -30,16 +31,29 @@ pgn-error-requires : tie.Need-pgn-error-requires
 pgn-error-requires c κs = search needs
 
 put-if-requires : tie.Need-put-if-requires
-put-if-requires c κs = rw (given (c .before .before .before .before .before .args .t) (c .before .before .before .before .before .args .i) (c .before .before .before .before .before .args .part) (c .before .before .before .before .before .args .start .0) (c .before .before .before .before .before .args .counter) (c .before .before .before .if1 .taken) _ (c .before .before .misplaced .ensures) _ (c .pgn-error .ensures)) at (c .before .before .before .before .before .pre)
+put-if-requires c κs =
+    let start = c .before .before .before .before .before in
+    let if1 = c .before .before .before .if1 in
+    rw (given (start .args .t) (start .args .i) (start .args .part) (start .args .start .0) (start .args .counter) (if1 .taken) _
+    (c .before .before .misplaced .ensures) _ (c .pgn-error .ensures)) at (start .pre)
 
 same-length : tie.Need-same-length
 same-length c = search needs
 
 returns : tie.Need-returns
-returns c = rw (given (c .before .before .before .before .before .before .before .before .args .t) (c .before .before .before .before .before .before .before .before .args .i) (c .before .before .before .before .before .before .before .before .args .part) (c .before .before .before .before .before .before .before .before .args .start .0) (c .before .before .before .before .before .before .before .before .args .counter) (c .before .before .before .before .before .before .if1 .taken) _ (c .before .before .before .before .before .misplaced .ensures) _ (c .before .before .before .pgn-error .ensures)) (c .before .before .put-if .ensures)
+returns c =
+    let start = c .before .before .before .before .before .before .before .before in
+    let if1 = c .before .before .before .before .before .before .if1 in
+    let misplaced = c .before .before .before .before .before .misplaced in
+    let pgn-error-call = c .before .before .before .pgn-error in
+    rw (given (start .args .t) (start .args .i) (start .args .part) (start .args .start .0) (start .args .counter) (if1 .taken) _ (misplaced .ensures) _
+    (pgn-error-call .ensures)) (c .before .before .put-if .ensures)
 
 returns-2 : tie.Need-returns-2
-returns-2 c = rw (absent (c .before .before .args .t) (c .before .before .args .i) (c .before .before .args .part) (c .before .before .args .start .0) (c .before .before .args .counter) (c .if1 .left)) (emitted-none (now (c .before .before .args .out)) (c .before .before .args .n))
+returns-2 c =
+    let start = c .before .before in
+    rw (absent (start .args .t) (start .args .i) (start .args .part) (start .args .start .0) (start .args .counter) (c .if1 .left))
+    (emitted-none (now (start .args .out)) (start .args .n))
 
 pub set-count-field-spec : {M : Type 1} → statement M
 set-count-field-spec =

@@ -17,8 +17,8 @@ abbrev inside : Bool → RepeatingView → RepeatingView → Bool
 inside given o v = given && ((o .start <ᵇ v .start) && (v .start + v .count ≤ᵇ o .start + o .count))
 
 module _ (t i part : ℕ) where
-  nested : (given : Bool) (o v : RepeatingView) → inside given o v ≡ true → (a : Bool) → a ≡ none-or-below (optNumber (v .counter)) (o .start) → (f : Finding) → f ≡ pgn-error 5 4 t i part 0
-      → set-nesting t i part (optional given (repeatingMeaning o)) (repeatingMeaning v) ≡ report-if a f
+  nested : (given : Bool) (o v : RepeatingView) → inside given o v ≡ true → (a : Bool) → a ≡ none-or-below (optNumber (v .counter)) (o .start) → (f : Finding)
+      → f ≡ pgn-error 5 4 t i part 0 → set-nesting t i part (optional given (repeatingMeaning o)) (repeatingMeaning v) ≡ report-if a f
   unfolding set-nesting
   nested true o v e a d f x = rw (e, d, x)
   nested false o v e a d f x = absurd (false≢true e)
@@ -39,25 +39,47 @@ pgn-error-requires : tie.Need-pgn-error-requires
 pgn-error-requires c κs = search needs
 
 put-if-requires : tie.Need-put-if-requires
-put-if-requires c κs = rw (nested (c .before .before .before .before .before .before .before .args .t) (c .before .before .before .before .before .before .before .args .i) (c .before .before .before .before .before .before .before .args .part) (c .before .before .before .before .before .before .before .args .outer .given) (c .before .before .before .before .before .before .before .args .outer .set) (c .before .before .before .before .before .before .before .args .set) (sym (c .before .before .before .before .before .lies-inside .ensures) ∙ c .before .before .before .before .if1 .taken) _ (c .before .before .none-or-below .ensures) _ (c .pgn-error .ensures)) at (c .before .before .before .before .before .before .before .pre)
+put-if-requires c κs =
+    let start = c .before .before .before .before .before .before .before in
+    let lies-inside = c .before .before .before .before .before .lies-inside in
+    let if1 = c .before .before .before .before .if1 in
+    rw (nested (start .args .t) (start .args .i) (start .args .part) (start .args .outer .given) (start .args .outer .set) (start .args .set)
+    (sym (lies-inside .ensures) ∙ if1 .taken) _ (c .before .before .none-or-below .ensures) _ (c .pgn-error .ensures)) at (start .pre)
 
 same-length : tie.Need-same-length
 same-length c = search needs
 
 returns : tie.Need-returns
-returns c = rw (nested (c .before .before .before .before .before .before .before .before .before .before .args .t) (c .before .before .before .before .before .before .before .before .before .before .args .i) (c .before .before .before .before .before .before .before .before .before .before .args .part) (c .before .before .before .before .before .before .before .before .before .before .args .outer .given) (c .before .before .before .before .before .before .before .before .before .before .args .outer .set) (c .before .before .before .before .before .before .before .before .before .before .args .set) (sym (c .before .before .before .before .before .before .before .before .lies-inside .ensures) ∙ c .before .before .before .before .before .before .before .if1 .taken) _ (c .before .before .before .before .before .none-or-below .ensures) _ (c .before .before .before .pgn-error .ensures)) (c .before .before .put-if .ensures)
+returns c =
+    let start = c .before .before .before .before .before .before .before .before .before .before in
+    let lies-inside = c .before .before .before .before .before .before .before .before .lies-inside in
+    let if1 = c .before .before .before .before .before .before .before .if1 in
+    let none-or-below-call = c .before .before .before .before .before .none-or-below in
+    let pgn-error-call = c .before .before .before .pgn-error in
+    rw (nested (start .args .t) (start .args .i) (start .args .part) (start .args .outer .given) (start .args .outer .set) (start .args .set)
+    (sym (lies-inside .ensures) ∙ if1 .taken) _ (none-or-below-call .ensures) _ (pgn-error-call .ensures)) (c .before .before .put-if .ensures)
 
 pgn-error-requires-2 : tie.Need-pgn-error-requires-2
 pgn-error-requires-2 c κs = search needs
 
 put-requires : tie.Need-put-requires
-put-requires c κs = rw (apart (c .before .before .before .before .before .args .t) (c .before .before .before .before .before .args .i) (c .before .before .before .before .before .args .part) (c .before .before .before .before .before .args .outer .given) (c .before .before .before .before .before .args .outer .set) (c .before .before .before .before .before .args .set) (sym (c .before .before .before .lies-inside .ensures) ∙ c .before .before .if1 .left) _ (c .pgn-error2 .ensures)) at (c .before .before .before .before .before .pre)
+put-requires c κs =
+    let start = c .before .before .before .before .before in
+    let lies-inside = c .before .before .before .lies-inside in
+    rw (apart (start .args .t) (start .args .i) (start .args .part) (start .args .outer .given) (start .args .outer .set) (start .args .set)
+    (sym (lies-inside .ensures) ∙ c .before .before .if1 .left) _ (c .pgn-error2 .ensures)) at (start .pre)
 
 same-length-2 : tie.Need-same-length-2
 same-length-2 c = search needs
 
 returns-2 : tie.Need-returns-2
-returns-2 c = rw (apart (c .before .before .before .before .before .before .before .before .args .t) (c .before .before .before .before .before .before .before .before .args .i) (c .before .before .before .before .before .before .before .before .args .part) (c .before .before .before .before .before .before .before .before .args .outer .given) (c .before .before .before .before .before .before .before .before .args .outer .set) (c .before .before .before .before .before .before .before .before .args .set) (sym (c .before .before .before .before .before .before .lies-inside .ensures) ∙ c .before .before .before .before .before .if1 .left) _ (c .before .before .before .pgn-error2 .ensures)) (c .before .before .put .ensures)
+returns-2 c =
+    let start = c .before .before .before .before .before .before .before .before in
+    let lies-inside = c .before .before .before .before .before .before .lies-inside in
+    let if1 = c .before .before .before .before .before .if1 in
+    let pgn-error2 = c .before .before .before .pgn-error2 in
+    rw (apart (start .args .t) (start .args .i) (start .args .part) (start .args .outer .given) (start .args .outer .set) (start .args .set)
+    (sym (lies-inside .ensures) ∙ if1 .left) _ (pgn-error2 .ensures)) (c .before .before .put .ensures)
 
 pub set-nesting-spec : {M : Type 1} → statement M
 set-nesting-spec =

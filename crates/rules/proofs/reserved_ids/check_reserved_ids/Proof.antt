@@ -28,27 +28,48 @@ loop-holds : tie.Need-loop-holds Inv-loop μ-loop
 loop-holds c = (omega arith, refl, emitted-none _ _)
 
 field-of-requires : tie.Need-field-of-requires Inv-loop μ-loop
-field-of-requires c κs = (c .before .before .before .before .before .before .pre .1, omega (arith, c .before .before .before .before .before .before .pre .2 .fields))
+field-of-requires c κs =
+    let start = c .before .before .before .before .before .before in
+    (start .pre .1, omega (arith, start .pre .2 .fields))
 
 reserved-id-at-requires : tie.Need-reserved-id-at-requires Inv-loop μ-loop
 unfolding check-reserved-ids
-reserved-id-at-requires c κs = (fits-turn (of-field (now (c .before .before .before .before .before .before .before .before .args .s)) (c .before .before .before .before .before .before .before .before .args .t) (c .before .before .before .before .before .before .before .before .args .i)) (c .before .before .before .before .before .before .before .before .args .g .fields) (c .before .before .before .before .loop .k) (c .before .before .if1 .taken) (rw (← c .before .before .before .before .before .before .before .before .pre .2 .fields) at (c .before .before .before .before .before .before .before .before .pre .0)) (c .before .before .before .before .loop .inv .2), c .before .field-of .ensures)
+reserved-id-at-requires c κs =
+    let start = c .before .before .before .before .before .before .before .before in
+    let loop = c .before .before .before .before .loop in (
+      fits-turn (of-field (now (start .args .s)) (start .args .t) (start .args .i)) (start .args .g .fields) (loop .k) (c .before .before .if1 .taken)
+          (rw (← start .pre .2 .fields) at (start .pre .0)) (loop .inv .2),
+      c .before .field-of .ensures,
+    )
 
 add-k : tie.Need-add-k Inv-loop μ-loop
-add-k c = omega (arith, c .before .before .before .before .before .before .struct-known .given)
+add-k c =
+    let struct-known = c .before .before .before .before .before .before .struct-known in
+    omega (arith, struct-known .given)
 
 loop-less : tie.Need-loop-less Inv-loop μ-loop
 loop-less c = search needs
 
 loop-again : tie.Need-loop-again Inv-loop μ-loop
-loop-again c = (omega arith, c .before .before .reserved-id-at .kept .0 ∙ c .before .before .before .before .before .before .before .loop .inv .1, emitted-turn (of-field (now (c .before .before .before .before .before .before .before .before .before .before .before .args .s)) (c .before .before .before .before .before .before .before .before .before .before .before .args .t) (c .before .before .before .before .before .before .before .before .before .before .before .args .i)) (c .before .before .before .before .before .before .before .loop .k) (c .before .before .before .before .before .before .before .loop .inv .2) (c .before .before .reserved-id-at .ensures))
+loop-again c =
+    let start = c .before .before .before .before .before .before .before .before .before .before .before in
+    let loop = c .before .before .before .before .before .before .before .loop in
+    let reserved-id-at-call = c .before .before .reserved-id-at in (
+      omega (arith, c),
+      reserved-id-at-call .kept .0 ∙ loop .inv .1,
+      emitted-turn (of-field (now (start .args .s)) (start .args .t) (start .args .i)) (loop .k) (loop .inv .2) (reserved-id-at-call .ensures),
+    )
 
 same-length : tie.Need-same-length Inv-loop μ-loop
 same-length c = search needs
 
 returns : tie.Need-returns Inv-loop μ-loop
 unfolding check-reserved-ids
-returns c = let e : c .before .before .loop .k ≡ length (pgn-at (packOf (now (c .before .before .before .before .before .before .args .s))) (c .before .before .before .before .before .before .args .t) (c .before .before .before .before .before .before .args .i) .fields) = omega (arith, c .before .before .before .before .before .before .pre .2 .fields) in rw (← e) (c .before .before .loop .inv .2)
+returns c =
+    let start = c .before .before .before .before .before .before in
+    let loop = c .before .before .loop in
+    let e : loop .k ≡ length (pgn-at (packOf (now (start .args .s))) (start .args .t) (start .args .i) .fields) = omega (arith, start .pre .2 .fields) in
+    rw (← e) (loop .inv .2)
 
 pub check-reserved-ids-spec : {M : Type 1} → statement M
 check-reserved-ids-spec =

@@ -1,3 +1,4 @@
+use native.Mathlib.Omega.{arith}
 use lib.Seq.{drop-cons}
 use lib.ListN.{drop-of-length-le, length, getD, drop}
 use Rattle.rules.specs.Model.{is-digit, all-digits}
@@ -35,7 +36,11 @@ is-digit-requires : tie.Need-is-digit-requires Inv-loop μ-loop
 is-digit-requires c κs = search needs
 
 returns : tie.Need-returns Inv-loop μ-loop
-returns c = sym (c .before .before .before .before .loop .inv ∙ other (now (c .before .before .before .before .before .before .args .id)) (c .before .before .before .before .loop .j) (search needs) (sym (c .before .is-digit .ensures) ∙ not-true (c .before .is-digit .result) (c .if1 .taken)))
+returns c =
+    let start = c .before .before .before .before .before .before in
+    let loop = c .before .before .before .before .loop in
+    sym (loop .inv
+    ∙ other (now (start .args .id)) (loop .j) (omega (arith, c)) (sym (c .before .is-digit .ensures) ∙ not-true (c .before .is-digit .result) (c .if1 .taken)))
 
 add-j : tie.Need-add-j Inv-loop μ-loop
 add-j c = search needs
@@ -44,10 +49,17 @@ loop-less : tie.Need-loop-less Inv-loop μ-loop
 loop-less c = search needs
 
 loop-again : tie.Need-loop-again Inv-loop μ-loop
-loop-again c = c .before .before .before .before .loop .inv ∙ digit (now (c .before .before .before .before .before .before .args .id)) (c .before .before .before .before .loop .j) (search needs) (sym (c .before .is-digit .ensures) ∙ not-false (c .before .is-digit .result) (c .if1 .left))
+loop-again c =
+    let start = c .before .before .before .before .before .before in
+    let loop = c .before .before .before .before .loop in
+    loop .inv
+    ∙ digit (now (start .args .id)) (loop .j) (omega (arith, c)) (sym (c .before .is-digit .ensures) ∙ not-false (c .before .is-digit .result) (c .if1 .left))
 
 returns-2 : tie.Need-returns-2 Inv-loop μ-loop
-returns-2 c = let x = drop-of-length-le (now (c .before .before .before .args .id)) {i = c .before .loop .j} (search needs) in rw (c .before .loop .inv, x)
+returns-2 c =
+    let start = c .before .before .before in
+    let x = drop-of-length-le (now (start .args .id)) {i = c .before .loop .j} (omega (arith, c)) in
+    rw (c .before .loop .inv, x)
 
 pub digits-from-spec : {M : Type 1} → statement M
 digits-from-spec =

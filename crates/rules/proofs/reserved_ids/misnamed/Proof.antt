@@ -19,7 +19,10 @@ numbered-requires : tie.Need-numbered-requires
 numbered-requires c κs = search needs
 
 returns : tie.Need-returns
-returns c = rw (← c .before .before .before .before .text-is .ensures, c .before .before .before .if1 .taken, c .numbered .ensures, c .before .part .ensures)
+returns c =
+    let text-is = c .before .before .before .before .text-is in
+    let if1 = c .before .before .before .if1 in
+    rw (← text-is .ensures, if1 .taken, c .numbered .ensures, c .before .part .ensures)
 
 slice-aggregate-text-is-2 : tie.Need-slice-aggregate-text-is-2
 slice-aggregate-text-is-2 c = search needs
@@ -37,10 +40,18 @@ numbered-requires-2 : tie.Need-numbered-requires-2
 numbered-requires-2 c κs = search needs
 
 returns-2 : tie.Need-returns-2
-returns-2 c = rw (← c .before .before .before .before .before .before .before .text-is .ensures, c .before .before .before .before .before .before .if1 .left, ← c .before .before .before .before .text-is2 .ensures, c .before .before .before .if2 .taken, c .numbered2 .ensures, c .before .part2 .ensures)
+returns-2 c =
+    let text-is = c .before .before .before .before .before .before .before .text-is in
+    let if1 = c .before .before .before .before .before .before .if1 in
+    let text-is2 = c .before .before .before .before .text-is2 in
+    let if2 = c .before .before .before .if2 in
+    rw (← text-is .ensures, if1 .left, ← text-is2 .ensures, if2 .taken, c .numbered2 .ensures, c .before .part2 .ensures)
 
 returns-3 : tie.Need-returns-3
-returns-3 c = rw (← c .before .before .before .before .text-is .ensures, c .before .before .before .if1 .left, ← c .before .text-is2 .ensures, c .if2 .left)
+returns-3 c =
+    let text-is = c .before .before .before .before .text-is in
+    let if1 = c .before .before .before .if1 in
+    rw (← text-is .ensures, if1 .left, ← c .before .text-is2 .ensures, c .if2 .left)
 
 pub misnamed-spec : {M : Type 1} → statement M
 misnamed-spec =

@@ -36,7 +36,10 @@ loop-holds : tie.Need-loop-holds Inv-loop μ-loop
 loop-holds c = (omega arith, refl)
 
 returns : tie.Need-returns Inv-loop μ-loop
-returns c = sym (c .before .before .loop .inv .1 ∙ short (now (c .before .before .before .before .before .args .want)) (now (c .before .before .before .before .before .args .id)) (c .before .before .loop .k) (search needs) (search needs))
+returns c =
+    let start = c .before .before .before .before .before in
+    let loop = c .before .before .loop in
+    sym (loop .inv .1 ∙ short (now (start .args .want)) (now (start .args .id)) (loop .k) (omega (arith, c)) (omega (arith, c)))
 
 shared-slice-read-if2 : tie.Need-shared-slice-read-if2 Inv-loop μ-loop
 shared-slice-read-if2 c = search needs
@@ -45,7 +48,10 @@ shared-slice-read-if2-2 : tie.Need-shared-slice-read-if2-2 Inv-loop μ-loop
 shared-slice-read-if2-2 c = search needs
 
 returns-2 : tie.Need-returns-2 Inv-loop μ-loop
-returns-2 c = sym (c .before .before .before .before .before .loop .inv .1 ∙ differ (now (c .before .before .before .before .before .before .before .before .args .want)) (now (c .before .before .before .before .before .before .before .before .args .id)) (c .before .before .before .before .before .loop .k) (search needs) (search needs) (c .if2 .taken))
+returns-2 c =
+    let start = c .before .before .before .before .before .before .before .before in
+    let loop = c .before .before .before .before .before .loop in
+    sym (loop .inv .1 ∙ differ (now (start .args .want)) (now (start .args .id)) (loop .k) (omega (arith, c)) (omega (arith, c)) (c .if2 .taken))
 
 add-k : tie.Need-add-k Inv-loop μ-loop
 add-k c = search needs
@@ -54,14 +60,21 @@ loop-less : tie.Need-loop-less Inv-loop μ-loop
 loop-less c = search needs
 
 loop-again : tie.Need-loop-again Inv-loop μ-loop
-loop-again c = (search needs, c .before .before .before .before .before .loop .inv .1 ∙ agree (now (c .before .before .before .before .before .before .before .before .args .want)) (now (c .before .before .before .before .before .before .before .before .args .id)) (c .before .before .before .before .before .loop .k) (search needs) (search needs) (c .if2 .left))
+loop-again c =
+    let start = c .before .before .before .before .before .before .before .before in
+    let loop = c .before .before .before .before .before .loop in
+    (omega (arith, c), loop .inv .1 ∙ agree (now (start .args .want)) (now (start .args .id)) (loop .k) (omega (arith, c)) (omega (arith, c)) (c .if2 .left))
 
 digits-from-requires : tie.Need-digits-from-requires Inv-loop μ-loop
 digits-from-requires c κs = search needs
 
 returns-3 : tie.Need-returns-3 Inv-loop μ-loop
 unfolding numbered
-returns-3 c = let x = drop-of-length-le (now (c .before .before .before .before .before .args .want)) {i = c .before .before .loop .k} (search needs) in rw (c .before .before .loop .inv .1, x) (c .digits-from .ensures)
+returns-3 c =
+    let start = c .before .before .before .before .before in
+    let loop = c .before .before .loop in
+    let x = drop-of-length-le (now (start .args .want)) {i = loop .k} (omega (arith, c)) in
+    rw (loop .inv .1, x) (c .digits-from .ensures)
 
 pub numbered-spec : {M : Type 1} → statement M
 numbered-spec =

@@ -23,8 +23,10 @@ spread false false a b f = refl
 
 -- the rule at a field, said of the view
 viewed : (s : List ℕ) (t i k : ℕ) (F : Field) (v : FieldView) → fieldMeaning s v ≡ F → (a : Bool)
-    → a ≡ (if bytesOf s (v .names .name) ≐ bytes "Reserved" then not (numbered (bytes "reserved") (bytesOf s (v .names .id))) else if bytesOf s (v .names .name) ≐ bytes "Spare" then not (numbered (bytes "spare") (bytesOf s (v .names .id))) else false)
-    → (f : Finding) → f ≡ pgn-error 12 1 t i k 0 → reserved-id-at t i k F ≡ report-if a f
+    → a
+    ≡ (if bytesOf s (v .names .name) ≐ bytes "Reserved" then not (numbered (bytes "reserved") (bytesOf s (v .names .id))) else if bytesOf s (v .names .name) ≐
+    bytes "Spare" then not (numbered (bytes "spare") (bytesOf s (v .names .id))) else false) → (f : Finding) → f ≡ pgn-error 12 1 t i k 0
+    → reserved-id-at t i k F ≡ report-if a f
 unfolding reserved-id-at
 viewed s t i k F v is a d f x =
     rw (← is, d, x) (spread (bytesOf s (v .names .name) ≐ bytes "Reserved") (bytesOf s (v .names .name) ≐ bytes "Spare") _ _ _)
@@ -36,13 +38,21 @@ pgn-error-requires : tie.Need-pgn-error-requires
 pgn-error-requires c κs = search needs
 
 put-if-requires : tie.Need-put-if-requires
-put-if-requires c κs = rw (viewed (now (c .before .before .before .before .before .args .s)) (c .before .before .before .before .before .args .t) (c .before .before .before .before .before .args .i) (c .before .before .before .before .before .args .k) _ (c .before .before .before .before .before .args .f) (c .before .before .before .before .before .pre .1) _ (c .before .before .misnamed .ensures) _ (c .pgn-error .ensures)) at (c .before .before .before .before .before .pre .0)
+put-if-requires c κs =
+    let start = c .before .before .before .before .before in
+    rw (viewed (now (start .args .s)) (start .args .t) (start .args .i) (start .args .k) _ (start .args .f) (start .pre .1) _
+    (c .before .before .misnamed .ensures) _ (c .pgn-error .ensures)) at (start .pre .0)
 
 same-length : tie.Need-same-length
 same-length c = search needs
 
 returns : tie.Need-returns
-returns c = rw (viewed (now (c .before .before .before .before .before .before .before .before .args .s)) (c .before .before .before .before .before .before .before .before .args .t) (c .before .before .before .before .before .before .before .before .args .i) (c .before .before .before .before .before .before .before .before .args .k) _ (c .before .before .before .before .before .before .before .before .args .f) (c .before .before .before .before .before .before .before .before .pre .1) _ (c .before .before .before .before .before .misnamed .ensures) _ (c .before .before .before .pgn-error .ensures)) (c .before .before .put-if .ensures)
+returns c =
+    let start = c .before .before .before .before .before .before .before .before in
+    let misnamed = c .before .before .before .before .before .misnamed in
+    let pgn-error-call = c .before .before .before .pgn-error in
+    rw (viewed (now (start .args .s)) (start .args .t) (start .args .i) (start .args .k) _ (start .args .f) (start .pre .1) _ (misnamed .ensures) _
+    (pgn-error-call .ensures)) (c .before .before .put-if .ensures)
 
 pub reserved-id-at-spec : {M : Type 1} → statement M
 reserved-id-at-spec =

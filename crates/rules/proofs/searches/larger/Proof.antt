@@ -18,10 +18,16 @@ returns : tie.Need-returns
 returns c = unhit (optNumber (c .before .args .found)) (c .before .args .hit) (c .before .args .v) (not-true (c .before .args .hit) (c .if1 .taken))
 
 returns-2 : tie.Need-returns-2
-returns-2 c = rw (not-false (c .before .before .before .before .args .hit) (c .before .before .before .if1 .left), c .before .before .if2 .taken, le-ltb (c .before .before .before .before .args .found .value) (c .before .before .before .before .args .v) (c .if3 .taken))
+returns-2 c =
+    let start = c .before .before .before .before in
+    let if1 = c .before .before .before .if1 in
+    rw (not-false (start .args .hit) (if1 .left), c .before .before .if2 .taken, le-ltb (start .args .found .value) (start .args .v) (c .if3 .taken))
 
 returns-3 : tie.Need-returns-3
-returns-3 c = rw (not-false (c .before .before .before .before .args .hit) (c .before .before .before .if1 .left), c .before .before .if2 .taken, lt-ltb (c .before .before .before .before .args .found .value) (c .before .before .before .before .args .v) (c .if3 .left))
+returns-3 c =
+    let start = c .before .before .before .before in
+    let if1 = c .before .before .before .if1 in
+    rw (not-false (start .args .hit) (if1 .left), c .before .before .if2 .taken, lt-ltb (start .args .found .value) (start .args .v) (c .if3 .left))
 
 returns-4 : tie.Need-returns-4
 returns-4 c = rw (not-false (c .before .before .args .hit) (c .before .if1 .left), c .if2 .left)

@@ -22,7 +22,10 @@ shl-result : tie.Need-shl-result
 shl-result c = search needs
 
 sub-result : tie.Need-sub-result
-sub-result c = rw (shifted (c .before .before .args .bits) (c .if2 .taken)) (one-le-pow (c .before .before .args .bits) 2 (omega arith))
+sub-result c =
+    let start = c .before .before in
+    let bits = start .args .bits in
+    rw (shifted bits (c .if2 .taken)) (one-le-pow bits 2 (omega (arith, c)))
 
 returns-2 : tie.Need-returns-2
 unfolding special-max

@@ -33,16 +33,29 @@ pgn-error-requires : tie.Need-pgn-error-requires
 pgn-error-requires c κs = search needs
 
 put-if-requires : tie.Need-put-if-requires
-put-if-requires c κs = rw (given (now (c .before .before .before .before .before .before .before .args .s)) (c .before .before .before .before .before .before .before .args .t) (c .before .before .before .before .before .before .before .args .i) (c .before .before .before .before .before .before .before .args .k) _ (c .before .before .before .before .before .before .before .args .f) (c .before .before .before .before .before .before .before .pre .1) (c .before .before .before .if1 .taken) _ (c .before .before .out-of-range .ensures) _ (c .pgn-error .ensures)) at (c .before .before .before .before .before .before .before .pre .0)
+put-if-requires c κs =
+    let start = c .before .before .before .before .before .before .before in
+    let if1 = c .before .before .before .if1 in
+    rw (given (now (start .args .s)) (start .args .t) (start .args .i) (start .args .k) _ (start .args .f) (start .pre .1) (if1 .taken) _
+    (c .before .before .out-of-range .ensures) _ (c .pgn-error .ensures)) at (start .pre .0)
 
 same-length : tie.Need-same-length
 same-length c = search needs
 
 returns : tie.Need-returns
-returns c = rw (given (now (c .before .before .before .before .before .before .before .before .before .before .args .s)) (c .before .before .before .before .before .before .before .before .before .before .args .t) (c .before .before .before .before .before .before .before .before .before .before .args .i) (c .before .before .before .before .before .before .before .before .before .before .args .k) _ (c .before .before .before .before .before .before .before .before .before .before .args .f) (c .before .before .before .before .before .before .before .before .before .before .pre .1) (c .before .before .before .before .before .before .if1 .taken) _ (c .before .before .before .before .before .out-of-range .ensures) _ (c .before .before .before .pgn-error .ensures)) (c .before .before .put-if .ensures)
+returns c =
+    let start = c .before .before .before .before .before .before .before .before .before .before in
+    let if1 = c .before .before .before .before .before .before .if1 in
+    let out-of-range = c .before .before .before .before .before .out-of-range in
+    let pgn-error-call = c .before .before .before .pgn-error in
+    rw (given (now (start .args .s)) (start .args .t) (start .args .i) (start .args .k) _ (start .args .f) (start .pre .1) (if1 .taken) _
+    (out-of-range .ensures) _ (pgn-error-call .ensures)) (c .before .before .put-if .ensures)
 
 returns-2 : tie.Need-returns-2
-returns-2 c = rw (absent (now (c .before .before .before .before .args .s)) (c .before .before .before .before .args .t) (c .before .before .before .before .args .i) (c .before .before .before .before .args .k) _ (c .before .before .before .before .args .f) (c .before .before .before .before .pre .1) (c .if1 .left)) (emitted-none (now (c .before .before .before .before .args .out)) (c .before .before .before .before .args .n))
+returns-2 c =
+    let start = c .before .before .before .before in
+    rw (absent (now (start .args .s)) (start .args .t) (start .args .i) (start .args .k) _ (start .args .f) (start .pre .1) (c .if1 .left))
+    (emitted-none (now (start .args .out)) (start .args .n))
 
 pub special-values-at-spec : {M : Type 1} → statement M
 special-values-at-spec =

@@ -34,14 +34,25 @@ loop-holds : tie.Need-loop-holds Inv-loop μ-loop
 loop-holds c = (omega arith, refl)
 
 field-of-requires : tie.Need-field-of-requires Inv-loop μ-loop
-field-of-requires c κs = (c .before .before .before .before .pre .1, omega (arith, c .before .before .before .before .pre .2, c .loop-test .taken))
+field-of-requires c κs =
+    let start = c .before .before .before .before in
+    (start .pre .1, omega (arith, start .pre .2, c .loop-test .taken))
 
 other-among-requires : tie.Need-other-among-requires Inv-loop μ-loop
-other-among-requires c κs = (c .before .before .before .before .before .pre .1 .ready, c .before .before .before .before .before .pre .0, c .before .before .before .before .before .pre .1 .pgn)
+other-among-requires c κs =
+    let start = c .before .before .before .before .before in
+    (start .pre .1 .ready, start .pre .0, start .pre .1 .pgn)
 
 returns : tie.Need-returns Inv-loop μ-loop
 unfolding clash-from
-returns c = sym (any-hit (hit (now (c .before .before .before .before .before .before .before .args .s)) (c .before .before .before .before .before .before .before .args .i)) (length (pgn-at (packOf (now (c .before .before .before .before .before .before .before .args .s))) 1 (c .before .before .before .before .before .before .before .args .i) .fields)) (c .before .before .before .before .loop .k) (omega (arith, c .before .before .before .before .before .before .before .pre .2, c .before .before .before .loop-test .taken)) (said (now (c .before .before .before .before .before .before .before .args .s)) (c .before .before .before .before .before .before .before .args .i) (c .before .before .before .before .loop .k) (c .before .before .field-of .result) (c .before .other-among .result) (c .before .before .field-of .ensures) (c .before .other-among .ensures) ∙ c .if1 .taken))
+returns c =
+    let start = c .before .before .before .before .before .before .before in
+    let loop = c .before .before .before .before .loop in
+    let loop-test = c .before .before .before .loop-test in
+    let field-of = c .before .before .field-of in
+    let s = now (start .args .s) in let i = start .args .i in
+    sym (any-hit (hit s i) (length (pgn-at (packOf s) 1 i .fields)) (loop .k) (omega (arith, start .pre .2, loop-test .taken))
+    (said s i (loop .k) (field-of .result) (c .before .other-among .result) (field-of .ensures) (c .before .other-among .ensures) ∙ c .if1 .taken))
 
 add-k : tie.Need-add-k Inv-loop μ-loop
 add-k c = search needs
@@ -50,11 +61,26 @@ loop-less : tie.Need-loop-less Inv-loop μ-loop
 loop-less c = search needs
 
 loop-again : tie.Need-loop-again Inv-loop μ-loop
-loop-again c = (search needs, any-turn (hit (now (c .before .before .before .before .before .before .before .args .s)) (c .before .before .before .before .before .before .before .args .i)) (c .before .before .before .before .loop .k) ∙ (rw (c .before .before .before .before .loop .inv .1, said (now (c .before .before .before .before .before .before .before .args .s)) (c .before .before .before .before .before .before .before .args .i) (c .before .before .before .before .loop .k) (c .before .before .field-of .result) (c .before .other-among .result) (c .before .before .field-of .ensures) (c .before .other-among .ensures) ∙ c .if1 .left)))
+loop-again c =
+    let start = c .before .before .before .before .before .before .before in
+    let loop = c .before .before .before .before .loop in
+    let field-of = c .before .before .field-of in
+    let s = now (start .args .s) in let i = start .args .i in (
+      omega (arith, c),
+      any-turn (hit s i) (loop .k)
+          ∙ (rw (
+            loop .inv .1,
+            said s i (loop .k) (field-of .result) (c .before .other-among .result) (field-of .ensures) (c .before .other-among .ensures) ∙ c .if1 .left,
+          )),
+    )
 
 returns-2 : tie.Need-returns-2 Inv-loop μ-loop
 unfolding clash-from
-returns-2 c = let e : length (pgn-at (packOf (now (c .before .before .before .before .args .s))) 1 (c .before .before .before .before .args .i) .fields) ≡ c .before .loop .k = omega (arith, c .before .before .before .before .pre .2, c .before .loop .inv .0, c .loop-test .left) in rw (e, c .before .loop .inv .1)
+returns-2 c =
+    let start = c .before .before .before .before in
+    let e : length (pgn-at (packOf (now (start .args .s))) 1 (start .args .i) .fields) ≡ c .before .loop .k =
+    omega (arith, start .pre .2, c .before .loop .inv .0, c .loop-test .left) in
+    rw (e, c .before .loop .inv .1)
 
 pub clash-from-spec : {M : Type 1} → statement M
 clash-from-spec = tie.close (tie.spec Inv-loop μ-loop loop-holds field-of-requires other-among-requires returns add-k loop-less loop-again returns-2)

@@ -24,36 +24,91 @@ loop-holds : tie.Need-loop-holds Inv-loop μ-loop
 loop-holds c = (omega arith, omega (arith, c .before .before .pre .2), refl)
 
 pgn-of-requires : tie.Need-pgn-of-requires Inv-loop μ-loop
-pgn-of-requires c κs = (at-pgn {t = 1} (c .before .before .before .before .pre .0) (omega arith) (omega (arith, c .before .before .before .before .pre .1)) (c .loop-test .taken) (c .before .loop .inv .1))
+pgn-of-requires c κs =
+    let start = c .before .before .before .before in
+    (at-pgn {t = 1} (start .pre .0) (omega (arith, c)) (omega (arith, start .pre .1)) (c .loop-test .taken) (c .before .loop .inv .1))
 
 clash-from-requires : tie.Need-clash-from-requires Inv-loop μ-loop
-clash-from-requires c κs = (c .before .before .before .before .before .pre .2, (at-pgn {t = 1} (c .before .before .before .before .before .pre .0) (omega arith) (omega (arith, c .before .before .before .before .before .pre .1)) (c .before .loop-test .taken) (c .before .before .loop .inv .1)), c .pgn-of .ensures .fields)
+clash-from-requires c κs =
+    let start = c .before .before .before .before .before in (
+      start .pre .2,
+      (at-pgn {t = 1} (start .pre .0) (omega (arith, c)) (omega (arith, start .pre .1)) (c .before .loop-test .taken) (c .before .before .loop .inv .1)),
+      c .pgn-of .ensures .fields,
+    )
 
 returns : tie.Need-returns Inv-loop μ-loop
 unfolding may-clash
-returns c = sym (any-hit (clash-from (packOf (now (c .before .before .before .before .before .before .before .args .s)) .pgns-j1939)) (length (packOf (now (c .before .before .before .before .before .before .before .args .s)) .pgns-j1939)) (c .before .before .before .before .loop .i) (omega (arith, c .before .before .before .before .before .before .before .pre .1, c .before .before .before .loop-test .taken)) (sym (c .before .clash-from .ensures) ∙ c .if1 .taken))
+returns c =
+    let start = c .before .before .before .before .before .before .before in
+    let loop = c .before .before .before .before .loop in
+    let loop-test = c .before .before .before .loop-test in
+    let s = now (start .args .s) in
+    sym (any-hit (clash-from (packOf s .pgns-j1939)) (length (packOf s .pgns-j1939)) (loop .i) (omega (arith, start .pre .1, loop-test .taken))
+    (sym (c .before .clash-from .ensures) ∙ c .if1 .taken))
 
 add-p : tie.Need-add-p Inv-loop μ-loop
-add-p c = omega (arith, fields-few (at-pgn {t = 1} (c .before .before .before .before .before .before .before .pre .0) (omega arith) (omega (arith, c .before .before .before .before .before .before .before .pre .1)) (c .before .before .before .loop-test .taken) (c .before .before .before .before .loop .inv .1)))
+add-p c =
+    let start = c .before .before .before .before .before .before .before in
+    let loop = c .before .before .before .before .loop in
+    let loop-test = c .before .before .before .loop-test in
+    omega (arith, fields-few (at-pgn {t = 1} (start .pre .0) (omega (arith, c)) (omega (arith, start .pre .1)) (loop-test .taken) (loop .inv .1)))
 
 cast-p : tie.Need-cast-p Inv-loop μ-loop
-cast-p c = omega (arith, fields-few (at-pgn {t = 1} (c .before .before .before .before .before .before .before .before .pre .0) (omega arith) (omega (arith, c .before .before .before .before .before .before .before .before .pre .1)) (c .before .before .before .before .loop-test .taken) (c .before .before .before .before .before .loop .inv .1)), c .before .before .before .pgn-of .ensures .fields)
+cast-p c =
+    let start = c .before .before .before .before .before .before .before .before in
+    let loop = c .before .before .before .before .before .loop in
+    let loop-test = c .before .before .before .before .loop-test in
+    let pgn-of = c .before .before .before .pgn-of in
+    omega (
+      arith,
+      fields-few (at-pgn {t = 1} (start .pre .0) (omega (arith, c)) (omega (arith, start .pre .1)) (loop-test .taken) (loop .inv .1)),
+      pgn-of .ensures .fields,
+    )
 
 add-p-2 : tie.Need-add-p-2 Inv-loop μ-loop
-add-p-2 c = omega (arith, fields-few (at-pgn {t = 1} (c .before .before .before .before .before .before .before .before .pre .0) (omega arith) (omega (arith, c .before .before .before .before .before .before .before .before .pre .1)) (c .before .before .before .before .loop-test .taken) (c .before .before .before .before .before .loop .inv .1)), c .before .before .before .pgn-of .ensures .fields)
+add-p-2 c =
+    let start = c .before .before .before .before .before .before .before .before in
+    let loop = c .before .before .before .before .before .loop in
+    let loop-test = c .before .before .before .before .loop-test in
+    let pgn-of = c .before .before .before .pgn-of in
+    omega (
+      arith,
+      fields-few (at-pgn {t = 1} (start .pre .0) (omega (arith, c)) (omega (arith, start .pre .1)) (loop-test .taken) (loop .inv .1)),
+      pgn-of .ensures .fields,
+    )
 
 add-i : tie.Need-add-i Inv-loop μ-loop
-add-i c = omega (arith, pgns-few (at-pgn {t = 1} (c .before .before .before .before .before .before .before .before .pre .0) (omega arith) (omega (arith, c .before .before .before .before .before .before .before .before .pre .1)) (c .before .before .before .before .loop-test .taken) (c .before .before .before .before .before .loop .inv .1)))
+add-i c =
+    let start = c .before .before .before .before .before .before .before .before in
+    let loop = c .before .before .before .before .before .loop in
+    let loop-test = c .before .before .before .before .loop-test in
+    omega (arith, pgns-few (at-pgn {t = 1} (start .pre .0) (omega (arith, c)) (omega (arith, start .pre .1)) (loop-test .taken) (loop .inv .1)))
 
 loop-less : tie.Need-loop-less Inv-loop μ-loop
-loop-less c = omega (arith, c .before .before .before .before .loop-test .taken)
+loop-less c =
+    let loop-test = c .before .before .before .before .loop-test in
+    omega (arith, loop-test .taken)
 
 loop-again : tie.Need-loop-again Inv-loop μ-loop
-loop-again c = (omega (arith, c .before .before .before .before .loop-test .taken), omega (arith, pgn-place-next (packOf (now (c .before .before .before .before .before .before .before .before .args .s))) 1 (c .before .before .before .before .before .loop .i), c .before .before .before .pgn-of .ensures .fields, c .before .before .before .before .before .loop .inv .1), any-turn (clash-from (packOf (now (c .before .before .before .before .before .before .before .before .args .s)) .pgns-j1939)) (c .before .before .before .before .before .loop .i) ∙ (rw (c .before .before .before .before .before .loop .inv .2, sym (c .before .before .clash-from .ensures) ∙ c .before .if1 .left)))
+loop-again c =
+    let start = c .before .before .before .before .before .before .before .before in
+    let loop = c .before .before .before .before .before .loop in
+    let loop-test = c .before .before .before .before .loop-test in
+    let pgn-of = c .before .before .before .pgn-of in
+    let s = now (start .args .s) in (
+      omega (arith, loop-test .taken),
+      omega (arith, pgn-place-next (packOf s) 1 (loop .i), pgn-of .ensures .fields, loop .inv .1),
+      any-turn (clash-from (packOf s .pgns-j1939)) (loop .i) ∙ (rw (loop .inv .2, sym (c .before .before .clash-from .ensures) ∙ c .before .if1 .left)),
+    )
 
 returns-2 : tie.Need-returns-2 Inv-loop μ-loop
 unfolding may-clash
-returns-2 c = let e : length (packOf (now (c .before .before .before .before .args .s)) .pgns-j1939) ≡ c .before .loop .i = omega (arith, c .before .before .before .before .pre .1, c .before .loop .inv .0, c .loop-test .left) in rw (e, c .before .loop .inv .2)
+returns-2 c =
+    let start = c .before .before .before .before in
+    let e : length (packOf (now (start .args .s)) .pgns-j1939) ≡ c .before .loop .i =
+    omega (arith, start .pre .1, c .before .loop .inv .0, c .loop-test .left) in
+    rw (e, c .before .loop .inv .2)
 
 pub may-clash-spec : {M : Type 1} → statement M
-may-clash-spec = tie.close (tie.spec Inv-loop μ-loop loop-holds pgn-of-requires clash-from-requires returns add-p cast-p add-p-2 add-i loop-less loop-again returns-2)
+may-clash-spec =
+    tie.close (tie.spec Inv-loop μ-loop loop-holds pgn-of-requires clash-from-requires returns add-p cast-p add-p-2 add-i loop-less loop-again returns-2)

@@ -28,40 +28,113 @@ abbrev μ-loop : tie.MeasureT-loop
 μ-loop s work first i name spn q₀ j₀ q j = i + 1 - j
 
 returns : tie.Need-returns Inv-loop μ-loop
-returns c = rw (not-true (c .before .before .before .before .args .spn .given) (c .if1 .taken))
+returns c =
+    let start = c .before .before .before .before in
+    rw (not-true (start .args .spn .given) (c .if1 .taken))
 
 loop-holds : tie.Need-loop-holds Inv-loop μ-loop
-loop-holds c = (omega arith, omega (arith, c .before .before .before .before .pre .1), refl)
+loop-holds c =
+    let start = c .before .before .before .before in
+    (omega (arith, c), omega (arith, start .pre .1), refl)
 
 pgn-of-requires : tie.Need-pgn-of-requires Inv-loop μ-loop
-pgn-of-requires c κs = (at-pgn {t = 1} {i = c .before .loop .j} {n = c .before .before .before .before .before .before .args .i + 1} (c .before .before .before .before .before .before .pre .0) (omega arith) (omega (arith, c .before .before .before .before .before .before .pre .2)) (omega (arith, c .loop-test .taken)) (c .before .loop .inv .1))
+pgn-of-requires c κs =
+    let start = c .before .before .before .before .before .before in
+    (at-pgn {t = 1} {i = c .before .loop .j} {n = start .args .i + 1} (start .pre .0) (omega (arith, c)) (omega (arith, start .pre .2))
+    (omega (arith, c .loop-test .taken)) (c .before .loop .inv .1))
 
 other-in-requires : tie.Need-other-in-requires Inv-loop μ-loop
-other-in-requires c κs = ((at-pgn {t = 1} {i = c .before .before .loop .j} {n = c .before .before .before .before .before .before .before .args .i + 1} (c .before .before .before .before .before .before .before .pre .0) (omega arith) (omega (arith, c .before .before .before .before .before .before .before .pre .2)) (omega (arith, c .before .loop-test .taken)) (c .before .before .loop .inv .1)), c .pgn-of .ensures .fields)
+other-in-requires c κs =
+    let start = c .before .before .before .before .before .before .before in
+    let loop = c .before .before .loop in (
+      (at-pgn {t = 1} {i = loop .j} {n = start .args .i + 1} (start .pre .0) (omega (arith, c)) (omega (arith, start .pre .2))
+          (omega (arith, c .before .loop-test .taken)) (loop .inv .1)),
+      c .pgn-of .ensures .fields,
+    )
 
 returns-2 : tie.Need-returns-2 Inv-loop μ-loop
-returns-2 c = rw (not-false (c .before .before .before .before .before .before .before .before .before .args .spn .given) (c .before .before .before .before .before .if1 .left)) (sym (any-hit (has (now (c .before .before .before .before .before .before .before .before .before .args .s)) (bytesOf (now (c .before .before .before .before .before .before .before .before .before .args .s)) (c .before .before .before .before .before .before .before .before .before .args .name)) (c .before .before .before .before .before .before .before .before .before .args .spn .value)) (c .before .before .before .before .before .before .before .before .before .args .i + 1) (c .before .before .before .before .loop .j) (omega (arith, c .before .before .before .loop-test .taken)) (sym (c .before .other-in .ensures) ∙ c .if2 .taken)))
+returns-2 c =
+    let start = c .before .before .before .before .before .before .before .before .before in
+    let if1 = c .before .before .before .before .before .if1 in
+    let loop = c .before .before .before .before .loop in
+    let loop-test = c .before .before .before .loop-test in
+    let s = now (start .args .s) in
+    rw (not-false (start .args .spn .given) (if1 .left)) (sym (any-hit (has s (bytesOf s (start .args .name)) (start .args .spn .value)) (start .args .i + 1)
+    (loop .j) (omega (arith, loop-test .taken)) (sym (c .before .other-in .ensures) ∙ c .if2 .taken)))
 
 add-q : tie.Need-add-q Inv-loop μ-loop
-add-q c = omega (arith, fields-few (at-pgn {t = 1} {i = c .before .before .before .before .loop .j} {n = c .before .before .before .before .before .before .before .before .before .args .i + 1} (c .before .before .before .before .before .before .before .before .before .pre .0) (omega arith) (omega (arith, c .before .before .before .before .before .before .before .before .before .pre .2)) (omega (arith, c .before .before .before .loop-test .taken)) (c .before .before .before .before .loop .inv .1)))
+add-q c =
+    let start = c .before .before .before .before .before .before .before .before .before in
+    let loop = c .before .before .before .before .loop in
+    let loop-test = c .before .before .before .loop-test in
+    omega (
+      arith,
+      fields-few (at-pgn {t = 1} {i = loop .j} {n = start .args .i + 1} (start .pre .0) (omega (arith, c)) (omega (arith, start .pre .2))
+          (omega (arith, loop-test .taken)) (loop .inv .1)),
+    )
 
 cast-q : tie.Need-cast-q Inv-loop μ-loop
-cast-q c = omega (arith, fields-few (at-pgn {t = 1} {i = c .before .before .before .before .before .loop .j} {n = c .before .before .before .before .before .before .before .before .before .before .args .i + 1} (c .before .before .before .before .before .before .before .before .before .before .pre .0) (omega arith) (omega (arith, c .before .before .before .before .before .before .before .before .before .before .pre .2)) (omega (arith, c .before .before .before .before .loop-test .taken)) (c .before .before .before .before .before .loop .inv .1)), c .before .before .before .pgn-of .ensures .fields)
+cast-q c =
+    let start = c .before .before .before .before .before .before .before .before .before .before in
+    let loop = c .before .before .before .before .before .loop in
+    let loop-test = c .before .before .before .before .loop-test in
+    let pgn-of = c .before .before .before .pgn-of in
+    omega (
+      arith,
+      fields-few (at-pgn {t = 1} {i = loop .j} {n = start .args .i + 1} (start .pre .0) (omega (arith, c)) (omega (arith, start .pre .2))
+          (omega (arith, loop-test .taken)) (loop .inv .1)),
+      pgn-of .ensures .fields,
+    )
 
 add-q-2 : tie.Need-add-q-2 Inv-loop μ-loop
-add-q-2 c = omega (arith, fields-few (at-pgn {t = 1} {i = c .before .before .before .before .before .loop .j} {n = c .before .before .before .before .before .before .before .before .before .before .args .i + 1} (c .before .before .before .before .before .before .before .before .before .before .pre .0) (omega arith) (omega (arith, c .before .before .before .before .before .before .before .before .before .before .pre .2)) (omega (arith, c .before .before .before .before .loop-test .taken)) (c .before .before .before .before .before .loop .inv .1)), c .before .before .before .pgn-of .ensures .fields)
+add-q-2 c =
+    let start = c .before .before .before .before .before .before .before .before .before .before in
+    let loop = c .before .before .before .before .before .loop in
+    let loop-test = c .before .before .before .before .loop-test in
+    let pgn-of = c .before .before .before .pgn-of in
+    omega (
+      arith,
+      fields-few (at-pgn {t = 1} {i = loop .j} {n = start .args .i + 1} (start .pre .0) (omega (arith, c)) (omega (arith, start .pre .2))
+          (omega (arith, loop-test .taken)) (loop .inv .1)),
+      pgn-of .ensures .fields,
+    )
 
 add-j : tie.Need-add-j Inv-loop μ-loop
-add-j c = omega (arith, pgns-few (at-pgn {t = 1} {i = c .before .before .before .before .before .loop .j} {n = c .before .before .before .before .before .before .before .before .before .before .args .i + 1} (c .before .before .before .before .before .before .before .before .before .before .pre .0) (omega arith) (omega (arith, c .before .before .before .before .before .before .before .before .before .before .pre .2)) (omega (arith, c .before .before .before .before .loop-test .taken)) (c .before .before .before .before .before .loop .inv .1)))
+add-j c =
+    let start = c .before .before .before .before .before .before .before .before .before .before in
+    let loop = c .before .before .before .before .before .loop in
+    let loop-test = c .before .before .before .before .loop-test in
+    omega (
+      arith,
+      pgns-few (at-pgn {t = 1} {i = loop .j} {n = start .args .i + 1} (start .pre .0) (omega (arith, c)) (omega (arith, start .pre .2))
+          (omega (arith, loop-test .taken)) (loop .inv .1)),
+    )
 
 loop-less : tie.Need-loop-less Inv-loop μ-loop
-loop-less c = omega (arith, c .before .before .before .before .loop-test .taken)
+loop-less c =
+    let loop-test = c .before .before .before .before .loop-test in
+    omega (arith, loop-test .taken)
 
 loop-again : tie.Need-loop-again Inv-loop μ-loop
-loop-again c = (omega (arith, c .before .before .before .before .loop-test .taken), omega (arith, pgn-place-next (packOf (now (c .before .before .before .before .before .before .before .before .before .before .args .s))) 1 (c .before .before .before .before .before .loop .j), c .before .before .before .pgn-of .ensures .fields, c .before .before .before .before .before .loop .inv .1), any-turn (has (now (c .before .before .before .before .before .before .before .before .before .before .args .s)) (bytesOf (now (c .before .before .before .before .before .before .before .before .before .before .args .s)) (c .before .before .before .before .before .before .before .before .before .before .args .name)) (c .before .before .before .before .before .before .before .before .before .before .args .spn .value)) (c .before .before .before .before .before .loop .j) ∙ (rw (c .before .before .before .before .before .loop .inv .2, sym (c .before .before .other-in .ensures) ∙ c .before .if2 .left)))
+loop-again c =
+    let start = c .before .before .before .before .before .before .before .before .before .before in
+    let loop = c .before .before .before .before .before .loop in
+    let loop-test = c .before .before .before .before .loop-test in
+    let pgn-of = c .before .before .before .pgn-of in
+    let s = now (start .args .s) in (
+      omega (arith, loop-test .taken),
+      omega (arith, pgn-place-next (packOf s) 1 (loop .j), pgn-of .ensures .fields, loop .inv .1),
+      any-turn (has s (bytesOf s (start .args .name)) (start .args .spn .value)) (loop .j)
+          ∙ (rw (loop .inv .2, sym (c .before .before .other-in .ensures) ∙ c .before .if2 .left)),
+    )
 
 returns-3 : tie.Need-returns-3 Inv-loop μ-loop
-returns-3 c = let e : c .before .before .before .before .before .before .args .i + 1 ≡ c .before .loop .j = omega (arith, c .before .loop .inv .0, c .loop-test .left) in rw (not-false (c .before .before .before .before .before .before .args .spn .given) (c .before .before .if1 .left), e, c .before .loop .inv .2)
+returns-3 c =
+    let start = c .before .before .before .before .before .before in
+    let e : start .args .i + 1 ≡ c .before .loop .j = omega (arith, c .before .loop .inv .0, c .loop-test .left) in
+    rw (not-false (start .args .spn .given) (c .before .before .if1 .left), e, c .before .loop .inv .2)
 
 pub other-among-spec : {M : Type 1} → statement M
-other-among-spec = tie.close (tie.spec Inv-loop μ-loop returns loop-holds pgn-of-requires other-in-requires returns-2 add-q cast-q add-q-2 add-j loop-less loop-again returns-3)
+other-among-spec =
+    tie.close
+    (tie.spec Inv-loop μ-loop returns loop-holds pgn-of-requires other-in-requires returns-2 add-q cast-q add-q-2 add-j loop-less loop-again returns-3)

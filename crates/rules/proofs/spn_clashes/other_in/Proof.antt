@@ -29,11 +29,18 @@ loop-holds : tie.Need-loop-holds Inv-loop μ-loop
 loop-holds c = (omega arith, refl)
 
 other-spn-requires : tie.Need-other-spn-requires Inv-loop μ-loop
-other-spn-requires c κs = (c .before .before .before .before .pre .0, omega (arith, c .before .before .before .before .pre .1, c .loop-test .taken))
+other-spn-requires c κs =
+    let start = c .before .before .before .before in
+    (start .pre .0, omega (arith, start .pre .1, c .loop-test .taken))
 
 returns : tie.Need-returns Inv-loop μ-loop
 unfolding other-in
-returns c = sym (any-hit (other (now (c .before .before .before .before .before .before .args .s)) (bytesOf (now (c .before .before .before .before .before .before .args .s)) (c .before .before .before .before .before .before .args .name)) (c .before .before .before .before .before .before .args .spn) (c .before .before .before .before .before .before .args .j)) (length (pgn-at (packOf (now (c .before .before .before .before .before .before .args .s))) 1 (c .before .before .before .before .before .before .args .j) .fields)) (c .before .before .before .loop .h) (omega (arith, c .before .before .before .before .before .before .pre .1, c .before .before .loop-test .taken)) (sym (c .before .other-spn .ensures) ∙ c .if1 .taken))
+returns c =
+    let start = c .before .before .before .before .before .before in
+    let loop = c .before .before .before .loop in
+    let s = now (start .args .s) in let j = start .args .j in
+    sym (any-hit (other s (bytesOf s (start .args .name)) (start .args .spn) j) (length (pgn-at (packOf s) 1 j .fields)) (loop .h)
+    (omega (arith, start .pre .1, c .before .before .loop-test .taken)) (sym (c .before .other-spn .ensures) ∙ c .if1 .taken))
 
 add-h : tie.Need-add-h Inv-loop μ-loop
 add-h c = search needs
@@ -42,11 +49,22 @@ loop-less : tie.Need-loop-less Inv-loop μ-loop
 loop-less c = search needs
 
 loop-again : tie.Need-loop-again Inv-loop μ-loop
-loop-again c = (search needs, any-turn (other (now (c .before .before .before .before .before .before .args .s)) (bytesOf (now (c .before .before .before .before .before .before .args .s)) (c .before .before .before .before .before .before .args .name)) (c .before .before .before .before .before .before .args .spn) (c .before .before .before .before .before .before .args .j)) (c .before .before .before .loop .h) ∙ (rw (c .before .before .before .loop .inv .1, sym (c .before .other-spn .ensures) ∙ c .if1 .left)))
+loop-again c =
+    let start = c .before .before .before .before .before .before in
+    let loop = c .before .before .before .loop in
+    let s = now (start .args .s) in (
+      omega (arith, c),
+      any-turn (other s (bytesOf s (start .args .name)) (start .args .spn) (start .args .j)) (loop .h)
+          ∙ (rw (loop .inv .1, sym (c .before .other-spn .ensures) ∙ c .if1 .left)),
+    )
 
 returns-2 : tie.Need-returns-2 Inv-loop μ-loop
 unfolding other-in
-returns-2 c = let e : length (pgn-at (packOf (now (c .before .before .before .before .args .s))) 1 (c .before .before .before .before .args .j) .fields) ≡ c .before .loop .h = omega (arith, c .before .before .before .before .pre .1, c .before .loop .inv .0, c .loop-test .left) in rw (e, c .before .loop .inv .1)
+returns-2 c =
+    let start = c .before .before .before .before in
+    let e : length (pgn-at (packOf (now (start .args .s))) 1 (start .args .j) .fields) ≡ c .before .loop .h =
+    omega (arith, start .pre .1, c .before .loop .inv .0, c .loop-test .left) in
+    rw (e, c .before .loop .inv .1)
 
 pub other-in-spec : {M : Type 1} → statement M
 other-in-spec = tie.close (tie.spec Inv-loop μ-loop loop-holds other-spn-requires returns add-h loop-less loop-again returns-2)

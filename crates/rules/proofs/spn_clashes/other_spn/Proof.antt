@@ -28,7 +28,13 @@ same-text-requires : tie.Need-same-text-requires
 same-text-requires c κs = search needs
 
 returns : tie.Need-returns
-returns c = sym (missed (bytesOf (now (c .before .before .before .before .before .args .s)) (c .before .before .before .before .before .args .name)) (field-at (pgn-at (packOf (now (c .before .before .before .before .before .args .s))) 1 (c .before .before .before .before .before .args .j)) (c .before .before .before .before .before .args .h) .name) (c .before .before .before .before .before .args .spn) (field-at (pgn-at (packOf (now (c .before .before .before .before .before .args .s))) 1 (c .before .before .before .before .before .args .j)) (c .before .before .before .before .before .args .h) .spn) (ap (λ (t : Bytes). t ≐ bytesOf (now (c .before .before .before .before .before .args .s)) (c .before .before .before .before .before .args .name)) (sym (c .before .before .field-name-of .ensures)) ∙ sym (c .before .same-text .ensures) ∙ not-true (c .before .same-text .result) (c .if1 .taken)))
+returns c =
+    let start = c .before .before .before .before .before in
+    let s = now (start .args .s) in let name = start .args .name in let j = start .args .j in let h = start .args .h in
+    sym (missed (bytesOf s name) (field-at (pgn-at (packOf s) 1 j) h .name) (start .args .spn) (field-at (pgn-at (packOf s) 1 j) h .spn)
+    (ap (λ (t : Bytes). t ≐ bytesOf s name) (sym (c .before .before .field-name-of .ensures))
+    ∙ sym (c .before .same-text .ensures)
+    ∙ not-true (c .before .same-text .result) (c .if1 .taken)))
 
 field-of-requires : tie.Need-field-of-requires
 field-of-requires c κs = search needs
@@ -37,7 +43,17 @@ differs-requires : tie.Need-differs-requires
 differs-requires c κs = search needs
 
 returns-2 : tie.Need-returns-2
-returns-2 c = c .differs .ensures ∙ told (bytesOf (now (c .before .before .before .before .before .before .before .args .s)) (c .before .before .before .before .before .before .before .args .name)) (field-at (pgn-at (packOf (now (c .before .before .before .before .before .before .before .args .s))) 1 (c .before .before .before .before .before .before .before .args .j)) (c .before .before .before .before .before .before .before .args .h) .name) (c .before .before .before .before .before .before .before .args .spn) (c .before .field-of .result .authored .spn .given) (c .before .field-of .result .authored .spn .value) (ap (λ (t : Bytes). t ≐ bytesOf (now (c .before .before .before .before .before .before .before .args .s)) (c .before .before .before .before .before .before .before .args .name)) (sym (c .before .before .before .before .field-name-of .ensures)) ∙ sym (c .before .before .before .same-text .ensures) ∙ not-false (c .before .before .before .same-text .result) (c .before .before .if1 .left)) ∙ ap (λ (G : Field). other-spn (bytesOf (now (c .before .before .before .before .before .before .before .args .s)) (c .before .before .before .before .before .before .before .args .name)) (c .before .before .before .before .before .before .before .args .spn) (field-at (pgn-at (packOf (now (c .before .before .before .before .before .before .before .args .s))) 1 (c .before .before .before .before .before .before .before .args .j)) (c .before .before .before .before .before .before .before .args .h) .name) (G .spn)) (c .before .field-of .ensures)
+returns-2 c =
+    let start = c .before .before .before .before .before .before .before in
+    let field-name-of = c .before .before .before .before .field-name-of in
+    let same-text = c .before .before .before .same-text in
+    let s = now (start .args .s) in let name = start .args .name in let j = start .args .j in let h = start .args .h in let spn = start .args .spn in
+    c .differs .ensures
+    ∙ told (bytesOf s name) (field-at (pgn-at (packOf s) 1 j) h .name) spn (c .before .field-of .result .authored .spn .given)
+    (c .before .field-of .result .authored .spn .value) (ap (λ (t : Bytes). t ≐ bytesOf s name) (sym (field-name-of .ensures))
+    ∙ sym (same-text .ensures)
+    ∙ not-false (same-text .result) (c .before .before .if1 .left))
+    ∙ ap (λ (G : Field). other-spn (bytesOf s name) spn (field-at (pgn-at (packOf s) 1 j) h .name) (G .spn)) (c .before .field-of .ensures)
 
 pub other-spn-spec : {M : Type 1} → statement M
 other-spn-spec = tie.close (tie.spec field-name-of-requires same-text-requires returns field-of-requires differs-requires returns-2)

@@ -29,7 +29,8 @@ stays : (key : ℕ → ℕ) (j m : ℕ) (o : Option ℕ) (b : Bool) → o ≡ so
 stays key j m o true e h = ap (λ (x : Option ℕ). some (lower-key key x j)) e ∙ (rw (le-ltb (key j) (key m) h, e))
 stays key j m o false e h = refl
 
-taken : (key : ℕ → ℕ) (j m : ℕ) (g : Bool) (b : Bool) → b ≡ true → (g ≡ true → key j < key m) → (if b then some (lower-key key (optional g m) j) else optional g m) ≡ some j
+taken : (key : ℕ → ℕ) (j m : ℕ) (g : Bool) (b : Bool) → b ≡ true → (g ≡ true → key j < key m)
+    → (if b then some (lower-key key (optional g m) j) else optional g m) ≡ some j
 taken key j m true b e h = rw (e, lt-ltb (key j) (key m) (h refl))
 taken key j m false b e h = rw e
 
@@ -62,7 +63,8 @@ module _ (s w : List ℕ) (spn j : ℕ) (best : Namer) (a : NamesAmong s w spn j
       let u : has s spn j ≡ false = ap given (sym h) ∙ given-is f x ∙ e in
       as-before (least-turn (number-of s) (has s spn) j ∙ unmet (number-of s) j (leastBelow (number-of s) (has s spn) j) (has s spn j) u)
 
-  is-better : (p : ℕ) → PgnAt s w 1 j p → (best .given && (best .number ≤ᵇ g .pgn)) ≡ false → (f : Bool) (x : ℕ) → optional f x ≡ spn-field (pgn-at (packOf s) 1 j) spn → f ≡ true
+  is-better : (p : ℕ) → PgnAt s w 1 j p → (best .given && (best .number ≤ᵇ g .pgn)) ≡ false → (f : Bool) (x : ℕ)
+      → optional f x ≡ spn-field (pgn-at (packOf s) 1 j) spn → f ≡ true
       → NamesAmong s w spn (j + 1) (record { given = true; pgn = j; place = p; number = g .pgn; field = x })
   is-better p q e f x h t =
       let u : has s spn j ≡ true = ap given (sym h) ∙ given-is f x ∙ t in
@@ -82,16 +84,29 @@ comes-after-requires : tie.Need-comes-after-requires
 comes-after-requires c κs = search needs
 
 returns : tie.Need-returns
-returns c = first-stays (now (c .before .before .before .before .args .s)) (now (c .before .before .before .before .args .work)) (c .before .before .before .before .args .spn) (c .before .before .before .before .args .j) (c .before .before .before .before .args .best) (c .before .before .before .before .pre .0) (c .before .before .before .before .args .g) (c .before .before .before .before .pre .2) (sym (c .before .comes-after .ensures) ∙ c .if1 .taken)
+returns c =
+    let start = c .before .before .before .before in
+    first-stays (now (start .args .s)) (now (start .args .work)) (start .args .spn) (start .args .j) (start .args .best) (start .pre .0) (start .args .g)
+    (start .pre .2) (sym (c .before .comes-after .ensures) ∙ c .if1 .taken)
 
 spn-field-requires : tie.Need-spn-field-requires
-spn-field-requires c κs = (c .before .before .before .before .pre .1, c .before .before .before .before .pre .2 .fields)
+spn-field-requires c κs =
+    let start = c .before .before .before .before in
+    (start .pre .1, start .pre .2 .fields)
 
 returns-2 : tie.Need-returns-2
-returns-2 c = is-better (now (c .before .before .before .before .before .before .args .s)) (now (c .before .before .before .before .before .before .args .work)) (c .before .before .before .before .before .before .args .spn) (c .before .before .before .before .before .before .args .j) (c .before .before .before .before .before .before .args .best) (c .before .before .before .before .before .before .pre .0) (c .before .before .before .before .before .before .args .g) (c .before .before .before .before .before .before .pre .2) (c .before .before .before .before .before .before .args .p) (c .before .before .before .before .before .before .pre .1) (sym (c .before .before .before .comes-after .ensures) ∙ c .before .before .if1 .left) (c .before .spn-field .result .given) (c .before .spn-field .result .value) (c .before .spn-field .ensures) (c .if2 .taken)
+returns-2 c =
+    let start = c .before .before .before .before .before .before in
+    let comes-after = c .before .before .before .comes-after in
+    is-better (now (start .args .s)) (now (start .args .work)) (start .args .spn) (start .args .j) (start .args .best) (start .pre .0) (start .args .g)
+    (start .pre .2) (start .args .p) (start .pre .1) (sym (comes-after .ensures) ∙ c .before .before .if1 .left) (c .before .spn-field .result .given)
+    (c .before .spn-field .result .value) (c .before .spn-field .ensures) (c .if2 .taken)
 
 returns-3 : tie.Need-returns-3
-returns-3 c = stays-unmet (now (c .before .before .before .before .before .before .args .s)) (now (c .before .before .before .before .before .before .args .work)) (c .before .before .before .before .before .before .args .spn) (c .before .before .before .before .before .before .args .j) (c .before .before .before .before .before .before .args .best) (c .before .before .before .before .before .before .pre .0) (c .before .before .before .before .before .before .args .g) (c .before .before .before .before .before .before .pre .2) (c .before .spn-field .result .given) (c .before .spn-field .result .value) (c .before .spn-field .ensures) (c .if2 .left)
+returns-3 c =
+    let start = c .before .before .before .before .before .before in
+    stays-unmet (now (start .args .s)) (now (start .args .work)) (start .args .spn) (start .args .j) (start .args .best) (start .pre .0) (start .args .g)
+    (start .pre .2) (c .before .spn-field .result .given) (c .before .spn-field .result .value) (c .before .spn-field .ensures) (c .if2 .left)
 
 pub better-spec : {M : Type 1} → statement M
 better-spec =

@@ -17,7 +17,8 @@ use Rattle.rules.proofs.spn_names.candidate.Statement.{statement}
 use Rattle.rules.proofs.spn_names.candidate.Tie as tie
 
 abbrev Inv-loop : tie.InvT-loop
-Inv-loop s work b name count found₀ p₀ i₀ found p i = (i ≤ count) × (p ≡ pgnPlace (packOf s) 1 i) × (optNumber found ≡ maxBelow (candidate-in (packOf s .pgns-j1939) (bytesOf s name) b) i)
+Inv-loop s work b name count found₀ p₀ i₀ found p i =
+    (i ≤ count) × (p ≡ pgnPlace (packOf s) 1 i) × (optNumber found ≡ maxBelow (candidate-in (packOf s .pgns-j1939) (bytesOf s name) b) i)
 
 abbrev μ-loop : tie.MeasureT-loop
 μ-loop s work b name count found₀ p₀ i₀ found p i = count - i
@@ -26,37 +27,87 @@ loop-holds : tie.Need-loop-holds Inv-loop μ-loop
 loop-holds c = (omega arith, omega (arith, c .before .before .pre .2), refl)
 
 pgn-of-requires : tie.Need-pgn-of-requires Inv-loop μ-loop
-pgn-of-requires c κs = (at-pgn {t = 1} (c .before .before .before .before .pre .0) (omega arith) (omega (arith, c .before .before .before .before .pre .1)) (c .loop-test .taken) (c .before .loop .inv .1))
+pgn-of-requires c κs =
+    let start = c .before .before .before .before in
+    (at-pgn {t = 1} (start .pre .0) (omega (arith, c)) (omega (arith, start .pre .1)) (c .loop-test .taken) (c .before .loop .inv .1))
 
 candidate-in-requires : tie.Need-candidate-in-requires Inv-loop μ-loop
-candidate-in-requires c κs = ((at-pgn {t = 1} (c .before .before .before .before .before .pre .0) (omega arith) (omega (arith, c .before .before .before .before .before .pre .1)) (c .before .loop-test .taken) (c .before .before .loop .inv .1)), c .pgn-of .ensures .fields)
+candidate-in-requires c κs =
+    let start = c .before .before .before .before .before in (
+      (at-pgn {t = 1} (start .pre .0) (omega (arith, c)) (omega (arith, start .pre .1)) (c .before .loop-test .taken) (c .before .before .loop .inv .1)),
+      c .pgn-of .ensures .fields,
+    )
 
 larger-requires : tie.Need-larger-requires Inv-loop μ-loop
 larger-requires c κs = search needs
 
 add-p : tie.Need-add-p Inv-loop μ-loop
-add-p c = omega (arith, fields-few (at-pgn {t = 1} (c .before .before .before .before .before .before .before .pre .0) (omega arith) (omega (arith, c .before .before .before .before .before .before .before .pre .1)) (c .before .before .before .loop-test .taken) (c .before .before .before .before .loop .inv .1)))
+add-p c =
+    let start = c .before .before .before .before .before .before .before in
+    let loop = c .before .before .before .before .loop in
+    let loop-test = c .before .before .before .loop-test in
+    omega (arith, fields-few (at-pgn {t = 1} (start .pre .0) (omega (arith, c)) (omega (arith, start .pre .1)) (loop-test .taken) (loop .inv .1)))
 
 cast-p : tie.Need-cast-p Inv-loop μ-loop
-cast-p c = omega (arith, fields-few (at-pgn {t = 1} (c .before .before .before .before .before .before .before .before .pre .0) (omega arith) (omega (arith, c .before .before .before .before .before .before .before .before .pre .1)) (c .before .before .before .before .loop-test .taken) (c .before .before .before .before .before .loop .inv .1)), c .before .before .before .pgn-of .ensures .fields)
+cast-p c =
+    let start = c .before .before .before .before .before .before .before .before in
+    let loop = c .before .before .before .before .before .loop in
+    let loop-test = c .before .before .before .before .loop-test in
+    let pgn-of = c .before .before .before .pgn-of in
+    omega (
+      arith,
+      fields-few (at-pgn {t = 1} (start .pre .0) (omega (arith, c)) (omega (arith, start .pre .1)) (loop-test .taken) (loop .inv .1)),
+      pgn-of .ensures .fields,
+    )
 
 add-p-2 : tie.Need-add-p-2 Inv-loop μ-loop
-add-p-2 c = omega (arith, fields-few (at-pgn {t = 1} (c .before .before .before .before .before .before .before .before .pre .0) (omega arith) (omega (arith, c .before .before .before .before .before .before .before .before .pre .1)) (c .before .before .before .before .loop-test .taken) (c .before .before .before .before .before .loop .inv .1)), c .before .before .before .pgn-of .ensures .fields)
+add-p-2 c =
+    let start = c .before .before .before .before .before .before .before .before in
+    let loop = c .before .before .before .before .before .loop in
+    let loop-test = c .before .before .before .before .loop-test in
+    let pgn-of = c .before .before .before .pgn-of in
+    omega (
+      arith,
+      fields-few (at-pgn {t = 1} (start .pre .0) (omega (arith, c)) (omega (arith, start .pre .1)) (loop-test .taken) (loop .inv .1)),
+      pgn-of .ensures .fields,
+    )
 
 add-i : tie.Need-add-i Inv-loop μ-loop
-add-i c = omega (arith, pgns-few (at-pgn {t = 1} (c .before .before .before .before .before .before .before .before .pre .0) (omega arith) (omega (arith, c .before .before .before .before .before .before .before .before .pre .1)) (c .before .before .before .before .loop-test .taken) (c .before .before .before .before .before .loop .inv .1)))
+add-i c =
+    let start = c .before .before .before .before .before .before .before .before in
+    let loop = c .before .before .before .before .before .loop in
+    let loop-test = c .before .before .before .before .loop-test in
+    omega (arith, pgns-few (at-pgn {t = 1} (start .pre .0) (omega (arith, c)) (omega (arith, start .pre .1)) (loop-test .taken) (loop .inv .1)))
 
 loop-less : tie.Need-loop-less Inv-loop μ-loop
-loop-less c = omega (arith, c .before .before .before .before .loop-test .taken)
+loop-less c =
+    let loop-test = c .before .before .before .before .loop-test in
+    omega (arith, loop-test .taken)
 
 loop-again : tie.Need-loop-again Inv-loop μ-loop
 loop-again c =
-    let f = candidate-in (packOf (now (c .before .before .before .before .before .before .before .before .args .s)) .pgns-j1939) (bytesOf (now (c .before .before .before .before .before .before .before .before .args .s)) (c .before .before .before .before .before .before .before .before .args .name)) (c .before .before .before .before .before .before .before .before .args .b) in
-    (omega (arith, c .before .before .before .before .loop-test .taken), omega (arith, pgn-place-next (packOf (now (c .before .before .before .before .before .before .before .before .args .s))) 1 (c .before .before .before .before .before .loop .i), c .before .before .before .pgn-of .ensures .fields, c .before .before .before .before .before .loop .inv .1), c .before .larger .ensures ∙ ap (λ (x : Option ℕ). larger x (optNumber (c .before .before .candidate-in .result))) (c .before .before .before .before .before .loop .inv .2) ∙ ap (larger (maxBelow f (c .before .before .before .before .before .loop .i))) (c .before .before .candidate-in .ensures) ∙ sym (max-turn f (c .before .before .before .before .before .loop .i)))
+    let start = c .before .before .before .before .before .before .before .before in
+    let loop = c .before .before .before .before .before .loop in
+    let loop-test = c .before .before .before .before .loop-test in
+    let pgn-of = c .before .before .before .pgn-of in
+    let candidate-in-call = c .before .before .candidate-in in
+    let s = now (start .args .s) in
+    let f = candidate-in (packOf s .pgns-j1939) (bytesOf s (start .args .name)) (start .args .b) in (
+      omega (arith, loop-test .taken),
+      omega (arith, pgn-place-next (packOf s) 1 (loop .i), pgn-of .ensures .fields, loop .inv .1),
+      c .before .larger .ensures
+          ∙ ap (λ (x : Option ℕ). larger x (optNumber (candidate-in-call .result))) (loop .inv .2)
+          ∙ ap (larger (maxBelow f (loop .i))) (candidate-in-call .ensures)
+          ∙ sym (max-turn f (loop .i)),
+    )
 
 returns : tie.Need-returns Inv-loop μ-loop
 unfolding candidate
-returns c = let e : length (packOf (now (c .before .before .before .before .args .s)) .pgns-j1939) ≡ c .before .loop .i = omega (arith, c .before .before .before .before .pre .1, c .before .loop .inv .0, c .loop-test .left) in c .before .loop .inv .2 ∙ ap (maxBelow (candidate-in (packOf (now (c .before .before .before .before .args .s)) .pgns-j1939) (bytesOf (now (c .before .before .before .before .args .s)) (c .before .before .before .before .args .name)) (c .before .before .before .before .args .b))) (sym e)
+returns c =
+    let start = c .before .before .before .before in
+    let s = now (start .args .s) in
+    let e : length (packOf s .pgns-j1939) ≡ c .before .loop .i = omega (arith, start .pre .1, c .before .loop .inv .0, c .loop-test .left) in
+    c .before .loop .inv .2 ∙ ap (maxBelow (candidate-in (packOf s .pgns-j1939) (bytesOf s (start .args .name)) (start .args .b))) (sym e)
 
 pub candidate-spec : {M : Type 1} → statement M
 candidate-spec =

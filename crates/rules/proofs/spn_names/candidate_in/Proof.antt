@@ -26,7 +26,8 @@ both name own b true v = refl
 both name own b false v = refl
 
 said : (s : List ℕ) (name : Bytes) (b i k : ℕ) (v : FieldView) (h : Bool) → fieldMeaning s v ≡ field-at (pgn-at (packOf s) 1 i) k
-    → h ≡ (v .authored .spn .given && (v .authored .spn .value <ᵇ b) && (bytesOf s (v .names .name) ≐ name)) → optional h (v .authored .spn .value) ≡ cand s name b i k
+    → h ≡ (v .authored .spn .given && (v .authored .spn .value <ᵇ b) && (bytesOf s (v .names .name) ≐ name))
+    → optional h (v .authored .spn .value) ≡ cand s name b i k
 said s name b i k v h is e =
     ap (λ (x : Bool). optional x (v .authored .spn .value)) e ∙ both name (bytesOf s (v .names .name)) b (v .authored .spn .given) (v .authored .spn .value)
     ∙ ap (λ (F : Field). candidate-at name b (F .name) (F .spn)) is
@@ -41,7 +42,9 @@ loop-holds : tie.Need-loop-holds Inv-loop μ-loop
 loop-holds c = (omega arith, refl)
 
 field-of-requires : tie.Need-field-of-requires Inv-loop μ-loop
-field-of-requires c κs = (c .before .before .before .before .pre .0, omega (arith, c .loop-test .taken, c .before .before .before .before .pre .1))
+field-of-requires c κs =
+    let start = c .before .before .before .before in
+    (start .pre .0, omega (arith, c .loop-test .taken, start .pre .1))
 
 is-candidate-requires : tie.Need-is-candidate-requires Inv-loop μ-loop
 is-candidate-requires c κs = search needs
@@ -53,16 +56,33 @@ add-k : tie.Need-add-k Inv-loop μ-loop
 add-k c = search needs
 
 loop-less : tie.Need-loop-less Inv-loop μ-loop
-loop-less c = omega (arith, c .before .before .before .loop-test .taken)
+loop-less c =
+    let loop-test = c .before .before .before .loop-test in
+    omega (arith, loop-test .taken)
 
 loop-again : tie.Need-loop-again Inv-loop μ-loop
 loop-again c =
-    let f = cand (now (c .before .before .before .before .before .before .before .args .s)) (bytesOf (now (c .before .before .before .before .before .before .before .args .s)) (c .before .before .before .before .before .before .before .args .name)) (c .before .before .before .before .before .before .before .args .b) (c .before .before .before .before .before .before .before .args .i) in
-    (omega (arith, c .before .before .before .loop-test .taken), c .larger .ensures ∙ ap (λ (x : Option ℕ). larger x (optional (c .before .is-candidate .result) (c .before .before .field-of .result .authored .spn .value))) (c .before .before .before .before .loop .inv .1) ∙ ap (larger (maxBelow f (c .before .before .before .before .loop .k))) (said (now (c .before .before .before .before .before .before .before .args .s)) (bytesOf (now (c .before .before .before .before .before .before .before .args .s)) (c .before .before .before .before .before .before .before .args .name)) (c .before .before .before .before .before .before .before .args .b) (c .before .before .before .before .before .before .before .args .i) (c .before .before .before .before .loop .k) (c .before .before .field-of .result) (c .before .is-candidate .result) (c .before .before .field-of .ensures) (c .before .is-candidate .ensures)) ∙ sym (max-turn f (c .before .before .before .before .loop .k)))
+    let start = c .before .before .before .before .before .before .before in
+    let loop = c .before .before .before .before .loop in
+    let loop-test = c .before .before .before .loop-test in
+    let field-of = c .before .before .field-of in
+    let s = now (start .args .s) in let name = start .args .name in let b = start .args .b in let i = start .args .i in
+    let f = cand s (bytesOf s name) b i in (
+      omega (arith, loop-test .taken),
+      c .larger .ensures
+          ∙ ap (λ (x : Option ℕ). larger x (optional (c .before .is-candidate .result) (field-of .result .authored .spn .value))) (loop .inv .1)
+          ∙ ap (larger (maxBelow f (loop .k)))
+          (said s (bytesOf s name) b i (loop .k) (field-of .result) (c .before .is-candidate .result) (field-of .ensures) (c .before .is-candidate .ensures))
+          ∙ sym (max-turn f (loop .k)),
+    )
 
 returns : tie.Need-returns Inv-loop μ-loop
 unfolding candidate-in
-returns c = let e : length (pgn-at (packOf (now (c .before .before .before .before .args .s))) 1 (c .before .before .before .before .args .i) .fields) ≡ c .before .loop .k = omega (arith, c .before .before .before .before .pre .1, c .before .loop .inv .0, c .loop-test .left) in c .before .loop .inv .1 ∙ ap (maxBelow (cand (now (c .before .before .before .before .args .s)) (bytesOf (now (c .before .before .before .before .args .s)) (c .before .before .before .before .args .name)) (c .before .before .before .before .args .b) (c .before .before .before .before .args .i))) (sym e)
+returns c =
+    let start = c .before .before .before .before in
+    let s = now (start .args .s) in let i = start .args .i in
+    let e : length (pgn-at (packOf s) 1 i .fields) ≡ c .before .loop .k = omega (arith, start .pre .1, c .before .loop .inv .0, c .loop-test .left) in
+    c .before .loop .inv .1 ∙ ap (maxBelow (cand s (bytesOf s (start .args .name)) (start .args .b) i)) (sym e)
 
 pub candidate-in-spec : {M : Type 1} → statement M
 candidate-in-spec =

@@ -8,10 +8,14 @@ use Rattle.rules.proofs.spn_names.check_spn_names.Statement.{statement}
 use Rattle.rules.proofs.spn_names.check_spn_names.Tie as tie
 
 may-clash-requires : tie.Need-may-clash-requires
-may-clash-requires c κs = (c .before .before .before .pre .1, c .before .before .before .pre .2, c .before .before .before .pre .3)
+may-clash-requires c κs =
+    let start = c .before .before .before in
+    (start .pre .1, start .pre .2, start .pre .3)
 
 spn-clashes-requires : tie.Need-spn-clashes-requires
-spn-clashes-requires c κs = c .before .before .before .before .before .before .pre
+spn-clashes-requires c κs =
+    let start = c .before .before .before .before .before .before in
+    start .pre
 
 same-length : tie.Need-same-length
 same-length c = search needs
@@ -20,7 +24,10 @@ returns : tie.Need-returns
 returns c = c .before .before .spn-clashes .ensures
 
 returns-2 : tie.Need-returns-2
-returns-2 c = rw (no-clash (packOf (now (c .before .before .before .before .before .args .s)) .pgns-j1939) (sym (c .before .may-clash .ensures) ∙ c .if1 .left)) (emitted-none (now (c .before .before .before .before .before .args .out)) (c .before .before .before .before .before .args .n))
+returns-2 c =
+    let start = c .before .before .before .before .before in
+    rw (no-clash (packOf (now (start .args .s)) .pgns-j1939) (sym (c .before .may-clash .ensures) ∙ c .if1 .left))
+    (emitted-none (now (start .args .out)) (start .args .n))
 
 pub check-spn-names-spec : {M : Type 1} → statement M
 check-spn-names-spec = tie.close (tie.spec may-clash-requires spn-clashes-requires same-length returns returns-2)

@@ -19,23 +19,30 @@ use Rattle.rules.proofs.spn_names.clash_at.Statement.{statement}
 use Rattle.rules.proofs.spn_names.clash_at.Tie as tie
 
 -- whether the two places are one, and the findings then
-placed : (s : List ℕ) (G H : Pgn) (a b : PgnView) → PgnIs s G a → PgnIs s H b → (r d : Bool) → r ≡ (pgn-loc 1 (pgnMeaning s a []) ≐ pgn-loc 1 (pgnMeaning s b [])) → r ≡ d → (pgn-loc 1 G ≐ pgn-loc 1 H) ≡ d
+placed : (s : List ℕ) (G H : Pgn) (a b : PgnView) → PgnIs s G a → PgnIs s H b → (r d : Bool)
+    → r ≡ (pgn-loc 1 (pgnMeaning s a []) ≐ pgn-loc 1 (pgnMeaning s b [])) → r ≡ d → (pgn-loc 1 G ≐ pgn-loc 1 H) ≡ d
 unfolding pgn-loc
 placed s G H a b x y r d e h = (λ j. pgn-loc 1 (sym (x .means) j) ≐ pgn-loc 1 (sym (y .means) j)) ∙ sym e ∙ h
 
-one : (pgns : List Pgn) (earlier spn i j : ℕ) → (pgn-loc 1 (getD pgns i noPgn) ≐ pgn-loc 1 (getD pgns j noPgn)) ≡ true → (F : Finding) → F ≡ pgn-error 24 2 1 i earlier spn → clash-at pgns earlier spn i j ≡ F ∷ []
+one : (pgns : List Pgn) (earlier spn i j : ℕ) → (pgn-loc 1 (getD pgns i noPgn) ≐ pgn-loc 1 (getD pgns j noPgn)) ≡ true → (F : Finding)
+    → F ≡ pgn-error 24 2 1 i earlier spn → clash-at pgns earlier spn i j ≡ F ∷ []
 unfolding clash-at
 one pgns earlier spn i j e F h = rw (e, h)
 
-two : (pgns : List Pgn) (earlier spn i j : ℕ) → (pgn-loc 1 (getD pgns i noPgn) ≐ pgn-loc 1 (getD pgns j noPgn)) ≡ false → (F G : Finding) → F ≡ pgn-error 24 2 1 i earlier spn → G ≡ pgn-error 24 2 1 j earlier spn → clash-at pgns earlier spn i j ≡ (F ∷ []) ++ (G ∷ [])
+two : (pgns : List Pgn) (earlier spn i j : ℕ) → (pgn-loc 1 (getD pgns i noPgn) ≐ pgn-loc 1 (getD pgns j noPgn)) ≡ false → (F G : Finding)
+    → F ≡ pgn-error 24 2 1 i earlier spn → G ≡ pgn-error 24 2 1 j earlier spn → clash-at pgns earlier spn i j ≡ (F ∷ []) ++ (G ∷ [])
 unfolding clash-at
 two pgns earlier spn i j e F G h k = rw (e, h, k)
 
 pgn-of-requires : tie.Need-pgn-of-requires
-pgn-of-requires c κs = c .before .before .before .pre .1
+pgn-of-requires c κs =
+    let start = c .before .before .before in
+    start .pre .1
 
 pgn-of-requires-2 : tie.Need-pgn-of-requires-2
-pgn-of-requires-2 c κs = c .before .before .before .before .pre .2
+pgn-of-requires-2 c κs =
+    let start = c .before .before .before .before in
+    start .pre .2
 
 same-place-requires : tie.Need-same-place-requires
 same-place-requires c κs = search needs
@@ -44,33 +51,85 @@ pgn-error-requires : tie.Need-pgn-error-requires
 pgn-error-requires c κs = search needs
 
 put-requires : tie.Need-put-requires
-put-requires c κs = rw (one (packOf (now (c .before .before .before .before .before .before .before .before .before .args .s)) .pgns-j1939) (c .before .before .before .before .before .before .before .before .before .args .earlier) (c .before .before .before .before .before .before .before .before .before .args .spn) (c .before .before .before .before .before .before .before .before .before .args .i) (c .before .before .before .before .before .before .before .before .before .args .j) (placed (now (c .before .before .before .before .before .before .before .before .before .args .s)) _ _ (c .before .before .before .before .before .pgn-of .result) (c .before .before .before .before .pgn-of2 .result) (c .before .before .before .before .before .pgn-of .ensures) (c .before .before .before .before .pgn-of2 .ensures) (c .before .before .before .same-place .result) true (c .before .before .before .same-place .ensures) (c .before .before .if1 .taken)) (c .pgn-error .result) (c .pgn-error .ensures)) at (c .before .before .before .before .before .before .before .before .before .pre .0)
+put-requires c κs =
+    let start = c .before .before .before .before .before .before .before .before .before in
+    let pgn-of = c .before .before .before .before .before .pgn-of in
+    let pgn-of2 = c .before .before .before .before .pgn-of2 in
+    let same-place = c .before .before .before .same-place in
+    let s = now (start .args .s) in
+    rw (one (packOf s .pgns-j1939) (start .args .earlier) (start .args .spn) (start .args .i) (start .args .j)
+    (placed s _ _ (pgn-of .result) (pgn-of2 .result) (pgn-of .ensures) (pgn-of2 .ensures) (same-place .result) true (same-place .ensures)
+    (c .before .before .if1 .taken)) (c .pgn-error .result) (c .pgn-error .ensures)) at (start .pre .0)
 
 same-length : tie.Need-same-length
 same-length c = search needs
 
 returns : tie.Need-returns
-returns c = rw (one (packOf (now (c .before .before .before .before .before .before .before .before .before .before .before .before .args .s)) .pgns-j1939) (c .before .before .before .before .before .before .before .before .before .before .before .before .args .earlier) (c .before .before .before .before .before .before .before .before .before .before .before .before .args .spn) (c .before .before .before .before .before .before .before .before .before .before .before .before .args .i) (c .before .before .before .before .before .before .before .before .before .before .before .before .args .j) (placed (now (c .before .before .before .before .before .before .before .before .before .before .before .before .args .s)) _ _ (c .before .before .before .before .before .before .before .before .pgn-of .result) (c .before .before .before .before .before .before .before .pgn-of2 .result) (c .before .before .before .before .before .before .before .before .pgn-of .ensures) (c .before .before .before .before .before .before .before .pgn-of2 .ensures) (c .before .before .before .before .before .before .same-place .result) true (c .before .before .before .before .before .before .same-place .ensures) (c .before .before .before .before .before .if1 .taken)) (c .before .before .before .pgn-error .result) (c .before .before .before .pgn-error .ensures)) (c .before .before .put .ensures)
+returns c =
+    let start = c .before .before .before .before .before .before .before .before .before .before .before .before in
+    let pgn-of = c .before .before .before .before .before .before .before .before .pgn-of in
+    let pgn-of2 = c .before .before .before .before .before .before .before .pgn-of2 in
+    let same-place = c .before .before .before .before .before .before .same-place in
+    let if1 = c .before .before .before .before .before .if1 in
+    let pgn-error-call = c .before .before .before .pgn-error in
+    let s = now (start .args .s) in
+    rw (one (packOf s .pgns-j1939) (start .args .earlier) (start .args .spn) (start .args .i) (start .args .j)
+    (placed s _ _ (pgn-of .result) (pgn-of2 .result) (pgn-of .ensures) (pgn-of2 .ensures) (same-place .result) true (same-place .ensures) (if1 .taken))
+    (pgn-error-call .result) (pgn-error-call .ensures)) (c .before .before .put .ensures)
 
 pgn-error-requires-2 : tie.Need-pgn-error-requires-2
 pgn-error-requires-2 c κs = search needs
 
 put-requires-2 : tie.Need-put-requires-2
 put-requires-2 c κs =
-    let G = pgn-error 24 2 1 (c .before .before .before .before .before .before .before .before .before .args .j) (c .before .before .before .before .before .before .before .before .before .args .earlier) (c .before .before .before .before .before .before .before .before .before .args .spn) in
-    fits-left (c .pgn-error2 .result ∷ []) (G ∷ []) (rw (two (packOf (now (c .before .before .before .before .before .before .before .before .before .args .s)) .pgns-j1939) (c .before .before .before .before .before .before .before .before .before .args .earlier) (c .before .before .before .before .before .before .before .before .before .args .spn) (c .before .before .before .before .before .before .before .before .before .args .i) (c .before .before .before .before .before .before .before .before .before .args .j) (placed (now (c .before .before .before .before .before .before .before .before .before .args .s)) _ _ (c .before .before .before .before .before .pgn-of .result) (c .before .before .before .before .pgn-of2 .result) (c .before .before .before .before .before .pgn-of .ensures) (c .before .before .before .before .pgn-of2 .ensures) (c .before .before .before .same-place .result) false (c .before .before .before .same-place .ensures) (c .before .before .if1 .left)) (c .pgn-error2 .result) G (c .pgn-error2 .ensures) refl) at (c .before .before .before .before .before .before .before .before .before .pre .0))
+    let start = c .before .before .before .before .before .before .before .before .before in
+    let pgn-of = c .before .before .before .before .before .pgn-of in
+    let pgn-of2 = c .before .before .before .before .pgn-of2 in
+    let same-place = c .before .before .before .same-place in
+    let j = start .args .j in let earlier = start .args .earlier in let spn = start .args .spn in let s = now (start .args .s) in
+    let G = pgn-error 24 2 1 j earlier spn in
+    fits-left (c .pgn-error2 .result ∷ []) (G ∷ []) (rw (two (packOf s .pgns-j1939) earlier spn (start .args .i) j
+    (placed s _ _ (pgn-of .result) (pgn-of2 .result) (pgn-of .ensures) (pgn-of2 .ensures) (same-place .result) false (same-place .ensures)
+    (c .before .before .if1 .left)) (c .pgn-error2 .result) G (c .pgn-error2 .ensures) refl) at (start .pre .0))
 
 pgn-error-requires-3 : tie.Need-pgn-error-requires-3
 pgn-error-requires-3 c κs = search needs
 
 put-requires-3 : tie.Need-put-requires-3
-put-requires-3 c κs = fits-right (c .before .before .before .before .before .pgn-error2 .result ∷ []) (c .pgn-error3 .result ∷ []) (rw (two (packOf (now (c .before .before .before .before .before .before .before .before .before .before .before .before .before .before .args .s)) .pgns-j1939) (c .before .before .before .before .before .before .before .before .before .before .before .before .before .before .args .earlier) (c .before .before .before .before .before .before .before .before .before .before .before .before .before .before .args .spn) (c .before .before .before .before .before .before .before .before .before .before .before .before .before .before .args .i) (c .before .before .before .before .before .before .before .before .before .before .before .before .before .before .args .j) (placed (now (c .before .before .before .before .before .before .before .before .before .before .before .before .before .before .args .s)) _ _ (c .before .before .before .before .before .before .before .before .before .before .pgn-of .result) (c .before .before .before .before .before .before .before .before .before .pgn-of2 .result) (c .before .before .before .before .before .before .before .before .before .before .pgn-of .ensures) (c .before .before .before .before .before .before .before .before .before .pgn-of2 .ensures) (c .before .before .before .before .before .before .before .before .same-place .result) false (c .before .before .before .before .before .before .before .before .same-place .ensures) (c .before .before .before .before .before .before .before .if1 .left)) (c .before .before .before .before .before .pgn-error2 .result) (c .pgn-error3 .result) (c .before .before .before .before .before .pgn-error2 .ensures) (c .pgn-error3 .ensures)) at (c .before .before .before .before .before .before .before .before .before .before .before .before .before .before .pre .0)) (c .before .before .before .before .put2 .ensures)
+put-requires-3 c κs =
+    let back12 = c .before .before .before .before .before .before .before .before .before .before .before .before in
+    let start = back12 .before .before in
+    let pgn-of = c .before .before .before .before .before .before .before .before .before .before .pgn-of in
+    let pgn-of2 = c .before .before .before .before .before .before .before .before .before .pgn-of2 in
+    let same-place = c .before .before .before .before .before .before .before .before .same-place in
+    let if1 = c .before .before .before .before .before .before .before .if1 in
+    let pgn-error2 = c .before .before .before .before .before .pgn-error2 in
+    let put2 = c .before .before .before .before .put2 in
+    let s = now (start .args .s) in
+    fits-right (pgn-error2 .result ∷ []) (c .pgn-error3 .result ∷ [])
+    (rw (two (packOf s .pgns-j1939) (start .args .earlier) (start .args .spn) (start .args .i) (start .args .j)
+    (placed s _ _ (pgn-of .result) (pgn-of2 .result) (pgn-of .ensures) (pgn-of2 .ensures) (same-place .result) false (same-place .ensures) (if1 .left))
+    (pgn-error2 .result) (c .pgn-error3 .result) (pgn-error2 .ensures) (c .pgn-error3 .ensures)) at (start .pre .0)) (put2 .ensures)
 
 same-length-2 : tie.Need-same-length-2
 same-length-2 c = search needs
 
 returns-2 : tie.Need-returns-2
-returns-2 c = rw (two (packOf (now (c .before .before .before .before .before .before .before .before .before .before .before .before .before .before .before .before .before .args .s)) .pgns-j1939) (c .before .before .before .before .before .before .before .before .before .before .before .before .before .before .before .before .before .args .earlier) (c .before .before .before .before .before .before .before .before .before .before .before .before .before .before .before .before .before .args .spn) (c .before .before .before .before .before .before .before .before .before .before .before .before .before .before .before .before .before .args .i) (c .before .before .before .before .before .before .before .before .before .before .before .before .before .before .before .before .before .args .j) (placed (now (c .before .before .before .before .before .before .before .before .before .before .before .before .before .before .before .before .before .args .s)) _ _ (c .before .before .before .before .before .before .before .before .before .before .before .before .before .pgn-of .result) (c .before .before .before .before .before .before .before .before .before .before .before .before .pgn-of2 .result) (c .before .before .before .before .before .before .before .before .before .before .before .before .before .pgn-of .ensures) (c .before .before .before .before .before .before .before .before .before .before .before .before .pgn-of2 .ensures) (c .before .before .before .before .before .before .before .before .before .before .before .same-place .result) false (c .before .before .before .before .before .before .before .before .before .before .before .same-place .ensures) (c .before .before .before .before .before .before .before .before .before .before .if1 .left)) (c .before .before .before .before .before .before .before .before .pgn-error2 .result) (c .before .before .before .pgn-error3 .result) (c .before .before .before .before .before .before .before .before .pgn-error2 .ensures) (c .before .before .before .pgn-error3 .ensures)) (emitted-append {xs = c .before .before .before .before .before .before .before .before .pgn-error2 .result ∷ []} {ys = c .before .before .before .pgn-error3 .result ∷ []} (c .before .before .before .before .before .before .before .put2 .ensures) (c .before .before .put3 .ensures))
+returns-2 c =
+    let back12 = c .before .before .before .before .before .before .before .before .before .before .before .before in
+    let start = back12 .before .before .before .before .before in
+    let pgn-of = back12 .before .pgn-of in
+    let pgn-of2 = c .before .before .before .before .before .before .before .before .before .before .before .before .pgn-of2 in
+    let same-place = c .before .before .before .before .before .before .before .before .before .before .before .same-place in
+    let if1 = c .before .before .before .before .before .before .before .before .before .before .if1 in
+    let pgn-error2 = c .before .before .before .before .before .before .before .before .pgn-error2 in
+    let put2 = c .before .before .before .before .before .before .before .put2 in
+    let pgn-error3 = c .before .before .before .pgn-error3 in
+    let s = now (start .args .s) in
+    rw (two (packOf s .pgns-j1939) (start .args .earlier) (start .args .spn) (start .args .i) (start .args .j)
+    (placed s _ _ (pgn-of .result) (pgn-of2 .result) (pgn-of .ensures) (pgn-of2 .ensures) (same-place .result) false (same-place .ensures) (if1 .left))
+    (pgn-error2 .result) (pgn-error3 .result) (pgn-error2 .ensures) (pgn-error3 .ensures))
+    (emitted-append {xs = pgn-error2 .result ∷ []} {ys = pgn-error3 .result ∷ []} (put2 .ensures) (c .before .before .put3 .ensures))
 
 pub clash-at-spec : {M : Type 1} → statement M
 clash-at-spec =

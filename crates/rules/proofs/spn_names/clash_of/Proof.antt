@@ -19,41 +19,80 @@ alone : (pgns : List Pgn) (spn : ℕ) (g : Bool) (e : ℕ) → optional g e ≡ 
 unfolding clash-with
 alone pgns spn g e h q = rw (← h, q)
 
-paired : (pgns : List Pgn) (spn : ℕ) (g : Bool) (e i j : ℕ) → optional g e ≡ earlier-spn pgns spn → g ≡ true → spn-pgn pgns e ≡ some i → spn-pgn pgns spn ≡ some j → clash-of pgns (some spn) ≡ clash-at pgns e spn i j
+paired : (pgns : List Pgn) (spn : ℕ) (g : Bool) (e i j : ℕ) → optional g e ≡ earlier-spn pgns spn → g ≡ true → spn-pgn pgns e ≡ some i
+    → spn-pgn pgns spn ≡ some j → clash-of pgns (some spn) ≡ clash-at pgns e spn i j
 unfolding clash-with
 paired pgns spn g e i j h q x y = rw (← h, q, x, y)
 
 spn-pgn-requires : tie.Need-spn-pgn-requires
-spn-pgn-requires c κs = (c .before .before .before .pre .1, c .before .before .before .pre .2, c .before .before .before .pre .3)
+spn-pgn-requires c κs =
+    let start = c .before .before .before in
+    (start .pre .1, start .pre .2, start .pre .3)
 
 spn-name-requires : tie.Need-spn-name-requires
-spn-name-requires c κs = (c .spn-pgn .ensures, given-both (now (c .before .before .before .before .args .s)) (now (c .before .before .before .before .args .work)) (c .before .before .before .before .args .spn) (c .spn-pgn .result) (c .spn-pgn .ensures) ∙ c .before .before .before .before .pre .4)
+spn-name-requires c κs =
+    let start = c .before .before .before .before in (
+      c .spn-pgn .ensures,
+      given-both (now (start .args .s)) (now (start .args .work)) (start .args .spn) (c .spn-pgn .result) (c .spn-pgn .ensures) ∙ start .pre .4,
+    )
 
 earlier-spn-requires : tie.Need-earlier-spn-requires
-earlier-spn-requires c κs = (c .before .before .before .before .before .pre .1, c .before .before .before .before .before .pre .2, c .before .before .before .before .before .pre .3, c .spn-name .ensures)
+earlier-spn-requires c κs =
+    let start = c .before .before .before .before .before in
+    (start .pre .1, start .pre .2, start .pre .3, c .spn-name .ensures)
 
 returns : tie.Need-returns
-returns c = rw (alone (packOf (now (c .before .before .before .before .before .before .before .before .args .s)) .pgns-j1939) (c .before .before .before .before .before .before .before .before .args .spn) (c .before .before .earlier-spn .result .given) (c .before .before .earlier-spn .result .value) (c .before .before .earlier-spn .ensures) (not-true (c .before .before .earlier-spn .result .given) (c .if1 .taken))) (emitted-none (now (c .before .before .before .before .before .before .before .before .args .out)) (c .before .before .before .before .before .before .before .before .args .n))
+returns c =
+    let start = c .before .before .before .before .before .before .before .before in
+    let earlier-spn-call = c .before .before .earlier-spn in
+    rw (alone (packOf (now (start .args .s)) .pgns-j1939) (start .args .spn) (earlier-spn-call .result .given) (earlier-spn-call .result .value)
+    (earlier-spn-call .ensures) (not-true (earlier-spn-call .result .given) (c .if1 .taken))) (emitted-none (now (start .args .out)) (start .args .n))
 
 spn-pgn-requires-2 : tie.Need-spn-pgn-requires-2
-spn-pgn-requires-2 c κs = (c .before .before .before .before .before .before .before .before .pre .1, c .before .before .before .before .before .before .before .before .pre .2, c .before .before .before .before .before .before .before .before .pre .3)
+spn-pgn-requires-2 c κs =
+    let start = c .before .before .before .before .before .before .before .before in
+    (start .pre .1, start .pre .2, start .pre .3)
 
 clash-at-requires : tie.Need-clash-at-requires
 clash-at-requires c κs =
-    let e = not-false (c .before .before .before .before .earlier-spn .result .given) (c .before .before .if1 .left) in
-    let n : c .before .spn-pgn2 .result .given ≡ true = given-both (now (c .before .before .before .before .before .before .before .before .before .before .args .s)) (now (c .before .before .before .before .before .before .before .before .before .before .args .work)) (c .before .before .before .before .earlier-spn .result .value) (c .before .spn-pgn2 .result) (c .before .spn-pgn2 .ensures) ∙ earlier-named (packOf (now (c .before .before .before .before .before .before .before .before .before .before .args .s)) .pgns-j1939) (c .before .before .before .before .before .before .before .before .before .before .args .spn) (c .before .before .before .before .earlier-spn .result .value) (sym (c .before .before .before .before .earlier-spn .ensures) ∙ ap (λ (b : Bool). optional b (c .before .before .before .before .earlier-spn .result .value)) e) in
-    let m : c .before .before .before .before .before .before .spn-pgn .result .given ≡ true = given-both (now (c .before .before .before .before .before .before .before .before .before .before .args .s)) (now (c .before .before .before .before .before .before .before .before .before .before .args .work)) (c .before .before .before .before .before .before .before .before .before .before .args .spn) (c .before .before .before .before .before .before .spn-pgn .result) (c .before .before .before .before .before .before .spn-pgn .ensures) ∙ c .before .before .before .before .before .before .before .before .before .before .pre .4 in
-    (rw (paired (packOf (now (c .before .before .before .before .before .before .before .before .before .before .args .s)) .pgns-j1939) (c .before .before .before .before .before .before .before .before .before .before .args .spn) (c .before .before .before .before .earlier-spn .result .given) (c .before .before .before .before .earlier-spn .result .value) (c .before .spn-pgn2 .result .pgn) (c .before .before .before .before .before .before .spn-pgn .result .pgn) (c .before .before .before .before .earlier-spn .ensures) e (pgn-is (now (c .before .before .before .before .before .before .before .before .before .before .args .s)) (now (c .before .before .before .before .before .before .before .before .before .before .args .work)) (c .before .before .before .before .earlier-spn .result .value) (c .before .spn-pgn2 .result) (c .before .spn-pgn2 .ensures) n) (pgn-is (now (c .before .before .before .before .before .before .before .before .before .before .args .s)) (now (c .before .before .before .before .before .before .before .before .before .before .args .work)) (c .before .before .before .before .before .before .before .before .before .before .args .spn) (c .before .before .before .before .before .before .spn-pgn .result) (c .before .before .before .before .before .before .spn-pgn .ensures) m)) at (c .before .before .before .before .before .before .before .before .before .before .pre .0), c .before .spn-pgn2 .ensures .at n, c .before .before .before .before .before .before .spn-pgn .ensures .at m)
+    let start = c .before .before .before .before .before .before .before .before .before .before in
+    let spn-pgn-call = c .before .before .before .before .before .before .spn-pgn in
+    let earlier-spn-call = c .before .before .before .before .earlier-spn in
+    let s = now (start .args .s) in let work = now (start .args .work) in let spn = start .args .spn in
+    let e = not-false (earlier-spn-call .result .given) (c .before .before .if1 .left) in
+    let n : c .before .spn-pgn2 .result .given ≡ true = given-both s work (earlier-spn-call .result .value) (c .before .spn-pgn2 .result)
+    (c .before .spn-pgn2 .ensures)
+    ∙ earlier-named (packOf s .pgns-j1939) spn (earlier-spn-call .result .value)
+    (sym (earlier-spn-call .ensures) ∙ ap (λ (b : Bool). optional b (earlier-spn-call .result .value)) e) in
+    let m : spn-pgn-call .result .given ≡ true = given-both s work spn (spn-pgn-call .result) (spn-pgn-call .ensures) ∙ start .pre .4 in (
+      rw (paired (packOf s .pgns-j1939) spn (earlier-spn-call .result .given) (earlier-spn-call .result .value) (c .before .spn-pgn2 .result .pgn)
+          (spn-pgn-call .result .pgn) (earlier-spn-call .ensures) e
+          (pgn-is s work (earlier-spn-call .result .value) (c .before .spn-pgn2 .result) (c .before .spn-pgn2 .ensures) n)
+          (pgn-is s work spn (spn-pgn-call .result) (spn-pgn-call .ensures) m)) at (start .pre .0),
+      c .before .spn-pgn2 .ensures .at n,
+      spn-pgn-call .ensures .at m,
+    )
 
 same-length : tie.Need-same-length
 same-length c = search needs
 
 returns-2 : tie.Need-returns-2
 returns-2 c =
-    let e = not-false (c .before .before .before .before .before .before .before .earlier-spn .result .given) (c .before .before .before .before .before .if1 .left) in
-    let n : c .before .before .before .before .spn-pgn2 .result .given ≡ true = given-both (now (c .before .before .before .before .before .before .before .before .before .before .before .before .before .args .s)) (now (c .before .before .before .before .before .before .before .before .before .before .before .before .before .args .work)) (c .before .before .before .before .before .before .before .earlier-spn .result .value) (c .before .before .before .before .spn-pgn2 .result) (c .before .before .before .before .spn-pgn2 .ensures) ∙ earlier-named (packOf (now (c .before .before .before .before .before .before .before .before .before .before .before .before .before .args .s)) .pgns-j1939) (c .before .before .before .before .before .before .before .before .before .before .before .before .before .args .spn) (c .before .before .before .before .before .before .before .earlier-spn .result .value) (sym (c .before .before .before .before .before .before .before .earlier-spn .ensures) ∙ ap (λ (b : Bool). optional b (c .before .before .before .before .before .before .before .earlier-spn .result .value)) e) in
-    let m : c .before .before .before .before .before .before .before .before .before .spn-pgn .result .given ≡ true = given-both (now (c .before .before .before .before .before .before .before .before .before .before .before .before .before .args .s)) (now (c .before .before .before .before .before .before .before .before .before .before .before .before .before .args .work)) (c .before .before .before .before .before .before .before .before .before .before .before .before .before .args .spn) (c .before .before .before .before .before .before .before .before .before .spn-pgn .result) (c .before .before .before .before .before .before .before .before .before .spn-pgn .ensures) ∙ c .before .before .before .before .before .before .before .before .before .before .before .before .before .pre .4 in
-    rw (paired (packOf (now (c .before .before .before .before .before .before .before .before .before .before .before .before .before .args .s)) .pgns-j1939) (c .before .before .before .before .before .before .before .before .before .before .before .before .before .args .spn) (c .before .before .before .before .before .before .before .earlier-spn .result .given) (c .before .before .before .before .before .before .before .earlier-spn .result .value) (c .before .before .before .before .spn-pgn2 .result .pgn) (c .before .before .before .before .before .before .before .before .before .spn-pgn .result .pgn) (c .before .before .before .before .before .before .before .earlier-spn .ensures) e (pgn-is (now (c .before .before .before .before .before .before .before .before .before .before .before .before .before .args .s)) (now (c .before .before .before .before .before .before .before .before .before .before .before .before .before .args .work)) (c .before .before .before .before .before .before .before .earlier-spn .result .value) (c .before .before .before .before .spn-pgn2 .result) (c .before .before .before .before .spn-pgn2 .ensures) n) (pgn-is (now (c .before .before .before .before .before .before .before .before .before .before .before .before .before .args .s)) (now (c .before .before .before .before .before .before .before .before .before .before .before .before .before .args .work)) (c .before .before .before .before .before .before .before .before .before .before .before .before .before .args .spn) (c .before .before .before .before .before .before .before .before .before .spn-pgn .result) (c .before .before .before .before .before .before .before .before .before .spn-pgn .ensures) m)) (c .before .before .clash-at .ensures)
+    let back12 = c .before .before .before .before .before .before .before .before .before .before .before .before in
+    let start = back12 .before in
+    let spn-pgn-call = c .before .before .before .before .before .before .before .before .before .spn-pgn in
+    let earlier-spn-call = c .before .before .before .before .before .before .before .earlier-spn in
+    let if1 = c .before .before .before .before .before .if1 in
+    let spn-pgn2 = c .before .before .before .before .spn-pgn2 in
+    let s = now (start .args .s) in let work = now (start .args .work) in let spn = start .args .spn in
+    let e = not-false (earlier-spn-call .result .given) (if1 .left) in
+    let n : spn-pgn2 .result .given ≡ true = given-both s work (earlier-spn-call .result .value) (spn-pgn2 .result) (spn-pgn2 .ensures)
+    ∙ earlier-named (packOf s .pgns-j1939) spn (earlier-spn-call .result .value)
+    (sym (earlier-spn-call .ensures) ∙ ap (λ (b : Bool). optional b (earlier-spn-call .result .value)) e) in
+    let m : spn-pgn-call .result .given ≡ true = given-both s work spn (spn-pgn-call .result) (spn-pgn-call .ensures) ∙ start .pre .4 in
+    rw (paired (packOf s .pgns-j1939) spn (earlier-spn-call .result .given) (earlier-spn-call .result .value) (spn-pgn2 .result .pgn)
+    (spn-pgn-call .result .pgn) (earlier-spn-call .ensures) e (pgn-is s work (earlier-spn-call .result .value) (spn-pgn2 .result) (spn-pgn2 .ensures) n)
+    (pgn-is s work spn (spn-pgn-call .result) (spn-pgn-call .ensures) m)) (c .before .before .clash-at .ensures)
 
 pub clash-of-spec : {M : Type 1} → statement M
 clash-of-spec =

@@ -15,7 +15,8 @@ use Rattle.rules.proofs.spn_names.earlier_spn.Statement.{statement}
 use Rattle.rules.proofs.spn_names.earlier_spn.Tie as tie
 
 -- the candidate, as the code found it
-told : (s : List ℕ) (name : Bytes) (b : ℕ) (g d : Bool) (v : ℕ) → optional g v ≡ candidate (packOf s .pgns-j1939) name b → g ≡ d → candidate (packOf s .pgns-j1939) name b ≡ optional d v
+told : (s : List ℕ) (name : Bytes) (b : ℕ) (g d : Bool) (v : ℕ) → optional g v ≡ candidate (packOf s .pgns-j1939) name b → g ≡ d
+    → candidate (packOf s .pgns-j1939) name b ≡ optional d v
 told s name b g d v h e = sym h ∙ ap (λ (x : Bool). optional x v) e
 
 abbrev Inv-loop : tie.InvT-loop
@@ -25,45 +26,78 @@ abbrev μ-loop : tie.MeasureT-loop
 μ-loop s work tree spn name b₀ b = b
 
 loop-holds : tie.Need-loop-holds Inv-loop μ-loop
-loop-holds c = ap (λ (t : Bytes). upto (packOf (now (c .before .before .args .s)) .pgns-j1939) t (c .before .before .args .spn)) (c .before .before .pre .3) ∙ sym (upto-earlier (packOf (now (c .before .before .args .s)) .pgns-j1939) (c .before .before .args .spn))
+loop-holds c =
+    let start = c .before .before in
+    let s = now (start .args .s) in let spn = start .args .spn in
+    ap (λ (t : Bytes). upto (packOf s .pgns-j1939) t spn) (start .pre .3) ∙ sym (upto-earlier (packOf s .pgns-j1939) spn)
 
 candidate-requires : tie.Need-candidate-requires Inv-loop μ-loop
-candidate-requires c κs = (c .before .before .before .pre .0, c .before .before .before .pre .1, c .before .before .before .pre .2)
+candidate-requires c κs =
+    let start = c .before .before .before in
+    (start .pre .0, start .pre .1, start .pre .2)
 
 returns : tie.Need-returns Inv-loop μ-loop
 returns c =
-    let P = packOf (now (c .before .before .before .before .before .before .args .s)) .pgns-j1939 in
-    let n = bytesOf (now (c .before .before .before .before .before .before .args .s)) (c .before .before .before .before .before .before .args .name) in
-    let e = told (now (c .before .before .before .before .before .before .args .s)) n (c .before .before .before .loop .b) (c .before .before .candidate .result .given) false (c .before .before .candidate .result .value) (c .before .before .candidate .ensures) (not-true (c .before .before .candidate .result .given) (c .if1 .taken)) in
-    c .before .before .candidate .ensures ∙ e ∙ sym (candidate-none P n (c .before .before .before .loop .b) e) ∙ c .before .before .before .loop .inv
+    let start = c .before .before .before .before .before .before in
+    let loop = c .before .before .before .loop in
+    let candidate-call = c .before .before .candidate in
+    let s = now (start .args .s) in
+    let P = packOf s .pgns-j1939 in
+    let n = bytesOf s (start .args .name) in
+    let e = told s n (loop .b) (candidate-call .result .given) false (candidate-call .result .value) (candidate-call .ensures)
+    (not-true (candidate-call .result .given) (c .if1 .taken)) in
+    candidate-call .ensures ∙ e ∙ sym (candidate-none P n (loop .b) e) ∙ loop .inv
 
 has-name-requires : tie.Need-has-name-requires Inv-loop μ-loop
 has-name-requires c κs =
-    let P = packOf (now (c .before .before .before .before .before .before .args .s)) .pgns-j1939 in
-    let n = bytesOf (now (c .before .before .before .before .before .before .args .s)) (c .before .before .before .before .before .before .args .name) in
-    let e = told (now (c .before .before .before .before .before .before .args .s)) n (c .before .before .before .loop .b) (c .before .before .candidate .result .given) true (c .before .before .candidate .result .value) (c .before .before .candidate .ensures) (not-false (c .before .before .candidate .result .given) (c .if1 .left)) in
-    (c .before .before .before .before .before .before .pre .0, c .before .before .before .before .before .before .pre .1, c .before .before .before .before .before .before .pre .2, candidate-met P n (c .before .before .before .loop .b) (c .before .before .candidate .result .value) e .1)
+    let start = c .before .before .before .before .before .before in
+    let loop = c .before .before .before .loop in
+    let candidate-call = c .before .before .candidate in
+    let s = now (start .args .s) in
+    let P = packOf s .pgns-j1939 in
+    let n = bytesOf s (start .args .name) in
+    let e = told s n (loop .b) (candidate-call .result .given) true (candidate-call .result .value) (candidate-call .ensures)
+    (not-false (candidate-call .result .given) (c .if1 .left)) in
+    (start .pre .0, start .pre .1, start .pre .2, candidate-met P n (loop .b) (candidate-call .result .value) e .1)
 
 returns-2 : tie.Need-returns-2 Inv-loop μ-loop
 returns-2 c =
-    let P = packOf (now (c .before .before .before .before .before .before .before .before .args .s)) .pgns-j1939 in
-    let n = bytesOf (now (c .before .before .before .before .before .before .before .before .args .s)) (c .before .before .before .before .before .before .before .before .args .name) in
-    let e = told (now (c .before .before .before .before .before .before .before .before .args .s)) n (c .before .before .before .before .before .loop .b) (c .before .before .before .before .candidate .result .given) true (c .before .before .before .before .candidate .result .value) (c .before .before .before .before .candidate .ensures) (not-false (c .before .before .before .before .candidate .result .given) (c .before .before .if1 .left)) in
-    c .before .before .before .before .candidate .ensures ∙ e ∙ sym (candidate-named P n (c .before .before .before .before .before .loop .b) (c .before .before .before .before .candidate .result .value) e (sym (c .before .has-name .ensures) ∙ c .if2 .taken)) ∙ c .before .before .before .before .before .loop .inv
+    let start = c .before .before .before .before .before .before .before .before in
+    let loop = c .before .before .before .before .before .loop in
+    let candidate-call = c .before .before .before .before .candidate in
+    let s = now (start .args .s) in
+    let P = packOf s .pgns-j1939 in
+    let n = bytesOf s (start .args .name) in
+    let e = told s n (loop .b) (candidate-call .result .given) true (candidate-call .result .value) (candidate-call .ensures)
+    (not-false (candidate-call .result .given) (c .before .before .if1 .left)) in
+    candidate-call .ensures
+    ∙ e
+    ∙ sym (candidate-named P n (loop .b) (candidate-call .result .value) e (sym (c .before .has-name .ensures) ∙ c .if2 .taken))
+    ∙ loop .inv
 
 loop-less : tie.Need-loop-less Inv-loop μ-loop
 loop-less c =
-    let P = packOf (now (c .before .before .before .before .before .before .before .before .args .s)) .pgns-j1939 in
-    let n = bytesOf (now (c .before .before .before .before .before .before .before .before .args .s)) (c .before .before .before .before .before .before .before .before .args .name) in
-    let e = told (now (c .before .before .before .before .before .before .before .before .args .s)) n (c .before .before .before .before .before .loop .b) (c .before .before .before .before .candidate .result .given) true (c .before .before .before .before .candidate .result .value) (c .before .before .before .before .candidate .ensures) (not-false (c .before .before .before .before .candidate .result .given) (c .before .before .if1 .left)) in
-    candidate-met P n (c .before .before .before .before .before .loop .b) (c .before .before .before .before .candidate .result .value) e .0
+    let start = c .before .before .before .before .before .before .before .before in
+    let loop = c .before .before .before .before .before .loop in
+    let candidate-call = c .before .before .before .before .candidate in
+    let s = now (start .args .s) in
+    let P = packOf s .pgns-j1939 in
+    let n = bytesOf s (start .args .name) in
+    let e = told s n (loop .b) (candidate-call .result .given) true (candidate-call .result .value) (candidate-call .ensures)
+    (not-false (candidate-call .result .given) (c .before .before .if1 .left)) in
+    candidate-met P n (loop .b) (candidate-call .result .value) e .0
 
 loop-again : tie.Need-loop-again Inv-loop μ-loop
 loop-again c =
-    let P = packOf (now (c .before .before .before .before .before .before .before .before .args .s)) .pgns-j1939 in
-    let n = bytesOf (now (c .before .before .before .before .before .before .before .before .args .s)) (c .before .before .before .before .before .before .before .before .args .name) in
-    let e = told (now (c .before .before .before .before .before .before .before .before .args .s)) n (c .before .before .before .before .before .loop .b) (c .before .before .before .before .candidate .result .given) true (c .before .before .before .before .candidate .result .value) (c .before .before .before .before .candidate .ensures) (not-false (c .before .before .before .before .candidate .result .given) (c .before .before .if1 .left)) in
-    sym (candidate-other P n (c .before .before .before .before .before .loop .b) (c .before .before .before .before .candidate .result .value) e (sym (c .before .has-name .ensures) ∙ c .if2 .left)) ∙ c .before .before .before .before .before .loop .inv
+    let start = c .before .before .before .before .before .before .before .before in
+    let loop = c .before .before .before .before .before .loop in
+    let candidate-call = c .before .before .before .before .candidate in
+    let s = now (start .args .s) in
+    let P = packOf s .pgns-j1939 in
+    let n = bytesOf s (start .args .name) in
+    let e = told s n (loop .b) (candidate-call .result .given) true (candidate-call .result .value) (candidate-call .ensures)
+    (not-false (candidate-call .result .given) (c .before .before .if1 .left)) in
+    sym (candidate-other P n (loop .b) (candidate-call .result .value) e (sym (c .before .has-name .ensures) ∙ c .if2 .left)) ∙ loop .inv
 
 pub earlier-spn-spec : {M : Type 1} → statement M
 earlier-spn-spec =

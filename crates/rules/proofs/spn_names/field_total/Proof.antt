@@ -32,31 +32,82 @@ loop-holds : tie.Need-loop-holds Inv-loop μ-loop
 loop-holds c = (omega arith, omega (arith, c .before .before .pre .2), refl)
 
 pgn-of-requires : tie.Need-pgn-of-requires Inv-loop μ-loop
-pgn-of-requires c κs = (at-pgn {t = 1} (c .before .before .before .before .pre .0) (omega arith) (omega (arith, c .before .before .before .before .pre .1)) (c .loop-test .taken) (c .before .loop .inv .1))
+pgn-of-requires c κs =
+    let start = c .before .before .before .before in
+    (at-pgn {t = 1} (start .pre .0) (omega (arith, c)) (omega (arith, start .pre .1)) (c .loop-test .taken) (c .before .loop .inv .1))
 
 add-total : tie.Need-add-total Inv-loop μ-loop
-add-total c = omega (arith, fields-few (at-pgn {t = 1} (c .before .before .before .before .before .before .pre .0) (omega arith) (omega (arith, c .before .before .before .before .before .before .pre .1)) (c .before .before .loop-test .taken) (c .before .before .before .loop .inv .1)), c .before .pgn-of .ensures .fields, c .before .before .before .loop .inv .1, c .before .before .before .loop .inv .2, total-few (packOf (now (c .before .before .before .before .before .before .args .s)) .pgns-j1939) (c .before .before .before .loop .i))
+add-total c =
+    let start = c .before .before .before .before .before .before in
+    let loop = c .before .before .before .loop in
+    omega (
+      arith,
+      fields-few (at-pgn {t = 1} (start .pre .0) (omega (arith, c)) (omega (arith, start .pre .1)) (c .before .before .loop-test .taken) (loop .inv .1)),
+      c .before .pgn-of .ensures .fields,
+      loop .inv .1,
+      loop .inv .2,
+      total-few (packOf (now (start .args .s)) .pgns-j1939) (loop .i),
+    )
 
 add-p : tie.Need-add-p Inv-loop μ-loop
-add-p c = omega (arith, fields-few (at-pgn {t = 1} (c .before .before .before .before .before .before .pre .0) (omega arith) (omega (arith, c .before .before .before .before .before .before .pre .1)) (c .before .before .loop-test .taken) (c .before .before .before .loop .inv .1)))
+add-p c =
+    let start = c .before .before .before .before .before .before in
+    let loop = c .before .before .before .loop in
+    omega
+    (arith, fields-few (at-pgn {t = 1} (start .pre .0) (omega (arith, c)) (omega (arith, start .pre .1)) (c .before .before .loop-test .taken) (loop .inv .1)))
 
 cast-p : tie.Need-cast-p Inv-loop μ-loop
-cast-p c = omega (arith, fields-few (at-pgn {t = 1} (c .before .before .before .before .before .before .before .pre .0) (omega arith) (omega (arith, c .before .before .before .before .before .before .before .pre .1)) (c .before .before .before .loop-test .taken) (c .before .before .before .before .loop .inv .1)), c .before .before .pgn-of .ensures .fields)
+cast-p c =
+    let start = c .before .before .before .before .before .before .before in
+    let loop = c .before .before .before .before .loop in
+    let loop-test = c .before .before .before .loop-test in
+    omega (
+      arith,
+      fields-few (at-pgn {t = 1} (start .pre .0) (omega (arith, c)) (omega (arith, start .pre .1)) (loop-test .taken) (loop .inv .1)),
+      c .before .before .pgn-of .ensures .fields,
+    )
 
 add-p-2 : tie.Need-add-p-2 Inv-loop μ-loop
-add-p-2 c = omega (arith, fields-few (at-pgn {t = 1} (c .before .before .before .before .before .before .before .pre .0) (omega arith) (omega (arith, c .before .before .before .before .before .before .before .pre .1)) (c .before .before .before .loop-test .taken) (c .before .before .before .before .loop .inv .1)), c .before .before .pgn-of .ensures .fields)
+add-p-2 c =
+    let start = c .before .before .before .before .before .before .before in
+    let loop = c .before .before .before .before .loop in
+    let loop-test = c .before .before .before .loop-test in
+    omega (
+      arith,
+      fields-few (at-pgn {t = 1} (start .pre .0) (omega (arith, c)) (omega (arith, start .pre .1)) (loop-test .taken) (loop .inv .1)),
+      c .before .before .pgn-of .ensures .fields,
+    )
 
 add-i : tie.Need-add-i Inv-loop μ-loop
-add-i c = omega (arith, pgns-few (at-pgn {t = 1} (c .before .before .before .before .before .before .before .pre .0) (omega arith) (omega (arith, c .before .before .before .before .before .before .before .pre .1)) (c .before .before .before .loop-test .taken) (c .before .before .before .before .loop .inv .1)))
+add-i c =
+    let start = c .before .before .before .before .before .before .before in
+    let loop = c .before .before .before .before .loop in
+    let loop-test = c .before .before .before .loop-test in
+    omega (arith, pgns-few (at-pgn {t = 1} (start .pre .0) (omega (arith, c)) (omega (arith, start .pre .1)) (loop-test .taken) (loop .inv .1)))
 
 loop-less : tie.Need-loop-less Inv-loop μ-loop
-loop-less c = omega (arith, c .before .before .before .loop-test .taken)
+loop-less c =
+    let loop-test = c .before .before .before .loop-test in
+    omega (arith, loop-test .taken)
 
 loop-again : tie.Need-loop-again Inv-loop μ-loop
-loop-again c = (omega (arith, c .before .before .before .loop-test .taken), omega (arith, pgn-place-next (packOf (now (c .before .before .before .before .before .before .before .args .s))) 1 (c .before .before .before .before .loop .i), c .before .before .pgn-of .ensures .fields, c .before .before .before .before .loop .inv .1), omega (arith, sum-turn (fields-in (packOf (now (c .before .before .before .before .before .before .before .args .s)) .pgns-j1939)) (c .before .before .before .before .loop .i), c .before .before .pgn-of .ensures .fields, c .before .before .before .before .loop .inv .2))
+loop-again c =
+    let start = c .before .before .before .before .before .before .before in
+    let loop = c .before .before .before .before .loop in
+    let loop-test = c .before .before .before .loop-test in
+    let pgn-of = c .before .before .pgn-of in
+    let s = now (start .args .s) in (
+      omega (arith, loop-test .taken),
+      omega (arith, pgn-place-next (packOf s) 1 (loop .i), pgn-of .ensures .fields, loop .inv .1),
+      omega (arith, sum-turn (fields-in (packOf s .pgns-j1939)) (loop .i), pgn-of .ensures .fields, loop .inv .2),
+    )
 
 returns : tie.Need-returns Inv-loop μ-loop
-returns c = let e : length (packOf (now (c .before .before .before .before .args .s)) .pgns-j1939) ≡ c .before .loop .i = omega (arith, c .before .before .before .before .pre .1, c .before .loop .inv .0, c .loop-test .left) in c .before .loop .inv .2 ∙ ap (sumBelow (fields-in (packOf (now (c .before .before .before .before .args .s)) .pgns-j1939))) (sym e)
+returns c =
+    let start = c .before .before .before .before in
+    let s = now (start .args .s) in
+    let e : length (packOf s .pgns-j1939) ≡ c .before .loop .i = omega (arith, start .pre .1, c .before .loop .inv .0, c .loop-test .left) in
+    c .before .loop .inv .2 ∙ ap (sumBelow (fields-in (packOf s .pgns-j1939))) (sym e)
 
 pub field-total-spec : {M : Type 1} → statement M
 field-total-spec =

@@ -24,7 +24,8 @@ both : (pgns : List Pgn) (b : ℕ) (g : Bool) (v : ℕ) → optional (g && (b �
 both pgns b true v = refl
 both pgns b false v = refl
 
-said : (s : List ℕ) (b i k : ℕ) (v : FieldView) (h : Bool) → fieldMeaning s v ≡ field-at (pgn-at (packOf s) 1 i) k → h ≡ (v .authored .spn .given && (b ≤ᵇ v .authored .spn .value)) → optional h (v .authored .spn .value) ≡ from s b i k
+said : (s : List ℕ) (b i k : ℕ) (v : FieldView) (h : Bool) → fieldMeaning s v ≡ field-at (pgn-at (packOf s) 1 i) k
+    → h ≡ (v .authored .spn .given && (b ≤ᵇ v .authored .spn .value)) → optional h (v .authored .spn .value) ≡ from s b i k
 said s b i k v h is e =
     ap (λ (x : Bool). optional x (v .authored .spn .value)) e ∙ both (packOf s .pgns-j1939) b (v .authored .spn .given) (v .authored .spn .value)
     ∙ ap (λ (F : Field). spn-from (packOf s .pgns-j1939) b (F .spn)) is
@@ -39,7 +40,9 @@ loop-holds : tie.Need-loop-holds Inv-loop μ-loop
 loop-holds c = (omega arith, refl)
 
 field-of-requires : tie.Need-field-of-requires Inv-loop μ-loop
-field-of-requires c κs = (c .before .before .before .before .pre .0, omega (arith, c .loop-test .taken, c .before .before .before .before .pre .1))
+field-of-requires c κs =
+    let start = c .before .before .before .before in
+    (start .pre .0, omega (arith, c .loop-test .taken, start .pre .1))
 
 is-from-requires : tie.Need-is-from-requires Inv-loop μ-loop
 is-from-requires c κs = search needs
@@ -51,16 +54,33 @@ add-k : tie.Need-add-k Inv-loop μ-loop
 add-k c = search needs
 
 loop-less : tie.Need-loop-less Inv-loop μ-loop
-loop-less c = omega (arith, c .before .before .before .loop-test .taken)
+loop-less c =
+    let loop-test = c .before .before .before .loop-test in
+    omega (arith, loop-test .taken)
 
 loop-again : tie.Need-loop-again Inv-loop μ-loop
 loop-again c =
-    let f = from (now (c .before .before .before .before .before .before .before .args .s)) (c .before .before .before .before .before .before .before .args .b) (c .before .before .before .before .before .before .before .args .i) in
-    (omega (arith, c .before .before .before .loop-test .taken), c .smaller .ensures ∙ ap (λ (x : Option ℕ). smaller x (optional (c .before .is-from .result) (c .before .before .field-of .result .authored .spn .value))) (c .before .before .before .before .loop .inv .1) ∙ ap (smaller (minBelow f (c .before .before .before .before .loop .k))) (said (now (c .before .before .before .before .before .before .before .args .s)) (c .before .before .before .before .before .before .before .args .b) (c .before .before .before .before .before .before .before .args .i) (c .before .before .before .before .loop .k) (c .before .before .field-of .result) (c .before .is-from .result) (c .before .before .field-of .ensures) (c .before .is-from .ensures)) ∙ sym (min-turn f (c .before .before .before .before .loop .k)))
+    let start = c .before .before .before .before .before .before .before in
+    let loop = c .before .before .before .before .loop in
+    let loop-test = c .before .before .before .loop-test in
+    let field-of = c .before .before .field-of in
+    let s = now (start .args .s) in let b = start .args .b in let i = start .args .i in
+    let f = from s b i in (
+      omega (arith, loop-test .taken),
+      c .smaller .ensures
+          ∙ ap (λ (x : Option ℕ). smaller x (optional (c .before .is-from .result) (field-of .result .authored .spn .value))) (loop .inv .1)
+          ∙ ap (smaller (minBelow f (loop .k)))
+          (said s b i (loop .k) (field-of .result) (c .before .is-from .result) (field-of .ensures) (c .before .is-from .ensures))
+          ∙ sym (min-turn f (loop .k)),
+    )
 
 returns : tie.Need-returns Inv-loop μ-loop
 unfolding least-spn-in
-returns c = let e : length (pgn-at (packOf (now (c .before .before .before .before .args .s))) 1 (c .before .before .before .before .args .i) .fields) ≡ c .before .loop .k = omega (arith, c .before .before .before .before .pre .1, c .before .loop .inv .0, c .loop-test .left) in c .before .loop .inv .1 ∙ ap (minBelow (from (now (c .before .before .before .before .args .s)) (c .before .before .before .before .args .b) (c .before .before .before .before .args .i))) (sym e)
+returns c =
+    let start = c .before .before .before .before in
+    let s = now (start .args .s) in let i = start .args .i in
+    let e : length (pgn-at (packOf s) 1 i .fields) ≡ c .before .loop .k = omega (arith, start .pre .1, c .before .loop .inv .0, c .loop-test .left) in
+    c .before .loop .inv .1 ∙ ap (minBelow (from s (start .args .b) i)) (sym e)
 
 pub least-spn-in-spec : {M : Type 1} → statement M
 least-spn-in-spec =

@@ -23,10 +23,20 @@ same-text-requires : tie.Need-same-text-requires
 same-text-requires c κs = search needs
 
 returns : tie.Need-returns
-returns c = c .same-text .ensures ∙ sym (placed (now (c .before .before .before .before .before .args .s)) (c .before .before .before .before .before .args .a) (c .before .before .before .before .before .args .b) (omega (arith, c .before .before .before .struct-known .given)) (omega (arith, c .before .before .struct-known2 .given)) ∙ ap (λ (x : Bool). x && (bytesOf (now (c .before .before .before .before .before .args .s)) (c .before .before .before .before .before .args .a .id) ≐ bytesOf (now (c .before .before .before .before .before .args .s)) (c .before .before .before .before .before .args .b .id))) (eq-eqb _ _ (c .before .if1 .taken)))
+returns c =
+    let start = c .before .before .before .before .before in
+    let struct-known = c .before .before .before .struct-known in
+    let s = now (start .args .s) in
+    c .same-text .ensures
+    ∙ sym (placed s (start .args .a) (start .args .b) (omega (arith, struct-known .given)) (omega (arith, c .before .before .struct-known2 .given))
+    ∙ ap (λ (x : Bool). x && (bytesOf s (start .args .a .id) ≐ bytesOf s (start .args .b .id))) (eq-eqb _ _ (c .before .if1 .taken)))
 
 returns-2 : tie.Need-returns-2
-returns-2 c = sym (placed (now (c .before .before .before .before .args .s)) (c .before .before .before .before .args .a) (c .before .before .before .before .args .b) (omega (arith, c .before .before .struct-known .given)) (omega (arith, c .before .struct-known2 .given)) ∙ ap (λ (x : Bool). x && (bytesOf (now (c .before .before .before .before .args .s)) (c .before .before .before .before .args .a .id) ≐ bytesOf (now (c .before .before .before .before .args .s)) (c .before .before .before .before .args .b .id))) (ne-eqb _ _ (c .if1 .left)))
+returns-2 c =
+    let start = c .before .before .before .before in
+    let s = now (start .args .s) in
+    sym (placed s (start .args .a) (start .args .b) (omega (arith, c .before .before .struct-known .given)) (omega (arith, c .before .struct-known2 .given))
+    ∙ ap (λ (x : Bool). x && (bytesOf s (start .args .a .id) ≐ bytesOf s (start .args .b .id))) (ne-eqb _ _ (c .if1 .left)))
 
 pub same-place-spec : {M : Type 1} → statement M
 same-place-spec = tie.close (tie.spec same-text-requires returns returns-2)

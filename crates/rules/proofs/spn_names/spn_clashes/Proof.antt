@@ -28,42 +28,74 @@ of-rank s r = clash-of (packOf s .pgns-j1939) (ranked (least-spn (packOf s .pgns
 ended : (s : List ℕ) (r n : ℕ) → r ≤ n → ranked (least-spn (packOf s .pgns-j1939)) r ≡ none → concatBelow (of-rank s) n ≡ concatBelow (of-rank s) r
 ended s r n h e =
     let q : n ≡ r + (n - r) = omega arith in
-    ap (concatBelow (of-rank s)) q ∙ concat-ends (of-rank s) r (n - r) (λ k. ap (clash-of (packOf s .pgns-j1939)) (ranked-ends (least-spn (packOf s .pgns-j1939)) r k e))
+    ap (concatBelow (of-rank s)) q
+    ∙ concat-ends (of-rank s) r (n - r) (λ k. ap (clash-of (packOf s .pgns-j1939)) (ranked-ends (least-spn (packOf s .pgns-j1939)) r k e))
 
 -- the SPN of a rank, as the code found it
-rank-is : (s : List ℕ) (r b : ℕ) (g d : Bool) (v : ℕ) → ranked (least-spn (packOf s .pgns-j1939)) r ≡ least-spn (packOf s .pgns-j1939) b → optional g v ≡ least-spn (packOf s .pgns-j1939) b → g ≡ d → ranked (least-spn (packOf s .pgns-j1939)) r ≡ optional d v
+rank-is : (s : List ℕ) (r b : ℕ) (g d : Bool) (v : ℕ) → ranked (least-spn (packOf s .pgns-j1939)) r ≡ least-spn (packOf s .pgns-j1939) b
+    → optional g v ≡ least-spn (packOf s .pgns-j1939) b → g ≡ d → ranked (least-spn (packOf s .pgns-j1939)) r ≡ optional d v
 rank-is s r b g d v e h q = e ∙ sym h ∙ ap (λ (x : Bool). optional x v) q
 
 abbrev Inv-loop : tie.InvT-loop
-Inv-loop out₀ n s work j1939 total m₀ b₀ rank₀ out m b rank = (rank ≤ total) × (ranked (least-spn (packOf s .pgns-j1939)) rank ≡ least-spn (packOf s .pgns-j1939) b) × (length out ≡ length out₀) × Emitted out₀ n (concatBelow (of-rank s) rank) out m
+Inv-loop out₀ n s work j1939 total m₀ b₀ rank₀ out m b rank =
+    (rank ≤ total)
+    × (ranked (least-spn (packOf s .pgns-j1939)) rank ≡ least-spn (packOf s .pgns-j1939) b)
+    × (length out ≡ length out₀)
+    × Emitted out₀ n (concatBelow (of-rank s) rank) out m
 
 abbrev μ-loop : tie.MeasureT-loop
 μ-loop out₀ n s work j1939 total m₀ b₀ rank₀ out m b rank = total - rank
 
 field-total-requires : tie.Need-field-total-requires Inv-loop μ-loop
-field-total-requires c κs = (c .before .before .before .pre .1, c .before .before .before .pre .2, c .before .before .before .pre .3)
+field-total-requires c κs =
+    let start = c .before .before .before in
+    (start .pre .1, start .pre .2, start .pre .3)
 
 loop-holds : tie.Need-loop-holds Inv-loop μ-loop
-loop-holds c = (omega arith, refl, refl, emitted-none (now (c .before .before .before .before .args .out)) (c .before .before .before .before .args .n))
+loop-holds c =
+    let start = c .before .before .before .before in
+    (omega (arith, c), refl, refl, emitted-none (now (start .args .out)) (start .args .n))
 
 least-spn-requires : tie.Need-least-spn-requires Inv-loop μ-loop
-least-spn-requires c κs = (c .before .before .before .before .before .before .pre .1, c .before .before .before .before .before .before .pre .2, c .before .before .before .before .before .before .pre .3)
+least-spn-requires c κs =
+    let start = c .before .before .before .before .before .before in
+    (start .pre .1, start .pre .2, start .pre .3)
 
 same-length : tie.Need-same-length Inv-loop μ-loop
-same-length c = c .before .before .before .before .loop .inv .2
+same-length c =
+    let loop = c .before .before .before .before .loop in
+    loop .inv .2
 
 returns : tie.Need-returns Inv-loop μ-loop
 unfolding check-spn-names
 returns c =
-    let e = rank-is (now (c .before .before .before .before .before .before .before .before .before .args .s)) (c .before .before .before .before .loop .rank) (c .before .before .before .before .loop .b) (c .before .before .least-spn .result .given) false (c .before .before .least-spn .result .value) (c .before .before .before .before .loop .inv .1) (c .before .before .least-spn .ensures) (not-true (c .before .before .least-spn .result .given) (c .if1 .taken)) in
-    rw (← c .before .before .before .before .before .field-total .ensures, ended (now (c .before .before .before .before .before .before .before .before .before .args .s)) (c .before .before .before .before .loop .rank) (c .before .before .before .before .before .field-total .result) (c .before .before .before .before .loop .inv .0) e) (c .before .before .before .before .loop .inv .3)
+    let start = c .before .before .before .before .before .before .before .before .before in
+    let field-total = c .before .before .before .before .before .field-total in
+    let loop = c .before .before .before .before .loop in
+    let least-spn-call = c .before .before .least-spn in
+    let s = now (start .args .s) in
+    let e = rank-is s (loop .rank) (loop .b) (least-spn-call .result .given) false (least-spn-call .result .value) (loop .inv .1) (least-spn-call .ensures)
+    (not-true (least-spn-call .result .given) (c .if1 .taken)) in
+    rw (← field-total .ensures, ended s (loop .rank) (field-total .result) (loop .inv .0) e) (loop .inv .3)
 
 clash-of-requires : tie.Need-clash-of-requires Inv-loop μ-loop
 unfolding check-spn-names
 clash-of-requires c κs =
-    let g = not-false (c .before .before .before .least-spn .result .given) (c .before .if1 .left) in
-    let e = rank-is (now (c .before .before .before .before .before .before .before .before .before .before .args .s)) (c .before .before .before .before .before .loop .rank) (c .before .before .before .before .before .loop .b) (c .before .before .before .least-spn .result .given) true (c .before .before .before .least-spn .result .value) (c .before .before .before .before .before .loop .inv .1) (c .before .before .before .least-spn .ensures) g in
-    (rw e at (fits-turn (of-rank (now (c .before .before .before .before .before .before .before .before .before .before .args .s))) (c .before .before .before .before .before .before .field-total .result) (c .before .before .before .before .before .loop .rank) (c .before .before .before .before .loop-test .taken) (rw (← c .before .before .before .before .before .before .field-total .ensures) at (c .before .before .before .before .before .before .before .before .before .before .pre .0)) (c .before .before .before .before .before .loop .inv .3)), c .before .before .before .before .before .before .before .before .before .before .pre .1, c .before .before .before .before .before .before .before .before .before .before .pre .2, c .before .before .before .before .before .before .before .before .before .before .pre .3, least-named (packOf (now (c .before .before .before .before .before .before .before .before .before .before .args .s)) .pgns-j1939) (c .before .before .before .before .before .loop .b) (c .before .before .before .least-spn .result .value) (sym (c .before .before .before .least-spn .ensures) ∙ ap (λ (x : Bool). optional x (c .before .before .before .least-spn .result .value)) g))
+    let start = c .before .before .before .before .before .before .before .before .before .before in
+    let field-total = c .before .before .before .before .before .before .field-total in
+    let loop = c .before .before .before .before .before .loop in
+    let loop-test = c .before .before .before .before .loop-test in
+    let least-spn-call = c .before .before .before .least-spn in
+    let s = now (start .args .s) in
+    let g = not-false (least-spn-call .result .given) (c .before .if1 .left) in
+    let e = rank-is s (loop .rank) (loop .b) (least-spn-call .result .given) true (least-spn-call .result .value) (loop .inv .1) (least-spn-call .ensures) g in (
+      rw e at (fits-turn (of-rank s) (field-total .result) (loop .rank) (loop-test .taken) (rw (← field-total .ensures) at (start .pre .0)) (loop .inv .3)),
+      start .pre .1,
+      start .pre .2,
+      start .pre .3,
+      least-named (packOf s .pgns-j1939) (loop .b) (least-spn-call .result .value)
+          (sym (least-spn-call .ensures) ∙ ap (λ (x : Bool). optional x (least-spn-call .result .value)) g),
+    )
 
 cast-b : tie.Need-cast-b Inv-loop μ-loop
 cast-b c = search needs
@@ -72,22 +104,43 @@ add-b : tie.Need-add-b Inv-loop μ-loop
 add-b c = search needs
 
 add-rank : tie.Need-add-rank Inv-loop μ-loop
-add-rank c = omega (arith, c .before .before .before .before .before .before .before .before .loop-test .taken, c .before .before .before .before .before .before .before .before .before .before .field-total .ok)
+add-rank c =
+    let field-total = c .before .before .before .before .before .before .before .before .before .before .field-total in
+    let loop-test = c .before .before .before .before .before .before .before .before .loop-test in
+    omega (arith, loop-test .taken, field-total .ok)
 
 loop-less : tie.Need-loop-less Inv-loop μ-loop
-loop-less c = omega (arith, c .before .before .before .before .before .before .before .before .loop-test .taken)
+loop-less c =
+    let loop-test = c .before .before .before .before .before .before .before .before .loop-test in
+    omega (arith, loop-test .taken)
 
 loop-again : tie.Need-loop-again Inv-loop μ-loop
 loop-again c =
-    let e = rank-is (now (c .before .before .before .before .before .before .before .before .before .before .before .before .before .before .args .s)) (c .before .before .before .before .before .before .before .before .before .loop .rank) (c .before .before .before .before .before .before .before .before .before .loop .b) (c .before .before .before .before .before .before .before .least-spn .result .given) true (c .before .before .before .before .before .before .before .least-spn .result .value) (c .before .before .before .before .before .before .before .before .before .loop .inv .1) (c .before .before .before .before .before .before .before .least-spn .ensures) (not-false (c .before .before .before .before .before .before .before .least-spn .result .given) (c .before .before .before .before .before .if1 .left)) in
-    (omega (arith, c .before .before .before .before .before .before .before .before .loop-test .taken), ranked-turn (least-spn (packOf (now (c .before .before .before .before .before .before .before .before .before .before .before .before .before .before .args .s)) .pgns-j1939)) (c .before .before .before .before .before .before .before .before .before .loop .rank) ∙ ap (next-rank (least-spn (packOf (now (c .before .before .before .before .before .before .before .before .before .before .before .before .before .before .args .s)) .pgns-j1939))) e, c .before .before .before .clash-of .kept .0 ∙ c .before .before .before .before .before .before .before .before .before .loop .inv .2, emitted-turn (of-rank (now (c .before .before .before .before .before .before .before .before .before .before .before .before .before .before .args .s))) (c .before .before .before .before .before .before .before .before .before .loop .rank) (c .before .before .before .before .before .before .before .before .before .loop .inv .3) (rw e (c .before .before .before .clash-of .ensures)))
+    let back12 = c .before .before .before .before .before .before .before .before .before .before .before .before in
+    let start = back12 .before .before in
+    let loop = c .before .before .before .before .before .before .before .before .before .loop in
+    let loop-test = c .before .before .before .before .before .before .before .before .loop-test in
+    let least-spn-call = c .before .before .before .before .before .before .before .least-spn in
+    let if1 = c .before .before .before .before .before .if1 in
+    let clash-of-call = c .before .before .before .clash-of in
+    let s = now (start .args .s) in
+    let e = rank-is s (loop .rank) (loop .b) (least-spn-call .result .given) true (least-spn-call .result .value) (loop .inv .1) (least-spn-call .ensures)
+    (not-false (least-spn-call .result .given) (if1 .left)) in (
+      omega (arith, loop-test .taken),
+      ranked-turn (least-spn (packOf s .pgns-j1939)) (loop .rank) ∙ ap (next-rank (least-spn (packOf s .pgns-j1939))) e,
+      clash-of-call .kept .0 ∙ loop .inv .2,
+      emitted-turn (of-rank s) (loop .rank) (loop .inv .3) (rw e (clash-of-call .ensures)),
+    )
 
 same-length-2 : tie.Need-same-length-2 Inv-loop μ-loop
 same-length-2 c = c .before .loop .inv .2
 
 returns-2 : tie.Need-returns-2 Inv-loop μ-loop
 unfolding check-spn-names
-returns-2 c = let q : c .before .before .field-total .result ≡ c .before .loop .rank = omega (arith, c .before .loop .inv .0, c .loop-test .left) in rw (← c .before .before .field-total .ensures, q) (c .before .loop .inv .3)
+returns-2 c =
+    let field-total = c .before .before .field-total in
+    let q : field-total .result ≡ c .before .loop .rank = omega (arith, c .before .loop .inv .0, c .loop-test .left) in
+    rw (← field-total .ensures, q) (c .before .loop .inv .3)
 
 pub spn-clashes-spec : {M : Type 1} → statement M
 spn-clashes-spec =

@@ -20,7 +20,8 @@ use Rattle.rules.proofs.spn_names.spn_field.Tie as tie
 abbrev carries : List ℕ → ℕ → ℕ → ℕ → Bool
 carries s spn j k = is-number (field-at (pgn-at (packOf s) 1 j) k .spn) spn
 
-told : (s : List ℕ) (spn j k : ℕ) (v : FieldView) (b d : Bool) → fieldMeaning s v ≡ field-at (pgn-at (packOf s) 1 j) k → b ≡ is-number (optNumber (v .authored .spn)) spn → b ≡ d → carries s spn j k ≡ d
+told : (s : List ℕ) (spn j k : ℕ) (v : FieldView) (b d : Bool) → fieldMeaning s v ≡ field-at (pgn-at (packOf s) 1 j) k
+    → b ≡ is-number (optNumber (v .authored .spn)) spn → b ≡ d → carries s spn j k ≡ d
 told s spn j k v b d is e t = ap (λ (F : Field). is-number (F .spn) spn) (sym is) ∙ sym e ∙ t
 
 abbrev Inv-loop : tie.InvT-loop
@@ -33,29 +34,49 @@ loop-holds : tie.Need-loop-holds Inv-loop μ-loop
 loop-holds c = (omega arith, refl)
 
 field-of-requires : tie.Need-field-of-requires Inv-loop μ-loop
-field-of-requires c κs = (c .before .before .before .before .pre .0, omega (arith, c .loop-test .taken, c .before .before .before .before .pre .1))
+field-of-requires c κs =
+    let start = c .before .before .before .before in
+    (start .pre .0, omega (arith, c .loop-test .taken, start .pre .1))
 
 is-number-requires : tie.Need-is-number-requires Inv-loop μ-loop
 is-number-requires c κs = search needs
 
 returns : tie.Need-returns Inv-loop μ-loop
 unfolding spn-field
-returns c = sym (first-hit (carries (now (c .before .before .before .before .before .before .before .args .s)) (c .before .before .before .before .before .before .before .args .spn) (c .before .before .before .before .before .before .before .args .j)) (length (pgn-at (packOf (now (c .before .before .before .before .before .before .before .args .s))) 1 (c .before .before .before .before .before .before .before .args .j) .fields)) (c .before .before .before .before .loop .k) (omega (arith, c .before .before .before .loop-test .taken, c .before .before .before .before .before .before .before .pre .1)) (c .before .before .before .before .loop .inv .1) (told (now (c .before .before .before .before .before .before .before .args .s)) (c .before .before .before .before .before .before .before .args .spn) (c .before .before .before .before .before .before .before .args .j) (c .before .before .before .before .loop .k) (c .before .before .field-of .result) (c .before .is-number .result) true (c .before .before .field-of .ensures) (c .before .is-number .ensures) (c .if1 .taken)))
+returns c =
+    let start = c .before .before .before .before .before .before .before in
+    let loop = c .before .before .before .before .loop in
+    let loop-test = c .before .before .before .loop-test in
+    let field-of = c .before .before .field-of in
+    let s = now (start .args .s) in let spn = start .args .spn in let j = start .args .j in
+    sym (first-hit (carries s spn j) (length (pgn-at (packOf s) 1 j .fields)) (loop .k) (omega (arith, loop-test .taken, start .pre .1)) (loop .inv .1)
+    (told s spn j (loop .k) (field-of .result) (c .before .is-number .result) true (field-of .ensures) (c .before .is-number .ensures) (c .if1 .taken)))
 
 add-k : tie.Need-add-k Inv-loop μ-loop
 add-k c = search needs
 
 loop-less : tie.Need-loop-less Inv-loop μ-loop
-loop-less c = omega (arith, c .before .before .before .loop-test .taken)
+loop-less c =
+    let loop-test = c .before .before .before .loop-test in
+    omega (arith, loop-test .taken)
 
 loop-again : tie.Need-loop-again Inv-loop μ-loop
 loop-again c =
-    let e = told (now (c .before .before .before .before .before .before .before .args .s)) (c .before .before .before .before .before .before .before .args .spn) (c .before .before .before .before .before .before .before .args .j) (c .before .before .before .before .loop .k) (c .before .before .field-of .result) (c .before .is-number .result) false (c .before .before .field-of .ensures) (c .before .is-number .ensures) (c .if1 .left) in
-    (omega (arith, c .before .before .before .loop-test .taken), first-turn (carries (now (c .before .before .before .before .before .before .before .args .s)) (c .before .before .before .before .before .before .before .args .spn) (c .before .before .before .before .before .before .before .args .j)) (c .before .before .before .before .loop .k) ∙ (rw (c .before .before .before .before .loop .inv .1, e)))
+    let start = c .before .before .before .before .before .before .before in
+    let loop = c .before .before .before .before .loop in
+    let loop-test = c .before .before .before .loop-test in
+    let field-of = c .before .before .field-of in
+    let s = now (start .args .s) in let spn = start .args .spn in let j = start .args .j in
+    let e = told s spn j (loop .k) (field-of .result) (c .before .is-number .result) false (field-of .ensures) (c .before .is-number .ensures) (c .if1 .left) in
+    (omega (arith, loop-test .taken), first-turn (carries s spn j) (loop .k) ∙ (rw (loop .inv .1, e)))
 
 returns-2 : tie.Need-returns-2 Inv-loop μ-loop
 unfolding spn-field
-returns-2 c = let e : length (pgn-at (packOf (now (c .before .before .before .before .args .s))) 1 (c .before .before .before .before .args .j) .fields) ≡ c .before .loop .k = omega (arith, c .before .before .before .before .pre .1, c .before .loop .inv .0, c .loop-test .left) in sym (ap (firstBelow (carries (now (c .before .before .before .before .args .s)) (c .before .before .before .before .args .spn) (c .before .before .before .before .args .j))) e ∙ c .before .loop .inv .1)
+returns-2 c =
+    let start = c .before .before .before .before in
+    let s = now (start .args .s) in let j = start .args .j in
+    let e : length (pgn-at (packOf s) 1 j .fields) ≡ c .before .loop .k = omega (arith, start .pre .1, c .before .loop .inv .0, c .loop-test .left) in
+    sym (ap (firstBelow (carries s (start .args .spn) j)) e ∙ c .before .loop .inv .1)
 
 pub spn-field-spec : {M : Type 1} → statement M
 spn-field-spec =

@@ -17,10 +17,17 @@ unfolding spn-field
 field-in s spn j h e = first-is (λ k. is-number (field-at (pgn-at (packOf s) 1 j) k .spn) spn) (length (pgn-at (packOf s) 1 j .fields)) h e .0
 
 field-of-requires : tie.Need-field-of-requires
-field-of-requires c κs = (c .before .before .pre .0 .at (c .before .before .pre .1), field-in (now (c .before .before .args .s)) (c .before .before .args .spn) (c .before .before .args .namer .pgn) (c .before .before .args .namer .field) (c .before .before .pre .0 .field (c .before .before .pre .1)))
+field-of-requires c κs =
+    let start = c .before .before in (
+      start .pre .0 .at (start .pre .1),
+      field-in (now (start .args .s)) (start .args .spn) (start .args .namer .pgn) (start .args .namer .field) (start .pre .0 .field (start .pre .1)),
+    )
 
 returns : tie.Need-returns
-returns c = name-is (now (c .before .before .before .before .args .s)) (now (c .before .before .before .before .args .work)) (c .before .before .before .before .args .spn) (c .before .before .before .before .args .namer) (c .before .before .before .before .pre .0) (c .before .before .before .before .pre .1) (c .before .field-of .result) (c .before .field-of .ensures)
+returns c =
+    let start = c .before .before .before .before in
+    name-is (now (start .args .s)) (now (start .args .work)) (start .args .spn) (start .args .namer) (start .pre .0) (start .pre .1)
+    (c .before .field-of .result) (c .before .field-of .ensures)
 
 pub spn-name-spec : {M : Type 1} → statement M
 spn-name-spec = tie.close (tie.spec field-of-requires returns)

@@ -19,34 +19,83 @@ abbrev μ-loop : tie.MeasureT-loop
 μ-loop s work spn count best₀ p₀ j₀ best p j = count - j
 
 loop-holds : tie.Need-loop-holds Inv-loop μ-loop
-loop-holds c = (omega arith, omega (arith, c .before .before .pre .2), record { least = refl; at = λ e. absurd (false≢true e); field = λ e. absurd (false≢true e); number = λ e. absurd (false≢true e) })
+loop-holds c = (
+  omega arith,
+  omega (arith, c .before .before .pre .2),
+  record { least = refl; at = λ e. absurd (false≢true e); field = λ e. absurd (false≢true e); number = λ e. absurd (false≢true e) },
+)
 
 pgn-of-requires : tie.Need-pgn-of-requires Inv-loop μ-loop
-pgn-of-requires c κs = (at-pgn {t = 1} (c .before .before .before .before .pre .0) (omega arith) (omega (arith, c .before .before .before .before .pre .1)) (c .loop-test .taken) (c .before .loop .inv .1))
+pgn-of-requires c κs =
+    let start = c .before .before .before .before in
+    (at-pgn {t = 1} (start .pre .0) (omega (arith, c)) (omega (arith, start .pre .1)) (c .loop-test .taken) (c .before .loop .inv .1))
 
 better-requires : tie.Need-better-requires Inv-loop μ-loop
-better-requires c κs = (c .before .before .loop .inv .2, (at-pgn {t = 1} (c .before .before .before .before .before .pre .0) (omega arith) (omega (arith, c .before .before .before .before .before .pre .1)) (c .before .loop-test .taken) (c .before .before .loop .inv .1)), c .pgn-of .ensures)
+better-requires c κs =
+    let start = c .before .before .before .before .before in
+    let loop = c .before .before .loop in (
+      loop .inv .2,
+      (at-pgn {t = 1} (start .pre .0) (omega (arith, c)) (omega (arith, start .pre .1)) (c .before .loop-test .taken) (loop .inv .1)),
+      c .pgn-of .ensures,
+    )
 
 add-p : tie.Need-add-p Inv-loop μ-loop
-add-p c = omega (arith, fields-few (at-pgn {t = 1} (c .before .before .before .before .before .before .pre .0) (omega arith) (omega (arith, c .before .before .before .before .before .before .pre .1)) (c .before .before .loop-test .taken) (c .before .before .before .loop .inv .1)))
+add-p c =
+    let start = c .before .before .before .before .before .before in
+    let loop = c .before .before .before .loop in
+    omega
+    (arith, fields-few (at-pgn {t = 1} (start .pre .0) (omega (arith, c)) (omega (arith, start .pre .1)) (c .before .before .loop-test .taken) (loop .inv .1)))
 
 cast-p : tie.Need-cast-p Inv-loop μ-loop
-cast-p c = omega (arith, fields-few (at-pgn {t = 1} (c .before .before .before .before .before .before .before .pre .0) (omega arith) (omega (arith, c .before .before .before .before .before .before .before .pre .1)) (c .before .before .before .loop-test .taken) (c .before .before .before .before .loop .inv .1)), c .before .before .pgn-of .ensures .fields)
+cast-p c =
+    let start = c .before .before .before .before .before .before .before in
+    let loop = c .before .before .before .before .loop in
+    let loop-test = c .before .before .before .loop-test in
+    omega (
+      arith,
+      fields-few (at-pgn {t = 1} (start .pre .0) (omega (arith, c)) (omega (arith, start .pre .1)) (loop-test .taken) (loop .inv .1)),
+      c .before .before .pgn-of .ensures .fields,
+    )
 
 add-p-2 : tie.Need-add-p-2 Inv-loop μ-loop
-add-p-2 c = omega (arith, fields-few (at-pgn {t = 1} (c .before .before .before .before .before .before .before .pre .0) (omega arith) (omega (arith, c .before .before .before .before .before .before .before .pre .1)) (c .before .before .before .loop-test .taken) (c .before .before .before .before .loop .inv .1)), c .before .before .pgn-of .ensures .fields)
+add-p-2 c =
+    let start = c .before .before .before .before .before .before .before in
+    let loop = c .before .before .before .before .loop in
+    let loop-test = c .before .before .before .loop-test in
+    omega (
+      arith,
+      fields-few (at-pgn {t = 1} (start .pre .0) (omega (arith, c)) (omega (arith, start .pre .1)) (loop-test .taken) (loop .inv .1)),
+      c .before .before .pgn-of .ensures .fields,
+    )
 
 add-j : tie.Need-add-j Inv-loop μ-loop
-add-j c = omega (arith, pgns-few (at-pgn {t = 1} (c .before .before .before .before .before .before .before .pre .0) (omega arith) (omega (arith, c .before .before .before .before .before .before .before .pre .1)) (c .before .before .before .loop-test .taken) (c .before .before .before .before .loop .inv .1)))
+add-j c =
+    let start = c .before .before .before .before .before .before .before in
+    let loop = c .before .before .before .before .loop in
+    let loop-test = c .before .before .before .loop-test in
+    omega (arith, pgns-few (at-pgn {t = 1} (start .pre .0) (omega (arith, c)) (omega (arith, start .pre .1)) (loop-test .taken) (loop .inv .1)))
 
 loop-less : tie.Need-loop-less Inv-loop μ-loop
-loop-less c = omega (arith, c .before .before .before .loop-test .taken)
+loop-less c =
+    let loop-test = c .before .before .before .loop-test in
+    omega (arith, loop-test .taken)
 
 loop-again : tie.Need-loop-again Inv-loop μ-loop
-loop-again c = (omega (arith, c .before .before .before .loop-test .taken), omega (arith, pgn-place-next (packOf (now (c .before .before .before .before .before .before .before .args .s))) 1 (c .before .before .before .before .loop .j), c .before .before .pgn-of .ensures .fields, c .before .before .before .before .loop .inv .1), c .before .better .ensures)
+loop-again c =
+    let start = c .before .before .before .before .before .before .before in
+    let loop = c .before .before .before .before .loop in
+    let loop-test = c .before .before .before .loop-test in (
+      omega (arith, loop-test .taken),
+      omega (arith, pgn-place-next (packOf (now (start .args .s))) 1 (loop .j), c .before .before .pgn-of .ensures .fields, loop .inv .1),
+      c .before .better .ensures,
+    )
 
 returns : tie.Need-returns Inv-loop μ-loop
-returns c = let e : length (packOf (now (c .before .before .before .before .args .s)) .pgns-j1939) ≡ c .before .loop .j = omega (arith, c .before .before .before .before .pre .1, c .before .loop .inv .0, c .loop-test .left) in rw e (c .before .loop .inv .2)
+returns c =
+    let start = c .before .before .before .before in
+    let e : length (packOf (now (start .args .s)) .pgns-j1939) ≡ c .before .loop .j =
+    omega (arith, start .pre .1, c .before .loop .inv .0, c .loop-test .left) in
+    rw e (c .before .loop .inv .2)
 
 pub spn-pgn-spec : {M : Type 1} → statement M
 spn-pgn-spec =

@@ -29,27 +29,54 @@ loop-holds : tie.Need-loop-holds Inv-loop μ-loop
 loop-holds c = (omega arith, refl, emitted-none _ _)
 
 field-of-requires : tie.Need-field-of-requires Inv-loop μ-loop
-field-of-requires c κs = (c .before .before .before .before .before .before .pre .1, omega (arith, c .if1 .taken, c .before .before .before .before .before .before .pre .3 .fields))
+field-of-requires c κs =
+    let start = c .before .before .before .before .before .before in
+    (start .pre .1, omega (arith, c .if1 .taken, start .pre .3 .fields))
 
 spn-at-requires : tie.Need-spn-at-requires Inv-loop μ-loop
 unfolding check-scalings
-spn-at-requires c κs = (fits-turn (of-field (now (c .before .before .before .before .before .before .before .before .args .s)) (c .before .before .before .before .before .before .before .before .args .i)) (c .before .before .before .before .before .before .before .before .args .g .fields) (c .before .before .before .before .loop .k) (c .before .before .if1 .taken) (rw (← c .before .before .before .before .before .before .before .before .pre .3 .fields) at (c .before .before .before .before .before .before .before .before .pre .0)) (c .before .before .before .before .loop .inv .2), c .before .before .before .before .before .before .before .before .pre .1 .ready, c .before .before .before .before .before .before .before .before .pre .2, c .before .before .before .before .before .before .before .before .pre .1 .pgn, omega (arith, c .before .before .if1 .taken, c .before .before .before .before .before .before .before .before .pre .3 .fields), c .before .field-of .ensures)
+spn-at-requires c κs =
+    let start = c .before .before .before .before .before .before .before .before in
+    let loop = c .before .before .before .before .loop in
+    let if1 = c .before .before .if1 in (
+      fits-turn (of-field (now (start .args .s)) (start .args .i)) (start .args .g .fields) (loop .k) (if1 .taken)
+          (rw (← start .pre .3 .fields) at (start .pre .0)) (loop .inv .2),
+      start .pre .1 .ready,
+      start .pre .2,
+      start .pre .1 .pgn,
+      omega (arith, if1 .taken, start .pre .3 .fields),
+      c .before .field-of .ensures,
+    )
 
 add-k : tie.Need-add-k Inv-loop μ-loop
-add-k c = omega (arith, c .before .before .before .before .before .before .struct-known .given)
+add-k c =
+    let struct-known = c .before .before .before .before .before .before .struct-known in
+    omega (arith, struct-known .given)
 
 loop-less : tie.Need-loop-less Inv-loop μ-loop
 loop-less c = search needs
 
 loop-again : tie.Need-loop-again Inv-loop μ-loop
-loop-again c = (omega (arith, c .before .before .before .before .before .if1 .taken), c .before .before .spn-at .kept .0 ∙ c .before .before .before .before .before .before .before .loop .inv .1, emitted-turn (of-field (now (c .before .before .before .before .before .before .before .before .before .before .before .args .s)) (c .before .before .before .before .before .before .before .before .before .before .before .args .i)) (c .before .before .before .before .before .before .before .loop .k) (c .before .before .before .before .before .before .before .loop .inv .2) (c .before .before .spn-at .ensures))
+loop-again c =
+    let start = c .before .before .before .before .before .before .before .before .before .before .before in
+    let loop = c .before .before .before .before .before .before .before .loop in
+    let if1 = c .before .before .before .before .before .if1 in
+    let spn-at-call = c .before .before .spn-at in (
+      omega (arith, if1 .taken),
+      spn-at-call .kept .0 ∙ loop .inv .1,
+      emitted-turn (of-field (now (start .args .s)) (start .args .i)) (loop .k) (loop .inv .2) (spn-at-call .ensures),
+    )
 
 same-length : tie.Need-same-length Inv-loop μ-loop
 same-length c = search needs
 
 returns : tie.Need-returns Inv-loop μ-loop
 unfolding check-scalings
-returns c = let e : c .before .before .loop .k ≡ length (pgn-at (packOf (now (c .before .before .before .before .before .before .args .s))) 1 (c .before .before .before .before .before .before .args .i) .fields) = omega (arith, c .before .before .before .before .before .before .pre .3 .fields) in rw (← e) (c .before .before .loop .inv .2)
+returns c =
+    let start = c .before .before .before .before .before .before in
+    let loop = c .before .before .loop in
+    let e : loop .k ≡ length (pgn-at (packOf (now (start .args .s))) 1 (start .args .i) .fields) = omega (arith, start .pre .3 .fields) in
+    rw (← e) (loop .inv .2)
 
 pub check-scalings-spec : {M : Type 1} → statement M
 check-scalings-spec =

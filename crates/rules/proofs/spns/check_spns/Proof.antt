@@ -28,8 +28,14 @@ section-requires c κs = search needs
 elsewhere-requires : tie.Need-elsewhere-requires
 unfolding check-spns
 elsewhere-requires c κs =
-    let P = packOf (now (c .before .before .before .before .before .args .s)) in
-    (fits-left (elsewhere-in P 0) (elsewhere-in P 2) (fits-left (elsewhere-in P 0 ++ elsewhere-in P 2) (scalings-in P) (c .before .before .before .before .before .pre .0)), c .before .before .before .before .before .pre .1, omega arith, ap (λ (x : Section). x .count) (c .section .ensures) ∙ c .before .before .before .before .before .pre .2 .trees 0 (omega arith), ap (λ (x : Section). x .place) (c .section .ensures) ∙ c .before .before .before .before .before .pre .2 .trees-place 0 (omega arith))
+    let start = c .before .before .before .before .before in
+    let P = packOf (now (start .args .s)) in (
+      fits-left (elsewhere-in P 0) (elsewhere-in P 2) (fits-left (elsewhere-in P 0 ++ elsewhere-in P 2) (scalings-in P) (start .pre .0)),
+      start .pre .1,
+      omega (arith, c),
+      ap (λ (x : Section). x .count) (c .section .ensures) ∙ start .pre .2 .trees 0 (omega (arith, c)),
+      ap (λ (x : Section). x .place) (c .section .ensures) ∙ start .pre .2 .trees-place 0 (omega (arith, c)),
+    )
 
 section-requires-2 : tie.Need-section-requires-2
 section-requires-2 c κs = search needs
@@ -37,8 +43,15 @@ section-requires-2 c κs = search needs
 elsewhere-requires-2 : tie.Need-elsewhere-requires-2
 unfolding check-spns
 elsewhere-requires-2 c κs =
-    let P = packOf (now (c .before .before .before .before .before .before .before .before .before .before .args .s)) in
-    (fits-right (elsewhere-in P 0) (elsewhere-in P 2) (fits-left (elsewhere-in P 0 ++ elsewhere-in P 2) (scalings-in P) (c .before .before .before .before .before .before .before .before .before .before .pre .0)) (c .before .before .before .before .elsewhere .ensures), c .before .before .before .before .before .before .before .before .before .before .pre .1, omega arith, ap (λ (x : Section). x .count) (c .section2 .ensures) ∙ c .before .before .before .before .before .before .before .before .before .before .pre .2 .trees 2 (omega arith), ap (λ (x : Section). x .place) (c .section2 .ensures) ∙ c .before .before .before .before .before .before .before .before .before .before .pre .2 .trees-place 2 (omega arith))
+    let start = c .before .before .before .before .before .before .before .before .before .before in
+    let elsewhere = c .before .before .before .before .elsewhere in
+    let P = packOf (now (start .args .s)) in (
+      fits-right (elsewhere-in P 0) (elsewhere-in P 2) (fits-left (elsewhere-in P 0 ++ elsewhere-in P 2) (scalings-in P) (start .pre .0)) (elsewhere .ensures),
+      start .pre .1,
+      omega (arith, c),
+      ap (λ (x : Section). x .count) (c .section2 .ensures) ∙ start .pre .2 .trees 2 (omega (arith, c)),
+      ap (λ (x : Section). x .place) (c .section2 .ensures) ∙ start .pre .2 .trees-place 2 (omega (arith, c)),
+    )
 
 section-requires-3 : tie.Need-section-requires-3
 section-requires-3 c κs = search needs
@@ -46,8 +59,17 @@ section-requires-3 c κs = search needs
 scalings-requires : tie.Need-scalings-requires
 unfolding check-spns
 scalings-requires c κs =
-    let P = packOf (now (c .before .before .before .before .before .before .before .before .before .before .before .before .before .before .before .args .s)) in
-    (fits-right (elsewhere-in P 0 ++ elsewhere-in P 2) (scalings-in P) (c .before .before .before .before .before .before .before .before .before .before .before .before .before .before .before .pre .0) (emitted-append {xs = elsewhere-in P 0} {ys = elsewhere-in P 2} (c .before .before .before .before .before .before .before .before .before .elsewhere .ensures) (c .before .before .before .before .elsewhere2 .ensures)), c .before .before .before .before .before .before .before .before .before .before .before .before .before .before .before .pre .1, ap (λ (x : Section). x .count) (c .section3 .ensures) ∙ c .before .before .before .before .before .before .before .before .before .before .before .before .before .before .before .pre .2 .trees 1 (omega arith), ap (λ (x : Section). x .place) (c .section3 .ensures) ∙ c .before .before .before .before .before .before .before .before .before .before .before .before .before .before .before .pre .2 .trees-place 1 (omega arith))
+    let back12 = c .before .before .before .before .before .before .before .before .before .before .before .before in
+    let start = back12 .before .before .before in
+    let elsewhere = c .before .before .before .before .before .before .before .before .before .elsewhere in
+    let elsewhere2 = c .before .before .before .before .elsewhere2 in
+    let P = packOf (now (start .args .s)) in (
+      fits-right (elsewhere-in P 0 ++ elsewhere-in P 2) (scalings-in P) (start .pre .0)
+          (emitted-append {xs = elsewhere-in P 0} {ys = elsewhere-in P 2} (elsewhere .ensures) (elsewhere2 .ensures)),
+      start .pre .1,
+      ap (λ (x : Section). x .count) (c .section3 .ensures) ∙ start .pre .2 .trees 1 (omega (arith, c)),
+      ap (λ (x : Section). x .place) (c .section3 .ensures) ∙ start .pre .2 .trees-place 1 (omega (arith, c)),
+    )
 
 same-length : tie.Need-same-length
 same-length c = search needs
@@ -55,8 +77,13 @@ same-length c = search needs
 returns : tie.Need-returns
 unfolding check-spns
 returns c =
-    let P = packOf (now (c .before .before .before .before .before .before .before .before .before .before .before .before .before .before .before .before .before .before .args .s)) in
-    emitted-append {xs = elsewhere-in P 0 ++ elsewhere-in P 2} {ys = scalings-in P} (emitted-append {xs = elsewhere-in P 0} {ys = elsewhere-in P 2} (c .before .before .before .before .before .before .before .before .before .before .before .before .elsewhere .ensures) (c .before .before .before .before .before .before .before .elsewhere2 .ensures)) (c .before .before .scalings .ensures)
+    let back12 = c .before .before .before .before .before .before .before .before .before .before .before .before in
+    let start = back12 .before .before .before .before .before .before in
+    let elsewhere = c .before .before .before .before .before .before .before .before .before .before .before .before .elsewhere in
+    let elsewhere2 = c .before .before .before .before .before .before .before .elsewhere2 in
+    let P = packOf (now (start .args .s)) in
+    emitted-append {xs = elsewhere-in P 0 ++ elsewhere-in P 2} {ys = scalings-in P}
+    (emitted-append {xs = elsewhere-in P 0} {ys = elsewhere-in P 2} (elsewhere .ensures) (elsewhere2 .ensures)) (c .before .before .scalings .ensures)
 
 pub check-spns-spec : {M : Type 1} → statement M
 check-spns-spec =

@@ -30,15 +30,18 @@ carries P spn j h = is-number (field-at (pgn-at P 1 j) h .spn) spn
 abbrev carried : Pack → ℕ → ℕ → Bool
 carried P spn j = given (spn-field (getD (pgns-of P 1) j noPgn) spn)
 
-told : (P : Pack) (s : List ℕ) (spn j h : ℕ) (v : FieldView) (b d : Bool) → fieldMeaning s v ≡ field-at (pgn-at P 1 j) h → b ≡ is-number (optNumber (v .authored .spn)) spn → b ≡ d → carries P spn j h ≡ d
+told : (P : Pack) (s : List ℕ) (spn j h : ℕ) (v : FieldView) (b d : Bool) → fieldMeaning s v ≡ field-at (pgn-at P 1 j) h
+    → b ≡ is-number (optNumber (v .authored .spn)) spn → b ≡ d → carries P spn j h ≡ d
 told P s spn j h v b d is e t = ap (λ (F : Field). is-number (F .spn) spn) (sym is) ∙ sym e ∙ t
 
-missed : (P : Pack) (spn j n h : ℕ) → n ≡ length (pgn-at P 1 j .fields) → h ≤ n → n ≤ h → firstBelow (carries P spn j) h ≡ none → spn-field (pgn-at P 1 j) spn ≡ none
+missed : (P : Pack) (spn j n h : ℕ) → n ≡ length (pgn-at P 1 j .fields) → h ≤ n → n ≤ h → firstBelow (carries P spn j) h ≡ none
+    → spn-field (pgn-at P 1 j) spn ≡ none
 unfolding spn-field
 missed P spn j n h e u v m = let q : length (pgn-at P 1 j .fields) ≡ h = omega arith in ap (firstBelow (carries P spn j)) q ∙ m
 
 -- PGN i carries it, so the search does not go beyond
-before : (P : Pack) (spn i k j : ℕ) → k < length (pgn-at P 1 i .fields) → field-at (pgn-at P 1 i) k .spn ≡ some spn → j ≤ i → spn-field (pgn-at P 1 j) spn ≡ none → j < i
+before : (P : Pack) (spn i k j : ℕ) → k < length (pgn-at P 1 i .fields) → field-at (pgn-at P 1 i) k .spn ≡ some spn → j ≤ i
+    → spn-field (pgn-at P 1 j) spn ≡ none → j < i
 unfolding spn-field
 before P spn i k j h e l m = go (ℕ-discrete j i)
   where
@@ -49,11 +52,13 @@ before P spn i k j h e l m = go (ℕ-discrete j i)
         absurd (false≢true (sym (first-misses (carries P spn i) (length (pgn-at P 1 i .fields)) u k h) ∙ hit))
     go (no q) = omega arith
 
-found : (P : Pack) (spn j h n : ℕ) → n ≡ length (pgn-at P 1 j .fields) → h < n → firstBelow (carries P spn j) h ≡ none → carries P spn j h ≡ true → spn-field (pgn-at P 1 j) spn ≡ some h
+found : (P : Pack) (spn j h n : ℕ) → n ≡ length (pgn-at P 1 j .fields) → h < n → firstBelow (carries P spn j) h ≡ none → carries P spn j h ≡ true
+    → spn-field (pgn-at P 1 j) spn ≡ some h
 unfolding spn-field
 found P spn j h n e l m t = first-hit (carries P spn j) (length (pgn-at P 1 j .fields)) h (omega arith) m t
 
-seen-first : (P : Pack) (spn j h : ℕ) → j < length (pgns-of P 1) → firstBelow (carried P spn) j ≡ none → spn-field (pgn-at P 1 j) spn ≡ some h → first-seen (pgns-of P 1) spn ≡ some j
+seen-first : (P : Pack) (spn j h : ℕ) → j < length (pgns-of P 1) → firstBelow (carried P spn) j ≡ none → spn-field (pgn-at P 1 j) spn ≡ some h
+    → first-seen (pgns-of P 1) spn ≡ some j
 unfolding first-seen
 seen-first P spn j h l m e = first-hit (carried P spn) (length (pgns-of P 1)) j l m (ap given e)
 
@@ -67,7 +72,8 @@ abbrev μ-loop : tie.MeasureT-loop
 μ-loop s work first i k spn pgn place field₀ g field = g .fields - field
 
 abbrev Inv-search : tie.InvT-search
-Inv-search s work first i k spn pgn₀ place₀ field₀ pgn place field = (field ≡ 0) × (pgn ≤ i) × (place ≡ pgnPlace (packOf s) 1 pgn) × (firstBelow (carried (packOf s) spn) pgn ≡ none)
+Inv-search s work first i k spn pgn₀ place₀ field₀ pgn place field =
+    (field ≡ 0) × (pgn ≤ i) × (place ≡ pgnPlace (packOf s) 1 pgn) × (firstBelow (carried (packOf s) spn) pgn ≡ none)
 
 abbrev μ-search : tie.MeasureT-search
 μ-search s work first i k spn pgn₀ place₀ field₀ pgn place field = i - pgn
@@ -76,60 +82,113 @@ search-holds : tie.Need-search-holds Inv-loop μ-loop Inv-search μ-search
 search-holds c = (refl, omega arith, omega (arith, c .before .before .pre .1), refl)
 
 pgn-of-requires : tie.Need-pgn-of-requires Inv-loop μ-loop Inv-search μ-search
-pgn-of-requires c κs = here (c .before .before .before .pre .0) (c .before .before .before .pre .2) (c .search .inv .1) (c .search .inv .2)
+pgn-of-requires c κs =
+    let start = c .before .before .before in
+    here (start .pre .0) (start .pre .2) (c .search .inv .1) (c .search .inv .2)
 
 loop-holds : tie.Need-loop-holds Inv-loop μ-loop Inv-search μ-search
 loop-holds c = (omega (arith, c .before .search .inv .0), rw (c .before .search .inv .0))
 
 field-of-requires : tie.Need-field-of-requires Inv-loop μ-loop Inv-search μ-search
-field-of-requires c κs = (here (c .before .before .before .before .before .before .before .pre .0) (c .before .before .before .before .before .before .before .pre .2) (c .before .before .before .before .search .inv .1) (c .before .before .before .before .search .inv .2), omega (arith, c .if1 .taken, c .before .before .before .pgn-of .ensures .fields))
+field-of-requires c κs =
+    let start = c .before .before .before .before .before .before .before in
+    let search-here = c .before .before .before .before .search in
+    let pgn-of = c .before .before .before .pgn-of in
+    (here (start .pre .0) (start .pre .2) (search-here .inv .1) (search-here .inv .2), omega (arith, c .if1 .taken, pgn-of .ensures .fields))
 
 is-number-requires : tie.Need-is-number-requires Inv-loop μ-loop Inv-search μ-search
 is-number-requires c κs = search needs
 
 add-field : tie.Need-add-field Inv-loop μ-loop Inv-search μ-search
-add-field c = omega (arith, c .before .before .before .before .struct-known .given)
+add-field c =
+    let struct-known = c .before .before .before .before .struct-known in
+    omega (arith, struct-known .given)
 
 loop-less : tie.Need-loop-less Inv-loop μ-loop Inv-search μ-search
 loop-less c = search needs
 
 loop-again : tie.Need-loop-again Inv-loop μ-loop Inv-search μ-search
 loop-again c =
-    let P = packOf (now (c .before .before .before .before .before .before .before .before .before .before .args .s)) in
-    let e = told P (now (c .before .before .before .before .before .before .before .before .before .before .args .s)) (c .before .before .before .before .before .before .before .before .before .before .args .spn) (c .before .before .before .before .before .before .before .search .pgn) (c .before .before .before .before .before .loop .field) (c .before .before .field-of .result) (c .before .is-number .result) false (c .before .before .field-of .ensures) (c .before .is-number .ensures) (c .if2 .left) in
-    (omega (arith, c .before .before .before .if1 .taken), first-turn (carries P (c .before .before .before .before .before .before .before .before .before .before .args .spn) (c .before .before .before .before .before .before .before .search .pgn)) (c .before .before .before .before .before .loop .field) ∙ (rw (c .before .before .before .before .before .loop .inv .1, e)))
+    let start = c .before .before .before .before .before .before .before .before .before .before in
+    let search-here = c .before .before .before .before .before .before .before .search in
+    let loop = c .before .before .before .before .before .loop in
+    let if1 = c .before .before .before .if1 in
+    let field-of = c .before .before .field-of in
+    let s = now (start .args .s) in let spn = start .args .spn in
+    let P = packOf s in
+    let e = told P s spn (search-here .pgn) (loop .field) (field-of .result) (c .before .is-number .result) false (field-of .ensures)
+    (c .before .is-number .ensures) (c .if2 .left) in
+    (omega (arith, if1 .taken), first-turn (carries P spn (search-here .pgn)) (loop .field) ∙ (rw (loop .inv .1, e)))
 
 add-place : tie.Need-add-place Inv-loop μ-loop Inv-search μ-search
-add-place c = omega (arith, fields-few (here (c .before .before .before .before .before .before .before .pre .0) (c .before .before .before .before .before .before .before .pre .2) (c .before .before .before .before .search .inv .1) (c .before .before .before .before .search .inv .2)))
+add-place c =
+    let start = c .before .before .before .before .before .before .before in
+    let search-here = c .before .before .before .before .search in
+    omega (arith, fields-few (here (start .pre .0) (start .pre .2) (search-here .inv .1) (search-here .inv .2)))
 
 cast-place : tie.Need-cast-place Inv-loop μ-loop Inv-search μ-search
-cast-place c = omega (arith, fields-few (here (c .before .before .before .before .before .before .before .before .pre .0) (c .before .before .before .before .before .before .before .before .pre .2) (c .before .before .before .before .before .search .inv .1) (c .before .before .before .before .before .search .inv .2)), c .before .before .before .before .pgn-of .ensures .fields)
+cast-place c =
+    let start = c .before .before .before .before .before .before .before .before in
+    let search-here = c .before .before .before .before .before .search in
+    let pgn-of = c .before .before .before .before .pgn-of in
+    omega (arith, fields-few (here (start .pre .0) (start .pre .2) (search-here .inv .1) (search-here .inv .2)), pgn-of .ensures .fields)
 
 add-place-2 : tie.Need-add-place-2 Inv-loop μ-loop Inv-search μ-search
-add-place-2 c = omega (arith, fields-few (here (c .before .before .before .before .before .before .before .before .pre .0) (c .before .before .before .before .before .before .before .before .pre .2) (c .before .before .before .before .before .search .inv .1) (c .before .before .before .before .before .search .inv .2)), c .before .before .before .before .pgn-of .ensures .fields)
+add-place-2 c =
+    let start = c .before .before .before .before .before .before .before .before in
+    let search-here = c .before .before .before .before .before .search in
+    let pgn-of = c .before .before .before .before .pgn-of in
+    omega (arith, fields-few (here (start .pre .0) (start .pre .2) (search-here .inv .1) (search-here .inv .2)), pgn-of .ensures .fields)
 
 add-pgn : tie.Need-add-pgn Inv-loop μ-loop Inv-search μ-search
-add-pgn c = omega (arith, pgns-few (here (c .before .before .before .before .before .before .before .before .pre .0) (c .before .before .before .before .before .before .before .before .pre .2) (c .before .before .before .before .before .search .inv .1) (c .before .before .before .before .before .search .inv .2)))
+add-pgn c =
+    let start = c .before .before .before .before .before .before .before .before in
+    let search-here = c .before .before .before .before .before .search in
+    omega (arith, pgns-few (here (start .pre .0) (start .pre .2) (search-here .inv .1) (search-here .inv .2)))
 
 search-less : tie.Need-search-less Inv-loop μ-loop Inv-search μ-search
 search-less c =
-    let P = packOf (now (c .before .before .before .before .before .before .before .before .args .s)) in
-    let e = missed P (c .before .before .before .before .before .before .before .before .args .spn) (c .before .before .before .before .before .search .pgn) (c .before .before .before .before .pgn-of .result .fields) (c .before .before .before .loop .field) (c .before .before .before .before .pgn-of .ensures .fields) (c .before .before .before .loop .inv .0) (c .before .if1 .left) (c .before .before .before .loop .inv .1) in
-    omega (arith, before P (c .before .before .before .before .before .before .before .before .args .spn) (c .before .before .before .before .before .before .before .before .args .i) (c .before .before .before .before .before .before .before .before .args .k) (c .before .before .before .before .before .search .pgn) (c .before .before .before .before .before .before .before .before .pre .3) (c .before .before .before .before .before .before .before .before .pre .4) (c .before .before .before .before .before .search .inv .1) e)
+    let start = c .before .before .before .before .before .before .before .before in
+    let search-here = c .before .before .before .before .before .search in
+    let pgn-of = c .before .before .before .before .pgn-of in
+    let loop = c .before .before .before .loop in
+    let spn = start .args .spn in
+    let P = packOf (now (start .args .s)) in
+    let e =
+    missed P spn (search-here .pgn) (pgn-of .result .fields) (loop .field) (pgn-of .ensures .fields) (loop .inv .0) (c .before .if1 .left) (loop .inv .1) in
+    omega (arith, before P spn (start .args .i) (start .args .k) (search-here .pgn) (start .pre .3) (start .pre .4) (search-here .inv .1) e)
 
 search-again : tie.Need-search-again Inv-loop μ-loop Inv-search μ-search
 search-again c =
-    let P = packOf (now (c .before .before .before .before .before .before .before .before .args .s)) in
-    let e = missed P (c .before .before .before .before .before .before .before .before .args .spn) (c .before .before .before .before .before .search .pgn) (c .before .before .before .before .pgn-of .result .fields) (c .before .before .before .loop .field) (c .before .before .before .before .pgn-of .ensures .fields) (c .before .before .before .loop .inv .0) (c .before .if1 .left) (c .before .before .before .loop .inv .1) in
-    (refl, omega (arith, before P (c .before .before .before .before .before .before .before .before .args .spn) (c .before .before .before .before .before .before .before .before .args .i) (c .before .before .before .before .before .before .before .before .args .k) (c .before .before .before .before .before .search .pgn) (c .before .before .before .before .before .before .before .before .pre .3) (c .before .before .before .before .before .before .before .before .pre .4) (c .before .before .before .before .before .search .inv .1) e), omega (arith, pgn-place-next P 1 (c .before .before .before .before .before .search .pgn), c .before .before .before .before .pgn-of .ensures .fields, c .before .before .before .before .before .search .inv .2), first-turn (carried P (c .before .before .before .before .before .before .before .before .args .spn)) (c .before .before .before .before .before .search .pgn) ∙ (rw (c .before .before .before .before .before .search .inv .3, e)))
+    let start = c .before .before .before .before .before .before .before .before in
+    let search-here = c .before .before .before .before .before .search in
+    let pgn-of = c .before .before .before .before .pgn-of in
+    let loop = c .before .before .before .loop in
+    let spn = start .args .spn in
+    let P = packOf (now (start .args .s)) in
+    let e =
+    missed P spn (search-here .pgn) (pgn-of .result .fields) (loop .field) (pgn-of .ensures .fields) (loop .inv .0) (c .before .if1 .left) (loop .inv .1) in (
+      refl,
+      omega (arith, before P spn (start .args .i) (start .args .k) (search-here .pgn) (start .pre .3) (start .pre .4) (search-here .inv .1) e),
+      omega (arith, pgn-place-next P 1 (search-here .pgn), pgn-of .ensures .fields, search-here .inv .2),
+      first-turn (carried P spn) (search-here .pgn) ∙ (rw (search-here .inv .3, e)),
+    )
 
 returns : tie.Need-returns Inv-loop μ-loop Inv-search μ-search
 returns c =
-    let P = packOf (now (c .before .before .before .before .before .before .before .before .before .before .args .s)) in
-    let hit = told P (now (c .before .before .before .before .before .before .before .before .before .before .args .s)) (c .before .before .before .before .before .before .before .before .before .before .args .spn) (c .before .before .before .before .before .before .before .search .pgn) (c .before .before .before .before .before .loop .field) (c .before .before .field-of .result) (c .before .is-number .result) true (c .before .before .field-of .ensures) (c .before .is-number .ensures) (c .if2 .taken) in
-    let e = found P (c .before .before .before .before .before .before .before .before .before .before .args .spn) (c .before .before .before .before .before .before .before .search .pgn) (c .before .before .before .before .before .loop .field) (c .before .before .before .before .before .before .pgn-of .result .fields) (c .before .before .before .before .before .before .pgn-of .ensures .fields) (c .before .before .before .if1 .taken) (c .before .before .before .before .before .loop .inv .1) hit in
-    let a = here (c .before .before .before .before .before .before .before .before .before .before .pre .0) (c .before .before .before .before .before .before .before .before .before .before .pre .2) (c .before .before .before .before .before .before .before .search .inv .1) (c .before .before .before .before .before .before .before .search .inv .2) in
-    (seen-first P (c .before .before .before .before .before .before .before .before .before .before .args .spn) (c .before .before .before .before .before .before .before .search .pgn) (c .before .before .before .before .before .loop .field) (a .pgn) (c .before .before .before .before .before .before .before .search .inv .3) e, e, a)
+    let start = c .before .before .before .before .before .before .before .before .before .before in
+    let search-here = c .before .before .before .before .before .before .before .search in
+    let pgn-of = c .before .before .before .before .before .before .pgn-of in
+    let loop = c .before .before .before .before .before .loop in
+    let if1 = c .before .before .before .if1 in
+    let field-of = c .before .before .field-of in
+    let s = now (start .args .s) in let spn = start .args .spn in
+    let P = packOf s in
+    let hit = told P s spn (search-here .pgn) (loop .field) (field-of .result) (c .before .is-number .result) true (field-of .ensures)
+    (c .before .is-number .ensures) (c .if2 .taken) in
+    let e = found P spn (search-here .pgn) (loop .field) (pgn-of .result .fields) (pgn-of .ensures .fields) (if1 .taken) (loop .inv .1) hit in
+    let a = here (start .pre .0) (start .pre .2) (search-here .inv .1) (search-here .inv .2) in
+    (seen-first P spn (search-here .pgn) (loop .field) (a .pgn) (search-here .inv .3) e, e, a)
 
 pub first-seen-spec : {M : Type 1} → statement M
 first-seen-spec =

@@ -66,8 +66,9 @@ returns c =
     let scaling-of2 = c .before .before .before .before .before .before .before .before .before .before .scaling-of2 in
     let if1 = c .before .before .before .before .before .before .before .if1 in
     let if2 = c .before .before .before .before .if2 in
-    of-views (now (start .args .s)) (start .args .v) (start .args .w) (scaling-of .result) (scaling-of2 .result) (scaling-of .ensures) (scaling-of2 .ensures) _
-    (by-unit (now (start .args .s)) (scaling-of .result) (scaling-of2 .result) (if1 .taken) (if2 .taken) (c .before .if3 .taken) _ (c .same-unit .ensures))
+    let s = now (start .args .s) in
+    of-views s (start .args .v) (start .args .w) (scaling-of .result) (scaling-of2 .result) (scaling-of .ensures) (scaling-of2 .ensures) _
+    (by-unit s (scaling-of .result) (scaling-of2 .result) (if1 .taken) (if2 .taken) (c .before .if3 .taken) _ (c .same-unit .ensures))
 
 returns-2 : tie.Need-returns-2
 returns-2 c =
@@ -76,8 +77,9 @@ returns-2 c =
     let scaling-of2 = c .before .before .before .before .before .before .before .before .before .scaling-of2 in
     let if1 = c .before .before .before .before .before .before .if1 in
     let if2 = c .before .before .before .if2 in
-    of-views (now (start .args .s)) (start .args .v) (start .args .w) (scaling-of .result) (scaling-of2 .result) (scaling-of .ensures) (scaling-of2 .ensures) _
-    (other-offset (now (start .args .s)) (scaling-of .result) (scaling-of2 .result) (if1 .taken) (if2 .taken) (c .if3 .left))
+    let s = now (start .args .s) in
+    of-views s (start .args .v) (start .args .w) (scaling-of .result) (scaling-of2 .result) (scaling-of .ensures) (scaling-of2 .ensures) _
+    (other-offset s (scaling-of .result) (scaling-of2 .result) (if1 .taken) (if2 .taken) (c .if3 .left))
 
 returns-3 : tie.Need-returns-3
 returns-3 c =
@@ -85,16 +87,18 @@ returns-3 c =
     let scaling-of = c .before .before .before .before .before .before .before .scaling-of in
     let scaling-of2 = c .before .before .before .before .before .before .scaling-of2 in
     let if1 = c .before .before .before .if1 in
-    of-views (now (start .args .s)) (start .args .v) (start .args .w) (scaling-of .result) (scaling-of2 .result) (scaling-of .ensures) (scaling-of2 .ensures) _
-    (other-resolution (now (start .args .s)) (scaling-of .result) (scaling-of2 .result) (if1 .taken) (c .if2 .left))
+    let s = now (start .args .s) in
+    of-views s (start .args .v) (start .args .w) (scaling-of .result) (scaling-of2 .result) (scaling-of .ensures) (scaling-of2 .ensures) _
+    (other-resolution s (scaling-of .result) (scaling-of2 .result) (if1 .taken) (c .if2 .left))
 
 returns-4 : tie.Need-returns-4
 returns-4 c =
     let start = c .before .before .before .before .before .before in
     let scaling-of = c .before .before .before .before .scaling-of in
     let scaling-of2 = c .before .before .before .scaling-of2 in
-    of-views (now (start .args .s)) (start .args .v) (start .args .w) (scaling-of .result) (scaling-of2 .result) (scaling-of .ensures) (scaling-of2 .ensures) _
-    (other-width (now (start .args .s)) (scaling-of .result) (scaling-of2 .result) (c .if1 .left))
+    let s = now (start .args .s) in
+    of-views s (start .args .v) (start .args .w) (scaling-of .result) (scaling-of2 .result) (scaling-of .ensures) (scaling-of2 .ensures) _
+    (other-width s (scaling-of .result) (scaling-of2 .result) (c .if1 .left))
 
 pub same-scaling-spec : {M : Type 1} → statement M
 same-scaling-spec =

@@ -25,7 +25,9 @@ returns-2 : tie.Need-returns-2
 returns-2 c = search needs
 
 returns-3 : tie.Need-returns-3
-returns-3 c = rw (c .before .if1 .left) (neither (c .before .before .before .args .b .given) (bytesOf (now (c .before .before .before .args .s)) (c .before .before .before .args .b .text)))
+returns-3 c =
+    let start = c .before .before .before in
+    rw (c .before .if1 .left) (neither (start .args .b .given) (bytesOf (now (start .args .s)) (start .args .b .text)))
 
 pub same-unit-spec : {M : Type 1} → statement M
 same-unit-spec = tie.close (tie.spec same-text-requires returns returns-2 returns-3)

@@ -25,7 +25,8 @@ module _ (s : List ℕ) (pgns : List Pgn) (i k : ℕ) (F : Field) (f : FieldView
   unfolding spn-at
   beyond e h X q = rw (← is, e, lt-ltb _ _ h, q)
 
-  within : f .authored .spn .given ≡ true → f .authored .spn .value ≤ 524287 → spn-at pgns i k (F .spn) ≡ unlike-first pgns i k (f .authored .spn .value) (first-seen pgns (f .authored .spn .value))
+  within : f .authored .spn .given ≡ true → f .authored .spn .value ≤ 524287
+      → spn-at pgns i k (F .spn) ≡ unlike-first pgns i k (f .authored .spn .value) (first-seen pgns (f .authored .spn .value))
   unfolding spn-at
   within e h = rw (← is, e, le-ltb _ _ h)
 
@@ -33,25 +34,59 @@ pgn-error-requires : tie.Need-pgn-error-requires
 pgn-error-requires c κs = search needs
 
 put-requires : tie.Need-put-requires
-put-requires c κs = rw (beyond (now (c .before .before .before .before .before .before .before .before .before .args .s)) (pgns-of (packOf (now (c .before .before .before .before .before .before .before .before .before .args .s))) 1) (c .before .before .before .before .before .before .before .before .before .args .i) (c .before .before .before .before .before .before .before .before .before .args .k) _ (c .before .before .before .before .before .before .before .before .before .args .f) (c .before .before .before .before .before .before .before .before .before .pre .5) (c .before .before .before .before .if1 .taken) (c .before .before .if2 .taken) (c .pgn-error .result) (c .pgn-error .ensures)) at (c .before .before .before .before .before .before .before .before .before .pre .0)
+put-requires c κs =
+    let start = c .before .before .before .before .before .before .before .before .before in
+    let if1 = c .before .before .before .before .if1 in
+    let s = now (start .args .s) in
+    rw (beyond s (pgns-of (packOf s) 1) (start .args .i) (start .args .k) _ (start .args .f) (start .pre .5) (if1 .taken) (c .before .before .if2 .taken)
+    (c .pgn-error .result) (c .pgn-error .ensures)) at (start .pre .0)
 
 same-length : tie.Need-same-length
 same-length c = search needs
 
 returns : tie.Need-returns
-returns c = rw (beyond (now (c .before .before .before .before .before .before .before .before .before .before .before .before .args .s)) (pgns-of (packOf (now (c .before .before .before .before .before .before .before .before .before .before .before .before .args .s))) 1) (c .before .before .before .before .before .before .before .before .before .before .before .before .args .i) (c .before .before .before .before .before .before .before .before .before .before .before .before .args .k) _ (c .before .before .before .before .before .before .before .before .before .before .before .before .args .f) (c .before .before .before .before .before .before .before .before .before .before .before .before .pre .5) (c .before .before .before .before .before .before .before .if1 .taken) (c .before .before .before .before .before .if2 .taken) (c .before .before .before .pgn-error .result) (c .before .before .before .pgn-error .ensures)) (c .before .before .put .ensures)
+returns c =
+    let start = c .before .before .before .before .before .before .before .before .before .before .before .before in
+    let if1 = c .before .before .before .before .before .before .before .if1 in
+    let if2 = c .before .before .before .before .before .if2 in
+    let pgn-error-call = c .before .before .before .pgn-error in
+    let s = now (start .args .s) in
+    rw (beyond s (pgns-of (packOf s) 1) (start .args .i) (start .args .k) _ (start .args .f) (start .pre .5) (if1 .taken) (if2 .taken) (pgn-error-call .result)
+    (pgn-error-call .ensures)) (c .before .before .put .ensures)
 
 unlike-first-requires : tie.Need-unlike-first-requires
-unlike-first-requires c κs = (rw (within (now (c .before .before .before .before .before .before .before .before .args .s)) (pgns-of (packOf (now (c .before .before .before .before .before .before .before .before .args .s))) 1) (c .before .before .before .before .before .before .before .before .args .i) (c .before .before .before .before .before .before .before .before .args .k) _ (c .before .before .before .before .before .before .before .before .args .f) (c .before .before .before .before .before .before .before .before .pre .5) (c .before .before .before .if1 .taken) (c .before .if2 .left)) at (c .before .before .before .before .before .before .before .before .pre .0), c .before .before .before .before .before .before .before .before .pre .1, c .before .before .before .before .before .before .before .before .pre .2, c .before .before .before .before .before .before .before .before .pre .3, c .before .before .before .before .before .before .before .before .pre .4, c .before .before .before .before .before .before .before .before .pre .5, c .before .before .before .if1 .taken)
+unlike-first-requires c κs =
+    let start = c .before .before .before .before .before .before .before .before in
+    let if1 = c .before .before .before .if1 in
+    let s = now (start .args .s) in (
+      rw (within s (pgns-of (packOf s) 1) (start .args .i) (start .args .k) _ (start .args .f) (start .pre .5) (if1 .taken) (c .before .if2 .left)) at
+          (start .pre .0),
+      start .pre .1,
+      start .pre .2,
+      start .pre .3,
+      start .pre .4,
+      start .pre .5,
+      if1 .taken,
+    )
 
 same-length-2 : tie.Need-same-length-2
 same-length-2 c = search needs
 
 returns-2 : tie.Need-returns-2
-returns-2 c = rw (within (now (c .before .before .before .before .before .before .before .before .before .before .before .args .s)) (pgns-of (packOf (now (c .before .before .before .before .before .before .before .before .before .before .before .args .s))) 1) (c .before .before .before .before .before .before .before .before .before .before .before .args .i) (c .before .before .before .before .before .before .before .before .before .before .before .args .k) _ (c .before .before .before .before .before .before .before .before .before .before .before .args .f) (c .before .before .before .before .before .before .before .before .before .before .before .pre .5) (c .before .before .before .before .before .before .if1 .taken) (c .before .before .before .before .if2 .left)) (c .before .before .unlike-first .ensures)
+returns-2 c =
+    let start = c .before .before .before .before .before .before .before .before .before .before .before in
+    let if1 = c .before .before .before .before .before .before .if1 in
+    let if2 = c .before .before .before .before .if2 in
+    let s = now (start .args .s) in
+    rw (within s (pgns-of (packOf s) 1) (start .args .i) (start .args .k) _ (start .args .f) (start .pre .5) (if1 .taken) (if2 .left))
+    (c .before .before .unlike-first .ensures)
 
 returns-3 : tie.Need-returns-3
-returns-3 c = rw (absent (now (c .before .before .before .before .before .args .s)) (pgns-of (packOf (now (c .before .before .before .before .before .args .s))) 1) (c .before .before .before .before .before .args .i) (c .before .before .before .before .before .args .k) _ (c .before .before .before .before .before .args .f) (c .before .before .before .before .before .pre .5) (c .if1 .left)) (emitted-none (now (c .before .before .before .before .before .args .out)) (c .before .before .before .before .before .args .n))
+returns-3 c =
+    let start = c .before .before .before .before .before in
+    let s = now (start .args .s) in
+    rw (absent s (pgns-of (packOf s) 1) (start .args .i) (start .args .k) _ (start .args .f) (start .pre .5) (c .if1 .left))
+    (emitted-none (now (start .args .out)) (start .args .n))
 
 pub spn-at-spec : {M : Type 1} → statement M
 spn-at-spec =

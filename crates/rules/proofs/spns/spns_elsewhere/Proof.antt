@@ -23,9 +23,11 @@ use Rattle.rules.proofs.spns.spns_elsewhere.Tie as tie
 abbrev of-field : List ℕ → ℕ → ℕ → ℕ → List Finding
 of-field s t i k = report-if (given (field-at (pgn-at (packOf s) t i) k .spn)) (pgn-error 42 1 t i k 0)
 
-said : (s : List ℕ) (t i k : ℕ) (f : FieldView) (F : Finding) → fieldMeaning s f ≡ field-at (pgn-at (packOf s) t i) k → F ≡ pgn-error 42 1 t i k 0 → of-field s t i k ≡ report-if (f .authored .spn .given) F
+said : (s : List ℕ) (t i k : ℕ) (f : FieldView) (F : Finding) → fieldMeaning s f ≡ field-at (pgn-at (packOf s) t i) k → F ≡ pgn-error 42 1 t i k 0
+    → of-field s t i k ≡ report-if (f .authored .spn .given) F
 said s t i k f F is q =
-    let e : given (field-at (pgn-at (packOf s) t i) k .spn) ≡ f .authored .spn .given = ap (λ (X : Field). given (X .spn)) (sym is) ∙ given-is (f .authored .spn .given) (f .authored .spn .value) in
+    let e : given (field-at (pgn-at (packOf s) t i) k .spn) ≡ f .authored .spn .given =
+    ap (λ (X : Field). given (X .spn)) (sym is) ∙ given-is (f .authored .spn .given) (f .authored .spn .value) in
     rw (q, e)
 
 abbrev Inv-loop : tie.InvT-loop
@@ -38,30 +40,57 @@ loop-holds : tie.Need-loop-holds Inv-loop μ-loop
 loop-holds c = (omega arith, refl, emitted-none _ _)
 
 field-of-requires : tie.Need-field-of-requires Inv-loop μ-loop
-field-of-requires c κs = (c .before .before .before .before .before .before .pre .1, omega (arith, c .if1 .taken, c .before .before .before .before .before .before .pre .2 .fields))
+field-of-requires c κs =
+    let start = c .before .before .before .before .before .before in
+    (start .pre .1, omega (arith, c .if1 .taken, start .pre .2 .fields))
 
 pgn-error-requires : tie.Need-pgn-error-requires Inv-loop μ-loop
 pgn-error-requires c κs = search needs
 
 put-if-requires : tie.Need-put-if-requires Inv-loop μ-loop
 unfolding spns-elsewhere
-put-if-requires c κs = rw (said (now (c .before .before .before .before .before .before .before .before .before .args .s)) (c .before .before .before .before .before .before .before .before .before .args .t) (c .before .before .before .before .before .before .before .before .before .args .i) (c .before .before .before .before .before .loop .k) (c .before .before .field-of .result) (c .pgn-error .result) (c .before .before .field-of .ensures) (c .pgn-error .ensures)) at (fits-turn (of-field (now (c .before .before .before .before .before .before .before .before .before .args .s)) (c .before .before .before .before .before .before .before .before .before .args .t) (c .before .before .before .before .before .before .before .before .before .args .i)) (c .before .before .before .before .before .before .before .before .before .args .g .fields) (c .before .before .before .before .before .loop .k) (c .before .before .before .if1 .taken) (rw (← c .before .before .before .before .before .before .before .before .before .pre .2 .fields) at (c .before .before .before .before .before .before .before .before .before .pre .0)) (c .before .before .before .before .before .loop .inv .2))
+put-if-requires c κs =
+    let start = c .before .before .before .before .before .before .before .before .before in
+    let loop = c .before .before .before .before .before .loop in
+    let if1 = c .before .before .before .if1 in
+    let field-of = c .before .before .field-of in
+    let s = now (start .args .s) in let t = start .args .t in let i = start .args .i in
+    rw (said s t i (loop .k) (field-of .result) (c .pgn-error .result) (field-of .ensures) (c .pgn-error .ensures)) at
+    (fits-turn (of-field s t i) (start .args .g .fields) (loop .k) (if1 .taken) (rw (← start .pre .2 .fields) at (start .pre .0)) (loop .inv .2))
 
 add-k : tie.Need-add-k Inv-loop μ-loop
-add-k c = omega (arith, c .before .before .before .before .before .before .before .struct-known .given)
+add-k c =
+    let struct-known = c .before .before .before .before .before .before .before .struct-known in
+    omega (arith, struct-known .given)
 
 loop-less : tie.Need-loop-less Inv-loop μ-loop
 loop-less c = search needs
 
 loop-again : tie.Need-loop-again Inv-loop μ-loop
-loop-again c = (omega (arith, c .before .before .before .before .before .before .if1 .taken), c .before .before .put-if .kept .0 ∙ c .before .before .before .before .before .before .before .before .loop .inv .1, emitted-turn (of-field (now (c .before .before .before .before .before .before .before .before .before .before .before .before .args .s)) (c .before .before .before .before .before .before .before .before .before .before .before .before .args .t) (c .before .before .before .before .before .before .before .before .before .before .before .before .args .i)) (c .before .before .before .before .before .before .before .before .loop .k) (c .before .before .before .before .before .before .before .before .loop .inv .2) (rw (said (now (c .before .before .before .before .before .before .before .before .before .before .before .before .args .s)) (c .before .before .before .before .before .before .before .before .before .before .before .before .args .t) (c .before .before .before .before .before .before .before .before .before .before .before .before .args .i) (c .before .before .before .before .before .before .before .before .loop .k) (c .before .before .before .before .before .field-of .result) (c .before .before .before .pgn-error .result) (c .before .before .before .before .before .field-of .ensures) (c .before .before .before .pgn-error .ensures)) (c .before .before .put-if .ensures)))
+loop-again c =
+    let start = c .before .before .before .before .before .before .before .before .before .before .before .before in
+    let loop = c .before .before .before .before .before .before .before .before .loop in
+    let if1 = c .before .before .before .before .before .before .if1 in
+    let field-of = c .before .before .before .before .before .field-of in
+    let pgn-error-call = c .before .before .before .pgn-error in
+    let put-if = c .before .before .put-if in
+    let s = now (start .args .s) in let t = start .args .t in let i = start .args .i in (
+      omega (arith, if1 .taken),
+      put-if .kept .0 ∙ loop .inv .1,
+      emitted-turn (of-field s t i) (loop .k) (loop .inv .2)
+          (rw (said s t i (loop .k) (field-of .result) (pgn-error-call .result) (field-of .ensures) (pgn-error-call .ensures)) (put-if .ensures)),
+    )
 
 same-length : tie.Need-same-length Inv-loop μ-loop
 same-length c = search needs
 
 returns : tie.Need-returns Inv-loop μ-loop
 unfolding spns-elsewhere
-returns c = let e : c .before .before .loop .k ≡ length (pgn-at (packOf (now (c .before .before .before .before .before .before .args .s))) (c .before .before .before .before .before .before .args .t) (c .before .before .before .before .before .before .args .i) .fields) = omega (arith, c .before .before .before .before .before .before .pre .2 .fields) in rw (← e) (c .before .before .loop .inv .2)
+returns c =
+    let start = c .before .before .before .before .before .before in
+    let loop = c .before .before .loop in
+    let e : loop .k ≡ length (pgn-at (packOf (now (start .args .s))) (start .args .t) (start .args .i) .fields) = omega (arith, start .pre .2 .fields) in
+    rw (← e) (loop .inv .2)
 
 pub spns-elsewhere-spec : {M : Type 1} → statement M
 spns-elsewhere-spec =

@@ -29,13 +29,21 @@ loop-holds : tie.Need-loop-holds Inv-loop μ-loop
 loop-holds c = (search needs, refl)
 
 field-id-of-requires : tie.Need-field-id-of-requires Inv-loop μ-loop
-field-id-of-requires c κs = (c .before .before .before .before .pre .0, omega (arith, c .before .before .before .before .pre .1, c .loop-test .taken))
+field-id-of-requires c κs =
+    let start = c .before .before .before .before in
+    (start .pre .0, omega (arith, start .pre .1, c .loop-test .taken))
 
 same-text-requires : tie.Need-same-text-requires Inv-loop μ-loop
 same-text-requires c κs = search needs
 
 returns : tie.Need-returns Inv-loop μ-loop
-returns c = sym (first-hit (has (now (c .before .before .before .before .before .before .before .args .s)) (c .before .before .before .before .before .before .before .args .t) (c .before .before .before .before .before .before .before .args .i) (bytesOf (now (c .before .before .before .before .before .before .before .args .s)) (c .before .before .before .before .before .before .before .args .id))) (c .before .before .before .before .before .before .before .args .n) (c .before .before .before .before .loop .j) (c .before .before .before .loop-test .taken) (c .before .before .before .before .loop .inv .1) (rw (← c .before .before .field-id-of .ensures, ← c .before .same-text .ensures) (c .if1 .taken)))
+returns c =
+    let start = c .before .before .before .before .before .before .before in
+    let loop = c .before .before .before .before .loop in
+    let loop-test = c .before .before .before .loop-test in
+    let s = now (start .args .s) in
+    sym (first-hit (has s (start .args .t) (start .args .i) (bytesOf s (start .args .id))) (start .args .n) (loop .j) (loop-test .taken) (loop .inv .1)
+    (rw (← c .before .before .field-id-of .ensures, ← c .before .same-text .ensures) (c .if1 .taken)))
 
 add-j : tie.Need-add-j Inv-loop μ-loop
 add-j c = search needs
@@ -45,11 +53,17 @@ loop-less c = search needs
 
 loop-again : tie.Need-loop-again Inv-loop μ-loop
 loop-again c =
-    let e : has (now (c .before .before .before .before .before .before .before .args .s)) (c .before .before .before .before .before .before .before .args .t) (c .before .before .before .before .before .before .before .args .i) (bytesOf (now (c .before .before .before .before .before .before .before .args .s)) (c .before .before .before .before .before .before .before .args .id)) (c .before .before .before .before .loop .j) ≡ false = rw (← c .before .before .field-id-of .ensures, ← c .before .same-text .ensures) (c .if1 .left) in
-    (search needs, first-turn (has (now (c .before .before .before .before .before .before .before .args .s)) (c .before .before .before .before .before .before .before .args .t) (c .before .before .before .before .before .before .before .args .i) (bytesOf (now (c .before .before .before .before .before .before .before .args .s)) (c .before .before .before .before .before .before .before .args .id))) (c .before .before .before .before .loop .j) ∙ (rw (c .before .before .before .before .loop .inv .1, e)))
+    let start = c .before .before .before .before .before .before .before in
+    let loop = c .before .before .before .before .loop in
+    let s = now (start .args .s) in let t = start .args .t in let i = start .args .i in let id = start .args .id in
+    let e : has s t i (bytesOf s id) (loop .j) ≡ false = rw (← c .before .before .field-id-of .ensures, ← c .before .same-text .ensures) (c .if1 .left) in
+    (omega (arith, c), first-turn (has s t i (bytesOf s id)) (loop .j) ∙ (rw (loop .inv .1, e)))
 
 returns-2 : tie.Need-returns-2 Inv-loop μ-loop
-returns-2 c = let e : c .before .before .before .before .args .n ≡ c .before .loop .j = omega arith in rw (e, c .before .loop .inv .1)
+returns-2 c =
+    let start = c .before .before .before .before in
+    let e : start .args .n ≡ c .before .loop .j = omega (arith, c) in
+    rw (e, c .before .loop .inv .1)
 
 pub first-with-id-spec : {M : Type 1} → statement M
 first-with-id-spec =

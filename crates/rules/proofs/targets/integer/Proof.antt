@@ -18,7 +18,9 @@ text-is-requires-2 : tie.Need-text-is-requires-2
 text-is-requires-2 c κs = search needs
 
 returns-2 : tie.Need-returns-2
-returns-2 c = rw (← c .before .before .before .text-is .ensures, c .before .before .if1 .left) (c .text-is2 .ensures)
+returns-2 c =
+    let text-is = c .before .before .before .text-is in
+    rw (← text-is .ensures, c .before .before .if1 .left) (c .text-is2 .ensures)
 
 pub integer-spec : {M : Type 1} → statement M
 integer-spec =

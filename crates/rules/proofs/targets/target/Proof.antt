@@ -4,11 +4,15 @@ use Rattle.rules.proofs.targets.target.Statement.{statement}
 use Rattle.rules.proofs.targets.target.Tie as tie
 
 first-with-id-requires : tie.Need-first-with-id-requires
-first-with-id-requires c κs = (c .before .before .pre .0, omega (arith, c .before .before .pre .1))
+first-with-id-requires c κs =
+    let start = c .before .before in
+    (start .pre .0, omega (arith, start .pre .1))
 
 returns : tie.Need-returns
 unfolding target
-returns c = rw (c .first-with-id .ensures, c .before .before .before .pre .1)
+returns c =
+    let start = c .before .before .before in
+    rw (c .first-with-id .ensures, start .pre .1)
 
 pub target-spec : {M : Type 1} → statement M
 target-spec = tie.close (tie.spec first-with-id-requires returns)

@@ -27,13 +27,20 @@ loop-holds : tie.Need-loop-holds Inv-loop μ-loop
 loop-holds c = (search needs, refl)
 
 field-of-requires : tie.Need-field-of-requires Inv-loop μ-loop
-field-of-requires c κs = (c .before .before .before .before .pre .0, omega (arith, c .before .before .before .before .pre .1, c .loop-test .taken))
+field-of-requires c κs =
+    let start = c .before .before .before .before in
+    (start .pre .0, omega (arith, start .pre .1, c .loop-test .taken))
 
 moves-requires : tie.Need-moves-requires Inv-loop μ-loop
 moves-requires c κs = search needs
 
 returns : tie.Need-returns Inv-loop μ-loop
-returns c = sym (any-hit (moving (now (c .before .before .before .before .before .before .before .args .s)) (c .before .before .before .before .before .before .before .args .t) (c .before .before .before .before .before .before .before .args .i)) (c .before .before .before .before .before .before .before .args .n) (c .before .before .before .before .loop .k) (c .before .before .before .loop-test .taken) (rw (← c .before .before .field-of .ensures) (sym (c .before .moves .ensures) ∙ c .if1 .taken)))
+returns c =
+    let start = c .before .before .before .before .before .before .before in
+    let loop = c .before .before .before .before .loop in
+    let loop-test = c .before .before .before .loop-test in
+    sym (any-hit (moving (now (start .args .s)) (start .args .t) (start .args .i)) (start .args .n) (loop .k) (loop-test .taken)
+    (rw (← c .before .before .field-of .ensures) (sym (c .before .moves .ensures) ∙ c .if1 .taken)))
 
 add-k : tie.Need-add-k Inv-loop μ-loop
 add-k c = search needs
@@ -43,11 +50,17 @@ loop-less c = search needs
 
 loop-again : tie.Need-loop-again Inv-loop μ-loop
 loop-again c =
-    let e : moving (now (c .before .before .before .before .before .before .before .args .s)) (c .before .before .before .before .before .before .before .args .t) (c .before .before .before .before .before .before .before .args .i) (c .before .before .before .before .loop .k) ≡ false = rw (← c .before .before .field-of .ensures) (sym (c .before .moves .ensures) ∙ c .if1 .left) in
-    (search needs, any-turn (moving (now (c .before .before .before .before .before .before .before .args .s)) (c .before .before .before .before .before .before .before .args .t) (c .before .before .before .before .before .before .before .args .i)) (c .before .before .before .before .loop .k) ∙ (rw (c .before .before .before .before .loop .inv .1, e)))
+    let start = c .before .before .before .before .before .before .before in
+    let loop = c .before .before .before .before .loop in
+    let s = now (start .args .s) in let t = start .args .t in let i = start .args .i in
+    let e : moving s t i (loop .k) ≡ false = rw (← c .before .before .field-of .ensures) (sym (c .before .moves .ensures) ∙ c .if1 .left) in
+    (omega (arith, c), any-turn (moving s t i) (loop .k) ∙ (rw (loop .inv .1, e)))
 
 returns-2 : tie.Need-returns-2 Inv-loop μ-loop
-returns-2 c = let e : c .before .before .before .before .args .n ≡ c .before .loop .k = omega arith in rw (e, c .before .loop .inv .1)
+returns-2 c =
+    let start = c .before .before .before .before in
+    let e : start .args .n ≡ c .before .loop .k = omega (arith, c) in
+    rw (e, c .before .loop .inv .1)
 
 pub any-moves-spec : {M : Type 1} → statement M
 any-moves-spec =

@@ -27,30 +27,58 @@ abbrev μ-loop : tie.MeasureT-loop
 μ-loop out₀ n s work t i p g fields m₀ k₀ out m k = fields - k
 
 loop-holds : tie.Need-loop-holds Inv-loop μ-loop
-loop-holds c = (search needs, refl, emitted-none (now (c .before .before .before .args .out)) (c .before .before .before .args .n))
+loop-holds c =
+    let start = c .before .before .before in
+    (omega (arith, c), refl, emitted-none (now (start .args .out)) (start .args .n))
 
 field-of-requires : tie.Need-field-of-requires Inv-loop μ-loop
-field-of-requires c κs = (c .before .before .before .before .before .pre .1, omega (arith, c .before .before .before .before .before .pre .2 .fields, c .loop-test .taken))
+field-of-requires c κs =
+    let start = c .before .before .before .before .before in
+    (start .pre .1, omega (arith, start .pre .2 .fields, c .loop-test .taken))
 
 trailing-zero-at-requires : tie.Need-trailing-zero-at-requires Inv-loop μ-loop
 unfolding check-trailing-zero-is-digit
-trailing-zero-at-requires c κs = (fits-turn (of-field (now (c .before .before .before .before .before .before .before .args .s)) (c .before .before .before .before .before .before .before .args .t) (c .before .before .before .before .before .before .before .args .i)) (c .before .before .before .before .before .before .before .args .g .fields) (c .before .before .before .loop .k) (c .before .before .loop-test .taken) (rw (← c .before .before .before .before .before .before .before .pre .2 .fields) at (c .before .before .before .before .before .before .before .pre .0)) (c .before .before .before .loop .inv .2), c .before .before .before .before .before .before .before .pre .1, c .before .before .before .before .before .before .before .pre .2, c .before .before .loop-test .taken, c .before .field-of .ensures)
+trailing-zero-at-requires c κs =
+    let start = c .before .before .before .before .before .before .before in
+    let loop = c .before .before .before .loop in
+    let loop-test = c .before .before .loop-test in (
+      fits-turn (of-field (now (start .args .s)) (start .args .t) (start .args .i)) (start .args .g .fields) (loop .k) (loop-test .taken)
+          (rw (← start .pre .2 .fields) at (start .pre .0)) (loop .inv .2),
+      start .pre .1,
+      start .pre .2,
+      loop-test .taken,
+      c .before .field-of .ensures,
+    )
 
 add-k : tie.Need-add-k Inv-loop μ-loop
-add-k c = omega (arith, c .before .before .before .before .before .loop-test .taken, c .before .before .before .before .before .before .before .before .before .before .pre .2 .fields, fields-few (c .before .before .before .before .before .before .before .before .before .before .pre .1))
+add-k c =
+    let start = c .before .before .before .before .before .before .before .before .before .before in
+    let loop-test = c .before .before .before .before .before .loop-test in
+    omega (arith, loop-test .taken, start .pre .2 .fields, fields-few (start .pre .1))
 
 loop-less : tie.Need-loop-less Inv-loop μ-loop
 loop-less c = search needs
 
 loop-again : tie.Need-loop-again Inv-loop μ-loop
-loop-again c = (search needs, c .before .before .trailing-zero-at .kept .0 ∙ c .before .before .before .before .before .before .loop .inv .1, emitted-turn (of-field (now (c .before .before .before .before .before .before .before .before .before .before .args .s)) (c .before .before .before .before .before .before .before .before .before .before .args .t) (c .before .before .before .before .before .before .before .before .before .before .args .i)) (c .before .before .before .before .before .before .loop .k) (c .before .before .before .before .before .before .loop .inv .2) (c .before .before .trailing-zero-at .ensures))
+loop-again c =
+    let start = c .before .before .before .before .before .before .before .before .before .before in
+    let loop = c .before .before .before .before .before .before .loop in
+    let trailing-zero-at-call = c .before .before .trailing-zero-at in (
+      omega (arith, c),
+      trailing-zero-at-call .kept .0 ∙ loop .inv .1,
+      emitted-turn (of-field (now (start .args .s)) (start .args .t) (start .args .i)) (loop .k) (loop .inv .2) (trailing-zero-at-call .ensures),
+    )
 
 same-length : tie.Need-same-length Inv-loop μ-loop
 same-length c = c .before .loop .inv .1
 
 returns : tie.Need-returns Inv-loop μ-loop
 unfolding check-trailing-zero-is-digit
-returns c = let e : length (pgn-at (packOf (now (c .before .before .before .before .before .args .s))) (c .before .before .before .before .before .args .t) (c .before .before .before .before .before .args .i) .fields) ≡ c .before .loop .k = omega (arith, c .before .before .before .before .before .pre .2 .fields, c .before .loop .inv .0, c .loop-test .left) in rw e (c .before .loop .inv .2)
+returns c =
+    let start = c .before .before .before .before .before in
+    let e : length (pgn-at (packOf (now (start .args .s))) (start .args .t) (start .args .i) .fields) ≡ c .before .loop .k =
+    omega (arith, start .pre .2 .fields, c .before .loop .inv .0, c .loop-test .left) in
+    rw e (c .before .loop .inv .2)
 
 pub check-trailing-zero-is-digit-spec : {M : Type 1} → statement M
 check-trailing-zero-is-digit-spec =

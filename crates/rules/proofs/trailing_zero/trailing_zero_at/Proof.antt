@@ -30,12 +30,17 @@ module _ (s : List ℕ) (fts : List FieldType) (t i k : ℕ) (p : Pgn) (f : Fiel
     unfolding trailing-zero-at
     other x F y = rw (← is, h, ← is, ← z, x, y)
 
-    with-target : b ≡ true → (o : Option ℕ) → o ≡ target p (bytesOf s (f .links .trailing .text)) → trailing-zero-at fts t i p k (field-at p k .trailing-zero) ≡ trailing-zero-target-at fts t i p k o
+    with-target : b ≡ true → (o : Option ℕ) → o ≡ target p (bytesOf s (f .links .trailing .text))
+        → trailing-zero-at fts t i p k (field-at p k .trailing-zero) ≡ trailing-zero-target-at fts t i p k o
     unfolding trailing-zero-at
     with-target x o y = rw (← is, h, ← is, ← z, x, y)
 
 returns : tie.Need-returns
-returns c = rw (without (now (c .before .before .before .before .before .args .s)) (packOf (now (c .before .before .before .before .before .args .s)) .fieldtypes) (c .before .before .before .before .before .args .t) (c .before .before .before .before .before .args .i) (c .before .before .before .before .before .args .k) (pgn-at (packOf (now (c .before .before .before .before .before .args .s))) (c .before .before .before .before .before .args .t) (c .before .before .before .before .before .args .i)) (c .before .before .before .before .before .args .f) (c .before .before .before .before .before .pre .4) (not-true (c .before .before .before .before .before .args .f .links .trailing .given) (c .if1 .taken))) (emitted-none (now (c .before .before .before .before .before .args .out)) (c .before .before .before .before .before .args .n))
+returns c =
+    let start = c .before .before .before .before .before in
+    let s = now (start .args .s) in let t = start .args .t in let i = start .args .i in
+    rw (without s (packOf s .fieldtypes) t i (start .args .k) (pgn-at (packOf s) t i) (start .args .f) (start .pre .4)
+    (not-true (start .args .f .links .trailing .given) (c .if1 .taken))) (emitted-none (now (start .args .out)) (start .args .n))
 
 slice-aggregate-text-is : tie.Need-slice-aggregate-text-is
 slice-aggregate-text-is c = search needs
@@ -47,25 +52,66 @@ pgn-error-requires : tie.Need-pgn-error-requires
 pgn-error-requires c κs = search needs
 
 put-requires : tie.Need-put-requires
-put-requires c κs = rw (other (now (c .before .before .before .before .before .before .before .before .before .before .args .s)) (packOf (now (c .before .before .before .before .before .before .before .before .before .before .args .s)) .fieldtypes) (c .before .before .before .before .before .before .before .before .before .before .args .t) (c .before .before .before .before .before .before .before .before .before .before .args .i) (c .before .before .before .before .before .before .before .before .before .before .args .k) (pgn-at (packOf (now (c .before .before .before .before .before .before .before .before .before .before .args .s))) (c .before .before .before .before .before .before .before .before .before .before .args .t) (c .before .before .before .before .before .before .before .before .before .before .args .i)) (c .before .before .before .before .before .before .before .before .before .before .args .f) (c .before .before .before .before .before .before .before .before .before .before .pre .4) (not-false (c .before .before .before .before .before .before .before .before .before .before .args .f .links .trailing .given) (c .before .before .before .before .before .if1 .left)) (c .before .before .before .text-is .result) (c .before .before .before .text-is .ensures) (not-true (c .before .before .before .text-is .result) (c .before .before .if2 .taken)) (c .pgn-error .result) (c .pgn-error .ensures)) at (c .before .before .before .before .before .before .before .before .before .before .pre .0)
+put-requires c κs =
+    let start = c .before .before .before .before .before .before .before .before .before .before in
+    let if1 = c .before .before .before .before .before .if1 in
+    let text-is = c .before .before .before .text-is in
+    let s = now (start .args .s) in let t = start .args .t in let i = start .args .i in
+    rw (other s (packOf s .fieldtypes) t i (start .args .k) (pgn-at (packOf s) t i) (start .args .f) (start .pre .4)
+    (not-false (start .args .f .links .trailing .given) (if1 .left)) (text-is .result) (text-is .ensures)
+    (not-true (text-is .result) (c .before .before .if2 .taken)) (c .pgn-error .result) (c .pgn-error .ensures)) at (start .pre .0)
 
 same-length : tie.Need-same-length
 same-length c = search needs
 
 returns-2 : tie.Need-returns-2
-returns-2 c = rw (other (now (c .before .before .before .before .before .before .before .before .before .before .before .before .before .args .s)) (packOf (now (c .before .before .before .before .before .before .before .before .before .before .before .before .before .args .s)) .fieldtypes) (c .before .before .before .before .before .before .before .before .before .before .before .before .before .args .t) (c .before .before .before .before .before .before .before .before .before .before .before .before .before .args .i) (c .before .before .before .before .before .before .before .before .before .before .before .before .before .args .k) (pgn-at (packOf (now (c .before .before .before .before .before .before .before .before .before .before .before .before .before .args .s))) (c .before .before .before .before .before .before .before .before .before .before .before .before .before .args .t) (c .before .before .before .before .before .before .before .before .before .before .before .before .before .args .i)) (c .before .before .before .before .before .before .before .before .before .before .before .before .before .args .f) (c .before .before .before .before .before .before .before .before .before .before .before .before .before .pre .4) (not-false (c .before .before .before .before .before .before .before .before .before .before .before .before .before .args .f .links .trailing .given) (c .before .before .before .before .before .before .before .before .if1 .left)) (c .before .before .before .before .before .before .text-is .result) (c .before .before .before .before .before .before .text-is .ensures) (not-true (c .before .before .before .before .before .before .text-is .result) (c .before .before .before .before .before .if2 .taken)) (c .before .before .before .pgn-error .result) (c .before .before .before .pgn-error .ensures)) (c .before .before .put .ensures)
+returns-2 c =
+    let back12 = c .before .before .before .before .before .before .before .before .before .before .before .before in
+    let start = back12 .before in
+    let if1 = c .before .before .before .before .before .before .before .before .if1 in
+    let text-is = c .before .before .before .before .before .before .text-is in
+    let if2 = c .before .before .before .before .before .if2 in
+    let pgn-error-call = c .before .before .before .pgn-error in
+    let s = now (start .args .s) in let t = start .args .t in let i = start .args .i in
+    rw (other s (packOf s .fieldtypes) t i (start .args .k) (pgn-at (packOf s) t i) (start .args .f) (start .pre .4)
+    (not-false (start .args .f .links .trailing .given) (if1 .left)) (text-is .result) (text-is .ensures) (not-true (text-is .result) (if2 .taken))
+    (pgn-error-call .result) (pgn-error-call .ensures)) (c .before .before .put .ensures)
 
 target-requires : tie.Need-target-requires
-target-requires c κs = (c .before .before .before .before .before .before .before .before .pre .1, c .before .before .before .before .before .before .before .before .pre .2 .fields)
+target-requires c κs =
+    let start = c .before .before .before .before .before .before .before .before in
+    (start .pre .1, start .pre .2 .fields)
 
 trailing-zero-target-at-requires : tie.Need-trailing-zero-target-at-requires
-trailing-zero-target-at-requires c κs = ((rw (with-target (now (c .before .before .before .before .before .before .before .before .before .before .args .s)) (packOf (now (c .before .before .before .before .before .before .before .before .before .before .args .s)) .fieldtypes) (c .before .before .before .before .before .before .before .before .before .before .args .t) (c .before .before .before .before .before .before .before .before .before .before .args .i) (c .before .before .before .before .before .before .before .before .before .before .args .k) (pgn-at (packOf (now (c .before .before .before .before .before .before .before .before .before .before .args .s))) (c .before .before .before .before .before .before .before .before .before .before .args .t) (c .before .before .before .before .before .before .before .before .before .before .args .i)) (c .before .before .before .before .before .before .before .before .before .before .args .f) (c .before .before .before .before .before .before .before .before .before .before .pre .4) (not-false (c .before .before .before .before .before .before .before .before .before .before .args .f .links .trailing .given) (c .before .before .before .before .before .if1 .left)) (c .before .before .before .text-is .result) (c .before .before .before .text-is .ensures) (not-false (c .before .before .before .text-is .result) (c .before .before .if2 .left)) (optNumber (c .before .target .result)) (c .before .target .ensures)) at (c .before .before .before .before .before .before .before .before .before .before .pre .0)), c .before .before .before .before .before .before .before .before .before .before .pre .1, c .before .before .before .before .before .before .before .before .before .before .pre .2, c .before .before .before .before .before .before .before .before .before .before .pre .3)
+trailing-zero-target-at-requires c κs =
+    let start = c .before .before .before .before .before .before .before .before .before .before in
+    let if1 = c .before .before .before .before .before .if1 in
+    let text-is = c .before .before .before .text-is in
+    let s = now (start .args .s) in let t = start .args .t in let i = start .args .i in (
+      (rw (with-target s (packOf s .fieldtypes) t i (start .args .k) (pgn-at (packOf s) t i) (start .args .f) (start .pre .4)
+          (not-false (start .args .f .links .trailing .given) (if1 .left)) (text-is .result) (text-is .ensures)
+          (not-false (text-is .result) (c .before .before .if2 .left)) (optNumber (c .before .target .result)) (c .before .target .ensures)) at
+          (start .pre .0)),
+      start .pre .1,
+      start .pre .2,
+      start .pre .3,
+    )
 
 same-length-2 : tie.Need-same-length-2
 same-length-2 c = search needs
 
 returns-3 : tie.Need-returns-3
-returns-3 c = rw (with-target (now (c .before .before .before .before .before .before .before .before .before .before .before .before .before .args .s)) (packOf (now (c .before .before .before .before .before .before .before .before .before .before .before .before .before .args .s)) .fieldtypes) (c .before .before .before .before .before .before .before .before .before .before .before .before .before .args .t) (c .before .before .before .before .before .before .before .before .before .before .before .before .before .args .i) (c .before .before .before .before .before .before .before .before .before .before .before .before .before .args .k) (pgn-at (packOf (now (c .before .before .before .before .before .before .before .before .before .before .before .before .before .args .s))) (c .before .before .before .before .before .before .before .before .before .before .before .before .before .args .t) (c .before .before .before .before .before .before .before .before .before .before .before .before .before .args .i)) (c .before .before .before .before .before .before .before .before .before .before .before .before .before .args .f) (c .before .before .before .before .before .before .before .before .before .before .before .before .before .pre .4) (not-false (c .before .before .before .before .before .before .before .before .before .before .before .before .before .args .f .links .trailing .given) (c .before .before .before .before .before .before .before .before .if1 .left)) (c .before .before .before .before .before .before .text-is .result) (c .before .before .before .before .before .before .text-is .ensures) (not-false (c .before .before .before .before .before .before .text-is .result) (c .before .before .before .before .before .if2 .left)) (optNumber (c .before .before .before .before .target .result)) (c .before .before .before .before .target .ensures)) (c .before .before .trailing-zero-target-at .ensures)
+returns-3 c =
+    let back12 = c .before .before .before .before .before .before .before .before .before .before .before .before in
+    let start = back12 .before in
+    let if1 = c .before .before .before .before .before .before .before .before .if1 in
+    let text-is = c .before .before .before .before .before .before .text-is in
+    let if2 = c .before .before .before .before .before .if2 in
+    let target-call = c .before .before .before .before .target in
+    let s = now (start .args .s) in let t = start .args .t in let i = start .args .i in
+    rw (with-target s (packOf s .fieldtypes) t i (start .args .k) (pgn-at (packOf s) t i) (start .args .f) (start .pre .4)
+    (not-false (start .args .f .links .trailing .given) (if1 .left)) (text-is .result) (text-is .ensures) (not-false (text-is .result) (if2 .left))
+    (optNumber (target-call .result)) (target-call .ensures)) (c .before .before .trailing-zero-target-at .ensures)
 
 pub trailing-zero-at-spec : {M : Type 1} → statement M
 trailing-zero-at-spec =

@@ -41,58 +41,137 @@ pgn-error-requires : tie.Need-pgn-error-requires
 pgn-error-requires c κs = search needs
 
 put-requires : tie.Need-put-requires
-put-requires c κs = rw (absent (now (c .before .before .before .before .before .before .before .args .s)) (packOf (now (c .before .before .before .before .before .before .before .args .s)) .fieldtypes) (c .before .before .before .before .before .before .before .args .t) (c .before .before .before .before .before .before .before .args .i) (c .before .before .before .before .before .before .before .args .k) (pgn-at (packOf (now (c .before .before .before .before .before .before .before .args .s))) (c .before .before .before .before .before .before .before .args .t) (c .before .before .before .before .before .before .before .args .i)) (c .before .before .before .before .before .before .before .args .j) (not-true (c .before .before .before .before .before .before .before .args .j .given) (c .before .before .if1 .taken)) (c .pgn-error .result) (c .pgn-error .ensures)) at (c .before .before .before .before .before .before .before .pre .0)
+put-requires c κs =
+    let start = c .before .before .before .before .before .before .before in
+    let s = now (start .args .s) in let t = start .args .t in let i = start .args .i in
+    rw (absent s (packOf s .fieldtypes) t i (start .args .k) (pgn-at (packOf s) t i) (start .args .j)
+    (not-true (start .args .j .given) (c .before .before .if1 .taken)) (c .pgn-error .result) (c .pgn-error .ensures)) at (start .pre .0)
 
 same-length : tie.Need-same-length
 same-length c = search needs
 
 returns : tie.Need-returns
-returns c = rw (absent (now (c .before .before .before .before .before .before .before .before .before .before .args .s)) (packOf (now (c .before .before .before .before .before .before .before .before .before .before .args .s)) .fieldtypes) (c .before .before .before .before .before .before .before .before .before .before .args .t) (c .before .before .before .before .before .before .before .before .before .before .args .i) (c .before .before .before .before .before .before .before .before .before .before .args .k) (pgn-at (packOf (now (c .before .before .before .before .before .before .before .before .before .before .args .s))) (c .before .before .before .before .before .before .before .before .before .before .args .t) (c .before .before .before .before .before .before .before .before .before .before .args .i)) (c .before .before .before .before .before .before .before .before .before .before .args .j) (not-true (c .before .before .before .before .before .before .before .before .before .before .args .j .given) (c .before .before .before .before .before .if1 .taken)) (c .before .before .before .pgn-error .result) (c .before .before .before .pgn-error .ensures)) (c .before .before .put .ensures)
+returns c =
+    let start = c .before .before .before .before .before .before .before .before .before .before in
+    let if1 = c .before .before .before .before .before .if1 in
+    let pgn-error-call = c .before .before .before .pgn-error in
+    let s = now (start .args .s) in let t = start .args .t in let i = start .args .i in
+    rw (absent s (packOf s .fieldtypes) t i (start .args .k) (pgn-at (packOf s) t i) (start .args .j) (not-true (start .args .j .given) (if1 .taken))
+    (pgn-error-call .result) (pgn-error-call .ensures)) (c .before .before .put .ensures)
 
 pgn-error-requires-2 : tie.Need-pgn-error-requires-2
 pgn-error-requires-2 c κs = search needs
 
 put-requires-2 : tie.Need-put-requires-2
-put-requires-2 c κs = rw (later (now (c .before .before .before .before .before .before .before .before .before .args .s)) (packOf (now (c .before .before .before .before .before .before .before .before .before .args .s)) .fieldtypes) (c .before .before .before .before .before .before .before .before .before .args .t) (c .before .before .before .before .before .before .before .before .before .args .i) (c .before .before .before .before .before .before .before .before .before .args .k) (pgn-at (packOf (now (c .before .before .before .before .before .before .before .before .before .args .s))) (c .before .before .before .before .before .before .before .before .before .args .t) (c .before .before .before .before .before .before .before .before .before .args .i)) (c .before .before .before .before .before .before .before .before .before .args .j) (not-false (c .before .before .before .before .before .before .before .before .before .args .j .given) (c .before .before .before .before .if1 .left)) (c .before .before .if2 .taken) (c .pgn-error2 .result) (c .pgn-error2 .ensures)) at (c .before .before .before .before .before .before .before .before .before .pre .0)
+put-requires-2 c κs =
+    let start = c .before .before .before .before .before .before .before .before .before in
+    let if1 = c .before .before .before .before .if1 in
+    let s = now (start .args .s) in let t = start .args .t in let i = start .args .i in
+    rw (later s (packOf s .fieldtypes) t i (start .args .k) (pgn-at (packOf s) t i) (start .args .j) (not-false (start .args .j .given) (if1 .left))
+    (c .before .before .if2 .taken) (c .pgn-error2 .result) (c .pgn-error2 .ensures)) at (start .pre .0)
 
 same-length-2 : tie.Need-same-length-2
 same-length-2 c = search needs
 
 returns-2 : tie.Need-returns-2
-returns-2 c = rw (later (now (c .before .before .before .before .before .before .before .before .before .before .before .before .args .s)) (packOf (now (c .before .before .before .before .before .before .before .before .before .before .before .before .args .s)) .fieldtypes) (c .before .before .before .before .before .before .before .before .before .before .before .before .args .t) (c .before .before .before .before .before .before .before .before .before .before .before .before .args .i) (c .before .before .before .before .before .before .before .before .before .before .before .before .args .k) (pgn-at (packOf (now (c .before .before .before .before .before .before .before .before .before .before .before .before .args .s))) (c .before .before .before .before .before .before .before .before .before .before .before .before .args .t) (c .before .before .before .before .before .before .before .before .before .before .before .before .args .i)) (c .before .before .before .before .before .before .before .before .before .before .before .before .args .j) (not-false (c .before .before .before .before .before .before .before .before .before .before .before .before .args .j .given) (c .before .before .before .before .before .before .before .if1 .left)) (c .before .before .before .before .before .if2 .taken) (c .before .before .before .pgn-error2 .result) (c .before .before .before .pgn-error2 .ensures)) (c .before .before .put2 .ensures)
+returns-2 c =
+    let start = c .before .before .before .before .before .before .before .before .before .before .before .before in
+    let if1 = c .before .before .before .before .before .before .before .if1 in
+    let if2 = c .before .before .before .before .before .if2 in
+    let pgn-error2 = c .before .before .before .pgn-error2 in
+    let s = now (start .args .s) in let t = start .args .t in let i = start .args .i in
+    rw (later s (packOf s .fieldtypes) t i (start .args .k) (pgn-at (packOf s) t i) (start .args .j) (not-false (start .args .j .given) (if1 .left))
+    (if2 .taken) (pgn-error2 .result) (pgn-error2 .ensures)) (c .before .before .put2 .ensures)
 
 fixed-requires : tie.Need-fixed-requires
-fixed-requires c κs = (c .before .before .before .before .before .before .before .pre .1, c .before .before .before .before .before .before .before .pre .2, omega (arith, c .before .before .before .before .before .before .before .pre .2 .fields, c .before .before .before .before .before .before .before .pre .3, c .if2 .left))
+fixed-requires c κs =
+    let start = c .before .before .before .before .before .before .before in
+    (start .pre .1, start .pre .2, omega (arith, start .pre .2 .fields, start .pre .3, c .if2 .left))
 
 pgn-error-requires-3 : tie.Need-pgn-error-requires-3
 pgn-error-requires-3 c κs = search needs
 
 put-requires-3 : tie.Need-put-requires-3
-put-requires-3 c κs = rw (loose (now (c .before .before .before .before .before .before .before .before .before .before .before .args .s)) (packOf (now (c .before .before .before .before .before .before .before .before .before .before .before .args .s)) .fieldtypes) (c .before .before .before .before .before .before .before .before .before .before .before .args .t) (c .before .before .before .before .before .before .before .before .before .before .before .args .i) (c .before .before .before .before .before .before .before .before .before .before .before .args .k) (pgn-at (packOf (now (c .before .before .before .before .before .before .before .before .before .before .before .args .s))) (c .before .before .before .before .before .before .before .before .before .before .before .args .t) (c .before .before .before .before .before .before .before .before .before .before .before .args .i)) (c .before .before .before .before .before .before .before .before .before .before .before .args .j) (not-false (c .before .before .before .before .before .before .before .before .before .before .before .args .j .given) (c .before .before .before .before .before .before .if1 .left)) (c .before .before .before .before .if2 .left) (c .before .before .before .fixed .result) (c .before .before .before .fixed .ensures) (not-true (c .before .before .before .fixed .result) (c .before .before .if3 .taken)) (c .pgn-error3 .result) (c .pgn-error3 .ensures)) at (c .before .before .before .before .before .before .before .before .before .before .before .pre .0)
+put-requires-3 c κs =
+    let start = c .before .before .before .before .before .before .before .before .before .before .before in
+    let if1 = c .before .before .before .before .before .before .if1 in
+    let if2 = c .before .before .before .before .if2 in
+    let fixed-call = c .before .before .before .fixed in
+    let s = now (start .args .s) in let t = start .args .t in let i = start .args .i in
+    rw (loose s (packOf s .fieldtypes) t i (start .args .k) (pgn-at (packOf s) t i) (start .args .j) (not-false (start .args .j .given) (if1 .left)) (if2 .left)
+    (fixed-call .result) (fixed-call .ensures) (not-true (fixed-call .result) (c .before .before .if3 .taken)) (c .pgn-error3 .result)
+    (c .pgn-error3 .ensures)) at (start .pre .0)
 
 same-length-3 : tie.Need-same-length-3
 same-length-3 c = search needs
 
 returns-3 : tie.Need-returns-3
-returns-3 c = rw (loose (now (c .before .before .before .before .before .before .before .before .before .before .before .before .before .before .args .s)) (packOf (now (c .before .before .before .before .before .before .before .before .before .before .before .before .before .before .args .s)) .fieldtypes) (c .before .before .before .before .before .before .before .before .before .before .before .before .before .before .args .t) (c .before .before .before .before .before .before .before .before .before .before .before .before .before .before .args .i) (c .before .before .before .before .before .before .before .before .before .before .before .before .before .before .args .k) (pgn-at (packOf (now (c .before .before .before .before .before .before .before .before .before .before .before .before .before .before .args .s))) (c .before .before .before .before .before .before .before .before .before .before .before .before .before .before .args .t) (c .before .before .before .before .before .before .before .before .before .before .before .before .before .before .args .i)) (c .before .before .before .before .before .before .before .before .before .before .before .before .before .before .args .j) (not-false (c .before .before .before .before .before .before .before .before .before .before .before .before .before .before .args .j .given) (c .before .before .before .before .before .before .before .before .before .if1 .left)) (c .before .before .before .before .before .before .before .if2 .left) (c .before .before .before .before .before .before .fixed .result) (c .before .before .before .before .before .before .fixed .ensures) (not-true (c .before .before .before .before .before .before .fixed .result) (c .before .before .before .before .before .if3 .taken)) (c .before .before .before .pgn-error3 .result) (c .before .before .before .pgn-error3 .ensures)) (c .before .before .put3 .ensures)
+returns-3 c =
+    let back12 = c .before .before .before .before .before .before .before .before .before .before .before .before in
+    let start = back12 .before .before in
+    let if1 = c .before .before .before .before .before .before .before .before .before .if1 in
+    let if2 = c .before .before .before .before .before .before .before .if2 in
+    let fixed-call = c .before .before .before .before .before .before .fixed in
+    let if3 = c .before .before .before .before .before .if3 in
+    let pgn-error3 = c .before .before .before .pgn-error3 in
+    let s = now (start .args .s) in let t = start .args .t in let i = start .args .i in
+    rw (loose s (packOf s .fieldtypes) t i (start .args .k) (pgn-at (packOf s) t i) (start .args .j) (not-false (start .args .j .given) (if1 .left)) (if2 .left)
+    (fixed-call .result) (fixed-call .ensures) (not-true (fixed-call .result) (if3 .taken)) (pgn-error3 .result) (pgn-error3 .ensures))
+    (c .before .before .put3 .ensures)
 
 field-of-requires : tie.Need-field-of-requires
-field-of-requires c κs = (c .before .before .before .before .before .before .before .before .before .pre .1, omega (arith, c .before .before .before .before .before .before .before .before .before .pre .2 .fields, c .before .before .before .before .before .before .before .before .before .pre .3, c .before .before .if2 .left))
+field-of-requires c κs =
+    let start = c .before .before .before .before .before .before .before .before .before in
+    (start .pre .1, omega (arith, start .pre .2 .fields, start .pre .3, c .before .before .if2 .left))
 
 unsigned-integer-requires : tie.Need-unsigned-integer-requires
-unsigned-integer-requires c κs = (c .before .before .before .before .before .before .before .before .before .before .pre .1 .ready, omega (arith, ap (λ (F : Field). F .ft) (c .field-of .ensures), field-ft-law (c .before .before .before .before .before .before .before .before .before .before .pre .1) (c .before .before .before .before .before .before .before .before .before .before .args .j .value) (omega (arith, c .before .before .before .before .before .before .before .before .before .before .pre .2 .fields, c .before .before .before .before .before .before .before .before .before .before .pre .3, c .before .before .before .if2 .left))))
+unsigned-integer-requires c κs =
+    let start = c .before .before .before .before .before .before .before .before .before .before in
+    let if2 = c .before .before .before .if2 in (
+      start .pre .1 .ready,
+      omega (
+        arith,
+        ap (λ (F : Field). F .ft) (c .field-of .ensures),
+        field-ft-law (start .pre .1) (start .args .j .value) (omega (arith, start .pre .2 .fields, start .pre .3, if2 .left)),
+      ),
+    )
 
 pgn-error-requires-4 : tie.Need-pgn-error-requires-4
 pgn-error-requires-4 c κs = search needs
 
 put-if-requires : tie.Need-put-if-requires
-put-if-requires c κs = rw (earlier (now (c .before .before .before .before .before .before .before .before .before .before .before .before .before .args .s)) (packOf (now (c .before .before .before .before .before .before .before .before .before .before .before .before .before .args .s)) .fieldtypes) (c .before .before .before .before .before .before .before .before .before .before .before .before .before .args .t) (c .before .before .before .before .before .before .before .before .before .before .before .before .before .args .i) (c .before .before .before .before .before .before .before .before .before .before .before .before .before .args .k) (pgn-at (packOf (now (c .before .before .before .before .before .before .before .before .before .before .before .before .before .args .s))) (c .before .before .before .before .before .before .before .before .before .before .before .before .before .args .t) (c .before .before .before .before .before .before .before .before .before .before .before .before .before .args .i)) (c .before .before .before .before .before .before .before .before .before .before .before .before .before .args .j) (not-false (c .before .before .before .before .before .before .before .before .before .before .before .before .before .args .j .given) (c .before .before .before .before .before .before .before .before .if1 .left)) (c .before .before .before .before .before .before .if2 .left) (c .before .before .before .before .before .fixed .result) (c .before .before .before .before .before .fixed .ensures) (not-false (c .before .before .before .before .before .fixed .result) (c .before .before .before .before .if3 .left)) (c .before .before .before .field-of .result) (c .before .before .before .field-of .ensures) (c .before .before .unsigned-integer .result) (c .before .before .unsigned-integer .ensures) (c .pgn-error4 .result) (c .pgn-error4 .ensures)) at (c .before .before .before .before .before .before .before .before .before .before .before .before .before .pre .0)
+put-if-requires c κs =
+    let back12 = c .before .before .before .before .before .before .before .before .before .before .before .before in
+    let start = back12 .before in
+    let if1 = c .before .before .before .before .before .before .before .before .if1 in
+    let if2 = c .before .before .before .before .before .before .if2 in
+    let fixed-call = c .before .before .before .before .before .fixed in
+    let if3 = c .before .before .before .before .if3 in
+    let field-of = c .before .before .before .field-of in
+    let unsigned-integer-call = c .before .before .unsigned-integer in
+    let s = now (start .args .s) in let t = start .args .t in let i = start .args .i in
+    rw (earlier s (packOf s .fieldtypes) t i (start .args .k) (pgn-at (packOf s) t i) (start .args .j) (not-false (start .args .j .given) (if1 .left))
+    (if2 .left) (fixed-call .result) (fixed-call .ensures) (not-false (fixed-call .result) (if3 .left)) (field-of .result) (field-of .ensures)
+    (unsigned-integer-call .result) (unsigned-integer-call .ensures) (c .pgn-error4 .result) (c .pgn-error4 .ensures)) at (start .pre .0)
 
 same-length-4 : tie.Need-same-length-4
 same-length-4 c = search needs
 
 returns-4 : tie.Need-returns-4
-returns-4 c = rw (earlier (now (c .before .before .before .before .before .before .before .before .before .before .before .before .before .before .before .before .args .s)) (packOf (now (c .before .before .before .before .before .before .before .before .before .before .before .before .before .before .before .before .args .s)) .fieldtypes) (c .before .before .before .before .before .before .before .before .before .before .before .before .before .before .before .before .args .t) (c .before .before .before .before .before .before .before .before .before .before .before .before .before .before .before .before .args .i) (c .before .before .before .before .before .before .before .before .before .before .before .before .before .before .before .before .args .k) (pgn-at (packOf (now (c .before .before .before .before .before .before .before .before .before .before .before .before .before .before .before .before .args .s))) (c .before .before .before .before .before .before .before .before .before .before .before .before .before .before .before .before .args .t) (c .before .before .before .before .before .before .before .before .before .before .before .before .before .before .before .before .args .i)) (c .before .before .before .before .before .before .before .before .before .before .before .before .before .before .before .before .args .j) (not-false (c .before .before .before .before .before .before .before .before .before .before .before .before .before .before .before .before .args .j .given) (c .before .before .before .before .before .before .before .before .before .before .before .if1 .left)) (c .before .before .before .before .before .before .before .before .before .if2 .left) (c .before .before .before .before .before .before .before .before .fixed .result) (c .before .before .before .before .before .before .before .before .fixed .ensures) (not-false (c .before .before .before .before .before .before .before .before .fixed .result) (c .before .before .before .before .before .before .before .if3 .left)) (c .before .before .before .before .before .before .field-of .result) (c .before .before .before .before .before .before .field-of .ensures) (c .before .before .before .before .before .unsigned-integer .result) (c .before .before .before .before .before .unsigned-integer .ensures) (c .before .before .before .pgn-error4 .result) (c .before .before .before .pgn-error4 .ensures)) (c .before .before .put-if .ensures)
+returns-4 c =
+    let back12 = c .before .before .before .before .before .before .before .before .before .before .before .before in
+    let start = back12 .before .before .before .before in
+    let if1 = c .before .before .before .before .before .before .before .before .before .before .before .if1 in
+    let if2 = c .before .before .before .before .before .before .before .before .before .if2 in
+    let fixed-call = c .before .before .before .before .before .before .before .before .fixed in
+    let if3 = c .before .before .before .before .before .before .before .if3 in
+    let field-of = c .before .before .before .before .before .before .field-of in
+    let unsigned-integer-call = c .before .before .before .before .before .unsigned-integer in
+    let pgn-error4 = c .before .before .before .pgn-error4 in
+    let s = now (start .args .s) in let t = start .args .t in let i = start .args .i in
+    rw (earlier s (packOf s .fieldtypes) t i (start .args .k) (pgn-at (packOf s) t i) (start .args .j) (not-false (start .args .j .given) (if1 .left))
+    (if2 .left) (fixed-call .result) (fixed-call .ensures) (not-false (fixed-call .result) (if3 .left)) (field-of .result) (field-of .ensures)
+    (unsigned-integer-call .result) (unsigned-integer-call .ensures) (pgn-error4 .result) (pgn-error4 .ensures)) (c .before .before .put-if .ensures)
 
 pub trailing-zero-target-at-spec : {M : Type 1} → statement M
 trailing-zero-target-at-spec =

@@ -21,8 +21,9 @@ use Rattle.rules.proofs.trailing_zero.unsigned_integer.Statement.{state
 use Rattle.rules.proofs.trailing_zero.unsigned_integer.Tie as tie
 
 -- said of the views
-said : (s : List ℕ) (fts : List FieldType) (f : FieldView) (v : FieldTypeView) → typeMeaning s v ≡ fieldtype-of fts (fieldMeaning s f)
-    → (a b c : Bool) → a ≡ ((bytesOf s (v .root) ≐ NUMBER) || (bytesOf s (v .root) ≐ LOOKUP)) → b ≡ float-eq (f .scaling .resolution) ONE → c ≡ float-eq (f .scaling .offset) ZERO
+said : (s : List ℕ) (fts : List FieldType) (f : FieldView) (v : FieldTypeView) → typeMeaning s v ≡ fieldtype-of fts (fieldMeaning s f) → (a b c : Bool)
+    → a ≡ ((bytesOf s (v .root) ≐ NUMBER) || (bytesOf s (v .root) ≐ LOOKUP)) → b ≡ float-eq (f .scaling .resolution) ONE
+    → c ≡ float-eq (f .scaling .offset) ZERO
     → unsigned-integer fts (fieldMeaning s f) ≡ (a && not (v .signed) && b && c && not (f .scaling .bits == 0) && (f .scaling .bits ≤ᵇ 63))
 unfolding unsigned-integer
 said s fts f v is a b c x y z = rw (integer-is s fts f v is, ← is, x, y, z)
@@ -34,28 +35,110 @@ integer-requires : tie.Need-integer-requires
 integer-requires c κs = search needs
 
 returns : tie.Need-returns
-returns c = rw (said (now (c .before .before .before .before .before .args .s)) (packOf (now (c .before .before .before .before .before .args .s)) .fieldtypes) (c .before .before .before .before .before .args .f) (c .before .before .type-of .result) (c .before .before .type-of .ensures) (c .before .integer .result) _ _ (c .before .integer .ensures) refl refl, not-true (c .before .integer .result) (c .if1 .taken))
+returns c =
+    let start = c .before .before .before .before .before in
+    let type-of = c .before .before .type-of in
+    let s = now (start .args .s) in
+    rw (
+      said s (packOf s .fieldtypes) (start .args .f) (type-of .result) (type-of .ensures) (c .before .integer .result) _ _ (c .before .integer .ensures) refl
+          refl,
+      not-true (c .before .integer .result) (c .if1 .taken),
+    )
 
 returns-2 : tie.Need-returns-2
-returns-2 c = rw (said (now (c .before .before .before .before .before .before .args .s)) (packOf (now (c .before .before .before .before .before .before .args .s)) .fieldtypes) (c .before .before .before .before .before .before .args .f) (c .before .before .before .type-of .result) (c .before .before .before .type-of .ensures) (c .before .before .integer .result) _ _ (c .before .before .integer .ensures) refl refl, (not-false (c .before .before .integer .result) (c .before .if1 .left)), c .if2 .taken)
+returns-2 c =
+    let start = c .before .before .before .before .before .before in
+    let type-of = c .before .before .before .type-of in
+    let integer-call = c .before .before .integer in
+    let s = now (start .args .s) in
+    rw (
+      said s (packOf s .fieldtypes) (start .args .f) (type-of .result) (type-of .ensures) (integer-call .result) _ _ (integer-call .ensures) refl refl,
+      (not-false (integer-call .result) (c .before .if1 .left)),
+      c .if2 .taken,
+    )
 
 float-eq-requires : tie.Need-float-eq-requires
 float-eq-requires c κs = search needs
 
 returns-3 : tie.Need-returns-3
-returns-3 c = rw (said (now (c .before .before .before .before .before .before .before .before .args .s)) (packOf (now (c .before .before .before .before .before .before .before .before .args .s)) .fieldtypes) (c .before .before .before .before .before .before .before .before .args .f) (c .before .before .before .before .before .type-of .result) (c .before .before .before .before .before .type-of .ensures) (c .before .before .before .before .integer .result) (c .before .float-eq .result) _ (c .before .before .before .before .integer .ensures) (c .before .float-eq .ensures) refl, (not-false (c .before .before .before .before .integer .result) (c .before .before .before .if1 .left)), c .before .before .if2 .left, not-true (c .before .float-eq .result) (c .if3 .taken))
+returns-3 c =
+    let start = c .before .before .before .before .before .before .before .before in
+    let type-of = c .before .before .before .before .before .type-of in
+    let integer-call = c .before .before .before .before .integer in
+    let if1 = c .before .before .before .if1 in
+    let s = now (start .args .s) in
+    rw (
+      said s (packOf s .fieldtypes) (start .args .f) (type-of .result) (type-of .ensures) (integer-call .result) (c .before .float-eq .result) _
+          (integer-call .ensures) (c .before .float-eq .ensures) refl,
+      (not-false (integer-call .result) (if1 .left)),
+      c .before .before .if2 .left,
+      not-true (c .before .float-eq .result) (c .if3 .taken),
+    )
 
 float-eq-requires-2 : tie.Need-float-eq-requires-2
 float-eq-requires-2 c κs = search needs
 
 returns-4 : tie.Need-returns-4
-returns-4 c = rw (said (now (c .before .before .before .before .before .before .before .before .before .before .args .s)) (packOf (now (c .before .before .before .before .before .before .before .before .before .before .args .s)) .fieldtypes) (c .before .before .before .before .before .before .before .before .before .before .args .f) (c .before .before .before .before .before .before .before .type-of .result) (c .before .before .before .before .before .before .before .type-of .ensures) (c .before .before .before .before .before .before .integer .result) (c .before .before .before .float-eq .result) (c .before .float-eq2 .result) (c .before .before .before .before .before .before .integer .ensures) (c .before .before .before .float-eq .ensures) (c .before .float-eq2 .ensures), (not-false (c .before .before .before .before .before .before .integer .result) (c .before .before .before .before .before .if1 .left)), c .before .before .before .before .if2 .left, (not-false (c .before .before .before .float-eq .result) (c .before .before .if3 .left)), not-true (c .before .float-eq2 .result) (c .if4 .taken))
+returns-4 c =
+    let start = c .before .before .before .before .before .before .before .before .before .before in
+    let type-of = c .before .before .before .before .before .before .before .type-of in
+    let integer-call = c .before .before .before .before .before .before .integer in
+    let if1 = c .before .before .before .before .before .if1 in
+    let if2 = c .before .before .before .before .if2 in
+    let float-eq-call = c .before .before .before .float-eq in
+    let s = now (start .args .s) in
+    rw (
+      said s (packOf s .fieldtypes) (start .args .f) (type-of .result) (type-of .ensures) (integer-call .result) (float-eq-call .result)
+          (c .before .float-eq2 .result) (integer-call .ensures) (float-eq-call .ensures) (c .before .float-eq2 .ensures),
+      (not-false (integer-call .result) (if1 .left)),
+      if2 .left,
+      (not-false (float-eq-call .result) (c .before .before .if3 .left)),
+      not-true (c .before .float-eq2 .result) (c .if4 .taken),
+    )
 
 returns-5 : tie.Need-returns-5
-returns-5 c = rw (said (now (c .before .before .before .before .before .before .before .before .before .before .before .before .args .s)) (packOf (now (c .before .before .before .before .before .before .before .before .before .before .before .before .args .s)) .fieldtypes) (c .before .before .before .before .before .before .before .before .before .before .before .before .args .f) (c .before .before .before .before .before .before .before .before .before .type-of .result) (c .before .before .before .before .before .before .before .before .before .type-of .ensures) (c .before .before .before .before .before .before .before .before .integer .result) (c .before .before .before .before .before .float-eq .result) (c .before .before .before .float-eq2 .result) (c .before .before .before .before .before .before .before .before .integer .ensures) (c .before .before .before .before .before .float-eq .ensures) (c .before .before .before .float-eq2 .ensures), (not-false (c .before .before .before .before .before .before .before .before .integer .result) (c .before .before .before .before .before .before .before .if1 .left)), c .before .before .before .before .before .before .if2 .left, (not-false (c .before .before .before .before .before .float-eq .result) (c .before .before .before .before .if3 .left)), not-false (c .before .before .before .float-eq2 .result) (c .before .before .if4 .left), eq-eqb _ _ (c .if5 .taken))
+returns-5 c =
+    let start = c .before .before .before .before .before .before .before .before .before .before .before .before in
+    let type-of = c .before .before .before .before .before .before .before .before .before .type-of in
+    let integer-call = c .before .before .before .before .before .before .before .before .integer in
+    let if1 = c .before .before .before .before .before .before .before .if1 in
+    let if2 = c .before .before .before .before .before .before .if2 in
+    let float-eq-call = c .before .before .before .before .before .float-eq in
+    let if3 = c .before .before .before .before .if3 in
+    let float-eq2 = c .before .before .before .float-eq2 in
+    let s = now (start .args .s) in
+    rw (
+      said s (packOf s .fieldtypes) (start .args .f) (type-of .result) (type-of .ensures) (integer-call .result) (float-eq-call .result) (float-eq2 .result)
+          (integer-call .ensures) (float-eq-call .ensures) (float-eq2 .ensures),
+      (not-false (integer-call .result) (if1 .left)),
+      if2 .left,
+      (not-false (float-eq-call .result) (if3 .left)),
+      not-false (float-eq2 .result) (c .before .before .if4 .left),
+      eq-eqb _ _ (c .if5 .taken),
+    )
 
 returns-6 : tie.Need-returns-6
-returns-6 c = rw (said (now (c .before .before .before .before .before .before .before .before .before .before .before .before .before .args .s)) (packOf (now (c .before .before .before .before .before .before .before .before .before .before .before .before .before .args .s)) .fieldtypes) (c .before .before .before .before .before .before .before .before .before .before .before .before .before .args .f) (c .before .before .before .before .before .before .before .before .before .before .type-of .result) (c .before .before .before .before .before .before .before .before .before .before .type-of .ensures) (c .before .before .before .before .before .before .before .before .before .integer .result) (c .before .before .before .before .before .before .float-eq .result) (c .before .before .before .before .float-eq2 .result) (c .before .before .before .before .before .before .before .before .before .integer .ensures) (c .before .before .before .before .before .before .float-eq .ensures) (c .before .before .before .before .float-eq2 .ensures), (not-false (c .before .before .before .before .before .before .before .before .before .integer .result) (c .before .before .before .before .before .before .before .before .if1 .left)), c .before .before .before .before .before .before .before .if2 .left, (not-false (c .before .before .before .before .before .before .float-eq .result) (c .before .before .before .before .before .if3 .left)), not-false (c .before .before .before .before .float-eq2 .result) (c .before .before .before .if4 .left), ne-eqb _ _ (c .before .if5 .left))
+returns-6 c =
+    let back12 = c .before .before .before .before .before .before .before .before .before .before .before .before in
+    let start = back12 .before in
+    let type-of = c .before .before .before .before .before .before .before .before .before .before .type-of in
+    let integer-call = c .before .before .before .before .before .before .before .before .before .integer in
+    let if1 = c .before .before .before .before .before .before .before .before .if1 in
+    let if2 = c .before .before .before .before .before .before .before .if2 in
+    let float-eq-call = c .before .before .before .before .before .before .float-eq in
+    let if3 = c .before .before .before .before .before .if3 in
+    let float-eq2 = c .before .before .before .before .float-eq2 in
+    let if4 = c .before .before .before .if4 in
+    let s = now (start .args .s) in
+    rw (
+      said s (packOf s .fieldtypes) (start .args .f) (type-of .result) (type-of .ensures) (integer-call .result) (float-eq-call .result) (float-eq2 .result)
+          (integer-call .ensures) (float-eq-call .ensures) (float-eq2 .ensures),
+      (not-false (integer-call .result) (if1 .left)),
+      if2 .left,
+      (not-false (float-eq-call .result) (if3 .left)),
+      not-false (float-eq2 .result) (if4 .left),
+      ne-eqb _ _ (c .before .if5 .left),
+    )
 
 pub unsigned-integer-spec : {M : Type 1} → statement M
 unsigned-integer-spec =

@@ -24,56 +24,451 @@ use Rattle.rules.proofs.Emits.{emitted-append}
 use Rattle.rules.proofs.trees.check_pgn.Statement.{statement}
 use Rattle.rules.proofs.trees.check_pgn.Tie as tie
 
-parts : (P : Pack) (t i : ℕ) (p : Pgn) → length (check-pgn P t i p) ≡ length (check-pgn-range t i p) + length (check-frame-length t i p) + length (check-repeating t i p) + length (check-dynamic-length (P .fieldtypes) t i p) + length (check-proprietary (P .fieldtypes) t i p) + length (check-special-values t i p) + length (check-field-count t i p) + length (check-reserved-ids t i p) + length (check-match-values (P .lookups) t i p) + length (check-field-type-overrides (P .fieldtypes) t i p) + length (check-bit-length-field t i p) + length (check-trailing-zero-is-digit (P .fieldtypes) t i p) + length (check-min-length t i p)
+parts : (P : Pack) (t i : ℕ) (p : Pgn)
+    → length (check-pgn P t i p)
+    ≡ length (check-pgn-range t i p)
+    + length (check-frame-length t i p)
+    + length (check-repeating t i p)
+    + length (check-dynamic-length (P .fieldtypes) t i p)
+    + length (check-proprietary (P .fieldtypes) t i p)
+    + length (check-special-values t i p)
+    + length (check-field-count t i p)
+    + length (check-reserved-ids t i p)
+    + length (check-match-values (P .lookups) t i p)
+    + length (check-field-type-overrides (P .fieldtypes) t i p)
+    + length (check-bit-length-field t i p)
+    + length (check-trailing-zero-is-digit (P .fieldtypes) t i p)
+    + length (check-min-length t i p)
 unfolding check-pgn
 parts P t i p =
-    rw (length-append, length-append, length-append, length-append, length-append, length-append, length-append, length-append, length-append, length-append, length-append, length-append)
+    rw (
+      length-append,
+      length-append,
+      length-append,
+      length-append,
+      length-append,
+      length-append,
+      length-append,
+      length-append,
+      length-append,
+      length-append,
+      length-append,
+      length-append,
+    )
 
 check-pgn-range-requires : tie.Need-check-pgn-range-requires
-check-pgn-range-requires c κs = (record { small = omega (arith, c .before .before .before .before .pre .0 .small, parts (packOf (now (c .before .before .before .before .args .s))) (c .before .before .before .before .args .t) (c .before .before .before .before .args .i) (pgn-at (packOf (now (c .before .before .before .before .args .s))) (c .before .before .before .before .args .t) (c .before .before .before .before .args .i))) }, c .before .before .before .before .pre .2, c .before .before .before .before .pre .1 .tree)
+check-pgn-range-requires c κs =
+    let start = c .before .before .before .before in
+    let s = now (start .args .s) in let t = start .args .t in let i = start .args .i in
+    (record { small = omega (arith, start .pre .0 .small, parts (packOf s) t i (pgn-at (packOf s) t i)) }, start .pre .2, start .pre .1 .tree)
 
 check-frame-length-requires : tie.Need-check-frame-length-requires
-check-frame-length-requires c κs = (record { small = omega (arith, c .before .before .before .before .before .before .before .before .pre .0 .small, parts (packOf (now (c .before .before .before .before .before .before .before .before .args .s))) (c .before .before .before .before .before .before .before .before .args .t) (c .before .before .before .before .before .before .before .before .args .i) (pgn-at (packOf (now (c .before .before .before .before .before .before .before .before .args .s))) (c .before .before .before .before .before .before .before .before .args .t) (c .before .before .before .before .before .before .before .before .args .i)), c .before .before .before .check-pgn-range .ensures .count) }, c .before .before .before .before .before .before .before .before .pre .2)
+check-frame-length-requires c κs =
+    let start = c .before .before .before .before .before .before .before .before in
+    let check-pgn-range-call = c .before .before .before .check-pgn-range in
+    let s = now (start .args .s) in let t = start .args .t in let i = start .args .i in
+    (record { small = omega (arith, start .pre .0 .small, parts (packOf s) t i (pgn-at (packOf s) t i), check-pgn-range-call .ensures .count) }, start .pre .2)
 
 check-repeating-requires : tie.Need-check-repeating-requires
-check-repeating-requires c κs = (record { small = omega (arith, c .before .before .before .before .before .before .before .before .before .before .before .before .pre .0 .small, parts (packOf (now (c .before .before .before .before .before .before .before .before .before .before .before .before .args .s))) (c .before .before .before .before .before .before .before .before .before .before .before .before .args .t) (c .before .before .before .before .before .before .before .before .before .before .before .before .args .i) (pgn-at (packOf (now (c .before .before .before .before .before .before .before .before .before .before .before .before .args .s))) (c .before .before .before .before .before .before .before .before .before .before .before .before .args .t) (c .before .before .before .before .before .before .before .before .before .before .before .before .args .i)), c .before .before .before .before .before .before .before .check-pgn-range .ensures .count, c .before .before .before .check-frame-length .ensures .count) }, c .before .before .before .before .before .before .before .before .before .before .before .before .pre .2)
+check-repeating-requires c κs =
+    let start = c .before .before .before .before .before .before .before .before .before .before .before .before in
+    let check-pgn-range-call = c .before .before .before .before .before .before .before .check-pgn-range in
+    let check-frame-length-call = c .before .before .before .check-frame-length in
+    let s = now (start .args .s) in let t = start .args .t in let i = start .args .i in (
+      record {
+        small = omega (
+          arith,
+          start .pre .0 .small,
+          parts (packOf s) t i (pgn-at (packOf s) t i),
+          check-pgn-range-call .ensures .count,
+          check-frame-length-call .ensures .count,
+        );
+      },
+      start .pre .2,
+    )
 
 check-dynamic-length-requires : tie.Need-check-dynamic-length-requires
-check-dynamic-length-requires c κs = (record { small = omega (arith, c .before .before .before .before .before .before .before .before .before .before .before .before .before .before .before .before .pre .0 .small, parts (packOf (now (c .before .before .before .before .before .before .before .before .before .before .before .before .before .before .before .before .args .s))) (c .before .before .before .before .before .before .before .before .before .before .before .before .before .before .before .before .args .t) (c .before .before .before .before .before .before .before .before .before .before .before .before .before .before .before .before .args .i) (pgn-at (packOf (now (c .before .before .before .before .before .before .before .before .before .before .before .before .before .before .before .before .args .s))) (c .before .before .before .before .before .before .before .before .before .before .before .before .before .before .before .before .args .t) (c .before .before .before .before .before .before .before .before .before .before .before .before .before .before .before .before .args .i)), c .before .before .before .before .before .before .before .before .before .before .before .check-pgn-range .ensures .count, c .before .before .before .before .before .before .before .check-frame-length .ensures .count, c .before .before .before .check-repeating .ensures .count) }, c .before .before .before .before .before .before .before .before .before .before .before .before .before .before .before .before .pre .1, c .before .before .before .before .before .before .before .before .before .before .before .before .before .before .before .before .pre .2)
+check-dynamic-length-requires c κs =
+    let back12 = c .before .before .before .before .before .before .before .before .before .before .before .before in
+    let start = back12 .before .before .before .before in
+    let check-pgn-range-call = c .before .before .before .before .before .before .before .before .before .before .before .check-pgn-range in
+    let check-frame-length-call = c .before .before .before .before .before .before .before .check-frame-length in
+    let check-repeating-call = c .before .before .before .check-repeating in
+    let s = now (start .args .s) in let t = start .args .t in let i = start .args .i in (
+      record {
+        small = omega (
+          arith,
+          start .pre .0 .small,
+          parts (packOf s) t i (pgn-at (packOf s) t i),
+          check-pgn-range-call .ensures .count,
+          check-frame-length-call .ensures .count,
+          check-repeating-call .ensures .count,
+        );
+      },
+      start .pre .1,
+      start .pre .2,
+    )
 
 check-proprietary-requires : tie.Need-check-proprietary-requires
-check-proprietary-requires c κs = (record { small = omega (arith, c .before .before .before .before .before .before .before .before .before .before .before .before .before .before .before .before .before .before .before .before .pre .0 .small, parts (packOf (now (c .before .before .before .before .before .before .before .before .before .before .before .before .before .before .before .before .before .before .before .before .args .s))) (c .before .before .before .before .before .before .before .before .before .before .before .before .before .before .before .before .before .before .before .before .args .t) (c .before .before .before .before .before .before .before .before .before .before .before .before .before .before .before .before .before .before .before .before .args .i) (pgn-at (packOf (now (c .before .before .before .before .before .before .before .before .before .before .before .before .before .before .before .before .before .before .before .before .args .s))) (c .before .before .before .before .before .before .before .before .before .before .before .before .before .before .before .before .before .before .before .before .args .t) (c .before .before .before .before .before .before .before .before .before .before .before .before .before .before .before .before .before .before .before .before .args .i)), c .before .before .before .before .before .before .before .before .before .before .before .before .before .before .before .check-pgn-range .ensures .count, c .before .before .before .before .before .before .before .before .before .before .before .check-frame-length .ensures .count, c .before .before .before .before .before .before .before .check-repeating .ensures .count, c .before .before .before .check-dynamic-length .ensures .count) }, c .before .before .before .before .before .before .before .before .before .before .before .before .before .before .before .before .before .before .before .before .pre .1, c .before .before .before .before .before .before .before .before .before .before .before .before .before .before .before .before .before .before .before .before .pre .2)
+check-proprietary-requires c κs =
+    let back12 = c .before .before .before .before .before .before .before .before .before .before .before .before in
+    let start = back12 .before .before .before .before .before .before .before .before in
+    let check-pgn-range-call = back12 .before .before .before .check-pgn-range in
+    let check-frame-length-call = c .before .before .before .before .before .before .before .before .before .before .before .check-frame-length in
+    let check-repeating-call = c .before .before .before .before .before .before .before .check-repeating in
+    let check-dynamic-length-call = c .before .before .before .check-dynamic-length in
+    let s = now (start .args .s) in let t = start .args .t in let i = start .args .i in (
+      record {
+        small = omega (
+          arith,
+          start .pre .0 .small,
+          parts (packOf s) t i (pgn-at (packOf s) t i),
+          check-pgn-range-call .ensures .count,
+          check-frame-length-call .ensures .count,
+          check-repeating-call .ensures .count,
+          check-dynamic-length-call .ensures .count,
+        );
+      },
+      start .pre .1,
+      start .pre .2,
+    )
 
 check-special-values-requires : tie.Need-check-special-values-requires
-check-special-values-requires c κs = (record { small = omega (arith, c .before .before .before .before .before .before .before .before .before .before .before .before .before .before .before .before .before .before .before .before .before .before .before .before .pre .0 .small, parts (packOf (now (c .before .before .before .before .before .before .before .before .before .before .before .before .before .before .before .before .before .before .before .before .before .before .before .before .args .s))) (c .before .before .before .before .before .before .before .before .before .before .before .before .before .before .before .before .before .before .before .before .before .before .before .before .args .t) (c .before .before .before .before .before .before .before .before .before .before .before .before .before .before .before .before .before .before .before .before .before .before .before .before .args .i) (pgn-at (packOf (now (c .before .before .before .before .before .before .before .before .before .before .before .before .before .before .before .before .before .before .before .before .before .before .before .before .args .s))) (c .before .before .before .before .before .before .before .before .before .before .before .before .before .before .before .before .before .before .before .before .before .before .before .before .args .t) (c .before .before .before .before .before .before .before .before .before .before .before .before .before .before .before .before .before .before .before .before .before .before .before .before .args .i)), c .before .before .before .before .before .before .before .before .before .before .before .before .before .before .before .before .before .before .before .check-pgn-range .ensures .count, c .before .before .before .before .before .before .before .before .before .before .before .before .before .before .before .check-frame-length .ensures .count, c .before .before .before .before .before .before .before .before .before .before .before .check-repeating .ensures .count, c .before .before .before .before .before .before .before .check-dynamic-length .ensures .count, c .before .before .before .check-proprietary .ensures .count) }, c .before .before .before .before .before .before .before .before .before .before .before .before .before .before .before .before .before .before .before .before .before .before .before .before .pre .1, c .before .before .before .before .before .before .before .before .before .before .before .before .before .before .before .before .before .before .before .before .before .before .before .before .pre .2)
+check-special-values-requires c κs =
+    let back12 = c .before .before .before .before .before .before .before .before .before .before .before .before in
+    let start = back12 .before .before .before .before .before .before .before .before .before .before .before .before in
+    let check-pgn-range-call = back12 .before .before .before .before .before .before .before .check-pgn-range in
+    let check-frame-length-call = back12 .before .before .before .check-frame-length in
+    let check-repeating-call = c .before .before .before .before .before .before .before .before .before .before .before .check-repeating in
+    let check-dynamic-length-call = c .before .before .before .before .before .before .before .check-dynamic-length in
+    let check-proprietary-call = c .before .before .before .check-proprietary in
+    let s = now (start .args .s) in let t = start .args .t in let i = start .args .i in (
+      record {
+        small = omega (
+          arith,
+          start .pre .0 .small,
+          parts (packOf s) t i (pgn-at (packOf s) t i),
+          check-pgn-range-call .ensures .count,
+          check-frame-length-call .ensures .count,
+          check-repeating-call .ensures .count,
+          check-dynamic-length-call .ensures .count,
+          check-proprietary-call .ensures .count,
+        );
+      },
+      start .pre .1,
+      start .pre .2,
+    )
 
 check-field-count-requires : tie.Need-check-field-count-requires
-check-field-count-requires c κs = (record { small = omega (arith, c .before .before .before .before .before .before .before .before .before .before .before .before .before .before .before .before .before .before .before .before .before .before .before .before .before .before .before .before .pre .0 .small, parts (packOf (now (c .before .before .before .before .before .before .before .before .before .before .before .before .before .before .before .before .before .before .before .before .before .before .before .before .before .before .before .before .args .s))) (c .before .before .before .before .before .before .before .before .before .before .before .before .before .before .before .before .before .before .before .before .before .before .before .before .before .before .before .before .args .t) (c .before .before .before .before .before .before .before .before .before .before .before .before .before .before .before .before .before .before .before .before .before .before .before .before .before .before .before .before .args .i) (pgn-at (packOf (now (c .before .before .before .before .before .before .before .before .before .before .before .before .before .before .before .before .before .before .before .before .before .before .before .before .before .before .before .before .args .s))) (c .before .before .before .before .before .before .before .before .before .before .before .before .before .before .before .before .before .before .before .before .before .before .before .before .before .before .before .before .args .t) (c .before .before .before .before .before .before .before .before .before .before .before .before .before .before .before .before .before .before .before .before .before .before .before .before .before .before .before .before .args .i)), c .before .before .before .before .before .before .before .before .before .before .before .before .before .before .before .before .before .before .before .before .before .before .before .check-pgn-range .ensures .count, c .before .before .before .before .before .before .before .before .before .before .before .before .before .before .before .before .before .before .before .check-frame-length .ensures .count, c .before .before .before .before .before .before .before .before .before .before .before .before .before .before .before .check-repeating .ensures .count, c .before .before .before .before .before .before .before .before .before .before .before .check-dynamic-length .ensures .count, c .before .before .before .before .before .before .before .check-proprietary .ensures .count, c .before .before .before .check-special-values .ensures .count) }, c .before .before .before .before .before .before .before .before .before .before .before .before .before .before .before .before .before .before .before .before .before .before .before .before .before .before .before .before .pre .2)
+check-field-count-requires c κs =
+    let back12 = c .before .before .before .before .before .before .before .before .before .before .before .before in
+    let back24 = back12 .before .before .before .before .before .before .before .before .before .before .before .before in
+    let start = back24 .before .before .before .before in
+    let check-pgn-range-call = back12 .before .before .before .before .before .before .before .before .before .before .before .check-pgn-range in
+    let check-frame-length-call = back12 .before .before .before .before .before .before .before .check-frame-length in
+    let check-repeating-call = back12 .before .before .before .check-repeating in
+    let check-dynamic-length-call = c .before .before .before .before .before .before .before .before .before .before .before .check-dynamic-length in
+    let check-proprietary-call = c .before .before .before .before .before .before .before .check-proprietary in
+    let check-special-values-call = c .before .before .before .check-special-values in
+    let s = now (start .args .s) in let t = start .args .t in let i = start .args .i in (
+      record {
+        small = omega (
+          arith,
+          start .pre .0 .small,
+          parts (packOf s) t i (pgn-at (packOf s) t i),
+          check-pgn-range-call .ensures .count,
+          check-frame-length-call .ensures .count,
+          check-repeating-call .ensures .count,
+          check-dynamic-length-call .ensures .count,
+          check-proprietary-call .ensures .count,
+          check-special-values-call .ensures .count,
+        );
+      },
+      start .pre .2,
+    )
 
 check-reserved-ids-requires : tie.Need-check-reserved-ids-requires
-check-reserved-ids-requires c κs = (record { small = omega (arith, c .before .before .before .before .before .before .before .before .before .before .before .before .before .before .before .before .before .before .before .before .before .before .before .before .before .before .before .before .before .before .before .before .pre .0 .small, parts (packOf (now (c .before .before .before .before .before .before .before .before .before .before .before .before .before .before .before .before .before .before .before .before .before .before .before .before .before .before .before .before .before .before .before .before .args .s))) (c .before .before .before .before .before .before .before .before .before .before .before .before .before .before .before .before .before .before .before .before .before .before .before .before .before .before .before .before .before .before .before .before .args .t) (c .before .before .before .before .before .before .before .before .before .before .before .before .before .before .before .before .before .before .before .before .before .before .before .before .before .before .before .before .before .before .before .before .args .i) (pgn-at (packOf (now (c .before .before .before .before .before .before .before .before .before .before .before .before .before .before .before .before .before .before .before .before .before .before .before .before .before .before .before .before .before .before .before .before .args .s))) (c .before .before .before .before .before .before .before .before .before .before .before .before .before .before .before .before .before .before .before .before .before .before .before .before .before .before .before .before .before .before .before .before .args .t) (c .before .before .before .before .before .before .before .before .before .before .before .before .before .before .before .before .before .before .before .before .before .before .before .before .before .before .before .before .before .before .before .before .args .i)), c .before .before .before .before .before .before .before .before .before .before .before .before .before .before .before .before .before .before .before .before .before .before .before .before .before .before .before .check-pgn-range .ensures .count, c .before .before .before .before .before .before .before .before .before .before .before .before .before .before .before .before .before .before .before .before .before .before .before .check-frame-length .ensures .count, c .before .before .before .before .before .before .before .before .before .before .before .before .before .before .before .before .before .before .before .check-repeating .ensures .count, c .before .before .before .before .before .before .before .before .before .before .before .before .before .before .before .check-dynamic-length .ensures .count, c .before .before .before .before .before .before .before .before .before .before .before .check-proprietary .ensures .count, c .before .before .before .before .before .before .before .check-special-values .ensures .count, c .before .before .before .check-field-count .ensures .count) }, c .before .before .before .before .before .before .before .before .before .before .before .before .before .before .before .before .before .before .before .before .before .before .before .before .before .before .before .before .before .before .before .before .pre .1, c .before .before .before .before .before .before .before .before .before .before .before .before .before .before .before .before .before .before .before .before .before .before .before .before .before .before .before .before .before .before .before .before .pre .2)
+check-reserved-ids-requires c κs =
+    let back12 = c .before .before .before .before .before .before .before .before .before .before .before .before in
+    let back24 = back12 .before .before .before .before .before .before .before .before .before .before .before .before in
+    let start = back24 .before .before .before .before .before .before .before .before in
+    let check-pgn-range-call = back24 .before .before .before .check-pgn-range in
+    let check-frame-length-call = back12 .before .before .before .before .before .before .before .before .before .before .before .check-frame-length in
+    let check-repeating-call = back12 .before .before .before .before .before .before .before .check-repeating in
+    let check-dynamic-length-call = back12 .before .before .before .check-dynamic-length in
+    let check-proprietary-call = c .before .before .before .before .before .before .before .before .before .before .before .check-proprietary in
+    let check-special-values-call = c .before .before .before .before .before .before .before .check-special-values in
+    let check-field-count-call = c .before .before .before .check-field-count in
+    let s = now (start .args .s) in let t = start .args .t in let i = start .args .i in (
+      record {
+        small = omega (
+          arith,
+          start .pre .0 .small,
+          parts (packOf s) t i (pgn-at (packOf s) t i),
+          check-pgn-range-call .ensures .count,
+          check-frame-length-call .ensures .count,
+          check-repeating-call .ensures .count,
+          check-dynamic-length-call .ensures .count,
+          check-proprietary-call .ensures .count,
+          check-special-values-call .ensures .count,
+          check-field-count-call .ensures .count,
+        );
+      },
+      start .pre .1,
+      start .pre .2,
+    )
 
 check-match-values-requires : tie.Need-check-match-values-requires
-check-match-values-requires c κs = (record { small = omega (arith, c .before .before .before .before .before .before .before .before .before .before .before .before .before .before .before .before .before .before .before .before .before .before .before .before .before .before .before .before .before .before .before .before .before .before .before .before .pre .0 .small, parts (packOf (now (c .before .before .before .before .before .before .before .before .before .before .before .before .before .before .before .before .before .before .before .before .before .before .before .before .before .before .before .before .before .before .before .before .before .before .before .before .args .s))) (c .before .before .before .before .before .before .before .before .before .before .before .before .before .before .before .before .before .before .before .before .before .before .before .before .before .before .before .before .before .before .before .before .before .before .before .before .args .t) (c .before .before .before .before .before .before .before .before .before .before .before .before .before .before .before .before .before .before .before .before .before .before .before .before .before .before .before .before .before .before .before .before .before .before .before .before .args .i) (pgn-at (packOf (now (c .before .before .before .before .before .before .before .before .before .before .before .before .before .before .before .before .before .before .before .before .before .before .before .before .before .before .before .before .before .before .before .before .before .before .before .before .args .s))) (c .before .before .before .before .before .before .before .before .before .before .before .before .before .before .before .before .before .before .before .before .before .before .before .before .before .before .before .before .before .before .before .before .before .before .before .before .args .t) (c .before .before .before .before .before .before .before .before .before .before .before .before .before .before .before .before .before .before .before .before .before .before .before .before .before .before .before .before .before .before .before .before .before .before .before .before .args .i)), c .before .before .before .before .before .before .before .before .before .before .before .before .before .before .before .before .before .before .before .before .before .before .before .before .before .before .before .before .before .before .before .check-pgn-range .ensures .count, c .before .before .before .before .before .before .before .before .before .before .before .before .before .before .before .before .before .before .before .before .before .before .before .before .before .before .before .check-frame-length .ensures .count, c .before .before .before .before .before .before .before .before .before .before .before .before .before .before .before .before .before .before .before .before .before .before .before .check-repeating .ensures .count, c .before .before .before .before .before .before .before .before .before .before .before .before .before .before .before .before .before .before .before .check-dynamic-length .ensures .count, c .before .before .before .before .before .before .before .before .before .before .before .before .before .before .before .check-proprietary .ensures .count, c .before .before .before .before .before .before .before .before .before .before .before .check-special-values .ensures .count, c .before .before .before .before .before .before .before .check-field-count .ensures .count, c .before .before .before .check-reserved-ids .ensures .count) }, c .before .before .before .before .before .before .before .before .before .before .before .before .before .before .before .before .before .before .before .before .before .before .before .before .before .before .before .before .before .before .before .before .before .before .before .before .pre .1, c .before .before .before .before .before .before .before .before .before .before .before .before .before .before .before .before .before .before .before .before .before .before .before .before .before .before .before .before .before .before .before .before .before .before .before .before .pre .3, c .before .before .before .before .before .before .before .before .before .before .before .before .before .before .before .before .before .before .before .before .before .before .before .before .before .before .before .before .before .before .before .before .before .before .before .before .pre .4, c .before .before .before .before .before .before .before .before .before .before .before .before .before .before .before .before .before .before .before .before .before .before .before .before .before .before .before .before .before .before .before .before .before .before .before .before .pre .2)
+check-match-values-requires c κs =
+    let back12 = c .before .before .before .before .before .before .before .before .before .before .before .before in
+    let back24 = back12 .before .before .before .before .before .before .before .before .before .before .before .before in
+    let start = back24 .before .before .before .before .before .before .before .before .before .before .before .before in
+    let check-pgn-range-call = back24 .before .before .before .before .before .before .before .check-pgn-range in
+    let check-frame-length-call = back24 .before .before .before .check-frame-length in
+    let check-repeating-call = back12 .before .before .before .before .before .before .before .before .before .before .before .check-repeating in
+    let check-dynamic-length-call = back12 .before .before .before .before .before .before .before .check-dynamic-length in
+    let check-proprietary-call = back12 .before .before .before .check-proprietary in
+    let check-special-values-call = c .before .before .before .before .before .before .before .before .before .before .before .check-special-values in
+    let check-field-count-call = c .before .before .before .before .before .before .before .check-field-count in
+    let check-reserved-ids-call = c .before .before .before .check-reserved-ids in
+    let s = now (start .args .s) in let t = start .args .t in let i = start .args .i in (
+      record {
+        small = omega (
+          arith,
+          start .pre .0 .small,
+          parts (packOf s) t i (pgn-at (packOf s) t i),
+          check-pgn-range-call .ensures .count,
+          check-frame-length-call .ensures .count,
+          check-repeating-call .ensures .count,
+          check-dynamic-length-call .ensures .count,
+          check-proprietary-call .ensures .count,
+          check-special-values-call .ensures .count,
+          check-field-count-call .ensures .count,
+          check-reserved-ids-call .ensures .count,
+        );
+      },
+      start .pre .1,
+      start .pre .3,
+      start .pre .4,
+      start .pre .2,
+    )
 
 check-field-type-overrides-requires : tie.Need-check-field-type-overrides-requires
-check-field-type-overrides-requires c κs = (record { small = omega (arith, c .before .before .before .before .before .before .before .before .before .before .before .before .before .before .before .before .before .before .before .before .before .before .before .before .before .before .before .before .before .before .before .before .before .before .before .before .before .before .before .before .pre .0 .small, parts (packOf (now (c .before .before .before .before .before .before .before .before .before .before .before .before .before .before .before .before .before .before .before .before .before .before .before .before .before .before .before .before .before .before .before .before .before .before .before .before .before .before .before .before .args .s))) (c .before .before .before .before .before .before .before .before .before .before .before .before .before .before .before .before .before .before .before .before .before .before .before .before .before .before .before .before .before .before .before .before .before .before .before .before .before .before .before .before .args .t) (c .before .before .before .before .before .before .before .before .before .before .before .before .before .before .before .before .before .before .before .before .before .before .before .before .before .before .before .before .before .before .before .before .before .before .before .before .before .before .before .before .args .i) (pgn-at (packOf (now (c .before .before .before .before .before .before .before .before .before .before .before .before .before .before .before .before .before .before .before .before .before .before .before .before .before .before .before .before .before .before .before .before .before .before .before .before .before .before .before .before .args .s))) (c .before .before .before .before .before .before .before .before .before .before .before .before .before .before .before .before .before .before .before .before .before .before .before .before .before .before .before .before .before .before .before .before .before .before .before .before .before .before .before .before .args .t) (c .before .before .before .before .before .before .before .before .before .before .before .before .before .before .before .before .before .before .before .before .before .before .before .before .before .before .before .before .before .before .before .before .before .before .before .before .before .before .before .before .args .i)), c .before .before .before .before .before .before .before .before .before .before .before .before .before .before .before .before .before .before .before .before .before .before .before .before .before .before .before .before .before .before .before .before .before .before .before .check-pgn-range .ensures .count, c .before .before .before .before .before .before .before .before .before .before .before .before .before .before .before .before .before .before .before .before .before .before .before .before .before .before .before .before .before .before .before .check-frame-length .ensures .count, c .before .before .before .before .before .before .before .before .before .before .before .before .before .before .before .before .before .before .before .before .before .before .before .before .before .before .before .check-repeating .ensures .count, c .before .before .before .before .before .before .before .before .before .before .before .before .before .before .before .before .before .before .before .before .before .before .before .check-dynamic-length .ensures .count, c .before .before .before .before .before .before .before .before .before .before .before .before .before .before .before .before .before .before .before .check-proprietary .ensures .count, c .before .before .before .before .before .before .before .before .before .before .before .before .before .before .before .check-special-values .ensures .count, c .before .before .before .before .before .before .before .before .before .before .before .check-field-count .ensures .count, c .before .before .before .before .before .before .before .check-reserved-ids .ensures .count, c .before .before .before .check-match-values .ensures .count) }, c .before .before .before .before .before .before .before .before .before .before .before .before .before .before .before .before .before .before .before .before .before .before .before .before .before .before .before .before .before .before .before .before .before .before .before .before .before .before .before .before .pre .1, c .before .before .before .before .before .before .before .before .before .before .before .before .before .before .before .before .before .before .before .before .before .before .before .before .before .before .before .before .before .before .before .before .before .before .before .before .before .before .before .before .pre .2)
+check-field-type-overrides-requires c κs =
+    let back12 = c .before .before .before .before .before .before .before .before .before .before .before .before in
+    let back24 = back12 .before .before .before .before .before .before .before .before .before .before .before .before in
+    let back36 = back24 .before .before .before .before .before .before .before .before .before .before .before .before in
+    let start = back36 .before .before .before .before in
+    let check-pgn-range-call = back24 .before .before .before .before .before .before .before .before .before .before .before .check-pgn-range in
+    let check-frame-length-call = back24 .before .before .before .before .before .before .before .check-frame-length in
+    let check-repeating-call = back24 .before .before .before .check-repeating in
+    let check-dynamic-length-call = back12 .before .before .before .before .before .before .before .before .before .before .before .check-dynamic-length in
+    let check-proprietary-call = back12 .before .before .before .before .before .before .before .check-proprietary in
+    let check-special-values-call = back12 .before .before .before .check-special-values in
+    let check-field-count-call = c .before .before .before .before .before .before .before .before .before .before .before .check-field-count in
+    let check-reserved-ids-call = c .before .before .before .before .before .before .before .check-reserved-ids in
+    let check-match-values-call = c .before .before .before .check-match-values in
+    let s = now (start .args .s) in let t = start .args .t in let i = start .args .i in (
+      record {
+        small = omega (
+          arith,
+          start .pre .0 .small,
+          parts (packOf s) t i (pgn-at (packOf s) t i),
+          check-pgn-range-call .ensures .count,
+          check-frame-length-call .ensures .count,
+          check-repeating-call .ensures .count,
+          check-dynamic-length-call .ensures .count,
+          check-proprietary-call .ensures .count,
+          check-special-values-call .ensures .count,
+          check-field-count-call .ensures .count,
+          check-reserved-ids-call .ensures .count,
+          check-match-values-call .ensures .count,
+        );
+      },
+      start .pre .1,
+      start .pre .2,
+    )
 
 check-bit-length-field-requires : tie.Need-check-bit-length-field-requires
-check-bit-length-field-requires c κs = (record { small = omega (arith, c .before .before .before .before .before .before .before .before .before .before .before .before .before .before .before .before .before .before .before .before .before .before .before .before .before .before .before .before .before .before .before .before .before .before .before .before .before .before .before .before .before .before .before .before .pre .0 .small, parts (packOf (now (c .before .before .before .before .before .before .before .before .before .before .before .before .before .before .before .before .before .before .before .before .before .before .before .before .before .before .before .before .before .before .before .before .before .before .before .before .before .before .before .before .before .before .before .before .args .s))) (c .before .before .before .before .before .before .before .before .before .before .before .before .before .before .before .before .before .before .before .before .before .before .before .before .before .before .before .before .before .before .before .before .before .before .before .before .before .before .before .before .before .before .before .before .args .t) (c .before .before .before .before .before .before .before .before .before .before .before .before .before .before .before .before .before .before .before .before .before .before .before .before .before .before .before .before .before .before .before .before .before .before .before .before .before .before .before .before .before .before .before .before .args .i) (pgn-at (packOf (now (c .before .before .before .before .before .before .before .before .before .before .before .before .before .before .before .before .before .before .before .before .before .before .before .before .before .before .before .before .before .before .before .before .before .before .before .before .before .before .before .before .before .before .before .before .args .s))) (c .before .before .before .before .before .before .before .before .before .before .before .before .before .before .before .before .before .before .before .before .before .before .before .before .before .before .before .before .before .before .before .before .before .before .before .before .before .before .before .before .before .before .before .before .args .t) (c .before .before .before .before .before .before .before .before .before .before .before .before .before .before .before .before .before .before .before .before .before .before .before .before .before .before .before .before .before .before .before .before .before .before .before .before .before .before .before .before .before .before .before .before .args .i)), c .before .before .before .before .before .before .before .before .before .before .before .before .before .before .before .before .before .before .before .before .before .before .before .before .before .before .before .before .before .before .before .before .before .before .before .before .before .before .before .check-pgn-range .ensures .count, c .before .before .before .before .before .before .before .before .before .before .before .before .before .before .before .before .before .before .before .before .before .before .before .before .before .before .before .before .before .before .before .before .before .before .before .check-frame-length .ensures .count, c .before .before .before .before .before .before .before .before .before .before .before .before .before .before .before .before .before .before .before .before .before .before .before .before .before .before .before .before .before .before .before .check-repeating .ensures .count, c .before .before .before .before .before .before .before .before .before .before .before .before .before .before .before .before .before .before .before .before .before .before .before .before .before .before .before .check-dynamic-length .ensures .count, c .before .before .before .before .before .before .before .before .before .before .before .before .before .before .before .before .before .before .before .before .before .before .before .check-proprietary .ensures .count, c .before .before .before .before .before .before .before .before .before .before .before .before .before .before .before .before .before .before .before .check-special-values .ensures .count, c .before .before .before .before .before .before .before .before .before .before .before .before .before .before .before .check-field-count .ensures .count, c .before .before .before .before .before .before .before .before .before .before .before .check-reserved-ids .ensures .count, c .before .before .before .before .before .before .before .check-match-values .ensures .count, c .before .before .before .check-field-type-overrides .ensures .count) }, c .before .before .before .before .before .before .before .before .before .before .before .before .before .before .before .before .before .before .before .before .before .before .before .before .before .before .before .before .before .before .before .before .before .before .before .before .before .before .before .before .before .before .before .before .pre .1, c .before .before .before .before .before .before .before .before .before .before .before .before .before .before .before .before .before .before .before .before .before .before .before .before .before .before .before .before .before .before .before .before .before .before .before .before .before .before .before .before .before .before .before .before .pre .2)
+check-bit-length-field-requires c κs =
+    let back12 = c .before .before .before .before .before .before .before .before .before .before .before .before in
+    let back24 = back12 .before .before .before .before .before .before .before .before .before .before .before .before in
+    let back36 = back24 .before .before .before .before .before .before .before .before .before .before .before .before in
+    let start = back36 .before .before .before .before .before .before .before .before in
+    let check-pgn-range-call = back36 .before .before .before .check-pgn-range in
+    let check-frame-length-call = back24 .before .before .before .before .before .before .before .before .before .before .before .check-frame-length in
+    let check-repeating-call = back24 .before .before .before .before .before .before .before .check-repeating in
+    let check-dynamic-length-call = back24 .before .before .before .check-dynamic-length in
+    let check-proprietary-call = back12 .before .before .before .before .before .before .before .before .before .before .before .check-proprietary in
+    let check-special-values-call = back12 .before .before .before .before .before .before .before .check-special-values in
+    let check-field-count-call = back12 .before .before .before .check-field-count in
+    let check-reserved-ids-call = c .before .before .before .before .before .before .before .before .before .before .before .check-reserved-ids in
+    let check-match-values-call = c .before .before .before .before .before .before .before .check-match-values in
+    let check-field-type-overrides-call = c .before .before .before .check-field-type-overrides in
+    let s = now (start .args .s) in let t = start .args .t in let i = start .args .i in (
+      record {
+        small = omega (
+          arith,
+          start .pre .0 .small,
+          parts (packOf s) t i (pgn-at (packOf s) t i),
+          check-pgn-range-call .ensures .count,
+          check-frame-length-call .ensures .count,
+          check-repeating-call .ensures .count,
+          check-dynamic-length-call .ensures .count,
+          check-proprietary-call .ensures .count,
+          check-special-values-call .ensures .count,
+          check-field-count-call .ensures .count,
+          check-reserved-ids-call .ensures .count,
+          check-match-values-call .ensures .count,
+          check-field-type-overrides-call .ensures .count,
+        );
+      },
+      start .pre .1,
+      start .pre .2,
+    )
 
 check-trailing-zero-is-digit-requires : tie.Need-check-trailing-zero-is-digit-requires
-check-trailing-zero-is-digit-requires c κs = (record { small = omega (arith, c .before .before .before .before .before .before .before .before .before .before .before .before .before .before .before .before .before .before .before .before .before .before .before .before .before .before .before .before .before .before .before .before .before .before .before .before .before .before .before .before .before .before .before .before .before .before .before .before .pre .0 .small, parts (packOf (now (c .before .before .before .before .before .before .before .before .before .before .before .before .before .before .before .before .before .before .before .before .before .before .before .before .before .before .before .before .before .before .before .before .before .before .before .before .before .before .before .before .before .before .before .before .before .before .before .before .args .s))) (c .before .before .before .before .before .before .before .before .before .before .before .before .before .before .before .before .before .before .before .before .before .before .before .before .before .before .before .before .before .before .before .before .before .before .before .before .before .before .before .before .before .before .before .before .before .before .before .before .args .t) (c .before .before .before .before .before .before .before .before .before .before .before .before .before .before .before .before .before .before .before .before .before .before .before .before .before .before .before .before .before .before .before .before .before .before .before .before .before .before .before .before .before .before .before .before .before .before .before .before .args .i) (pgn-at (packOf (now (c .before .before .before .before .before .before .before .before .before .before .before .before .before .before .before .before .before .before .before .before .before .before .before .before .before .before .before .before .before .before .before .before .before .before .before .before .before .before .before .before .before .before .before .before .before .before .before .before .args .s))) (c .before .before .before .before .before .before .before .before .before .before .before .before .before .before .before .before .before .before .before .before .before .before .before .before .before .before .before .before .before .before .before .before .before .before .before .before .before .before .before .before .before .before .before .before .before .before .before .before .args .t) (c .before .before .before .before .before .before .before .before .before .before .before .before .before .before .before .before .before .before .before .before .before .before .before .before .before .before .before .before .before .before .before .before .before .before .before .before .before .before .before .before .before .before .before .before .before .before .before .before .args .i)), c .before .before .before .before .before .before .before .before .before .before .before .before .before .before .before .before .before .before .before .before .before .before .before .before .before .before .before .before .before .before .before .before .before .before .before .before .before .before .before .before .before .before .before .check-pgn-range .ensures .count, c .before .before .before .before .before .before .before .before .before .before .before .before .before .before .before .before .before .before .before .before .before .before .before .before .before .before .before .before .before .before .before .before .before .before .before .before .before .before .before .check-frame-length .ensures .count, c .before .before .before .before .before .before .before .before .before .before .before .before .before .before .before .before .before .before .before .before .before .before .before .before .before .before .before .before .before .before .before .before .before .before .before .check-repeating .ensures .count, c .before .before .before .before .before .before .before .before .before .before .before .before .before .before .before .before .before .before .before .before .before .before .before .before .before .before .before .before .before .before .before .check-dynamic-length .ensures .count, c .before .before .before .before .before .before .before .before .before .before .before .before .before .before .before .before .before .before .before .before .before .before .before .before .before .before .before .check-proprietary .ensures .count, c .before .before .before .before .before .before .before .before .before .before .before .before .before .before .before .before .before .before .before .before .before .before .before .check-special-values .ensures .count, c .before .before .before .before .before .before .before .before .before .before .before .before .before .before .before .before .before .before .before .check-field-count .ensures .count, c .before .before .before .before .before .before .before .before .before .before .before .before .before .before .before .check-reserved-ids .ensures .count, c .before .before .before .before .before .before .before .before .before .before .before .check-match-values .ensures .count, c .before .before .before .before .before .before .before .check-field-type-overrides .ensures .count, c .before .before .before .check-bit-length-field .ensures .count) }, c .before .before .before .before .before .before .before .before .before .before .before .before .before .before .before .before .before .before .before .before .before .before .before .before .before .before .before .before .before .before .before .before .before .before .before .before .before .before .before .before .before .before .before .before .before .before .before .before .pre .1, c .before .before .before .before .before .before .before .before .before .before .before .before .before .before .before .before .before .before .before .before .before .before .before .before .before .before .before .before .before .before .before .before .before .before .before .before .before .before .before .before .before .before .before .before .before .before .before .before .pre .2)
+check-trailing-zero-is-digit-requires c κs =
+    let back12 = c .before .before .before .before .before .before .before .before .before .before .before .before in
+    let back24 = back12 .before .before .before .before .before .before .before .before .before .before .before .before in
+    let back36 = back24 .before .before .before .before .before .before .before .before .before .before .before .before in
+    let start = back36 .before .before .before .before .before .before .before .before .before .before .before .before in
+    let check-pgn-range-call = back36 .before .before .before .before .before .before .before .check-pgn-range in
+    let check-frame-length-call = back36 .before .before .before .check-frame-length in
+    let check-repeating-call = back24 .before .before .before .before .before .before .before .before .before .before .before .check-repeating in
+    let check-dynamic-length-call = back24 .before .before .before .before .before .before .before .check-dynamic-length in
+    let check-proprietary-call = back24 .before .before .before .check-proprietary in
+    let check-special-values-call = back12 .before .before .before .before .before .before .before .before .before .before .before .check-special-values in
+    let check-field-count-call = back12 .before .before .before .before .before .before .before .check-field-count in
+    let check-reserved-ids-call = back12 .before .before .before .check-reserved-ids in
+    let check-match-values-call = c .before .before .before .before .before .before .before .before .before .before .before .check-match-values in
+    let check-field-type-overrides-call = c .before .before .before .before .before .before .before .check-field-type-overrides in
+    let check-bit-length-field-call = c .before .before .before .check-bit-length-field in
+    let s = now (start .args .s) in let t = start .args .t in let i = start .args .i in (
+      record {
+        small = omega (
+          arith,
+          start .pre .0 .small,
+          parts (packOf s) t i (pgn-at (packOf s) t i),
+          check-pgn-range-call .ensures .count,
+          check-frame-length-call .ensures .count,
+          check-repeating-call .ensures .count,
+          check-dynamic-length-call .ensures .count,
+          check-proprietary-call .ensures .count,
+          check-special-values-call .ensures .count,
+          check-field-count-call .ensures .count,
+          check-reserved-ids-call .ensures .count,
+          check-match-values-call .ensures .count,
+          check-field-type-overrides-call .ensures .count,
+          check-bit-length-field-call .ensures .count,
+        );
+      },
+      start .pre .1,
+      start .pre .2,
+    )
 
 check-min-length-requires : tie.Need-check-min-length-requires
-check-min-length-requires c κs = (record { small = omega (arith, c .before .before .before .before .before .before .before .before .before .before .before .before .before .before .before .before .before .before .before .before .before .before .before .before .before .before .before .before .before .before .before .before .before .before .before .before .before .before .before .before .before .before .before .before .before .before .before .before .before .before .before .before .pre .0 .small, parts (packOf (now (c .before .before .before .before .before .before .before .before .before .before .before .before .before .before .before .before .before .before .before .before .before .before .before .before .before .before .before .before .before .before .before .before .before .before .before .before .before .before .before .before .before .before .before .before .before .before .before .before .before .before .before .before .args .s))) (c .before .before .before .before .before .before .before .before .before .before .before .before .before .before .before .before .before .before .before .before .before .before .before .before .before .before .before .before .before .before .before .before .before .before .before .before .before .before .before .before .before .before .before .before .before .before .before .before .before .before .before .before .args .t) (c .before .before .before .before .before .before .before .before .before .before .before .before .before .before .before .before .before .before .before .before .before .before .before .before .before .before .before .before .before .before .before .before .before .before .before .before .before .before .before .before .before .before .before .before .before .before .before .before .before .before .before .before .args .i) (pgn-at (packOf (now (c .before .before .before .before .before .before .before .before .before .before .before .before .before .before .before .before .before .before .before .before .before .before .before .before .before .before .before .before .before .before .before .before .before .before .before .before .before .before .before .before .before .before .before .before .before .before .before .before .before .before .before .before .args .s))) (c .before .before .before .before .before .before .before .before .before .before .before .before .before .before .before .before .before .before .before .before .before .before .before .before .before .before .before .before .before .before .before .before .before .before .before .before .before .before .before .before .before .before .before .before .before .before .before .before .before .before .before .before .args .t) (c .before .before .before .before .before .before .before .before .before .before .before .before .before .before .before .before .before .before .before .before .before .before .before .before .before .before .before .before .before .before .before .before .before .before .before .before .before .before .before .before .before .before .before .before .before .before .before .before .before .before .before .before .args .i)), c .before .before .before .before .before .before .before .before .before .before .before .before .before .before .before .before .before .before .before .before .before .before .before .before .before .before .before .before .before .before .before .before .before .before .before .before .before .before .before .before .before .before .before .before .before .before .before .check-pgn-range .ensures .count, c .before .before .before .before .before .before .before .before .before .before .before .before .before .before .before .before .before .before .before .before .before .before .before .before .before .before .before .before .before .before .before .before .before .before .before .before .before .before .before .before .before .before .before .check-frame-length .ensures .count, c .before .before .before .before .before .before .before .before .before .before .before .before .before .before .before .before .before .before .before .before .before .before .before .before .before .before .before .before .before .before .before .before .before .before .before .before .before .before .before .check-repeating .ensures .count, c .before .before .before .before .before .before .before .before .before .before .before .before .before .before .before .before .before .before .before .before .before .before .before .before .before .before .before .before .before .before .before .before .before .before .before .check-dynamic-length .ensures .count, c .before .before .before .before .before .before .before .before .before .before .before .before .before .before .before .before .before .before .before .before .before .before .before .before .before .before .before .before .before .before .before .check-proprietary .ensures .count, c .before .before .before .before .before .before .before .before .before .before .before .before .before .before .before .before .before .before .before .before .before .before .before .before .before .before .before .check-special-values .ensures .count, c .before .before .before .before .before .before .before .before .before .before .before .before .before .before .before .before .before .before .before .before .before .before .before .check-field-count .ensures .count, c .before .before .before .before .before .before .before .before .before .before .before .before .before .before .before .before .before .before .before .check-reserved-ids .ensures .count, c .before .before .before .before .before .before .before .before .before .before .before .before .before .before .before .check-match-values .ensures .count, c .before .before .before .before .before .before .before .before .before .before .before .check-field-type-overrides .ensures .count, c .before .before .before .before .before .before .before .check-bit-length-field .ensures .count, c .before .before .before .check-trailing-zero-is-digit .ensures .count) }, c .before .before .before .before .before .before .before .before .before .before .before .before .before .before .before .before .before .before .before .before .before .before .before .before .before .before .before .before .before .before .before .before .before .before .before .before .before .before .before .before .before .before .before .before .before .before .before .before .before .before .before .before .pre .1, c .before .before .before .before .before .before .before .before .before .before .before .before .before .before .before .before .before .before .before .before .before .before .before .before .before .before .before .before .before .before .before .before .before .before .before .before .before .before .before .before .before .before .before .before .before .before .before .before .before .before .before .before .pre .2)
+check-min-length-requires c κs =
+    let back12 = c .before .before .before .before .before .before .before .before .before .before .before .before in
+    let back24 = back12 .before .before .before .before .before .before .before .before .before .before .before .before in
+    let back36 = back24 .before .before .before .before .before .before .before .before .before .before .before .before in
+    let back48 = back36 .before .before .before .before .before .before .before .before .before .before .before .before in
+    let start = back48 .before .before .before .before in
+    let check-pgn-range-call = back36 .before .before .before .before .before .before .before .before .before .before .before .check-pgn-range in
+    let check-frame-length-call = back36 .before .before .before .before .before .before .before .check-frame-length in
+    let check-repeating-call = back36 .before .before .before .check-repeating in
+    let check-dynamic-length-call = back24 .before .before .before .before .before .before .before .before .before .before .before .check-dynamic-length in
+    let check-proprietary-call = back24 .before .before .before .before .before .before .before .check-proprietary in
+    let check-special-values-call = back24 .before .before .before .check-special-values in
+    let check-field-count-call = back12 .before .before .before .before .before .before .before .before .before .before .before .check-field-count in
+    let check-reserved-ids-call = back12 .before .before .before .before .before .before .before .check-reserved-ids in
+    let check-match-values-call = back12 .before .before .before .check-match-values in
+    let check-field-type-overrides-call =
+    c .before .before .before .before .before .before .before .before .before .before .before .check-field-type-overrides in
+    let check-bit-length-field-call = c .before .before .before .before .before .before .before .check-bit-length-field in
+    let check-trailing-zero-is-digit-call = c .before .before .before .check-trailing-zero-is-digit in
+    let s = now (start .args .s) in let t = start .args .t in let i = start .args .i in (
+      record {
+        small = omega (
+          arith,
+          start .pre .0 .small,
+          parts (packOf s) t i (pgn-at (packOf s) t i),
+          check-pgn-range-call .ensures .count,
+          check-frame-length-call .ensures .count,
+          check-repeating-call .ensures .count,
+          check-dynamic-length-call .ensures .count,
+          check-proprietary-call .ensures .count,
+          check-special-values-call .ensures .count,
+          check-field-count-call .ensures .count,
+          check-reserved-ids-call .ensures .count,
+          check-match-values-call .ensures .count,
+          check-field-type-overrides-call .ensures .count,
+          check-bit-length-field-call .ensures .count,
+          check-trailing-zero-is-digit-call .ensures .count,
+        );
+      },
+      start .pre .1,
+      start .pre .2,
+    )
 
 same-length : tie.Need-same-length
-same-length c = c .before .before .check-min-length .kept .0 ∙ c .before .before .before .before .before .before .check-trailing-zero-is-digit .kept .0 ∙ c .before .before .before .before .before .before .before .before .before .before .check-bit-length-field .kept .0 ∙ c .before .before .before .before .before .before .before .before .before .before .before .before .before .before .check-field-type-overrides .kept .0 ∙ c .before .before .before .before .before .before .before .before .before .before .before .before .before .before .before .before .before .before .check-match-values .kept .0 ∙ c .before .before .before .before .before .before .before .before .before .before .before .before .before .before .before .before .before .before .before .before .before .before .check-reserved-ids .kept .0 ∙ c .before .before .before .before .before .before .before .before .before .before .before .before .before .before .before .before .before .before .before .before .before .before .before .before .before .before .check-field-count .kept .0 ∙ c .before .before .before .before .before .before .before .before .before .before .before .before .before .before .before .before .before .before .before .before .before .before .before .before .before .before .before .before .before .before .check-special-values .kept .0 ∙ c .before .before .before .before .before .before .before .before .before .before .before .before .before .before .before .before .before .before .before .before .before .before .before .before .before .before .before .before .before .before .before .before .before .before .check-proprietary .kept .0 ∙ c .before .before .before .before .before .before .before .before .before .before .before .before .before .before .before .before .before .before .before .before .before .before .before .before .before .before .before .before .before .before .before .before .before .before .before .before .before .before .check-dynamic-length .kept .0 ∙ c .before .before .before .before .before .before .before .before .before .before .before .before .before .before .before .before .before .before .before .before .before .before .before .before .before .before .before .before .before .before .before .before .before .before .before .before .before .before .before .before .before .before .check-repeating .kept .0 ∙ c .before .before .before .before .before .before .before .before .before .before .before .before .before .before .before .before .before .before .before .before .before .before .before .before .before .before .before .before .before .before .before .before .before .before .before .before .before .before .before .before .before .before .before .before .before .before .check-frame-length .kept .0 ∙ c .before .before .before .before .before .before .before .before .before .before .before .before .before .before .before .before .before .before .before .before .before .before .before .before .before .before .before .before .before .before .before .before .before .before .before .before .before .before .before .before .before .before .before .before .before .before .before .before .before .before .check-pgn-range .kept .0
+same-length c =
+    let back12 = c .before .before .before .before .before .before .before .before .before .before .before .before in
+    let back24 = back12 .before .before .before .before .before .before .before .before .before .before .before .before in
+    let back36 = back24 .before .before .before .before .before .before .before .before .before .before .before .before in
+    let back48 = back36 .before .before .before .before .before .before .before .before .before .before .before .before in
+    let check-pgn-range-call = back48 .before .before .check-pgn-range in
+    let check-frame-length-call = back36 .before .before .before .before .before .before .before .before .before .before .check-frame-length in
+    let check-repeating-call = back36 .before .before .before .before .before .before .check-repeating in
+    let check-dynamic-length-call = back36 .before .before .check-dynamic-length in
+    let check-proprietary-call = back24 .before .before .before .before .before .before .before .before .before .before .check-proprietary in
+    let check-special-values-call = back24 .before .before .before .before .before .before .check-special-values in
+    let check-field-count-call = back24 .before .before .check-field-count in
+    let check-reserved-ids-call = back12 .before .before .before .before .before .before .before .before .before .before .check-reserved-ids in
+    let check-match-values-call = back12 .before .before .before .before .before .before .check-match-values in
+    let check-field-type-overrides-call = back12 .before .before .check-field-type-overrides in
+    let check-bit-length-field-call = c .before .before .before .before .before .before .before .before .before .before .check-bit-length-field in
+    let check-trailing-zero-is-digit-call = c .before .before .before .before .before .before .check-trailing-zero-is-digit in
+    c .before .before .check-min-length .kept .0
+    ∙ check-trailing-zero-is-digit-call .kept .0
+    ∙ check-bit-length-field-call .kept .0
+    ∙ check-field-type-overrides-call .kept .0
+    ∙ check-match-values-call .kept .0
+    ∙ check-reserved-ids-call .kept .0
+    ∙ check-field-count-call .kept .0
+    ∙ check-special-values-call .kept .0
+    ∙ check-proprietary-call .kept .0
+    ∙ check-dynamic-length-call .kept .0
+    ∙ check-repeating-call .kept .0
+    ∙ check-frame-length-call .kept .0
+    ∙ check-pgn-range-call .kept .0
 
 returns : tie.Need-returns
 unfolding check-pgn
-returns c = emitted-append (emitted-append (emitted-append (emitted-append (emitted-append (emitted-append (emitted-append (emitted-append (emitted-append (emitted-append (emitted-append (emitted-append (c .before .before .before .before .before .before .before .before .before .before .before .before .before .before .before .before .before .before .before .before .before .before .before .before .before .before .before .before .before .before .before .before .before .before .before .before .before .before .before .before .before .before .before .before .before .before .before .before .before .before .check-pgn-range .ensures) (c .before .before .before .before .before .before .before .before .before .before .before .before .before .before .before .before .before .before .before .before .before .before .before .before .before .before .before .before .before .before .before .before .before .before .before .before .before .before .before .before .before .before .before .before .before .before .check-frame-length .ensures)) (c .before .before .before .before .before .before .before .before .before .before .before .before .before .before .before .before .before .before .before .before .before .before .before .before .before .before .before .before .before .before .before .before .before .before .before .before .before .before .before .before .before .before .check-repeating .ensures)) (c .before .before .before .before .before .before .before .before .before .before .before .before .before .before .before .before .before .before .before .before .before .before .before .before .before .before .before .before .before .before .before .before .before .before .before .before .before .before .check-dynamic-length .ensures)) (c .before .before .before .before .before .before .before .before .before .before .before .before .before .before .before .before .before .before .before .before .before .before .before .before .before .before .before .before .before .before .before .before .before .before .check-proprietary .ensures)) (c .before .before .before .before .before .before .before .before .before .before .before .before .before .before .before .before .before .before .before .before .before .before .before .before .before .before .before .before .before .before .check-special-values .ensures)) (c .before .before .before .before .before .before .before .before .before .before .before .before .before .before .before .before .before .before .before .before .before .before .before .before .before .before .check-field-count .ensures)) (c .before .before .before .before .before .before .before .before .before .before .before .before .before .before .before .before .before .before .before .before .before .before .check-reserved-ids .ensures)) (c .before .before .before .before .before .before .before .before .before .before .before .before .before .before .before .before .before .before .check-match-values .ensures)) (c .before .before .before .before .before .before .before .before .before .before .before .before .before .before .check-field-type-overrides .ensures)) (c .before .before .before .before .before .before .before .before .before .before .check-bit-length-field .ensures)) (c .before .before .before .before .before .before .check-trailing-zero-is-digit .ensures)) (c .before .before .check-min-length .ensures)
+returns c =
+    let back12 = c .before .before .before .before .before .before .before .before .before .before .before .before in
+    let back24 = back12 .before .before .before .before .before .before .before .before .before .before .before .before in
+    let back36 = back24 .before .before .before .before .before .before .before .before .before .before .before .before in
+    let back48 = back36 .before .before .before .before .before .before .before .before .before .before .before .before in
+    let check-pgn-range-call = back48 .before .before .check-pgn-range in
+    let check-frame-length-call = back36 .before .before .before .before .before .before .before .before .before .before .check-frame-length in
+    let check-repeating-call = back36 .before .before .before .before .before .before .check-repeating in
+    let check-dynamic-length-call = back36 .before .before .check-dynamic-length in
+    let check-proprietary-call = back24 .before .before .before .before .before .before .before .before .before .before .check-proprietary in
+    let check-special-values-call = back24 .before .before .before .before .before .before .check-special-values in
+    let check-field-count-call = back24 .before .before .check-field-count in
+    let check-reserved-ids-call = back12 .before .before .before .before .before .before .before .before .before .before .check-reserved-ids in
+    let check-match-values-call = back12 .before .before .before .before .before .before .check-match-values in
+    let check-field-type-overrides-call = back12 .before .before .check-field-type-overrides in
+    let check-bit-length-field-call = c .before .before .before .before .before .before .before .before .before .before .check-bit-length-field in
+    let check-trailing-zero-is-digit-call = c .before .before .before .before .before .before .check-trailing-zero-is-digit in
+    emitted-append (emitted-append (emitted-append (emitted-append
+    (emitted-append (emitted-append (emitted-append (emitted-append
+    (emitted-append (emitted-append
+    (emitted-append (emitted-append (check-pgn-range-call .ensures) (check-frame-length-call .ensures)) (check-repeating-call .ensures))
+    (check-dynamic-length-call .ensures)) (check-proprietary-call .ensures)) (check-special-values-call .ensures)) (check-field-count-call .ensures))
+    (check-reserved-ids-call .ensures)) (check-match-values-call .ensures)) (check-field-type-overrides-call .ensures)) (check-bit-length-field-call .ensures))
+    (check-trailing-zero-is-digit-call .ensures)) (c .before .before .check-min-length .ensures)
 
 pub check-pgn-spec : {M : Type 1} → statement M
 check-pgn-spec =

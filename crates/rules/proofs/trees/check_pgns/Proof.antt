@@ -23,43 +23,89 @@ abbrev of-pgn : List ℕ → ℕ → ℕ → List Finding
 of-pgn s t i = check-pgn (packOf s) t i (pgn-at (packOf s) t i)
 
 abbrev Inv-loop : tie.InvT-loop
-Inv-loop out₀ n s work lookups t count m₀ p₀ i₀ out m p i = (i ≤ count) × (p ≡ pgnPlace (packOf s) t i) × (length out ≡ length out₀) × Emitted out₀ n (concatBelow (of-pgn s t) i) out m
+Inv-loop out₀ n s work lookups t count m₀ p₀ i₀ out m p i =
+    (i ≤ count) × (p ≡ pgnPlace (packOf s) t i) × (length out ≡ length out₀) × Emitted out₀ n (concatBelow (of-pgn s t) i) out m
 
 abbrev μ-loop : tie.MeasureT-loop
 μ-loop out₀ n s work lookups t count m₀ p₀ i₀ out m p i = count - i
 
 loop-holds : tie.Need-loop-holds Inv-loop μ-loop
-loop-holds c = (search needs, omega (arith, c .before .before .before .pre .4), refl, emitted-none (now (c .before .before .before .args .out)) (c .before .before .before .args .n))
+loop-holds c =
+    let start = c .before .before .before in
+    (omega (arith, c), omega (arith, start .pre .4), refl, emitted-none (now (start .args .out)) (start .args .n))
 
 pgn-of-requires : tie.Need-pgn-of-requires Inv-loop μ-loop
-pgn-of-requires c κs = at-pgn (c .before .before .before .before .before .pre .1) (c .before .before .before .before .before .pre .2) (omega (arith, c .before .before .before .before .before .pre .3)) (c .loop-test .taken) (c .before .loop .inv .1)
+pgn-of-requires c κs =
+    let start = c .before .before .before .before .before in
+    at-pgn (start .pre .1) (start .pre .2) (omega (arith, start .pre .3)) (c .loop-test .taken) (c .before .loop .inv .1)
 
 check-pgn-requires : tie.Need-check-pgn-requires Inv-loop μ-loop
-check-pgn-requires c κs = (fits-turn (of-pgn (now (c .before .before .before .before .before .before .before .args .s)) (c .before .before .before .before .before .before .before .args .t)) (c .before .before .before .before .before .before .before .args .tree .count) (c .before .before .before .loop .i) (c .before .before .loop-test .taken) (rw (← c .before .before .before .before .before .before .before .pre .3) at (c .before .before .before .before .before .before .before .pre .0)) (c .before .before .before .loop .inv .3), at-pgn (c .before .before .before .before .before .before .before .pre .1) (c .before .before .before .before .before .before .before .pre .2) (omega (arith, c .before .before .before .before .before .before .before .pre .3)) (c .before .before .loop-test .taken) (c .before .before .before .loop .inv .1), c .before .pgn-of .ensures, c .before .before .before .before .before .before .before .pre .5, c .before .before .before .before .before .before .before .pre .6)
+check-pgn-requires c κs =
+    let start = c .before .before .before .before .before .before .before in
+    let loop = c .before .before .before .loop in
+    let loop-test = c .before .before .loop-test in (
+      fits-turn (of-pgn (now (start .args .s)) (start .args .t)) (start .args .tree .count) (loop .i) (loop-test .taken)
+          (rw (← start .pre .3) at (start .pre .0)) (loop .inv .3),
+      at-pgn (start .pre .1) (start .pre .2) (omega (arith, start .pre .3)) (loop-test .taken) (loop .inv .1),
+      c .before .pgn-of .ensures,
+      start .pre .5,
+      start .pre .6,
+    )
 
 add-p : tie.Need-add-p Inv-loop μ-loop
-add-p c = omega (arith, fields-few (at-pgn (c .before .before .before .before .before .before .before .before .before .before .pre .1) (c .before .before .before .before .before .before .before .before .before .before .pre .2) (omega (arith, c .before .before .before .before .before .before .before .before .before .before .pre .3)) (c .before .before .before .before .before .loop-test .taken) (c .before .before .before .before .before .before .loop .inv .1)))
+add-p c =
+    let start = c .before .before .before .before .before .before .before .before .before .before in
+    let loop = c .before .before .before .before .before .before .loop in
+    let loop-test = c .before .before .before .before .before .loop-test in
+    omega (arith, fields-few (at-pgn (start .pre .1) (start .pre .2) (omega (arith, start .pre .3)) (loop-test .taken) (loop .inv .1)))
 
 cast-p : tie.Need-cast-p Inv-loop μ-loop
-cast-p c = omega (arith, fields-few (at-pgn (c .before .before .before .before .before .before .before .before .before .before .before .pre .1) (c .before .before .before .before .before .before .before .before .before .before .before .pre .2) (omega (arith, c .before .before .before .before .before .before .before .before .before .before .before .pre .3)) (c .before .before .before .before .before .before .loop-test .taken) (c .before .before .before .before .before .before .before .loop .inv .1)), c .before .before .before .before .before .pgn-of .ensures .fields)
+cast-p c =
+    let start = c .before .before .before .before .before .before .before .before .before .before .before in
+    let loop = c .before .before .before .before .before .before .before .loop in
+    let loop-test = c .before .before .before .before .before .before .loop-test in
+    let pgn-of = c .before .before .before .before .before .pgn-of in
+    omega (arith, fields-few (at-pgn (start .pre .1) (start .pre .2) (omega (arith, start .pre .3)) (loop-test .taken) (loop .inv .1)), pgn-of .ensures .fields)
 
 add-p-2 : tie.Need-add-p-2 Inv-loop μ-loop
-add-p-2 c = omega (arith, fields-few (at-pgn (c .before .before .before .before .before .before .before .before .before .before .before .pre .1) (c .before .before .before .before .before .before .before .before .before .before .before .pre .2) (omega (arith, c .before .before .before .before .before .before .before .before .before .before .before .pre .3)) (c .before .before .before .before .before .before .loop-test .taken) (c .before .before .before .before .before .before .before .loop .inv .1)), c .before .before .before .before .before .pgn-of .ensures .fields)
+add-p-2 c =
+    let start = c .before .before .before .before .before .before .before .before .before .before .before in
+    let loop = c .before .before .before .before .before .before .before .loop in
+    let loop-test = c .before .before .before .before .before .before .loop-test in
+    let pgn-of = c .before .before .before .before .before .pgn-of in
+    omega (arith, fields-few (at-pgn (start .pre .1) (start .pre .2) (omega (arith, start .pre .3)) (loop-test .taken) (loop .inv .1)), pgn-of .ensures .fields)
 
 add-i : tie.Need-add-i Inv-loop μ-loop
-add-i c = omega (arith, pgns-few (at-pgn (c .before .before .before .before .before .before .before .before .before .before .before .pre .1) (c .before .before .before .before .before .before .before .before .before .before .before .pre .2) (omega (arith, c .before .before .before .before .before .before .before .before .before .before .before .pre .3)) (c .before .before .before .before .before .before .loop-test .taken) (c .before .before .before .before .before .before .before .loop .inv .1)))
+add-i c =
+    let start = c .before .before .before .before .before .before .before .before .before .before .before in
+    let loop = c .before .before .before .before .before .before .before .loop in
+    let loop-test = c .before .before .before .before .before .before .loop-test in
+    omega (arith, pgns-few (at-pgn (start .pre .1) (start .pre .2) (omega (arith, start .pre .3)) (loop-test .taken) (loop .inv .1)))
 
 loop-less : tie.Need-loop-less Inv-loop μ-loop
 loop-less c = search needs
 
 loop-again : tie.Need-loop-again Inv-loop μ-loop
-loop-again c = (search needs, omega (arith, pgn-place-next (packOf (now (c .before .before .before .before .before .before .before .before .before .before .before .args .s))) (c .before .before .before .before .before .before .before .before .before .before .before .args .t) (c .before .before .before .before .before .before .before .loop .i), c .before .before .before .before .before .pgn-of .ensures .fields, c .before .before .before .before .before .before .before .loop .inv .1), c .before .before .before .check-pgn .kept .0 ∙ c .before .before .before .before .before .before .before .loop .inv .2, emitted-turn (of-pgn (now (c .before .before .before .before .before .before .before .before .before .before .before .args .s)) (c .before .before .before .before .before .before .before .before .before .before .before .args .t)) (c .before .before .before .before .before .before .before .loop .i) (c .before .before .before .before .before .before .before .loop .inv .3) (c .before .before .before .check-pgn .ensures))
+loop-again c =
+    let start = c .before .before .before .before .before .before .before .before .before .before .before in
+    let loop = c .before .before .before .before .before .before .before .loop in
+    let pgn-of = c .before .before .before .before .before .pgn-of in
+    let check-pgn-call = c .before .before .before .check-pgn in
+    let s = now (start .args .s) in let t = start .args .t in (
+      omega (arith, c),
+      omega (arith, pgn-place-next (packOf s) t (loop .i), pgn-of .ensures .fields, loop .inv .1),
+      check-pgn-call .kept .0 ∙ loop .inv .2,
+      emitted-turn (of-pgn s t) (loop .i) (loop .inv .3) (check-pgn-call .ensures),
+    )
 
 same-length : tie.Need-same-length Inv-loop μ-loop
 same-length c = c .before .loop .inv .2
 
 returns : tie.Need-returns Inv-loop μ-loop
-returns c = let e : c .before .before .before .before .before .args .tree .count ≡ c .before .loop .i = omega (arith, c .before .loop .inv .0, c .loop-test .left) in rw (← c .before .before .before .before .before .pre .3, e) (c .before .loop .inv .3)
+returns c =
+    let start = c .before .before .before .before .before in
+    let e : start .args .tree .count ≡ c .before .loop .i = omega (arith, c .before .loop .inv .0, c .loop-test .left) in
+    rw (← start .pre .3, e) (c .before .loop .inv .3)
 
 pub check-pgns-spec : {M : Type 1} → statement M
 check-pgns-spec =

@@ -22,22 +22,73 @@ section-requires c κs = search needs
 
 check-pgns-requires : tie.Need-check-pgns-requires
 unfolding check-tree
-check-pgns-requires c κs = (fits-left (concatBelow (λ i. check-pgn (packOf (now (c .before .before .before .before .before .before .args .s))) (c .before .before .before .before .before .before .args .t) i (pgn-at (packOf (now (c .before .before .before .before .before .before .args .s))) (c .before .before .before .before .before .before .args .t) i)) (length (pgns-of (packOf (now (c .before .before .before .before .before .before .args .s))) (c .before .before .before .before .before .before .args .t)))) (check-variants (c .before .before .before .before .before .before .args .t) (pgns-of (packOf (now (c .before .before .before .before .before .before .args .s))) (c .before .before .before .before .before .before .args .t))) (fits-left ((concatBelow (λ i. check-pgn (packOf (now (c .before .before .before .before .before .before .args .s))) (c .before .before .before .before .before .before .args .t) i (pgn-at (packOf (now (c .before .before .before .before .before .before .args .s))) (c .before .before .before .before .before .before .args .t) i)) (length (pgns-of (packOf (now (c .before .before .before .before .before .before .args .s))) (c .before .before .before .before .before .before .args .t)))) ++ (check-variants (c .before .before .before .before .before .before .args .t) (pgns-of (packOf (now (c .before .before .before .before .before .before .args .s))) (c .before .before .before .before .before .before .args .t)))) (check-unique-ids (c .before .before .before .before .before .before .args .t) (pgns-of (packOf (now (c .before .before .before .before .before .before .args .s))) (c .before .before .before .before .before .before .args .t))) (c .before .before .before .before .before .before .pre .0)), c .before .before .before .before .before .before .pre .1, c .before .before .before .before .before .before .pre .3, (at-tree (packOf (now (c .before .before .before .before .before .before .args .s))) (c .before .before .before .before .before .before .args .index) (c .before .before .before .before .before .before .pre .2) (c .before .before .before .before .before .before .args .t) (c .before .before .before .before .before .before .pre .3) (c .before .before .of-tree .result) (c .before .section .result) (c .before .before .of-tree .ensures) (c .before .section .ensures)) .0, (at-tree (packOf (now (c .before .before .before .before .before .before .args .s))) (c .before .before .before .before .before .before .args .index) (c .before .before .before .before .before .before .pre .2) (c .before .before .before .before .before .before .args .t) (c .before .before .before .before .before .before .pre .3) (c .before .before .of-tree .result) (c .before .section .result) (c .before .before .of-tree .ensures) (c .before .section .ensures)) .1, c .before .before .before .before .before .before .pre .2 .lookups, c .before .before .before .before .before .before .pre .2 .lookups-place)
+check-pgns-requires c κs =
+    let start = c .before .before .before .before .before .before in
+    let of-tree = c .before .before .of-tree in
+    let s = now (start .args .s) in let t = start .args .t in let index = start .args .index in (
+      fits-left (concatBelow (λ i. check-pgn (packOf s) t i (pgn-at (packOf s) t i)) (length (pgns-of (packOf s) t))) (check-variants t (pgns-of (packOf s) t))
+          (fits-left
+          ((concatBelow (λ i. check-pgn (packOf s) t i (pgn-at (packOf s) t i)) (length (pgns-of (packOf s) t))) ++ (check-variants t (pgns-of (packOf s) t)))
+          (check-unique-ids t (pgns-of (packOf s) t)) (start .pre .0)),
+      start .pre .1,
+      start .pre .3,
+      (at-tree (packOf s) index (start .pre .2) t (start .pre .3) (of-tree .result) (c .before .section .result) (of-tree .ensures)
+          (c .before .section .ensures)) .0,
+      (at-tree (packOf s) index (start .pre .2) t (start .pre .3) (of-tree .result) (c .before .section .result) (of-tree .ensures)
+          (c .before .section .ensures)) .1,
+      start .pre .2 .lookups,
+      start .pre .2 .lookups-place,
+    )
 
 check-variants-requires : tie.Need-check-variants-requires
 unfolding check-tree
-check-variants-requires c κs = (fits-right (concatBelow (λ i. check-pgn (packOf (now (c .before .before .before .before .before .before .before .before .before .before .args .s))) (c .before .before .before .before .before .before .before .before .before .before .args .t) i (pgn-at (packOf (now (c .before .before .before .before .before .before .before .before .before .before .args .s))) (c .before .before .before .before .before .before .before .before .before .before .args .t) i)) (length (pgns-of (packOf (now (c .before .before .before .before .before .before .before .before .before .before .args .s))) (c .before .before .before .before .before .before .before .before .before .before .args .t)))) (check-variants (c .before .before .before .before .before .before .before .before .before .before .args .t) (pgns-of (packOf (now (c .before .before .before .before .before .before .before .before .before .before .args .s))) (c .before .before .before .before .before .before .before .before .before .before .args .t))) (fits-left ((concatBelow (λ i. check-pgn (packOf (now (c .before .before .before .before .before .before .before .before .before .before .args .s))) (c .before .before .before .before .before .before .before .before .before .before .args .t) i (pgn-at (packOf (now (c .before .before .before .before .before .before .before .before .before .before .args .s))) (c .before .before .before .before .before .before .before .before .before .before .args .t) i)) (length (pgns-of (packOf (now (c .before .before .before .before .before .before .before .before .before .before .args .s))) (c .before .before .before .before .before .before .before .before .before .before .args .t)))) ++ (check-variants (c .before .before .before .before .before .before .before .before .before .before .args .t) (pgns-of (packOf (now (c .before .before .before .before .before .before .before .before .before .before .args .s))) (c .before .before .before .before .before .before .before .before .before .before .args .t)))) (check-unique-ids (c .before .before .before .before .before .before .before .before .before .before .args .t) (pgns-of (packOf (now (c .before .before .before .before .before .before .before .before .before .before .args .s))) (c .before .before .before .before .before .before .before .before .before .before .args .t))) (c .before .before .before .before .before .before .before .before .before .before .pre .0)) (c .before .before .before .check-pgns .ensures), c .before .before .before .before .before .before .before .before .before .before .pre .1, c .before .before .before .before .before .before .before .before .before .before .pre .3, (at-tree (packOf (now (c .before .before .before .before .before .before .before .before .before .before .args .s))) (c .before .before .before .before .before .before .before .before .before .before .args .index) (c .before .before .before .before .before .before .before .before .before .before .pre .2) (c .before .before .before .before .before .before .before .before .before .before .args .t) (c .before .before .before .before .before .before .before .before .before .before .pre .3) (c .before .before .before .before .before .before .of-tree .result) (c .before .before .before .before .before .section .result) (c .before .before .before .before .before .before .of-tree .ensures) (c .before .before .before .before .before .section .ensures)) .0, (at-tree (packOf (now (c .before .before .before .before .before .before .before .before .before .before .args .s))) (c .before .before .before .before .before .before .before .before .before .before .args .index) (c .before .before .before .before .before .before .before .before .before .before .pre .2) (c .before .before .before .before .before .before .before .before .before .before .args .t) (c .before .before .before .before .before .before .before .before .before .before .pre .3) (c .before .before .before .before .before .before .of-tree .result) (c .before .before .before .before .before .section .result) (c .before .before .before .before .before .before .of-tree .ensures) (c .before .before .before .before .before .section .ensures)) .1)
+check-variants-requires c κs =
+    let start = c .before .before .before .before .before .before .before .before .before .before in
+    let of-tree = c .before .before .before .before .before .before .of-tree in
+    let section = c .before .before .before .before .before .section in
+    let check-pgns = c .before .before .before .check-pgns in
+    let s = now (start .args .s) in let t = start .args .t in let index = start .args .index in (
+      fits-right (concatBelow (λ i. check-pgn (packOf s) t i (pgn-at (packOf s) t i)) (length (pgns-of (packOf s) t))) (check-variants t (pgns-of (packOf s) t))
+          (fits-left
+          ((concatBelow (λ i. check-pgn (packOf s) t i (pgn-at (packOf s) t i)) (length (pgns-of (packOf s) t))) ++ (check-variants t (pgns-of (packOf s) t)))
+          (check-unique-ids t (pgns-of (packOf s) t)) (start .pre .0)) (check-pgns .ensures),
+      start .pre .1,
+      start .pre .3,
+      (at-tree (packOf s) index (start .pre .2) t (start .pre .3) (of-tree .result) (section .result) (of-tree .ensures) (section .ensures)) .0,
+      (at-tree (packOf s) index (start .pre .2) t (start .pre .3) (of-tree .result) (section .result) (of-tree .ensures) (section .ensures)) .1,
+    )
 
 check-unique-ids-requires : tie.Need-check-unique-ids-requires
 unfolding check-tree
-check-unique-ids-requires c κs = (fits-right ((concatBelow (λ i. check-pgn (packOf (now (c .before .before .before .before .before .before .before .before .before .before .before .before .before .before .args .s))) (c .before .before .before .before .before .before .before .before .before .before .before .before .before .before .args .t) i (pgn-at (packOf (now (c .before .before .before .before .before .before .before .before .before .before .before .before .before .before .args .s))) (c .before .before .before .before .before .before .before .before .before .before .before .before .before .before .args .t) i)) (length (pgns-of (packOf (now (c .before .before .before .before .before .before .before .before .before .before .before .before .before .before .args .s))) (c .before .before .before .before .before .before .before .before .before .before .before .before .before .before .args .t)))) ++ (check-variants (c .before .before .before .before .before .before .before .before .before .before .before .before .before .before .args .t) (pgns-of (packOf (now (c .before .before .before .before .before .before .before .before .before .before .before .before .before .before .args .s))) (c .before .before .before .before .before .before .before .before .before .before .before .before .before .before .args .t)))) (check-unique-ids (c .before .before .before .before .before .before .before .before .before .before .before .before .before .before .args .t) (pgns-of (packOf (now (c .before .before .before .before .before .before .before .before .before .before .before .before .before .before .args .s))) (c .before .before .before .before .before .before .before .before .before .before .before .before .before .before .args .t))) (c .before .before .before .before .before .before .before .before .before .before .before .before .before .before .pre .0) (emitted-append (c .before .before .before .before .before .before .before .check-pgns .ensures) (c .before .before .before .check-variants .ensures)), c .before .before .before .before .before .before .before .before .before .before .before .before .before .before .pre .1, c .before .before .before .before .before .before .before .before .before .before .before .before .before .before .pre .3, (at-tree (packOf (now (c .before .before .before .before .before .before .before .before .before .before .before .before .before .before .args .s))) (c .before .before .before .before .before .before .before .before .before .before .before .before .before .before .args .index) (c .before .before .before .before .before .before .before .before .before .before .before .before .before .before .pre .2) (c .before .before .before .before .before .before .before .before .before .before .before .before .before .before .args .t) (c .before .before .before .before .before .before .before .before .before .before .before .before .before .before .pre .3) (c .before .before .before .before .before .before .before .before .before .before .of-tree .result) (c .before .before .before .before .before .before .before .before .before .section .result) (c .before .before .before .before .before .before .before .before .before .before .of-tree .ensures) (c .before .before .before .before .before .before .before .before .before .section .ensures)) .0, (at-tree (packOf (now (c .before .before .before .before .before .before .before .before .before .before .before .before .before .before .args .s))) (c .before .before .before .before .before .before .before .before .before .before .before .before .before .before .args .index) (c .before .before .before .before .before .before .before .before .before .before .before .before .before .before .pre .2) (c .before .before .before .before .before .before .before .before .before .before .before .before .before .before .args .t) (c .before .before .before .before .before .before .before .before .before .before .before .before .before .before .pre .3) (c .before .before .before .before .before .before .before .before .before .before .of-tree .result) (c .before .before .before .before .before .before .before .before .before .section .result) (c .before .before .before .before .before .before .before .before .before .before .of-tree .ensures) (c .before .before .before .before .before .before .before .before .before .section .ensures)) .1)
+check-unique-ids-requires c κs =
+    let back12 = c .before .before .before .before .before .before .before .before .before .before .before .before in
+    let start = back12 .before .before in
+    let of-tree = c .before .before .before .before .before .before .before .before .before .before .of-tree in
+    let section = c .before .before .before .before .before .before .before .before .before .section in
+    let check-pgns = c .before .before .before .before .before .before .before .check-pgns in
+    let check-variants-call = c .before .before .before .check-variants in
+    let s = now (start .args .s) in let t = start .args .t in let index = start .args .index in (
+      fits-right
+          ((concatBelow (λ i. check-pgn (packOf s) t i (pgn-at (packOf s) t i)) (length (pgns-of (packOf s) t))) ++ (check-variants t (pgns-of (packOf s) t)))
+          (check-unique-ids t (pgns-of (packOf s) t)) (start .pre .0) (emitted-append (check-pgns .ensures) (check-variants-call .ensures)),
+      start .pre .1,
+      start .pre .3,
+      (at-tree (packOf s) index (start .pre .2) t (start .pre .3) (of-tree .result) (section .result) (of-tree .ensures) (section .ensures)) .0,
+      (at-tree (packOf s) index (start .pre .2) t (start .pre .3) (of-tree .result) (section .result) (of-tree .ensures) (section .ensures)) .1,
+    )
 
 same-length : tie.Need-same-length
-same-length c = c .before .before .check-unique-ids .kept .0 ∙ c .before .before .before .before .before .before .check-variants .kept .0 ∙ c .before .before .before .before .before .before .before .before .before .before .check-pgns .kept .0
+same-length c =
+    let check-pgns = c .before .before .before .before .before .before .before .before .before .before .check-pgns in
+    let check-variants-call = c .before .before .before .before .before .before .check-variants in
+    c .before .before .check-unique-ids .kept .0 ∙ check-variants-call .kept .0 ∙ check-pgns .kept .0
 
 returns : tie.Need-returns
 unfolding check-tree
-returns c = emitted-append (emitted-append (c .before .before .before .before .before .before .before .before .before .before .check-pgns .ensures) (c .before .before .before .before .before .before .check-variants .ensures)) (c .before .before .check-unique-ids .ensures)
+returns c =
+    let check-pgns = c .before .before .before .before .before .before .before .before .before .before .check-pgns in
+    let check-variants-call = c .before .before .before .before .before .before .check-variants in
+    emitted-append (emitted-append (check-pgns .ensures) (check-variants-call .ensures)) (c .before .before .check-unique-ids .ensures)
 
 pub check-tree-spec : {M : Type 1} → statement M
 check-tree-spec =

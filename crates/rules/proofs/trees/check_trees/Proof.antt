@@ -8,19 +8,56 @@ use Rattle.rules.proofs.trees.check_trees.Statement.{statement}
 use Rattle.rules.proofs.trees.check_trees.Tie as tie
 
 check-tree-requires : tie.Need-check-tree-requires
-check-tree-requires c κs = (fits-turn (check-tree (packOf (now (c .before .before .before .before .args .s)))) 3 0 (omega arith) (c .before .before .before .before .pre .0) (emitted-none (now (c .before .before .before .before .args .out)) (c .before .before .before .before .args .n)), c .before .before .before .before .pre .1, c .before .before .before .before .pre .2, omega arith)
+check-tree-requires c κs =
+    let start = c .before .before .before .before in (
+      fits-turn (check-tree (packOf (now (start .args .s)))) 3 0 (omega (arith, c)) (start .pre .0) (emitted-none (now (start .args .out)) (start .args .n)),
+      start .pre .1,
+      start .pre .2,
+      omega (arith, c),
+    )
 
 check-tree-requires-2 : tie.Need-check-tree-requires-2
-check-tree-requires-2 c κs = (fits-turn (check-tree (packOf (now (c .before .before .before .before .before .before .before .before .args .s)))) 3 1 (omega arith) (c .before .before .before .before .before .before .before .before .pre .0) (emitted-turn (check-tree (packOf (now (c .before .before .before .before .before .before .before .before .args .s)))) 0 (emitted-none (now (c .before .before .before .before .before .before .before .before .args .out)) (c .before .before .before .before .before .before .before .before .args .n)) (c .before .before .before .check-tree .ensures)), c .before .before .before .before .before .before .before .before .pre .1, c .before .before .before .before .before .before .before .before .pre .2, omega arith)
+check-tree-requires-2 c κs =
+    let start = c .before .before .before .before .before .before .before .before in
+    let check-tree-call = c .before .before .before .check-tree in
+    let s = now (start .args .s) in (
+      fits-turn (check-tree (packOf s)) 3 1 (omega (arith, c)) (start .pre .0)
+          (emitted-turn (check-tree (packOf s)) 0 (emitted-none (now (start .args .out)) (start .args .n)) (check-tree-call .ensures)),
+      start .pre .1,
+      start .pre .2,
+      omega (arith, c),
+    )
 
 check-tree-requires-3 : tie.Need-check-tree-requires-3
-check-tree-requires-3 c κs = (fits-turn (check-tree (packOf (now (c .before .before .before .before .before .before .before .before .before .before .before .before .args .s)))) 3 2 (omega arith) (c .before .before .before .before .before .before .before .before .before .before .before .before .pre .0) (emitted-turn (check-tree (packOf (now (c .before .before .before .before .before .before .before .before .before .before .before .before .args .s)))) 1 (emitted-turn (check-tree (packOf (now (c .before .before .before .before .before .before .before .before .before .before .before .before .args .s)))) 0 (emitted-none (now (c .before .before .before .before .before .before .before .before .before .before .before .before .args .out)) (c .before .before .before .before .before .before .before .before .before .before .before .before .args .n)) (c .before .before .before .before .before .before .before .check-tree .ensures)) (c .before .before .before .check-tree2 .ensures)), c .before .before .before .before .before .before .before .before .before .before .before .before .pre .1, c .before .before .before .before .before .before .before .before .before .before .before .before .pre .2, omega arith)
+check-tree-requires-3 c κs =
+    let start = c .before .before .before .before .before .before .before .before .before .before .before .before in
+    let check-tree-call = c .before .before .before .before .before .before .before .check-tree in
+    let check-tree2 = c .before .before .before .check-tree2 in
+    let s = now (start .args .s) in (
+      fits-turn (check-tree (packOf s)) 3 2 (omega (arith, c)) (start .pre .0)
+          (emitted-turn (check-tree (packOf s)) 1
+          (emitted-turn (check-tree (packOf s)) 0 (emitted-none (now (start .args .out)) (start .args .n)) (check-tree-call .ensures)) (check-tree2 .ensures)),
+      start .pre .1,
+      start .pre .2,
+      omega (arith, c),
+    )
 
 same-length : tie.Need-same-length
-same-length c = c .before .before .check-tree3 .kept .0 ∙ c .before .before .before .before .before .before .check-tree2 .kept .0 ∙ c .before .before .before .before .before .before .before .before .before .before .check-tree .kept .0
+same-length c =
+    let check-tree-call = c .before .before .before .before .before .before .before .before .before .before .check-tree in
+    let check-tree2 = c .before .before .before .before .before .before .check-tree2 in
+    c .before .before .check-tree3 .kept .0 ∙ check-tree2 .kept .0 ∙ check-tree-call .kept .0
 
 returns : tie.Need-returns
-returns c = emitted-turn (check-tree (packOf (now (c .before .before .before .before .before .before .before .before .before .before .before .before .before .before .before .args .s)))) 2 (emitted-turn (check-tree (packOf (now (c .before .before .before .before .before .before .before .before .before .before .before .before .before .before .before .args .s)))) 1 (emitted-turn (check-tree (packOf (now (c .before .before .before .before .before .before .before .before .before .before .before .before .before .before .before .args .s)))) 0 (emitted-none (now (c .before .before .before .before .before .before .before .before .before .before .before .before .before .before .before .args .out)) (c .before .before .before .before .before .before .before .before .before .before .before .before .before .before .before .args .n)) (c .before .before .before .before .before .before .before .before .before .before .check-tree .ensures)) (c .before .before .before .before .before .before .check-tree2 .ensures)) (c .before .before .check-tree3 .ensures)
+returns c =
+    let back12 = c .before .before .before .before .before .before .before .before .before .before .before .before in
+    let start = back12 .before .before .before in
+    let check-tree-call = c .before .before .before .before .before .before .before .before .before .before .check-tree in
+    let check-tree2 = c .before .before .before .before .before .before .check-tree2 in
+    let s = now (start .args .s) in
+    emitted-turn (check-tree (packOf s)) 2 (emitted-turn (check-tree (packOf s)) 1
+    (emitted-turn (check-tree (packOf s)) 0 (emitted-none (now (start .args .out)) (start .args .n)) (check-tree-call .ensures)) (check-tree2 .ensures))
+    (c .before .before .check-tree3 .ensures)
 
 pub check-trees-spec : {M : Type 1} → statement M
 check-trees-spec =

@@ -8,19 +8,61 @@ use Rattle.rules.proofs.trees.check_trees_continues.Statement.{statemen
 use Rattle.rules.proofs.trees.check_trees_continues.Tie as tie
 
 check-tree-continues-requires : tie.Need-check-tree-continues-requires
-check-tree-continues-requires c κs = (fits-turn (check-tree-continues (packOf (now (c .before .before .before .before .args .s)))) 3 0 (omega arith) (c .before .before .before .before .pre .0) (emitted-none (now (c .before .before .before .before .args .out)) (c .before .before .before .before .args .n)), c .before .before .before .before .pre .1, omega arith, c .before .before .before .before .pre .2 .trees 0 (omega arith), c .before .before .before .before .pre .2 .trees-place 0 (omega arith))
+check-tree-continues-requires c κs =
+    let start = c .before .before .before .before in (
+      fits-turn (check-tree-continues (packOf (now (start .args .s)))) 3 0 (omega (arith, c)) (start .pre .0)
+          (emitted-none (now (start .args .out)) (start .args .n)),
+      start .pre .1,
+      omega (arith, c),
+      start .pre .2 .trees 0 (omega (arith, c)),
+      start .pre .2 .trees-place 0 (omega (arith, c)),
+    )
 
 check-tree-continues-requires-2 : tie.Need-check-tree-continues-requires-2
-check-tree-continues-requires-2 c κs = (fits-turn (check-tree-continues (packOf (now (c .before .before .before .before .before .before .before .before .args .s)))) 3 1 (omega arith) (c .before .before .before .before .before .before .before .before .pre .0) (emitted-turn (check-tree-continues (packOf (now (c .before .before .before .before .before .before .before .before .args .s)))) 0 (emitted-none (now (c .before .before .before .before .before .before .before .before .args .out)) (c .before .before .before .before .before .before .before .before .args .n)) (c .before .before .before .check-tree-continues .ensures)), c .before .before .before .before .before .before .before .before .pre .1, omega arith, c .before .before .before .before .before .before .before .before .pre .2 .trees 1 (omega arith), c .before .before .before .before .before .before .before .before .pre .2 .trees-place 1 (omega arith))
+check-tree-continues-requires-2 c κs =
+    let start = c .before .before .before .before .before .before .before .before in
+    let check-tree-continues-call = c .before .before .before .check-tree-continues in
+    let s = now (start .args .s) in (
+      fits-turn (check-tree-continues (packOf s)) 3 1 (omega (arith, c)) (start .pre .0)
+          (emitted-turn (check-tree-continues (packOf s)) 0 (emitted-none (now (start .args .out)) (start .args .n)) (check-tree-continues-call .ensures)),
+      start .pre .1,
+      omega (arith, c),
+      start .pre .2 .trees 1 (omega (arith, c)),
+      start .pre .2 .trees-place 1 (omega (arith, c)),
+    )
 
 check-tree-continues-requires-3 : tie.Need-check-tree-continues-requires-3
-check-tree-continues-requires-3 c κs = (fits-turn (check-tree-continues (packOf (now (c .before .before .before .before .before .before .before .before .before .before .before .before .args .s)))) 3 2 (omega arith) (c .before .before .before .before .before .before .before .before .before .before .before .before .pre .0) (emitted-turn (check-tree-continues (packOf (now (c .before .before .before .before .before .before .before .before .before .before .before .before .args .s)))) 1 (emitted-turn (check-tree-continues (packOf (now (c .before .before .before .before .before .before .before .before .before .before .before .before .args .s)))) 0 (emitted-none (now (c .before .before .before .before .before .before .before .before .before .before .before .before .args .out)) (c .before .before .before .before .before .before .before .before .before .before .before .before .args .n)) (c .before .before .before .before .before .before .before .check-tree-continues .ensures)) (c .before .before .before .check-tree-continues2 .ensures)), c .before .before .before .before .before .before .before .before .before .before .before .before .pre .1, omega arith, c .before .before .before .before .before .before .before .before .before .before .before .before .pre .2 .trees 2 (omega arith), c .before .before .before .before .before .before .before .before .before .before .before .before .pre .2 .trees-place 2 (omega arith))
+check-tree-continues-requires-3 c κs =
+    let start = c .before .before .before .before .before .before .before .before .before .before .before .before in
+    let check-tree-continues-call = c .before .before .before .before .before .before .before .check-tree-continues in
+    let check-tree-continues2 = c .before .before .before .check-tree-continues2 in
+    let s = now (start .args .s) in (
+      fits-turn (check-tree-continues (packOf s)) 3 2 (omega (arith, c)) (start .pre .0)
+          (emitted-turn (check-tree-continues (packOf s)) 1
+          (emitted-turn (check-tree-continues (packOf s)) 0 (emitted-none (now (start .args .out)) (start .args .n)) (check-tree-continues-call .ensures))
+          (check-tree-continues2 .ensures)),
+      start .pre .1,
+      omega (arith, c),
+      start .pre .2 .trees 2 (omega (arith, c)),
+      start .pre .2 .trees-place 2 (omega (arith, c)),
+    )
 
 same-length : tie.Need-same-length
-same-length c = c .before .before .check-tree-continues3 .kept .0 ∙ c .before .before .before .before .before .before .check-tree-continues2 .kept .0 ∙ c .before .before .before .before .before .before .before .before .before .before .check-tree-continues .kept .0
+same-length c =
+    let check-tree-continues-call = c .before .before .before .before .before .before .before .before .before .before .check-tree-continues in
+    let check-tree-continues2 = c .before .before .before .before .before .before .check-tree-continues2 in
+    c .before .before .check-tree-continues3 .kept .0 ∙ check-tree-continues2 .kept .0 ∙ check-tree-continues-call .kept .0
 
 returns : tie.Need-returns
-returns c = emitted-turn (check-tree-continues (packOf (now (c .before .before .before .before .before .before .before .before .before .before .before .before .before .before .before .args .s)))) 2 (emitted-turn (check-tree-continues (packOf (now (c .before .before .before .before .before .before .before .before .before .before .before .before .before .before .before .args .s)))) 1 (emitted-turn (check-tree-continues (packOf (now (c .before .before .before .before .before .before .before .before .before .before .before .before .before .before .before .args .s)))) 0 (emitted-none (now (c .before .before .before .before .before .before .before .before .before .before .before .before .before .before .before .args .out)) (c .before .before .before .before .before .before .before .before .before .before .before .before .before .before .before .args .n)) (c .before .before .before .before .before .before .before .before .before .before .check-tree-continues .ensures)) (c .before .before .before .before .before .before .check-tree-continues2 .ensures)) (c .before .before .check-tree-continues3 .ensures)
+returns c =
+    let back12 = c .before .before .before .before .before .before .before .before .before .before .before .before in
+    let start = back12 .before .before .before in
+    let check-tree-continues-call = c .before .before .before .before .before .before .before .before .before .before .check-tree-continues in
+    let check-tree-continues2 = c .before .before .before .before .before .before .check-tree-continues2 in
+    let s = now (start .args .s) in
+    emitted-turn (check-tree-continues (packOf s)) 2 (emitted-turn (check-tree-continues (packOf s)) 1
+    (emitted-turn (check-tree-continues (packOf s)) 0 (emitted-none (now (start .args .out)) (start .args .n)) (check-tree-continues-call .ensures))
+    (check-tree-continues2 .ensures)) (c .before .before .check-tree-continues3 .ensures)
 
 pub check-trees-continues-spec : {M : Type 1} → statement M
 check-trees-continues-spec =

@@ -31,7 +31,9 @@ loop-holds : tie.Need-loop-holds Inv-loop μ-loop
 loop-holds c = (search needs, omega (arith, c .before .before .pre .2), refl)
 
 pgn-of-requires : tie.Need-pgn-of-requires Inv-loop μ-loop
-pgn-of-requires c κs = (at-pgn (c .before .before .before .before .pre .0) (c .before .before .before .before .pre .1) (c .before .before .before .before .pre .3) (c .loop-test .taken) (c .before .loop .inv .1))
+pgn-of-requires c κs =
+    let start = c .before .before .before .before in
+    (at-pgn (start .pre .0) (start .pre .1) (start .pre .3) (c .loop-test .taken) (c .before .loop .inv .1))
 
 same-text-requires : tie.Need-same-text-requires Inv-loop μ-loop
 same-text-requires c κs = search needs
@@ -40,13 +42,27 @@ latest-requires : tie.Need-latest-requires Inv-loop μ-loop
 latest-requires c κs = search needs
 
 add-p : tie.Need-add-p Inv-loop μ-loop
-add-p c = omega (arith, pgn-room (at-pgn (c .before .before .before .before .before .before .before .pre .0) (c .before .before .before .before .before .before .before .pre .1) (c .before .before .before .before .before .before .before .pre .3) (c .before .before .before .loop-test .taken) (c .before .before .before .before .loop .inv .1)))
+add-p c =
+    let start = c .before .before .before .before .before .before .before in
+    let loop = c .before .before .before .before .loop in
+    let loop-test = c .before .before .before .loop-test in
+    omega (arith, pgn-room (at-pgn (start .pre .0) (start .pre .1) (start .pre .3) (loop-test .taken) (loop .inv .1)))
 
 cast-p : tie.Need-cast-p Inv-loop μ-loop
-cast-p c = omega (arith, fields-few (at-pgn (c .before .before .before .before .before .before .before .before .pre .0) (c .before .before .before .before .before .before .before .before .pre .1) (c .before .before .before .before .before .before .before .before .pre .3) (c .before .before .before .before .loop-test .taken) (c .before .before .before .before .before .loop .inv .1)), c .before .before .before .pgn-of .ensures .fields)
+cast-p c =
+    let start = c .before .before .before .before .before .before .before .before in
+    let loop = c .before .before .before .before .before .loop in
+    let loop-test = c .before .before .before .before .loop-test in
+    let pgn-of = c .before .before .before .pgn-of in
+    omega (arith, fields-few (at-pgn (start .pre .0) (start .pre .1) (start .pre .3) (loop-test .taken) (loop .inv .1)), pgn-of .ensures .fields)
 
 add-p-2 : tie.Need-add-p-2 Inv-loop μ-loop
-add-p-2 c = omega (arith, pgn-room (at-pgn (c .before .before .before .before .before .before .before .before .pre .0) (c .before .before .before .before .before .before .before .before .pre .1) (c .before .before .before .before .before .before .before .before .pre .3) (c .before .before .before .before .loop-test .taken) (c .before .before .before .before .before .loop .inv .1)), c .before .before .before .pgn-of .ensures .fields)
+add-p-2 c =
+    let start = c .before .before .before .before .before .before .before .before in
+    let loop = c .before .before .before .before .before .loop in
+    let loop-test = c .before .before .before .before .loop-test in
+    let pgn-of = c .before .before .before .pgn-of in
+    omega (arith, pgn-room (at-pgn (start .pre .0) (start .pre .1) (start .pre .3) (loop-test .taken) (loop .inv .1)), pgn-of .ensures .fields)
 
 add-j : tie.Need-add-j Inv-loop μ-loop
 add-j c = search needs
@@ -56,11 +72,22 @@ loop-less c = search needs
 
 loop-again : tie.Need-loop-again Inv-loop μ-loop
 loop-again c =
-    let e : has (now (c .before .before .before .before .before .before .before .before .args .s)) (c .before .before .before .before .before .before .before .before .args .t) (bytesOf (now (c .before .before .before .before .before .before .before .before .args .s)) (c .before .before .before .before .before .before .before .before .args .id)) (c .before .before .before .before .before .loop .j) ≡ c .before .before .same-text .result = rw (← ap (λ (x : Pgn). x .id) (c .before .before .before .pgn-of .ensures .means)) (sym (c .before .before .same-text .ensures)) in
-    (search needs, omega (arith, pgn-place-next (packOf (now (c .before .before .before .before .before .before .before .before .args .s))) (c .before .before .before .before .before .before .before .before .args .t) (c .before .before .before .before .before .loop .j), c .before .before .before .pgn-of .ensures .fields, c .before .before .before .before .before .loop .inv .1), c .before .latest .ensures ∙ (rw (latest-turn (has (now (c .before .before .before .before .before .before .before .before .args .s)) (c .before .before .before .before .before .before .before .before .args .t) (bytesOf (now (c .before .before .before .before .before .before .before .before .args .s)) (c .before .before .before .before .before .before .before .before .args .id))) (c .before .before .before .before .before .loop .j), e, c .before .before .before .before .before .loop .inv .2)))
+    let start = c .before .before .before .before .before .before .before .before in
+    let loop = c .before .before .before .before .before .loop in
+    let pgn-of = c .before .before .before .pgn-of in
+    let same-text = c .before .before .same-text in
+    let s = now (start .args .s) in let t = start .args .t in let id = start .args .id in
+    let e : has s t (bytesOf s id) (loop .j) ≡ same-text .result = rw (← ap (λ (x : Pgn). x .id) (pgn-of .ensures .means)) (sym (same-text .ensures)) in (
+      omega (arith, c),
+      omega (arith, pgn-place-next (packOf s) t (loop .j), pgn-of .ensures .fields, loop .inv .1),
+      c .before .latest .ensures ∙ (rw (latest-turn (has s t (bytesOf s id)) (loop .j), e, loop .inv .2)),
+    )
 
 returns : tie.Need-returns Inv-loop μ-loop
-returns c = let e : c .before .before .before .before .args .n ≡ c .before .loop .j = omega (arith, c .before .loop .inv .0, c .loop-test .left) in rw e (c .before .loop .inv .2)
+returns c =
+    let start = c .before .before .before .before in
+    let e : start .args .n ≡ c .before .loop .j = omega (arith, c .before .loop .inv .0, c .loop-test .left) in
+    rw e (c .before .loop .inv .2)
 
 pub latest-holder-spec : {M : Type 1} → statement M
 latest-holder-spec =

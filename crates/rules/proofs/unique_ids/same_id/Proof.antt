@@ -29,26 +29,49 @@ module _ (t i : ℕ) (o : Option ℕ) (b : Bool) (v : ℕ) (e : optional b v ≡
   other h F y = rw (← e, h, y)
 
 -- the latest earlier holder of the id, said of the view
-held : (s : List ℕ) (t i : ℕ) (id : List ℕ) → id ≡ pgn-at (packOf s) t i .id → latestBelow (λ j. pgn-at (packOf s) t j .id ≐ id) i ≡ latestBelow (λ j. pgn-at (packOf s) t j .id ≐ pgn-at (packOf s) t i .id) i
+held : (s : List ℕ) (t i : ℕ) (id : List ℕ) → id ≡ pgn-at (packOf s) t i .id
+    → latestBelow (λ j. pgn-at (packOf s) t j .id ≐ id) i ≡ latestBelow (λ j. pgn-at (packOf s) t j .id ≐ pgn-at (packOf s) t i .id) i
 held s t i id e = ap (λ (x : List ℕ). latestBelow (λ j. pgn-at (packOf s) t j .id ≐ x) i) e
 
 latest-holder-requires : tie.Need-latest-holder-requires
-latest-holder-requires c κs = (c .before .before .before .pre .1, c .before .before .before .pre .2, c .before .before .before .pre .3, c .before .before .before .pre .4)
+latest-holder-requires c κs =
+    let start = c .before .before .before in
+    (start .pre .1, start .pre .2, start .pre .3, start .pre .4)
 
 returns : tie.Need-returns
-returns c = rw (no-other (c .before .before .before .before .before .before .args .t) (c .before .before .before .before .before .before .args .i) _ (c .before .before .latest-holder .result .given) (c .before .before .latest-holder .result .value) (c .before .before .latest-holder .ensures ∙ held (now (c .before .before .before .before .before .before .args .s)) (c .before .before .before .before .before .before .args .t) (c .before .before .before .before .before .before .args .i) (bytesOf (now (c .before .before .before .before .before .before .args .s)) (c .before .before .before .before .before .before .args .g .id)) (ap (λ (x : Pgn). x .id) (c .before .before .before .before .before .before .pre .5 .means))) (not-true (c .before .before .latest-holder .result .given) (c .if1 .taken))) (emitted-none (now (c .before .before .before .before .before .before .args .out)) (c .before .before .before .before .before .before .args .n))
+returns c =
+    let start = c .before .before .before .before .before .before in
+    let latest-holder = c .before .before .latest-holder in
+    let t = start .args .t in let i = start .args .i in let s = now (start .args .s) in
+    rw (no-other t i _ (latest-holder .result .given) (latest-holder .result .value)
+    (latest-holder .ensures ∙ held s t i (bytesOf s (start .args .g .id)) (ap (λ (x : Pgn). x .id) (start .pre .5 .means)))
+    (not-true (latest-holder .result .given) (c .if1 .taken))) (emitted-none (now (start .args .out)) (start .args .n))
 
 pgn-error-requires : tie.Need-pgn-error-requires
 pgn-error-requires c κs = search needs
 
 put-requires : tie.Need-put-requires
-put-requires c κs = rw (other (c .before .before .before .before .before .before .before .before .args .t) (c .before .before .before .before .before .before .before .before .args .i) _ (c .before .before .before .before .latest-holder .result .given) (c .before .before .before .before .latest-holder .result .value) (c .before .before .before .before .latest-holder .ensures ∙ held (now (c .before .before .before .before .before .before .before .before .args .s)) (c .before .before .before .before .before .before .before .before .args .t) (c .before .before .before .before .before .before .before .before .args .i) (bytesOf (now (c .before .before .before .before .before .before .before .before .args .s)) (c .before .before .before .before .before .before .before .before .args .g .id)) (ap (λ (x : Pgn). x .id) (c .before .before .before .before .before .before .before .before .pre .5 .means))) (not-false (c .before .before .before .before .latest-holder .result .given) (c .before .before .if1 .left)) (c .pgn-error .result) (c .pgn-error .ensures)) at (c .before .before .before .before .before .before .before .before .pre .0)
+put-requires c κs =
+    let start = c .before .before .before .before .before .before .before .before in
+    let latest-holder = c .before .before .before .before .latest-holder in
+    let t = start .args .t in let i = start .args .i in let s = now (start .args .s) in
+    rw (other t i _ (latest-holder .result .given) (latest-holder .result .value)
+    (latest-holder .ensures ∙ held s t i (bytesOf s (start .args .g .id)) (ap (λ (x : Pgn). x .id) (start .pre .5 .means)))
+    (not-false (latest-holder .result .given) (c .before .before .if1 .left)) (c .pgn-error .result) (c .pgn-error .ensures)) at (start .pre .0)
 
 same-length : tie.Need-same-length
 same-length c = search needs
 
 returns-2 : tie.Need-returns-2
-returns-2 c = rw (other (c .before .before .before .before .before .before .before .before .before .before .before .args .t) (c .before .before .before .before .before .before .before .before .before .before .before .args .i) _ (c .before .before .before .before .before .before .before .latest-holder .result .given) (c .before .before .before .before .before .before .before .latest-holder .result .value) (c .before .before .before .before .before .before .before .latest-holder .ensures ∙ held (now (c .before .before .before .before .before .before .before .before .before .before .before .args .s)) (c .before .before .before .before .before .before .before .before .before .before .before .args .t) (c .before .before .before .before .before .before .before .before .before .before .before .args .i) (bytesOf (now (c .before .before .before .before .before .before .before .before .before .before .before .args .s)) (c .before .before .before .before .before .before .before .before .before .before .before .args .g .id)) (ap (λ (x : Pgn). x .id) (c .before .before .before .before .before .before .before .before .before .before .before .pre .5 .means))) (not-false (c .before .before .before .before .before .before .before .latest-holder .result .given) (c .before .before .before .before .before .if1 .left)) (c .before .before .before .pgn-error .result) (c .before .before .before .pgn-error .ensures)) (c .before .before .put .ensures)
+returns-2 c =
+    let start = c .before .before .before .before .before .before .before .before .before .before .before in
+    let latest-holder = c .before .before .before .before .before .before .before .latest-holder in
+    let if1 = c .before .before .before .before .before .if1 in
+    let pgn-error-call = c .before .before .before .pgn-error in
+    let t = start .args .t in let i = start .args .i in let s = now (start .args .s) in
+    rw (other t i _ (latest-holder .result .given) (latest-holder .result .value)
+    (latest-holder .ensures ∙ held s t i (bytesOf s (start .args .g .id)) (ap (λ (x : Pgn). x .id) (start .pre .5 .means)))
+    (not-false (latest-holder .result .given) (if1 .left)) (pgn-error-call .result) (pgn-error-call .ensures)) (c .before .before .put .ensures)
 
 pub same-id-spec : {M : Type 1} → statement M
 same-id-spec =

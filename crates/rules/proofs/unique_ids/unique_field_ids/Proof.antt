@@ -39,8 +39,8 @@ given-is false a = refl
 abbrev of-field : List ℕ → ℕ → ℕ → ℕ → List Finding
 of-field s t i k = report-if (anyBelow (λ j. field-at (pgn-at (packOf s) t i) j .id ≐ field-at (pgn-at (packOf s) t i) k .id) k) (pgn-error 21 2 t i k 0)
 
-said : (s : List ℕ) (t i k : ℕ) (id : List ℕ) (b : Bool) (v : ℕ) (F : Finding) → id ≡ field-at (pgn-at (packOf s) t i) k .id → optional b v ≡ firstBelow (λ j. field-at (pgn-at (packOf s) t i) j .id ≐ id) k → F ≡ pgn-error 21 2 t i k 0
-    → of-field s t i k ≡ report-if b F
+said : (s : List ℕ) (t i k : ℕ) (id : List ℕ) (b : Bool) (v : ℕ) (F : Finding) → id ≡ field-at (pgn-at (packOf s) t i) k .id
+    → optional b v ≡ firstBelow (λ j. field-at (pgn-at (packOf s) t i) j .id ≐ id) k → F ≡ pgn-error 21 2 t i k 0 → of-field s t i k ≡ report-if b F
 said s t i k id b v F x y z = rw (z, ← x, any-first (λ j. field-at (pgn-at (packOf s) t i) j .id ≐ id) k, ← y, given-is b v)
 
 abbrev Inv-loop : tie.InvT-loop
@@ -50,36 +50,71 @@ abbrev μ-loop : tie.MeasureT-loop
 μ-loop out₀ n s work t i p fields m₀ k₀ out m k = fields - k
 
 loop-holds : tie.Need-loop-holds Inv-loop μ-loop
-loop-holds c = (search needs, refl, emitted-none (now (c .before .before .before .args .out)) (c .before .before .before .args .n))
+loop-holds c =
+    let start = c .before .before .before in
+    (omega (arith, c), refl, emitted-none (now (start .args .out)) (start .args .n))
 
 field-id-of-requires : tie.Need-field-id-of-requires Inv-loop μ-loop
-field-id-of-requires c κs = (c .before .before .before .before .before .pre .1, omega (arith, c .before .before .before .before .before .pre .2, c .loop-test .taken))
+field-id-of-requires c κs =
+    let start = c .before .before .before .before .before in
+    (start .pre .1, omega (arith, start .pre .2, c .loop-test .taken))
 
 first-with-id-requires : tie.Need-first-with-id-requires Inv-loop μ-loop
-first-with-id-requires c κs = (c .before .before .before .before .before .before .pre .1, omega (arith, c .before .before .before .before .before .before .pre .2, c .before .loop-test .taken))
+first-with-id-requires c κs =
+    let start = c .before .before .before .before .before .before in
+    (start .pre .1, omega (arith, start .pre .2, c .before .loop-test .taken))
 
 pgn-error-requires : tie.Need-pgn-error-requires Inv-loop μ-loop
 pgn-error-requires c κs = search needs
 
 put-if-requires : tie.Need-put-if-requires Inv-loop μ-loop
 unfolding unique-field-ids
-put-if-requires c κs = rw (said (now (c .before .before .before .before .before .before .before .before .before .args .s)) (c .before .before .before .before .before .before .before .before .before .args .t) (c .before .before .before .before .before .before .before .before .before .args .i) (c .before .before .before .before .before .loop .k) (bytesOf (now (c .before .before .before .before .before .before .before .before .before .args .s)) (c .before .before .before .field-id-of .result)) (c .before .before .first-with-id .result .given) (c .before .before .first-with-id .result .value) (c .pgn-error .result) (c .before .before .before .field-id-of .ensures) (c .before .before .first-with-id .ensures) (c .pgn-error .ensures)) at (fits-turn (of-field (now (c .before .before .before .before .before .before .before .before .before .args .s)) (c .before .before .before .before .before .before .before .before .before .args .t) (c .before .before .before .before .before .before .before .before .before .args .i)) (c .before .before .before .before .before .before .before .before .before .args .fields) (c .before .before .before .before .before .loop .k) (c .before .before .before .before .loop-test .taken) (rw (← c .before .before .before .before .before .before .before .before .before .pre .2) at (c .before .before .before .before .before .before .before .before .before .pre .0)) (c .before .before .before .before .before .loop .inv .2))
+put-if-requires c κs =
+    let start = c .before .before .before .before .before .before .before .before .before in
+    let loop = c .before .before .before .before .before .loop in
+    let loop-test = c .before .before .before .before .loop-test in
+    let field-id-of = c .before .before .before .field-id-of in
+    let first-with-id = c .before .before .first-with-id in
+    let s = now (start .args .s) in let t = start .args .t in let i = start .args .i in
+    rw (said s t i (loop .k) (bytesOf s (field-id-of .result)) (first-with-id .result .given) (first-with-id .result .value) (c .pgn-error .result)
+    (field-id-of .ensures) (first-with-id .ensures) (c .pgn-error .ensures)) at
+    (fits-turn (of-field s t i) (start .args .fields) (loop .k) (loop-test .taken) (rw (← start .pre .2) at (start .pre .0)) (loop .inv .2))
 
 add-k : tie.Need-add-k Inv-loop μ-loop
-add-k c = omega (arith, c .before .before .before .before .before .before .before .loop-test .taken, c .before .before .before .before .before .before .before .before .before .before .before .before .pre .2, fields-few (c .before .before .before .before .before .before .before .before .before .before .before .before .pre .1))
+add-k c =
+    let start = c .before .before .before .before .before .before .before .before .before .before .before .before in
+    let loop-test = c .before .before .before .before .before .before .before .loop-test in
+    omega (arith, loop-test .taken, start .pre .2, fields-few (start .pre .1))
 
 loop-less : tie.Need-loop-less Inv-loop μ-loop
 loop-less c = search needs
 
 loop-again : tie.Need-loop-again Inv-loop μ-loop
-loop-again c = (search needs, c .before .before .put-if .kept .0 ∙ c .before .before .before .before .before .before .before .before .loop .inv .1, emitted-turn (of-field (now (c .before .before .before .before .before .before .before .before .before .before .before .before .args .s)) (c .before .before .before .before .before .before .before .before .before .before .before .before .args .t) (c .before .before .before .before .before .before .before .before .before .before .before .before .args .i)) (c .before .before .before .before .before .before .before .before .loop .k) (c .before .before .before .before .before .before .before .before .loop .inv .2) (rw (said (now (c .before .before .before .before .before .before .before .before .before .before .before .before .args .s)) (c .before .before .before .before .before .before .before .before .before .before .before .before .args .t) (c .before .before .before .before .before .before .before .before .before .before .before .before .args .i) (c .before .before .before .before .before .before .before .before .loop .k) (bytesOf (now (c .before .before .before .before .before .before .before .before .before .before .before .before .args .s)) (c .before .before .before .before .before .before .field-id-of .result)) (c .before .before .before .before .before .first-with-id .result .given) (c .before .before .before .before .before .first-with-id .result .value) (c .before .before .before .pgn-error .result) (c .before .before .before .before .before .before .field-id-of .ensures) (c .before .before .before .before .before .first-with-id .ensures) (c .before .before .before .pgn-error .ensures)) (c .before .before .put-if .ensures)))
+loop-again c =
+    let start = c .before .before .before .before .before .before .before .before .before .before .before .before in
+    let loop = c .before .before .before .before .before .before .before .before .loop in
+    let field-id-of = c .before .before .before .before .before .before .field-id-of in
+    let first-with-id = c .before .before .before .before .before .first-with-id in
+    let pgn-error-call = c .before .before .before .pgn-error in
+    let put-if = c .before .before .put-if in
+    let s = now (start .args .s) in let t = start .args .t in let i = start .args .i in (
+      omega (arith, c),
+      put-if .kept .0 ∙ loop .inv .1,
+      emitted-turn (of-field s t i) (loop .k) (loop .inv .2) (rw (said s t i (loop .k) (bytesOf s (field-id-of .result)) (first-with-id .result .given)
+          (first-with-id .result .value) (pgn-error-call .result) (field-id-of .ensures) (first-with-id .ensures) (pgn-error-call .ensures))
+          (put-if .ensures)),
+    )
 
 same-length : tie.Need-same-length Inv-loop μ-loop
 same-length c = c .before .loop .inv .1
 
 returns : tie.Need-returns Inv-loop μ-loop
 unfolding unique-field-ids
-returns c = let e : length (pgn-at (packOf (now (c .before .before .before .before .before .args .s))) (c .before .before .before .before .before .args .t) (c .before .before .before .before .before .args .i) .fields) ≡ c .before .loop .k = omega (arith, c .before .before .before .before .before .pre .2, c .before .loop .inv .0, c .loop-test .left) in rw e (c .before .loop .inv .2)
+returns c =
+    let start = c .before .before .before .before .before in
+    let e : length (pgn-at (packOf (now (start .args .s))) (start .args .t) (start .args .i) .fields) ≡ c .before .loop .k =
+    omega (arith, start .pre .2, c .before .loop .inv .0, c .loop-test .left) in
+    rw e (c .before .loop .inv .2)
 
 pub unique-field-ids-spec : {M : Type 1} → statement M
 unique-field-ids-spec =

@@ -51,27 +51,54 @@ module _ (s : List ℕ) (t r b : ℕ) (e : ranked (least s t) r ≡ least s t b)
   of-some h = ap (group-findings t (pgns-of (packOf s) t)) (rank-some h)
 
 abbrev Inv-loop : tie.InvT-loop
-Inv-loop out₀ n s work t tree count m₀ b₀ r₀ out m b r = (r ≤ count) × (length out ≡ length out₀) × (ranked (least s t) r ≡ least s t b) × Emitted out₀ n (concatBelow (of-rank s t) r) out m
+Inv-loop out₀ n s work t tree count m₀ b₀ r₀ out m b r =
+    (r ≤ count) × (length out ≡ length out₀) × (ranked (least s t) r ≡ least s t b) × Emitted out₀ n (concatBelow (of-rank s t) r) out m
 
 abbrev μ-loop : tie.MeasureT-loop
 μ-loop out₀ n s work t tree count m₀ b₀ r₀ out m b r = count - r
 
 loop-holds : tie.Need-loop-holds Inv-loop μ-loop
-loop-holds c = (search needs, refl, refl, emitted-none (now (c .before .before .before .args .out)) (c .before .before .before .args .n))
+loop-holds c =
+    let start = c .before .before .before in
+    (omega (arith, c), refl, refl, emitted-none (now (start .args .out)) (start .args .n))
 
 least-group-requires : tie.Need-least-group-requires Inv-loop μ-loop
-least-group-requires c κs = (c .before .before .before .before .before .pre .1, c .before .before .before .before .before .pre .2, c .before .before .before .before .before .pre .3, c .before .before .before .before .before .pre .4)
+least-group-requires c κs =
+    let start = c .before .before .before .before .before in
+    (start .pre .1, start .pre .2, start .pre .3, start .pre .4)
 
 same-length : tie.Need-same-length Inv-loop μ-loop
-same-length c = c .before .before .before .before .loop .inv .1
+same-length c =
+    let loop = c .before .before .before .before .loop in
+    loop .inv .1
 
 returns : tie.Need-returns Inv-loop μ-loop
 unfolding check-variants
-returns c = rw (over (now (c .before .before .before .before .before .before .before .before .args .s)) (c .before .before .before .before .before .before .before .before .args .t) (c .before .before .before .before .loop .r) (length (pgns-of (packOf (now (c .before .before .before .before .before .before .before .before .args .s))) (c .before .before .before .before .before .before .before .before .args .t))) (omega (arith, c .before .before .before .before .loop .inv .0, c .before .before .before .before .before .before .before .before .pre .3)) (rank-none (now (c .before .before .before .before .before .before .before .before .args .s)) (c .before .before .before .before .before .before .before .before .args .t) (c .before .before .before .before .loop .r) (c .before .before .before .before .loop .b) (c .before .before .before .before .loop .inv .2) (c .before .before .least-group .result .given) (c .before .before .least-group .result .value) (c .before .before .least-group .ensures) (not-true (c .before .before .least-group .result .given) (c .if1 .taken)))) (c .before .before .before .before .loop .inv .3)
+returns c =
+    let start = c .before .before .before .before .before .before .before .before in
+    let loop = c .before .before .before .before .loop in
+    let least-group-call = c .before .before .least-group in
+    let s = now (start .args .s) in let t = start .args .t in
+    rw (over s t (loop .r) (length (pgns-of (packOf s) t)) (omega (arith, loop .inv .0, start .pre .3))
+    (rank-none s t (loop .r) (loop .b) (loop .inv .2) (least-group-call .result .given) (least-group-call .result .value) (least-group-call .ensures)
+    (not-true (least-group-call .result .given) (c .if1 .taken)))) (loop .inv .3)
 
 group-findings-requires : tie.Need-group-findings-requires Inv-loop μ-loop
 unfolding check-variants
-group-findings-requires c κs = (rw (of-some (now (c .before .before .before .before .before .before .before .before .before .args .s)) (c .before .before .before .before .before .before .before .before .before .args .t) (c .before .before .before .before .before .loop .r) (c .before .before .before .before .before .loop .b) (c .before .before .before .before .before .loop .inv .2) (c .before .before .before .least-group .result .given) (c .before .before .before .least-group .result .value) (c .before .before .before .least-group .ensures) (not-false (c .before .before .before .least-group .result .given) (c .before .if1 .left))) at (fits-turn (of-rank (now (c .before .before .before .before .before .before .before .before .before .args .s)) (c .before .before .before .before .before .before .before .before .before .args .t)) (c .before .before .before .before .before .before .before .before .before .args .tree .count) (c .before .before .before .before .before .loop .r) (c .before .before .before .before .loop-test .taken) (rw (← c .before .before .before .before .before .before .before .before .before .pre .3) at (c .before .before .before .before .before .before .before .before .before .pre .0)) (c .before .before .before .before .before .loop .inv .3)), c .before .before .before .before .before .before .before .before .before .pre .1, c .before .before .before .before .before .before .before .before .before .pre .2, c .before .before .before .before .before .before .before .before .before .pre .3, c .before .before .before .before .before .before .before .before .before .pre .4)
+group-findings-requires c κs =
+    let start = c .before .before .before .before .before .before .before .before .before in
+    let loop = c .before .before .before .before .before .loop in
+    let loop-test = c .before .before .before .before .loop-test in
+    let least-group-call = c .before .before .before .least-group in
+    let s = now (start .args .s) in let t = start .args .t in (
+      rw (of-some s t (loop .r) (loop .b) (loop .inv .2) (least-group-call .result .given) (least-group-call .result .value) (least-group-call .ensures)
+          (not-false (least-group-call .result .given) (c .before .if1 .left))) at
+          (fits-turn (of-rank s t) (start .args .tree .count) (loop .r) (loop-test .taken) (rw (← start .pre .3) at (start .pre .0)) (loop .inv .3)),
+      start .pre .1,
+      start .pre .2,
+      start .pre .3,
+      start .pre .4,
+    )
 
 cast-b : tie.Need-cast-b Inv-loop μ-loop
 cast-b c = search needs
@@ -86,14 +113,33 @@ loop-less : tie.Need-loop-less Inv-loop μ-loop
 loop-less c = search needs
 
 loop-again : tie.Need-loop-again Inv-loop μ-loop
-loop-again c = (search needs, c .before .before .before .group-findings .kept .0 ∙ c .before .before .before .before .before .before .before .before .before .loop .inv .1, rank-next (now (c .before .before .before .before .before .before .before .before .before .before .before .before .before .args .s)) (c .before .before .before .before .before .before .before .before .before .before .before .before .before .args .t) (c .before .before .before .before .before .before .before .before .before .loop .r) (c .before .before .before .before .before .before .before .before .before .loop .b) (c .before .before .before .before .before .before .before .before .before .loop .inv .2) (c .before .before .before .before .before .before .before .least-group .result .given) (c .before .before .before .before .before .before .before .least-group .result .value) (c .before .before .before .before .before .before .before .least-group .ensures) (not-false (c .before .before .before .before .before .before .before .least-group .result .given) (c .before .before .before .before .before .if1 .left)), emitted-turn (of-rank (now (c .before .before .before .before .before .before .before .before .before .before .before .before .before .args .s)) (c .before .before .before .before .before .before .before .before .before .before .before .before .before .args .t)) (c .before .before .before .before .before .before .before .before .before .loop .r) (c .before .before .before .before .before .before .before .before .before .loop .inv .3) (rw (of-some (now (c .before .before .before .before .before .before .before .before .before .before .before .before .before .args .s)) (c .before .before .before .before .before .before .before .before .before .before .before .before .before .args .t) (c .before .before .before .before .before .before .before .before .before .loop .r) (c .before .before .before .before .before .before .before .before .before .loop .b) (c .before .before .before .before .before .before .before .before .before .loop .inv .2) (c .before .before .before .before .before .before .before .least-group .result .given) (c .before .before .before .before .before .before .before .least-group .result .value) (c .before .before .before .before .before .before .before .least-group .ensures) (not-false (c .before .before .before .before .before .before .before .least-group .result .given) (c .before .before .before .before .before .if1 .left))) (c .before .before .before .group-findings .ensures)))
+loop-again c =
+    let back12 = c .before .before .before .before .before .before .before .before .before .before .before .before in
+    let start = back12 .before in
+    let loop = c .before .before .before .before .before .before .before .before .before .loop in
+    let least-group-call = c .before .before .before .before .before .before .before .least-group in
+    let if1 = c .before .before .before .before .before .if1 in
+    let group-findings-call = c .before .before .before .group-findings in
+    let s = now (start .args .s) in let t = start .args .t in (
+      omega (arith, c),
+      group-findings-call .kept .0 ∙ loop .inv .1,
+      rank-next s t (loop .r) (loop .b) (loop .inv .2) (least-group-call .result .given) (least-group-call .result .value) (least-group-call .ensures)
+          (not-false (least-group-call .result .given) (if1 .left)),
+      emitted-turn (of-rank s t) (loop .r) (loop .inv .3) (rw (of-some s t (loop .r) (loop .b) (loop .inv .2) (least-group-call .result .given)
+          (least-group-call .result .value) (least-group-call .ensures) (not-false (least-group-call .result .given) (if1 .left)))
+          (group-findings-call .ensures)),
+    )
 
 same-length-2 : tie.Need-same-length-2 Inv-loop μ-loop
 same-length-2 c = c .before .loop .inv .1
 
 returns-2 : tie.Need-returns-2 Inv-loop μ-loop
 unfolding check-variants
-returns-2 c = let e : length (pgns-of (packOf (now (c .before .before .before .before .before .args .s))) (c .before .before .before .before .before .args .t)) ≡ c .before .loop .r = omega (arith, c .before .before .before .before .before .pre .3, c .before .loop .inv .0, c .loop-test .left) in rw e (c .before .loop .inv .3)
+returns-2 c =
+    let start = c .before .before .before .before .before in
+    let e : length (pgns-of (packOf (now (start .args .s))) (start .args .t)) ≡ c .before .loop .r =
+    omega (arith, start .pre .3, c .before .loop .inv .0, c .loop-test .left) in
+    rw e (c .before .loop .inv .3)
 
 pub check-variants-spec : {M : Type 1} → statement M
 check-variants-spec =

@@ -13,13 +13,25 @@ in-group-requires : tie.Need-in-group-requires
 in-group-requires c κs = search needs
 
 returns : tie.Need-returns
-returns c = outside (in-group (c .before .before .before .before .args .t) (pgns-of (packOf (now (c .before .before .before .before .args .s))) (c .before .before .before .before .args .t)) (c .before .before .before .before .args .number) (c .before .before .before .before .args .j)) (duplicates (pgn-at (packOf (now (c .before .before .before .before .args .s))) (c .before .before .before .before .args .t) (c .before .before .before .before .args .j)) (pgn-at (packOf (now (c .before .before .before .before .args .s))) (c .before .before .before .before .args .t) (c .before .before .before .before .args .i))) (in-group-is (now (c .before .before .before .before .args .s)) (c .before .before .before .before .args .t) (c .before .before .before .before .args .number) (c .before .before .before .before .args .j) (c .before .before .before .before .args .g) (c .before .before .before .before .pre .1) ∙ sym (c .before .in-group .ensures) ∙ not-true (c .before .in-group .result) (c .if1 .taken))
+returns c =
+    let start = c .before .before .before .before in
+    let t = start .args .t in let s = now (start .args .s) in let number = start .args .number in let j = start .args .j in
+    outside (in-group t (pgns-of (packOf s) t) number j) (duplicates (pgn-at (packOf s) t j) (pgn-at (packOf s) t (start .args .i)))
+    (in-group-is s t number j (start .args .g) (start .pre .1) ∙ sym (c .before .in-group .ensures) ∙ not-true (c .before .in-group .result) (c .if1 .taken))
 
 duplicates-requires : tie.Need-duplicates-requires
-duplicates-requires c κs = (c .before .before .before .before .pre .0, c .before .before .before .before .pre .1 .fields, c .before .before .before .before .pre .2, c .before .before .before .before .pre .3)
+duplicates-requires c κs =
+    let start = c .before .before .before .before in
+    (start .pre .0, start .pre .1 .fields, start .pre .2, start .pre .3)
 
 returns-2 : tie.Need-returns-2
-returns-2 c = within (in-group (c .before .before .before .before .before .args .t) (pgns-of (packOf (now (c .before .before .before .before .before .args .s))) (c .before .before .before .before .before .args .t)) (c .before .before .before .before .before .args .number) (c .before .before .before .before .before .args .j)) (duplicates (pgn-at (packOf (now (c .before .before .before .before .before .args .s))) (c .before .before .before .before .before .args .t) (c .before .before .before .before .before .args .j)) (pgn-at (packOf (now (c .before .before .before .before .before .args .s))) (c .before .before .before .before .before .args .t) (c .before .before .before .before .before .args .i))) (c .duplicates .result) (in-group-is (now (c .before .before .before .before .before .args .s)) (c .before .before .before .before .before .args .t) (c .before .before .before .before .before .args .number) (c .before .before .before .before .before .args .j) (c .before .before .before .before .before .args .g) (c .before .before .before .before .before .pre .1) ∙ sym (c .before .before .in-group .ensures) ∙ not-false (c .before .before .in-group .result) (c .before .if1 .left)) (c .duplicates .ensures)
+returns-2 c =
+    let start = c .before .before .before .before .before in
+    let in-group-call = c .before .before .in-group in
+    let t = start .args .t in let s = now (start .args .s) in let number = start .args .number in let j = start .args .j in
+    within (in-group t (pgns-of (packOf s) t) number j) (duplicates (pgn-at (packOf s) t j) (pgn-at (packOf s) t (start .args .i))) (c .duplicates .result)
+    (in-group-is s t number j (start .args .g) (start .pre .1) ∙ sym (in-group-call .ensures) ∙ not-false (in-group-call .result) (c .before .if1 .left))
+    (c .duplicates .ensures)
 
 pub duplicate-at-spec : {M : Type 1} → statement M
 duplicate-at-spec = tie.close (tie.spec in-group-requires returns duplicates-requires returns-2)

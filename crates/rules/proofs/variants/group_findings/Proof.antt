@@ -31,62 +31,141 @@ of-pgn s t number = variant-at t (pgns-of (packOf s) t) number
 abbrev lacks : List ℕ → ℕ → ℕ → ℕ → Bool
 lacks s t number i = in-group t (pgns-of (packOf s) t) number i && not (has-match (pgn-at (packOf s) t i) (length (pgn-at (packOf s) t i .fields)))
 
-whole : (s : List ℕ) (t number i w : ℕ) (F : Finding) → length (pgns-of (packOf s) t) ≡ i → w ≡ countBelow (lacks s t number) i → F ≡ group-error 20 2 t number w
-    → group-findings t (pgns-of (packOf s) t) (some number) ≡ concatBelow (of-pgn s t number) i ++ report-if (1 <ᵇ w) F
+whole : (s : List ℕ) (t number i w : ℕ) (F : Finding) → length (pgns-of (packOf s) t) ≡ i → w ≡ countBelow (lacks s t number) i
+    → F ≡ group-error 20 2 t number w → group-findings t (pgns-of (packOf s) t) (some number) ≡ concatBelow (of-pgn s t number) i ++ report-if (1 <ᵇ w) F
 unfolding group-findings matchless
 whole s t number i w F e c y = rw (e, ← c, y)
 
 abbrev Inv-loop : tie.InvT-loop
-Inv-loop out₀ n s work t number count first m₀ without₀ p₀ i₀ out m without p i = (i ≤ count) × (p ≡ pgnPlace (packOf s) t i) × (length out ≡ length out₀) × (without ≤ i) × (without ≡ countBelow (lacks s t number) i) × Emitted out₀ n (concatBelow (of-pgn s t number) i) out m
+Inv-loop out₀ n s work t number count first m₀ without₀ p₀ i₀ out m without p i =
+    (i ≤ count)
+    × (p ≡ pgnPlace (packOf s) t i)
+    × (length out ≡ length out₀)
+    × (without ≤ i)
+    × (without ≡ countBelow (lacks s t number) i)
+    × Emitted out₀ n (concatBelow (of-pgn s t number) i) out m
 
 abbrev μ-loop : tie.MeasureT-loop
 μ-loop out₀ n s work t number count first m₀ without₀ p₀ i₀ out m without p i = count - i
 
 loop-holds : tie.Need-loop-holds Inv-loop μ-loop
-loop-holds c = (search needs, omega (arith, c .before .before .before .pre .4), refl, search needs, refl, emitted-none (now (c .before .before .before .args .out)) (c .before .before .before .args .n))
+loop-holds c =
+    let start = c .before .before .before in
+    (omega (arith, c), omega (arith, start .pre .4), refl, omega (arith, c), refl, emitted-none (now (start .args .out)) (start .args .n))
 
 pgn-of-requires : tie.Need-pgn-of-requires Inv-loop μ-loop
-pgn-of-requires c κs = (at-pgn (c .before .before .before .before .before .pre .1) (c .before .before .before .before .before .pre .2) (omega (arith, c .before .before .before .before .before .pre .3)) (c .loop-test .taken) (c .before .loop .inv .1))
+pgn-of-requires c κs =
+    let start = c .before .before .before .before .before in
+    (at-pgn (start .pre .1) (start .pre .2) (omega (arith, start .pre .3)) (c .loop-test .taken) (c .before .loop .inv .1))
 
 variant-at-requires : tie.Need-variant-at-requires Inv-loop μ-loop
 unfolding group-findings
-variant-at-requires c κs = (fits-turn (of-pgn (now (c .before .before .before .before .before .before .before .args .s)) (c .before .before .before .before .before .before .before .args .t) (c .before .before .before .before .before .before .before .args .number)) (c .before .before .before .before .before .before .before .args .tree .count) (c .before .before .before .loop .i) (c .before .before .loop-test .taken) (rw (← c .before .before .before .before .before .before .before .pre .3) at (fits-left (concatBelow (of-pgn (now (c .before .before .before .before .before .before .before .args .s)) (c .before .before .before .before .before .before .before .args .t) (c .before .before .before .before .before .before .before .args .number)) (length (pgns-of (packOf (now (c .before .before .before .before .before .before .before .args .s))) (c .before .before .before .before .before .before .before .args .t)))) _ (c .before .before .before .before .before .before .before .pre .0))) (c .before .before .before .loop .inv .5), (at-pgn (c .before .before .before .before .before .before .before .pre .1) (c .before .before .before .before .before .before .before .pre .2) (omega (arith, c .before .before .before .before .before .before .before .pre .3)) (c .before .before .loop-test .taken) (c .before .before .before .loop .inv .1)), c .before .pgn-of .ensures, c .before .before .before .before .before .before .before .pre .4)
+variant-at-requires c κs =
+    let start = c .before .before .before .before .before .before .before in
+    let loop = c .before .before .before .loop in
+    let loop-test = c .before .before .loop-test in
+    let s = now (start .args .s) in let t = start .args .t in let number = start .args .number in (
+      fits-turn (of-pgn s t number) (start .args .tree .count) (loop .i) (loop-test .taken)
+          (rw (← start .pre .3) at (fits-left (concatBelow (of-pgn s t number) (length (pgns-of (packOf s) t))) _ (start .pre .0))) (loop .inv .5),
+      (at-pgn (start .pre .1) (start .pre .2) (omega (arith, start .pre .3)) (loop-test .taken) (loop .inv .1)),
+      c .before .pgn-of .ensures,
+      start .pre .4,
+    )
 
 matchless-at-requires : tie.Need-matchless-at-requires Inv-loop μ-loop
-matchless-at-requires c κs = ((at-pgn (c .before .before .before .before .before .before .before .before .before .before .pre .1) (c .before .before .before .before .before .before .before .before .before .before .pre .2) (omega (arith, c .before .before .before .before .before .before .before .before .before .before .pre .3)) (c .before .before .before .before .before .loop-test .taken) (c .before .before .before .before .before .before .loop .inv .1)), c .before .before .before .before .pgn-of .ensures)
+matchless-at-requires c κs =
+    let start = c .before .before .before .before .before .before .before .before .before .before in
+    let loop = c .before .before .before .before .before .before .loop in
+    let loop-test = c .before .before .before .before .before .loop-test in
+    let pgn-of = c .before .before .before .before .pgn-of in
+    ((at-pgn (start .pre .1) (start .pre .2) (omega (arith, start .pre .3)) (loop-test .taken) (loop .inv .1)), pgn-of .ensures)
 
 counted-requires : tie.Need-counted-requires Inv-loop μ-loop
-counted-requires c κs = omega (arith, c .before .before .before .before .before .before .before .loop .inv .3, pgns-few (at-pgn (c .before .before .before .before .before .before .before .before .before .before .before .pre .1) (c .before .before .before .before .before .before .before .before .before .before .before .pre .2) (omega (arith, c .before .before .before .before .before .before .before .before .before .before .before .pre .3)) (c .before .before .before .before .before .before .loop-test .taken) (c .before .before .before .before .before .before .before .loop .inv .1)))
+counted-requires c κs =
+    let start = c .before .before .before .before .before .before .before .before .before .before .before in
+    let loop = c .before .before .before .before .before .before .before .loop in
+    let loop-test = c .before .before .before .before .before .before .loop-test in
+    omega (arith, loop .inv .3, pgns-few (at-pgn (start .pre .1) (start .pre .2) (omega (arith, start .pre .3)) (loop-test .taken) (loop .inv .1)))
 
 add-p : tie.Need-add-p Inv-loop μ-loop
-add-p c = omega (arith, fields-few (at-pgn (c .before .before .before .before .before .before .before .before .before .before .before .before .pre .1) (c .before .before .before .before .before .before .before .before .before .before .before .before .pre .2) (omega (arith, c .before .before .before .before .before .before .before .before .before .before .before .before .pre .3)) (c .before .before .before .before .before .before .before .loop-test .taken) (c .before .before .before .before .before .before .before .before .loop .inv .1)))
+add-p c =
+    let start = c .before .before .before .before .before .before .before .before .before .before .before .before in
+    let loop = c .before .before .before .before .before .before .before .before .loop in
+    let loop-test = c .before .before .before .before .before .before .before .loop-test in
+    omega (arith, fields-few (at-pgn (start .pre .1) (start .pre .2) (omega (arith, start .pre .3)) (loop-test .taken) (loop .inv .1)))
 
 cast-p : tie.Need-cast-p Inv-loop μ-loop
-cast-p c = omega (arith, fields-few (at-pgn (c .before .before .before .before .before .before .before .before .before .before .before .before .before .pre .1) (c .before .before .before .before .before .before .before .before .before .before .before .before .before .pre .2) (omega (arith, c .before .before .before .before .before .before .before .before .before .before .before .before .before .pre .3)) (c .before .before .before .before .before .before .before .before .loop-test .taken) (c .before .before .before .before .before .before .before .before .before .loop .inv .1)), c .before .before .before .before .before .before .before .pgn-of .ensures .fields)
+cast-p c =
+    let back12 = c .before .before .before .before .before .before .before .before .before .before .before .before in
+    let start = back12 .before in
+    let loop = c .before .before .before .before .before .before .before .before .before .loop in
+    let loop-test = c .before .before .before .before .before .before .before .before .loop-test in
+    let pgn-of = c .before .before .before .before .before .before .before .pgn-of in
+    omega (arith, fields-few (at-pgn (start .pre .1) (start .pre .2) (omega (arith, start .pre .3)) (loop-test .taken) (loop .inv .1)), pgn-of .ensures .fields)
 
 add-p-2 : tie.Need-add-p-2 Inv-loop μ-loop
-add-p-2 c = omega (arith, fields-few (at-pgn (c .before .before .before .before .before .before .before .before .before .before .before .before .before .pre .1) (c .before .before .before .before .before .before .before .before .before .before .before .before .before .pre .2) (omega (arith, c .before .before .before .before .before .before .before .before .before .before .before .before .before .pre .3)) (c .before .before .before .before .before .before .before .before .loop-test .taken) (c .before .before .before .before .before .before .before .before .before .loop .inv .1)), c .before .before .before .before .before .before .before .pgn-of .ensures .fields)
+add-p-2 c =
+    let back12 = c .before .before .before .before .before .before .before .before .before .before .before .before in
+    let start = back12 .before in
+    let loop = c .before .before .before .before .before .before .before .before .before .loop in
+    let loop-test = c .before .before .before .before .before .before .before .before .loop-test in
+    let pgn-of = c .before .before .before .before .before .before .before .pgn-of in
+    omega (arith, fields-few (at-pgn (start .pre .1) (start .pre .2) (omega (arith, start .pre .3)) (loop-test .taken) (loop .inv .1)), pgn-of .ensures .fields)
 
 add-i : tie.Need-add-i Inv-loop μ-loop
-add-i c = omega (arith, pgns-few (at-pgn (c .before .before .before .before .before .before .before .before .before .before .before .before .before .pre .1) (c .before .before .before .before .before .before .before .before .before .before .before .before .before .pre .2) (omega (arith, c .before .before .before .before .before .before .before .before .before .before .before .before .before .pre .3)) (c .before .before .before .before .before .before .before .before .loop-test .taken) (c .before .before .before .before .before .before .before .before .before .loop .inv .1)))
+add-i c =
+    let back12 = c .before .before .before .before .before .before .before .before .before .before .before .before in
+    let start = back12 .before in
+    let loop = c .before .before .before .before .before .before .before .before .before .loop in
+    let loop-test = c .before .before .before .before .before .before .before .before .loop-test in
+    omega (arith, pgns-few (at-pgn (start .pre .1) (start .pre .2) (omega (arith, start .pre .3)) (loop-test .taken) (loop .inv .1)))
 
 loop-less : tie.Need-loop-less Inv-loop μ-loop
 loop-less c = search needs
 
 loop-again : tie.Need-loop-again Inv-loop μ-loop
-loop-again c = (search needs, omega (arith, pgn-place-next (packOf (now (c .before .before .before .before .before .before .before .before .before .before .before .before .before .args .s))) (c .before .before .before .before .before .before .before .before .before .before .before .before .before .args .t) (c .before .before .before .before .before .before .before .before .before .loop .i), c .before .before .before .before .before .before .before .pgn-of .ensures .fields, c .before .before .before .before .before .before .before .before .before .loop .inv .1), c .before .before .before .before .before .variant-at .kept .0 ∙ c .before .before .before .before .before .before .before .before .before .loop .inv .2, (rw (c .before .counted .ensures) (hits-few (c .before .before .matchless-at .result) (c .before .before .before .before .before .before .before .before .before .loop .without) (c .before .before .before .before .before .before .before .before .before .loop .i) (c .before .before .before .before .before .before .before .before .before .loop .inv .3))), c .before .counted .ensures ∙ (rw (count-turn (lacks (now (c .before .before .before .before .before .before .before .before .before .before .before .before .before .args .s)) (c .before .before .before .before .before .before .before .before .before .before .before .before .before .args .t) (c .before .before .before .before .before .before .before .before .before .before .before .before .before .args .number)) (c .before .before .before .before .before .before .before .before .before .loop .i), ← c .before .before .matchless-at .ensures, ← c .before .before .before .before .before .before .before .before .before .loop .inv .4)), emitted-turn (of-pgn (now (c .before .before .before .before .before .before .before .before .before .before .before .before .before .args .s)) (c .before .before .before .before .before .before .before .before .before .before .before .before .before .args .t) (c .before .before .before .before .before .before .before .before .before .before .before .before .before .args .number)) (c .before .before .before .before .before .before .before .before .before .loop .i) (c .before .before .before .before .before .before .before .before .before .loop .inv .5) (c .before .before .before .before .before .variant-at .ensures))
+loop-again c =
+    let back12 = c .before .before .before .before .before .before .before .before .before .before .before .before in
+    let start = back12 .before in
+    let loop = c .before .before .before .before .before .before .before .before .before .loop in
+    let pgn-of = c .before .before .before .before .before .before .before .pgn-of in
+    let variant-at-call = c .before .before .before .before .before .variant-at in
+    let matchless-at = c .before .before .matchless-at in
+    let s = now (start .args .s) in let t = start .args .t in let number = start .args .number in (
+      omega (arith, c),
+      omega (arith, pgn-place-next (packOf s) t (loop .i), pgn-of .ensures .fields, loop .inv .1),
+      variant-at-call .kept .0 ∙ loop .inv .2,
+      (rw (c .before .counted .ensures) (hits-few (matchless-at .result) (loop .without) (loop .i) (loop .inv .3))),
+      c .before .counted .ensures ∙ (rw (count-turn (lacks s t number) (loop .i), ← matchless-at .ensures, ← loop .inv .4)),
+      emitted-turn (of-pgn s t number) (loop .i) (loop .inv .5) (variant-at-call .ensures),
+    )
 
 group-error-requires : tie.Need-group-error-requires Inv-loop μ-loop
 group-error-requires c κs = search needs
 
 put-if-requires : tie.Need-put-if-requires Inv-loop μ-loop
-put-if-requires c κs = fits-right (concatBelow (of-pgn (now (c .before .before .before .before .before .before .before .args .s)) (c .before .before .before .before .before .before .before .args .t) (c .before .before .before .before .before .before .before .args .number)) (c .before .before .before .loop .i)) (report-if (1 <ᵇ c .before .before .before .loop .without) (c .group-error .result)) (rw (whole (now (c .before .before .before .before .before .before .before .args .s)) (c .before .before .before .before .before .before .before .args .t) (c .before .before .before .before .before .before .before .args .number) (c .before .before .before .loop .i) (c .before .before .before .loop .without) (c .group-error .result) (omega (arith, c .before .before .before .before .before .before .before .pre .3, c .before .before .before .loop .inv .0, c .before .before .loop-test .left)) (c .before .before .before .loop .inv .4) (c .group-error .ensures)) at (c .before .before .before .before .before .before .before .pre .0)) (c .before .before .before .loop .inv .5)
+put-if-requires c κs =
+    let start = c .before .before .before .before .before .before .before in
+    let loop = c .before .before .before .loop in
+    let s = now (start .args .s) in let t = start .args .t in let number = start .args .number in
+    fits-right (concatBelow (of-pgn s t number) (loop .i)) (report-if (1 <ᵇ loop .without) (c .group-error .result))
+    (rw (whole s t number (loop .i) (loop .without) (c .group-error .result) (omega (arith, start .pre .3, loop .inv .0, c .before .before .loop-test .left))
+    (loop .inv .4) (c .group-error .ensures)) at (start .pre .0)) (loop .inv .5)
 
 same-length : tie.Need-same-length Inv-loop μ-loop
-same-length c = c .before .before .put-if .kept .0 ∙ c .before .before .before .before .before .before .loop .inv .2
+same-length c =
+    let loop = c .before .before .before .before .before .before .loop in
+    c .before .before .put-if .kept .0 ∙ loop .inv .2
 
 returns : tie.Need-returns Inv-loop μ-loop
-returns c = rw (whole (now (c .before .before .before .before .before .before .before .before .before .before .args .s)) (c .before .before .before .before .before .before .before .before .before .before .args .t) (c .before .before .before .before .before .before .before .before .before .before .args .number) (c .before .before .before .before .before .before .loop .i) (c .before .before .before .before .before .before .loop .without) (c .before .before .before .group-error .result) (omega (arith, c .before .before .before .before .before .before .before .before .before .before .pre .3, c .before .before .before .before .before .before .loop .inv .0, c .before .before .before .before .before .loop-test .left)) (c .before .before .before .before .before .before .loop .inv .4) (c .before .before .before .group-error .ensures)) (emitted-append (c .before .before .before .before .before .before .loop .inv .5) (c .before .before .put-if .ensures))
+returns c =
+    let start = c .before .before .before .before .before .before .before .before .before .before in
+    let loop = c .before .before .before .before .before .before .loop in
+    let loop-test = c .before .before .before .before .before .loop-test in
+    let group-error-call = c .before .before .before .group-error in
+    rw (whole (now (start .args .s)) (start .args .t) (start .args .number) (loop .i) (loop .without) (group-error-call .result)
+    (omega (arith, start .pre .3, loop .inv .0, loop-test .left)) (loop .inv .4) (group-error-call .ensures))
+    (emitted-append (loop .inv .5) (c .before .before .put-if .ensures))
 
 pub group-findings-spec : {M : Type 1} → statement M
 group-findings-spec =

@@ -30,22 +30,53 @@ loop-holds : tie.Need-loop-holds Inv-loop μ-loop
 loop-holds c = (search needs, omega (arith, c .before .before .pre .2), refl)
 
 pgn-of-requires : tie.Need-pgn-of-requires Inv-loop μ-loop
-pgn-of-requires c κs = (at-pgn (c .before .before .before .before .pre .0 .ready) (c .before .before .before .before .pre .0 .tree) (omega (arith, c .before .before .before .before .pre .0 .pgn)) (c .loop-test .taken) (c .before .loop .inv .1))
+pgn-of-requires c κs =
+    let start = c .before .before .before .before in
+    (at-pgn (start .pre .0 .ready) (start .pre .0 .tree) (omega (arith, start .pre .0 .pgn)) (c .loop-test .taken) (c .before .loop .inv .1))
 
 duplicate-at-requires : tie.Need-duplicate-at-requires Inv-loop μ-loop
-duplicate-at-requires c κs = ((at-pgn (c .before .before .before .before .before .pre .0 .ready) (c .before .before .before .before .before .pre .0 .tree) (omega (arith, c .before .before .before .before .before .pre .0 .pgn)) (c .before .loop-test .taken) (c .before .before .loop .inv .1)), c .pgn-of .ensures, c .before .before .before .before .before .pre .0, c .before .before .before .before .before .pre .1)
+duplicate-at-requires c κs =
+    let start = c .before .before .before .before .before in (
+      (at-pgn (start .pre .0 .ready) (start .pre .0 .tree) (omega (arith, start .pre .0 .pgn)) (c .before .loop-test .taken)
+          (c .before .before .loop .inv .1)),
+      c .pgn-of .ensures,
+      start .pre .0,
+      start .pre .1,
+    )
 
 latest-requires : tie.Need-latest-requires Inv-loop μ-loop
 latest-requires c κs = search needs
 
 add-q : tie.Need-add-q Inv-loop μ-loop
-add-q c = omega (arith, fields-few (at-pgn (c .before .before .before .before .before .before .before .pre .0 .ready) (c .before .before .before .before .before .before .before .pre .0 .tree) (omega (arith, c .before .before .before .before .before .before .before .pre .0 .pgn)) (c .before .before .before .loop-test .taken) (c .before .before .before .before .loop .inv .1)))
+add-q c =
+    let start = c .before .before .before .before .before .before .before in
+    let loop = c .before .before .before .before .loop in
+    let loop-test = c .before .before .before .loop-test in
+    omega (arith, fields-few (at-pgn (start .pre .0 .ready) (start .pre .0 .tree) (omega (arith, start .pre .0 .pgn)) (loop-test .taken) (loop .inv .1)))
 
 cast-q : tie.Need-cast-q Inv-loop μ-loop
-cast-q c = omega (arith, fields-few (at-pgn (c .before .before .before .before .before .before .before .before .pre .0 .ready) (c .before .before .before .before .before .before .before .before .pre .0 .tree) (omega (arith, c .before .before .before .before .before .before .before .before .pre .0 .pgn)) (c .before .before .before .before .loop-test .taken) (c .before .before .before .before .before .loop .inv .1)), c .before .before .before .pgn-of .ensures .fields)
+cast-q c =
+    let start = c .before .before .before .before .before .before .before .before in
+    let loop = c .before .before .before .before .before .loop in
+    let loop-test = c .before .before .before .before .loop-test in
+    let pgn-of = c .before .before .before .pgn-of in
+    omega (
+      arith,
+      fields-few (at-pgn (start .pre .0 .ready) (start .pre .0 .tree) (omega (arith, start .pre .0 .pgn)) (loop-test .taken) (loop .inv .1)),
+      pgn-of .ensures .fields,
+    )
 
 add-q-2 : tie.Need-add-q-2 Inv-loop μ-loop
-add-q-2 c = omega (arith, fields-few (at-pgn (c .before .before .before .before .before .before .before .before .pre .0 .ready) (c .before .before .before .before .before .before .before .before .pre .0 .tree) (omega (arith, c .before .before .before .before .before .before .before .before .pre .0 .pgn)) (c .before .before .before .before .loop-test .taken) (c .before .before .before .before .before .loop .inv .1)), c .before .before .before .pgn-of .ensures .fields)
+add-q-2 c =
+    let start = c .before .before .before .before .before .before .before .before in
+    let loop = c .before .before .before .before .before .loop in
+    let loop-test = c .before .before .before .before .loop-test in
+    let pgn-of = c .before .before .before .pgn-of in
+    omega (
+      arith,
+      fields-few (at-pgn (start .pre .0 .ready) (start .pre .0 .tree) (omega (arith, start .pre .0 .pgn)) (loop-test .taken) (loop .inv .1)),
+      pgn-of .ensures .fields,
+    )
 
 add-j : tie.Need-add-j Inv-loop μ-loop
 add-j c = search needs
@@ -54,10 +85,22 @@ loop-less : tie.Need-loop-less Inv-loop μ-loop
 loop-less c = search needs
 
 loop-again : tie.Need-loop-again Inv-loop μ-loop
-loop-again c = (search needs, omega (arith, pgn-place-next (packOf (now (c .before .before .before .before .before .before .before .before .args .s))) (c .before .before .before .before .before .before .before .before .args .t) (c .before .before .before .before .before .loop .j), c .before .before .before .pgn-of .ensures .fields, c .before .before .before .before .before .loop .inv .1), c .before .latest .ensures ∙ (rw (latest-turn (copies (now (c .before .before .before .before .before .before .before .before .args .s)) (c .before .before .before .before .before .before .before .before .args .t) (c .before .before .before .before .before .before .before .before .args .number) (c .before .before .before .before .before .before .before .before .args .i)) (c .before .before .before .before .before .loop .j), ← c .before .before .duplicate-at .ensures, c .before .before .before .before .before .loop .inv .2)))
+loop-again c =
+    let start = c .before .before .before .before .before .before .before .before in
+    let loop = c .before .before .before .before .before .loop in
+    let pgn-of = c .before .before .before .pgn-of in
+    let s = now (start .args .s) in let t = start .args .t in (
+      omega (arith, c),
+      omega (arith, pgn-place-next (packOf s) t (loop .j), pgn-of .ensures .fields, loop .inv .1),
+      c .before .latest .ensures
+          ∙ (rw (latest-turn (copies s t (start .args .number) (start .args .i)) (loop .j), ← c .before .before .duplicate-at .ensures, loop .inv .2)),
+    )
 
 returns : tie.Need-returns Inv-loop μ-loop
-returns c = let e : c .before .before .before .before .args .i ≡ c .before .loop .j = omega (arith, c .before .loop .inv .0, c .loop-test .left) in c .before .loop .inv .2 ∙ ap (latestBelow (copies (now (c .before .before .before .before .args .s)) (c .before .before .before .before .args .t) (c .before .before .before .before .args .number) (c .before .before .before .before .args .i))) (sym e)
+returns c =
+    let start = c .before .before .before .before in
+    let e : start .args .i ≡ c .before .loop .j = omega (arith, c .before .loop .inv .0, c .loop-test .left) in
+    c .before .loop .inv .2 ∙ ap (latestBelow (copies (now (start .args .s)) (start .args .t) (start .args .number) (start .args .i))) (sym e)
 
 pub latest-duplicate-spec : {M : Type 1} → statement M
 latest-duplicate-spec =

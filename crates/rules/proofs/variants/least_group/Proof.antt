@@ -24,11 +24,13 @@ use Rattle.rules.proofs.variants.least_group.Tie as tie
 abbrev counts : Pgn → ℕ → Option ℕ
 counts p b = optional (not (p .fallback) && (b ≤ᵇ p .pgn)) (p .pgn)
 
-said : (s : List ℕ) (p : Pgn) (b : ℕ) (g : PgnView) (hit : Bool) → PgnIs s p g → hit ≡ (not (g .flags .fallback) && (b ≤ᵇ g .pgn)) → counts p b ≡ optional hit (g .pgn)
+said : (s : List ℕ) (p : Pgn) (b : ℕ) (g : PgnView) (hit : Bool) → PgnIs s p g → hit ≡ (not (g .flags .fallback) && (b ≤ᵇ g .pgn))
+    → counts p b ≡ optional hit (g .pgn)
 said s p b g hit is e = ap (λ (x : Pgn). counts x b) (sym (is .means)) ∙ ap (λ (x : Bool). optional x (g .pgn)) (sym e)
 
 abbrev Inv-loop : tie.InvT-loop
-Inv-loop s work t b count found₀ p₀ i₀ found p i = (i ≤ count) × (p ≡ pgnPlace (packOf s) t i) × (optNumber found ≡ minBelow (λ i. counts (pgn-at (packOf s) t i) b) i)
+Inv-loop s work t b count found₀ p₀ i₀ found p i =
+    (i ≤ count) × (p ≡ pgnPlace (packOf s) t i) × (optNumber found ≡ minBelow (λ i. counts (pgn-at (packOf s) t i) b) i)
 
 abbrev μ-loop : tie.MeasureT-loop
 μ-loop s work t b count found₀ p₀ i₀ found p i = count - i
@@ -37,7 +39,9 @@ loop-holds : tie.Need-loop-holds Inv-loop μ-loop
 loop-holds c = (search needs, omega (arith, c .before .before .pre .3), refl)
 
 pgn-of-requires : tie.Need-pgn-of-requires Inv-loop μ-loop
-pgn-of-requires c κs = (at-pgn (c .before .before .before .before .pre .0) (c .before .before .before .before .pre .1) (omega (arith, c .before .before .before .before .pre .2)) (c .loop-test .taken) (c .before .loop .inv .1))
+pgn-of-requires c κs =
+    let start = c .before .before .before .before in
+    (at-pgn (start .pre .0) (start .pre .1) (omega (arith, start .pre .2)) (c .loop-test .taken) (c .before .loop .inv .1))
 
 from-number-requires : tie.Need-from-number-requires Inv-loop μ-loop
 from-number-requires c κs = search needs
@@ -46,26 +50,62 @@ smaller-requires : tie.Need-smaller-requires Inv-loop μ-loop
 smaller-requires c κs = search needs
 
 add-p : tie.Need-add-p Inv-loop μ-loop
-add-p c = omega (arith, fields-few (at-pgn (c .before .before .before .before .before .before .before .pre .0) (c .before .before .before .before .before .before .before .pre .1) (omega (arith, c .before .before .before .before .before .before .before .pre .2)) (c .before .before .before .loop-test .taken) (c .before .before .before .before .loop .inv .1)))
+add-p c =
+    let start = c .before .before .before .before .before .before .before in
+    let loop = c .before .before .before .before .loop in
+    let loop-test = c .before .before .before .loop-test in
+    omega (arith, fields-few (at-pgn (start .pre .0) (start .pre .1) (omega (arith, start .pre .2)) (loop-test .taken) (loop .inv .1)))
 
 cast-p : tie.Need-cast-p Inv-loop μ-loop
-cast-p c = omega (arith, fields-few (at-pgn (c .before .before .before .before .before .before .before .before .pre .0) (c .before .before .before .before .before .before .before .before .pre .1) (omega (arith, c .before .before .before .before .before .before .before .before .pre .2)) (c .before .before .before .before .loop-test .taken) (c .before .before .before .before .before .loop .inv .1)), c .before .before .before .pgn-of .ensures .fields)
+cast-p c =
+    let start = c .before .before .before .before .before .before .before .before in
+    let loop = c .before .before .before .before .before .loop in
+    let loop-test = c .before .before .before .before .loop-test in
+    let pgn-of = c .before .before .before .pgn-of in
+    omega (arith, fields-few (at-pgn (start .pre .0) (start .pre .1) (omega (arith, start .pre .2)) (loop-test .taken) (loop .inv .1)), pgn-of .ensures .fields)
 
 add-p-2 : tie.Need-add-p-2 Inv-loop μ-loop
-add-p-2 c = omega (arith, fields-few (at-pgn (c .before .before .before .before .before .before .before .before .pre .0) (c .before .before .before .before .before .before .before .before .pre .1) (omega (arith, c .before .before .before .before .before .before .before .before .pre .2)) (c .before .before .before .before .loop-test .taken) (c .before .before .before .before .before .loop .inv .1)), c .before .before .before .pgn-of .ensures .fields)
+add-p-2 c =
+    let start = c .before .before .before .before .before .before .before .before in
+    let loop = c .before .before .before .before .before .loop in
+    let loop-test = c .before .before .before .before .loop-test in
+    let pgn-of = c .before .before .before .pgn-of in
+    omega (arith, fields-few (at-pgn (start .pre .0) (start .pre .1) (omega (arith, start .pre .2)) (loop-test .taken) (loop .inv .1)), pgn-of .ensures .fields)
 
 add-i : tie.Need-add-i Inv-loop μ-loop
-add-i c = omega (arith, pgns-few (at-pgn (c .before .before .before .before .before .before .before .before .pre .0) (c .before .before .before .before .before .before .before .before .pre .1) (omega (arith, c .before .before .before .before .before .before .before .before .pre .2)) (c .before .before .before .before .loop-test .taken) (c .before .before .before .before .before .loop .inv .1)))
+add-i c =
+    let start = c .before .before .before .before .before .before .before .before in
+    let loop = c .before .before .before .before .before .loop in
+    let loop-test = c .before .before .before .before .loop-test in
+    omega (arith, pgns-few (at-pgn (start .pre .0) (start .pre .1) (omega (arith, start .pre .2)) (loop-test .taken) (loop .inv .1)))
 
 loop-less : tie.Need-loop-less Inv-loop μ-loop
 loop-less c = search needs
 
 loop-again : tie.Need-loop-again Inv-loop μ-loop
-loop-again c = (search needs, omega (arith, pgn-place-next (packOf (now (c .before .before .before .before .before .before .before .before .args .s))) (c .before .before .before .before .before .before .before .before .args .t) (c .before .before .before .before .before .loop .i), c .before .before .before .pgn-of .ensures .fields, c .before .before .before .before .before .loop .inv .1), c .before .smaller .ensures ∙ (rw (min-turn (λ i. counts (pgn-at (packOf (now (c .before .before .before .before .before .before .before .before .args .s))) (c .before .before .before .before .before .before .before .before .args .t) i) (c .before .before .before .before .before .before .before .before .args .b)) (c .before .before .before .before .before .loop .i), said (now (c .before .before .before .before .before .before .before .before .args .s)) (pgn-at (packOf (now (c .before .before .before .before .before .before .before .before .args .s))) (c .before .before .before .before .before .before .before .before .args .t) (c .before .before .before .before .before .loop .i)) (c .before .before .before .before .before .before .before .before .args .b) (c .before .before .before .pgn-of .result) (c .before .before .from-number .result) (c .before .before .before .pgn-of .ensures) (c .before .before .from-number .ensures), c .before .before .before .before .before .loop .inv .2)))
+loop-again c =
+    let start = c .before .before .before .before .before .before .before .before in
+    let loop = c .before .before .before .before .before .loop in
+    let pgn-of = c .before .before .before .pgn-of in
+    let from-number = c .before .before .from-number in
+    let s = now (start .args .s) in let t = start .args .t in let b = start .args .b in (
+      omega (arith, c),
+      omega (arith, pgn-place-next (packOf s) t (loop .i), pgn-of .ensures .fields, loop .inv .1),
+      c .before .smaller .ensures
+          ∙ (rw (
+            min-turn (λ i. counts (pgn-at (packOf s) t i) b) (loop .i),
+            said s (pgn-at (packOf s) t (loop .i)) b (pgn-of .result) (from-number .result) (pgn-of .ensures) (from-number .ensures),
+            loop .inv .2,
+          )),
+    )
 
 returns : tie.Need-returns Inv-loop μ-loop
 unfolding least-group
-returns c = let e : length (pgns-of (packOf (now (c .before .before .before .before .args .s))) (c .before .before .before .before .args .t)) ≡ c .before .loop .i = omega (arith, c .before .before .before .before .pre .2, c .before .loop .inv .0, c .loop-test .left) in rw e (c .before .loop .inv .2)
+returns c =
+    let start = c .before .before .before .before in
+    let e : length (pgns-of (packOf (now (start .args .s))) (start .args .t)) ≡ c .before .loop .i =
+    omega (arith, start .pre .2, c .before .loop .inv .0, c .loop-test .left) in
+    rw e (c .before .loop .inv .2)
 
 pub least-group-spec : {M : Type 1} → statement M
 least-group-spec =

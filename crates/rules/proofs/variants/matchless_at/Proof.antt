@@ -15,13 +15,26 @@ in-group-requires : tie.Need-in-group-requires
 in-group-requires c κs = search needs
 
 returns : tie.Need-returns
-returns c = outside (in-group (c .before .before .before .before .args .t) (pgns-of (packOf (now (c .before .before .before .before .args .s))) (c .before .before .before .before .args .t)) (c .before .before .before .before .args .number) (c .before .before .before .before .args .i)) (not (has-match (pgn-at (packOf (now (c .before .before .before .before .args .s))) (c .before .before .before .before .args .t) (c .before .before .before .before .args .i)) (length (pgn-at (packOf (now (c .before .before .before .before .args .s))) (c .before .before .before .before .args .t) (c .before .before .before .before .args .i) .fields)))) (in-group-is (now (c .before .before .before .before .args .s)) (c .before .before .before .before .args .t) (c .before .before .before .before .args .number) (c .before .before .before .before .args .i) (c .before .before .before .before .args .g) (c .before .before .before .before .pre .1) ∙ sym (c .before .in-group .ensures) ∙ not-true (c .before .in-group .result) (c .if1 .taken))
+returns c =
+    let start = c .before .before .before .before in
+    let t = start .args .t in let s = now (start .args .s) in let number = start .args .number in let i = start .args .i in
+    outside (in-group t (pgns-of (packOf s) t) number i) (not (has-match (pgn-at (packOf s) t i) (length (pgn-at (packOf s) t i .fields))))
+    (in-group-is s t number i (start .args .g) (start .pre .1) ∙ sym (c .before .in-group .ensures) ∙ not-true (c .before .in-group .result) (c .if1 .taken))
 
 has-match-requires : tie.Need-has-match-requires
-has-match-requires c κs = (c .before .before .before .before .pre .0, c .before .before .before .before .pre .1 .fields)
+has-match-requires c κs =
+    let start = c .before .before .before .before in
+    (start .pre .0, start .pre .1 .fields)
 
 returns-2 : tie.Need-returns-2
-returns-2 c = within (in-group (c .before .before .before .before .before .args .t) (pgns-of (packOf (now (c .before .before .before .before .before .args .s))) (c .before .before .before .before .before .args .t)) (c .before .before .before .before .before .args .number) (c .before .before .before .before .before .args .i)) (not (has-match (pgn-at (packOf (now (c .before .before .before .before .before .args .s))) (c .before .before .before .before .before .args .t) (c .before .before .before .before .before .args .i)) (length (pgn-at (packOf (now (c .before .before .before .before .before .args .s))) (c .before .before .before .before .before .args .t) (c .before .before .before .before .before .args .i) .fields)))) (not (c .has-match .result)) (in-group-is (now (c .before .before .before .before .before .args .s)) (c .before .before .before .before .before .args .t) (c .before .before .before .before .before .args .number) (c .before .before .before .before .before .args .i) (c .before .before .before .before .before .args .g) (c .before .before .before .before .before .pre .1) ∙ sym (c .before .before .in-group .ensures) ∙ not-false (c .before .before .in-group .result) (c .before .if1 .left)) (ap not (c .has-match .ensures ∙ ap (has-match (pgn-at (packOf (now (c .before .before .before .before .before .args .s))) (c .before .before .before .before .before .args .t) (c .before .before .before .before .before .args .i))) (c .before .before .before .before .before .pre .1 .fields)))
+returns-2 c =
+    let start = c .before .before .before .before .before in
+    let in-group-call = c .before .before .in-group in
+    let t = start .args .t in let s = now (start .args .s) in let number = start .args .number in let i = start .args .i in
+    within (in-group t (pgns-of (packOf s) t) number i) (not (has-match (pgn-at (packOf s) t i) (length (pgn-at (packOf s) t i .fields))))
+    (not (c .has-match .result))
+    (in-group-is s t number i (start .args .g) (start .pre .1) ∙ sym (in-group-call .ensures) ∙ not-false (in-group-call .result) (c .before .if1 .left))
+    (ap not (c .has-match .ensures ∙ ap (has-match (pgn-at (packOf s) t i)) (start .pre .1 .fields)))
 
 pub matchless-at-spec : {M : Type 1} → statement M
 matchless-at-spec = tie.close (tie.spec in-group-requires returns has-match-requires returns-2)

@@ -34,7 +34,10 @@ module _ (t : ℕ) (pgns : List Pgn) (number i : ℕ) where
   unmatched : (n : ℕ) → n ≡ length (getD pgns i noPgn .fields) → has-match (getD pgns i noPgn) n ≡ false
       → latestBelow (λ j. in-group t pgns number j && duplicates (getD pgns j noPgn) (getD pgns i noPgn)) i ≡ none
   unfolding duplicates
-  unmatched n e h = latest-none (λ j. in-group t pgns number j && duplicates (getD pgns j noPgn) (getD pgns i noPgn)) i (λ j. never (in-group t pgns number j) (has-match (getD pgns j noPgn) (length (getD pgns j noPgn .fields))) (has-match (getD pgns i noPgn) (length (getD pgns i noPgn .fields))) (match-key (getD pgns j noPgn) ≐ match-key (getD pgns i noPgn)) (rw e at h))
+  unmatched n e h =
+      latest-none (λ j. in-group t pgns number j && duplicates (getD pgns j noPgn) (getD pgns i noPgn)) i
+      (λ j. never (in-group t pgns number j) (has-match (getD pgns j noPgn) (length (getD pgns j noPgn .fields)))
+      (has-match (getD pgns i noPgn) (length (getD pgns i noPgn .fields))) (match-key (getD pgns j noPgn) ≐ match-key (getD pgns i noPgn)) (rw e at h))
 
   module _ (h : in-group t pgns number i ≡ true) (b : Bool) (v : ℕ) (e : optional b v ≡ latestBelow (λ j. in-group t pgns number j && duplicates (getD pgns j noPgn) (getD pgns i noPgn)) i) where
     alone : b ≡ false → variant-at t pgns number i ≡ []
@@ -49,31 +52,79 @@ in-group-requires : tie.Need-in-group-requires
 in-group-requires c κs = search needs
 
 returns : tie.Need-returns
-returns c = rw (outside (c .before .before .before .before .before .args .t) (pgns-of (packOf (now (c .before .before .before .before .before .args .s))) (c .before .before .before .before .before .args .t)) (c .before .before .before .before .before .args .number) (c .before .before .before .before .before .args .i) (in-group-is (now (c .before .before .before .before .before .args .s)) (c .before .before .before .before .before .args .t) (c .before .before .before .before .before .args .number) (c .before .before .before .before .before .args .i) (c .before .before .before .before .before .args .g) (c .before .before .before .before .before .pre .2) ∙ sym (c .before .in-group .ensures) ∙ not-true (c .before .in-group .result) (c .if1 .taken))) (emitted-none (now (c .before .before .before .before .before .args .out)) (c .before .before .before .before .before .args .n))
+returns c =
+    let start = c .before .before .before .before .before in
+    let t = start .args .t in let s = now (start .args .s) in let number = start .args .number in let i = start .args .i in
+    rw (outside t (pgns-of (packOf s) t) number i
+    (in-group-is s t number i (start .args .g) (start .pre .2) ∙ sym (c .before .in-group .ensures) ∙ not-true (c .before .in-group .result) (c .if1 .taken)))
+    (emitted-none (now (start .args .out)) (start .args .n))
 
 has-match-requires : tie.Need-has-match-requires
-has-match-requires c κs = (c .before .before .before .before .before .pre .1, c .before .before .before .before .before .pre .2 .fields)
+has-match-requires c κs =
+    let start = c .before .before .before .before .before in
+    (start .pre .1, start .pre .2 .fields)
 
 returns-2 : tie.Need-returns-2
-returns-2 c = rw (alone (c .before .before .before .before .before .before .before .args .t) (pgns-of (packOf (now (c .before .before .before .before .before .before .before .args .s))) (c .before .before .before .before .before .before .before .args .t)) (c .before .before .before .before .before .before .before .args .number) (c .before .before .before .before .before .before .before .args .i) (in-group-is (now (c .before .before .before .before .before .before .before .args .s)) (c .before .before .before .before .before .before .before .args .t) (c .before .before .before .before .before .before .before .args .number) (c .before .before .before .before .before .before .before .args .i) (c .before .before .before .before .before .before .before .args .g) (c .before .before .before .before .before .before .before .pre .2) ∙ sym (c .before .before .before .in-group .ensures) ∙ not-false (c .before .before .before .in-group .result) (c .before .before .if1 .left)) false 0 (sym (unmatched (c .before .before .before .before .before .before .before .args .t) (pgns-of (packOf (now (c .before .before .before .before .before .before .before .args .s))) (c .before .before .before .before .before .before .before .args .t)) (c .before .before .before .before .before .before .before .args .number) (c .before .before .before .before .before .before .before .args .i) (c .before .before .before .before .before .before .before .args .g .fields) (c .before .before .before .before .before .before .before .pre .2 .fields) (sym (c .before .has-match .ensures) ∙ not-true (c .before .has-match .result) (c .if2 .taken)))) refl) (emitted-none (now (c .before .before .before .before .before .before .before .args .out)) (c .before .before .before .before .before .before .before .args .n))
+returns-2 c =
+    let start = c .before .before .before .before .before .before .before in
+    let in-group-call = c .before .before .before .in-group in
+    let t = start .args .t in let s = now (start .args .s) in let number = start .args .number in let i = start .args .i in
+    rw (alone t (pgns-of (packOf s) t) number i (in-group-is s t number i (start .args .g) (start .pre .2)
+    ∙ sym (in-group-call .ensures)
+    ∙ not-false (in-group-call .result) (c .before .before .if1 .left)) false 0
+    (sym (unmatched t (pgns-of (packOf s) t) number i (start .args .g .fields) (start .pre .2 .fields)
+    (sym (c .before .has-match .ensures) ∙ not-true (c .before .has-match .result) (c .if2 .taken)))) refl)
+    (emitted-none (now (start .args .out)) (start .args .n))
 
 latest-duplicate-requires : tie.Need-latest-duplicate-requires
-latest-duplicate-requires c κs = (c .before .before .before .before .before .before .before .pre .1, c .before .before .before .before .before .before .before .pre .2 .fields, c .before .before .before .before .before .before .before .pre .3)
+latest-duplicate-requires c κs =
+    let start = c .before .before .before .before .before .before .before in
+    (start .pre .1, start .pre .2 .fields, start .pre .3)
 
 returns-3 : tie.Need-returns-3
-returns-3 c = rw (alone (c .before .before .before .before .before .before .before .before .before .before .args .t) (pgns-of (packOf (now (c .before .before .before .before .before .before .before .before .before .before .args .s))) (c .before .before .before .before .before .before .before .before .before .before .args .t)) (c .before .before .before .before .before .before .before .before .before .before .args .number) (c .before .before .before .before .before .before .before .before .before .before .args .i) (in-group-is (now (c .before .before .before .before .before .before .before .before .before .before .args .s)) (c .before .before .before .before .before .before .before .before .before .before .args .t) (c .before .before .before .before .before .before .before .before .before .before .args .number) (c .before .before .before .before .before .before .before .before .before .before .args .i) (c .before .before .before .before .before .before .before .before .before .before .args .g) (c .before .before .before .before .before .before .before .before .before .before .pre .2) ∙ sym (c .before .before .before .before .before .before .in-group .ensures) ∙ not-false (c .before .before .before .before .before .before .in-group .result) (c .before .before .before .before .before .if1 .left)) (c .before .before .latest-duplicate .result .given) (c .before .before .latest-duplicate .result .value) (c .before .before .latest-duplicate .ensures) (not-true (c .before .before .latest-duplicate .result .given) (c .if3 .taken))) (emitted-none (now (c .before .before .before .before .before .before .before .before .before .before .args .out)) (c .before .before .before .before .before .before .before .before .before .before .args .n))
+returns-3 c =
+    let start = c .before .before .before .before .before .before .before .before .before .before in
+    let in-group-call = c .before .before .before .before .before .before .in-group in
+    let if1 = c .before .before .before .before .before .if1 in
+    let latest-duplicate = c .before .before .latest-duplicate in
+    let t = start .args .t in let s = now (start .args .s) in let number = start .args .number in let i = start .args .i in
+    rw (alone t (pgns-of (packOf s) t) number i
+    (in-group-is s t number i (start .args .g) (start .pre .2) ∙ sym (in-group-call .ensures) ∙ not-false (in-group-call .result) (if1 .left))
+    (latest-duplicate .result .given) (latest-duplicate .result .value) (latest-duplicate .ensures)
+    (not-true (latest-duplicate .result .given) (c .if3 .taken))) (emitted-none (now (start .args .out)) (start .args .n))
 
 pgn-error-requires : tie.Need-pgn-error-requires
 pgn-error-requires c κs = search needs
 
 put-requires : tie.Need-put-requires
-put-requires c κs = rw (other (c .before .before .before .before .before .before .before .before .before .before .before .before .args .t) (pgns-of (packOf (now (c .before .before .before .before .before .before .before .before .before .before .before .before .args .s))) (c .before .before .before .before .before .before .before .before .before .before .before .before .args .t)) (c .before .before .before .before .before .before .before .before .before .before .before .before .args .number) (c .before .before .before .before .before .before .before .before .before .before .before .before .args .i) (in-group-is (now (c .before .before .before .before .before .before .before .before .before .before .before .before .args .s)) (c .before .before .before .before .before .before .before .before .before .before .before .before .args .t) (c .before .before .before .before .before .before .before .before .before .before .before .before .args .number) (c .before .before .before .before .before .before .before .before .before .before .before .before .args .i) (c .before .before .before .before .before .before .before .before .before .before .before .before .args .g) (c .before .before .before .before .before .before .before .before .before .before .before .before .pre .2) ∙ sym (c .before .before .before .before .before .before .before .before .in-group .ensures) ∙ not-false (c .before .before .before .before .before .before .before .before .in-group .result) (c .before .before .before .before .before .before .before .if1 .left)) (c .before .before .before .before .latest-duplicate .result .given) (c .before .before .before .before .latest-duplicate .result .value) (c .before .before .before .before .latest-duplicate .ensures) (not-false (c .before .before .before .before .latest-duplicate .result .given) (c .before .before .if3 .left)) (c .pgn-error .result) (c .pgn-error .ensures)) at (c .before .before .before .before .before .before .before .before .before .before .before .before .pre .0)
+put-requires c κs =
+    let start = c .before .before .before .before .before .before .before .before .before .before .before .before in
+    let in-group-call = c .before .before .before .before .before .before .before .before .in-group in
+    let if1 = c .before .before .before .before .before .before .before .if1 in
+    let latest-duplicate = c .before .before .before .before .latest-duplicate in
+    let t = start .args .t in let s = now (start .args .s) in let number = start .args .number in let i = start .args .i in
+    rw (other t (pgns-of (packOf s) t) number i
+    (in-group-is s t number i (start .args .g) (start .pre .2) ∙ sym (in-group-call .ensures) ∙ not-false (in-group-call .result) (if1 .left))
+    (latest-duplicate .result .given) (latest-duplicate .result .value) (latest-duplicate .ensures)
+    (not-false (latest-duplicate .result .given) (c .before .before .if3 .left)) (c .pgn-error .result) (c .pgn-error .ensures)) at (start .pre .0)
 
 same-length : tie.Need-same-length
 same-length c = search needs
 
 returns-4 : tie.Need-returns-4
-returns-4 c = rw (other (c .before .before .before .before .before .before .before .before .before .before .before .before .before .before .before .args .t) (pgns-of (packOf (now (c .before .before .before .before .before .before .before .before .before .before .before .before .before .before .before .args .s))) (c .before .before .before .before .before .before .before .before .before .before .before .before .before .before .before .args .t)) (c .before .before .before .before .before .before .before .before .before .before .before .before .before .before .before .args .number) (c .before .before .before .before .before .before .before .before .before .before .before .before .before .before .before .args .i) (in-group-is (now (c .before .before .before .before .before .before .before .before .before .before .before .before .before .before .before .args .s)) (c .before .before .before .before .before .before .before .before .before .before .before .before .before .before .before .args .t) (c .before .before .before .before .before .before .before .before .before .before .before .before .before .before .before .args .number) (c .before .before .before .before .before .before .before .before .before .before .before .before .before .before .before .args .i) (c .before .before .before .before .before .before .before .before .before .before .before .before .before .before .before .args .g) (c .before .before .before .before .before .before .before .before .before .before .before .before .before .before .before .pre .2) ∙ sym (c .before .before .before .before .before .before .before .before .before .before .before .in-group .ensures) ∙ not-false (c .before .before .before .before .before .before .before .before .before .before .before .in-group .result) (c .before .before .before .before .before .before .before .before .before .before .if1 .left)) (c .before .before .before .before .before .before .before .latest-duplicate .result .given) (c .before .before .before .before .before .before .before .latest-duplicate .result .value) (c .before .before .before .before .before .before .before .latest-duplicate .ensures) (not-false (c .before .before .before .before .before .before .before .latest-duplicate .result .given) (c .before .before .before .before .before .if3 .left)) (c .before .before .before .pgn-error .result) (c .before .before .before .pgn-error .ensures)) (c .before .before .put .ensures)
+returns-4 c =
+    let back12 = c .before .before .before .before .before .before .before .before .before .before .before .before in
+    let start = back12 .before .before .before in
+    let in-group-call = c .before .before .before .before .before .before .before .before .before .before .before .in-group in
+    let if1 = c .before .before .before .before .before .before .before .before .before .before .if1 in
+    let latest-duplicate = c .before .before .before .before .before .before .before .latest-duplicate in
+    let if3 = c .before .before .before .before .before .if3 in
+    let pgn-error-call = c .before .before .before .pgn-error in
+    let t = start .args .t in let s = now (start .args .s) in let number = start .args .number in let i = start .args .i in
+    rw (other t (pgns-of (packOf s) t) number i
+    (in-group-is s t number i (start .args .g) (start .pre .2) ∙ sym (in-group-call .ensures) ∙ not-false (in-group-call .result) (if1 .left))
+    (latest-duplicate .result .given) (latest-duplicate .result .value) (latest-duplicate .ensures) (not-false (latest-duplicate .result .given) (if3 .left))
+    (pgn-error-call .result) (pgn-error-call .ensures)) (c .before .before .put .ensures)
 
 pub variant-at-spec : {M : Type 1} → statement M
 variant-at-spec =

@@ -30,7 +30,10 @@ behind-requires : tie.Need-behind-requires Inv-loop μ-loop
 behind-requires c κs = search needs
 
 add-i : tie.Need-add-i Inv-loop μ-loop
-add-i c = omega (arith, c .before .before .before .before .before .loop-test .taken, c .before .before .before .before .before .before .before .before .before .before .good .1 .1 .0)
+add-i c =
+    let start = c .before .before .before .before .before .before .before .before .before .before in
+    let loop-test = c .before .before .before .before .before .loop-test in
+    omega (arith, loop-test .taken, start .good .1 .1 .0)
 
 loop-less : tie.Need-loop-less Inv-loop μ-loop
 loop-less c = search needs

@@ -39,7 +39,11 @@ at-visit-requires : tie.Need-at-visit-requires Inv-loop μ-loop
 at-visit-requires c κs = search needs
 
 mul-show-visit : tie.Need-mul-show-visit Inv-loop μ-loop
-mul-show-visit c = omega (arith, c .before .before .before .before .before .if2 .left, c .before .before .before .before .before .before .before .before .before .before .before .before .before .before .good .1 .1 .1 .1 .0)
+mul-show-visit c =
+    let back12 = c .before .before .before .before .before .before .before .before .before .before .before .before in
+    let start = back12 .before .before in
+    let if2 = c .before .before .before .before .before .if2 in
+    omega (arith, if2 .left, start .good .1 .1 .1 .1 .0)
 
 shared-slice-read-show-visit : tie.Need-shared-slice-read-show-visit Inv-loop μ-loop
 shared-slice-read-show-visit c = search needs
@@ -48,7 +52,11 @@ show-visit-requires : tie.Need-show-visit-requires Inv-loop μ-loop
 show-visit-requires c κs = search needs
 
 add-i : tie.Need-add-i Inv-loop μ-loop
-add-i c = omega (arith, c .before .before .before .before .before .before .before .if2 .left, c .before .before .before .before .before .before .before .before .before .before .before .before .before .before .before .before .good .1 .1 .1 .1 .0)
+add-i c =
+    let back12 = c .before .before .before .before .before .before .before .before .before .before .before .before in
+    let start = back12 .before .before .before .before in
+    let if2 = c .before .before .before .before .before .before .before .if2 in
+    omega (arith, if2 .left, start .good .1 .1 .1 .1 .0)
 
 loop-less : tie.Need-loop-less Inv-loop μ-loop
 loop-less c = search needs

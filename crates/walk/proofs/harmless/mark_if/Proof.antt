@@ -9,7 +9,9 @@ same-length : tie.Need-same-length
 same-length c = search needs
 
 returns : tie.Need-returns
-returns c = rw (c .before .before .before .before .if1 .taken) (c .before .before .mark .ensures)
+returns c =
+    let if1 = c .before .before .before .before .if1 in
+    rw (if1 .taken) (c .before .before .mark .ensures)
 
 returns-2 : tie.Need-returns-2
 returns-2 c = search needs

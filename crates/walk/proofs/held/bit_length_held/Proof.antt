@@ -37,33 +37,61 @@ module _ (p : Pgn) (k : ℕ) (F : Field) (is : F ≡ field-at p k) where
     known t h = rw (named (some id) x, h, bit-length-held)
 
 returns : tie.Need-returns
-returns c = sym (nothing (pgn-at (packOf (now (c .before .before .before .before .before .args .s))) (c .before .before .before .before .before .args .t) (c .before .before .before .before .before .args .i)) (c .before .before .before .before .before .args .k) (fieldMeaning (now (c .before .before .before .before .before .args .s)) (c .before .before .before .before .before .args .f)) (c .before .before .before .before .before .pre .3) (ap (λ (b : Bool). optional b (bytesOf (now (c .before .before .before .before .before .args .s)) (c .before .before .before .before .before .args .f .links .length .text))) (not-true (c .before .before .before .before .before .args .f .links .length .given) (c .if1 .taken))))
+returns c =
+    let start = c .before .before .before .before .before in
+    let s = now (start .args .s) in
+    sym (nothing (pgn-at (packOf s) (start .args .t) (start .args .i)) (start .args .k) (fieldMeaning s (start .args .f)) (start .pre .3)
+    (ap (λ (b : Bool). optional b (bytesOf s (start .args .f .links .length .text))) (not-true (start .args .f .links .length .given) (c .if1 .taken))))
 
 target-requires : tie.Need-target-requires
 target-requires c κs = search needs
 
 returns-2 : tie.Need-returns-2
 returns-2 c =
-    let id = bytesOf (now (c .before .before .before .before .before .before .before .before .args .s)) (c .before .before .before .before .before .before .before .before .args .f .links .length .text) in
-    sym (unknown (pgn-at (packOf (now (c .before .before .before .before .before .before .before .before .args .s))) (c .before .before .before .before .before .before .before .before .args .t) (c .before .before .before .before .before .before .before .before .args .i)) (c .before .before .before .before .before .before .before .before .args .k) (fieldMeaning (now (c .before .before .before .before .before .before .before .before .args .s)) (c .before .before .before .before .before .before .before .before .args .f)) (c .before .before .before .before .before .before .before .before .pre .3) id (ap (λ (b : Bool). optional b id) (not-false (c .before .before .before .before .before .before .before .before .args .f .links .length .given) (c .before .before .before .if1 .left))) (sym (c .before .before .target .ensures) ∙ ap (λ (b : Bool). optional b (c .before .before .target .result .value)) (not-true (c .before .before .target .result .given) (c .if2 .taken))))
+    let start = c .before .before .before .before .before .before .before .before in
+    let if1 = c .before .before .before .if1 in
+    let target-call = c .before .before .target in
+    let s = now (start .args .s) in
+    let id = bytesOf s (start .args .f .links .length .text) in
+    sym (unknown (pgn-at (packOf s) (start .args .t) (start .args .i)) (start .args .k) (fieldMeaning s (start .args .f)) (start .pre .3) id
+    (ap (λ (b : Bool). optional b id) (not-false (start .args .f .links .length .given) (if1 .left)))
+    (sym (target-call .ensures) ∙ ap (λ (b : Bool). optional b (target-call .result .value)) (not-true (target-call .result .given) (c .if2 .taken))))
 
 order-requires : tie.Need-order-requires
-order-requires c κs = omega (arith, c .before .before .before .before .before .before .before .before .pre .2, fields-few (c .before .before .before .before .before .before .before .before .pre .0))
+order-requires c κs =
+    let start = c .before .before .before .before .before .before .before .before in
+    omega (arith, start .pre .2, fields-few (start .pre .0))
 
 order-requires-2 : tie.Need-order-requires-2
 order-requires-2 c κs =
-    let e = sym (c .before .before .before .target .ensures) ∙ ap (λ (b : Bool). optional b (c .before .before .before .target .result .value)) (not-false (c .before .before .before .target .result .given) (c .before .if2 .left)) in
-    omega (arith, target-below (pgn-at (packOf (now (c .before .before .before .before .before .before .before .before .before .args .s))) (c .before .before .before .before .before .before .before .before .before .args .t) (c .before .before .before .before .before .before .before .before .before .args .i)) (bytesOf (now (c .before .before .before .before .before .before .before .before .before .args .s)) (c .before .before .before .before .before .before .before .before .before .args .f .links .length .text)) (c .before .before .before .target .result .value) e, fields-few (c .before .before .before .before .before .before .before .before .before .pre .0))
+    let start = c .before .before .before .before .before .before .before .before .before in
+    let target-call = c .before .before .before .target in
+    let s = now (start .args .s) in
+    let e =
+    sym (target-call .ensures) ∙ ap (λ (b : Bool). optional b (target-call .result .value)) (not-false (target-call .result .given) (c .before .if2 .left)) in
+    omega (
+      arith,
+      target-below (pgn-at (packOf s) (start .args .t) (start .args .i)) (bytesOf s (start .args .f .links .length .text)) (target-call .result .value) e,
+      fields-few (start .pre .0),
+    )
 
 sets-hold-requires : tie.Need-sets-hold-requires
 sets-hold-requires c κs = search needs
 
 returns-3 : tie.Need-returns-3
 returns-3 c =
-    let L = layout (pgn-at (packOf (now (c .before .before .before .before .before .before .before .before .before .before .before .args .s))) (c .before .before .before .before .before .before .before .before .before .before .before .args .t) (c .before .before .before .before .before .before .before .before .before .before .before .args .i)) in
-    let id = bytesOf (now (c .before .before .before .before .before .before .before .before .before .before .before .args .s)) (c .before .before .before .before .before .before .before .before .before .before .before .args .f .links .length .text) in
-    let e = sym (c .before .before .before .before .before .target .ensures) ∙ ap (λ (b : Bool). optional b (c .before .before .before .before .before .target .result .value)) (not-false (c .before .before .before .before .before .target .result .given) (c .before .before .before .if2 .left)) in
-    c .sets-hold .ensures L (c .before .before .before .before .before .before .before .before .before .before .before .pre .1) ∙ (λ j. sets-hold L ((c .before .order2 .ensures ∙ add-one (c .before .before .before .before .before .target .result .value)) j) ((c .before .before .order .ensures ∙ add-one (c .before .before .before .before .before .before .before .before .before .before .before .args .k)) j)) ∙ sym (known (pgn-at (packOf (now (c .before .before .before .before .before .before .before .before .before .before .before .args .s))) (c .before .before .before .before .before .before .before .before .before .before .before .args .t) (c .before .before .before .before .before .before .before .before .before .before .before .args .i)) (c .before .before .before .before .before .before .before .before .before .before .before .args .k) (fieldMeaning (now (c .before .before .before .before .before .before .before .before .before .before .before .args .s)) (c .before .before .before .before .before .before .before .before .before .before .before .args .f)) (c .before .before .before .before .before .before .before .before .before .before .before .pre .3) id (ap (λ (b : Bool). optional b id) (not-false (c .before .before .before .before .before .before .before .before .before .before .before .args .f .links .length .given) (c .before .before .before .before .before .before .if1 .left))) (c .before .before .before .before .before .target .result .value) e)
+    let start = c .before .before .before .before .before .before .before .before .before .before .before in
+    let if1 = c .before .before .before .before .before .before .if1 in
+    let target-call = c .before .before .before .before .before .target in
+    let if2 = c .before .before .before .if2 in
+    let s = now (start .args .s) in let t = start .args .t in let i = start .args .i in let k = start .args .k in
+    let L = layout (pgn-at (packOf s) t i) in
+    let id = bytesOf s (start .args .f .links .length .text) in
+    let e = sym (target-call .ensures) ∙ ap (λ (b : Bool). optional b (target-call .result .value)) (not-false (target-call .result .given) (if2 .left)) in
+    c .sets-hold .ensures L (start .pre .1)
+    ∙ (λ j. sets-hold L ((c .before .order2 .ensures ∙ add-one (target-call .result .value)) j) ((c .before .before .order .ensures ∙ add-one k) j))
+    ∙ sym (known (pgn-at (packOf s) t i) k (fieldMeaning s (start .args .f)) (start .pre .3) id
+    (ap (λ (b : Bool). optional b id) (not-false (start .args .f .links .length .given) (if1 .left))) (target-call .result .value) e)
 
 pub bit-length-held-spec : {M : Type 1} → statement M
 bit-length-held-spec =

@@ -25,27 +25,49 @@ loop-holds : tie.Need-loop-holds Inv-loop μ-loop
 loop-holds c = (search needs, refl)
 
 field-of-requires : tie.Need-field-of-requires Inv-loop μ-loop
-field-of-requires c κs = (c .before .before .before .before .pre .0, omega (arith, c .before .before .before .before .pre .1 .fields, c .loop-test .taken))
+field-of-requires c κs =
+    let start = c .before .before .before .before in
+    (start .pre .0, omega (arith, start .pre .1 .fields, c .loop-test .taken))
 
 bit-length-held-requires : tie.Need-bit-length-held-requires Inv-loop μ-loop
-bit-length-held-requires c κs = (c .before .before .before .before .before .pre .0, c .before .before .before .before .before .pre .1, omega (arith, c .before .before .before .before .before .pre .1 .fields, c .before .loop-test .taken), c .field-of .ensures)
+bit-length-held-requires c κs =
+    let start = c .before .before .before .before .before in
+    (start .pre .0, start .pre .1, omega (arith, start .pre .1 .fields, c .before .loop-test .taken), c .field-of .ensures)
 
 returns : tie.Need-returns Inv-loop μ-loop
-returns c = sym (every-missed (bit-length-held (pgn-at (packOf (now (c .before .before .before .before .before .before .before .args .s))) (c .before .before .before .before .before .before .before .args .t) (c .before .before .before .before .before .before .before .args .i))) (length (pgn-at (packOf (now (c .before .before .before .before .before .before .before .args .s))) (c .before .before .before .before .before .before .before .args .t) (c .before .before .before .before .before .before .before .args .i) .fields)) (c .before .before .before .before .loop .k) (omega (arith, c .before .before .before .before .before .before .before .pre .1 .fields, c .before .before .before .loop-test .taken)) (sym (c .before .bit-length-held .ensures) ∙ not-true (c .before .bit-length-held .result) (c .if1 .taken)))
+returns c =
+    let start = c .before .before .before .before .before .before .before in
+    let loop = c .before .before .before .before .loop in
+    let loop-test = c .before .before .before .loop-test in
+    let s = now (start .args .s) in let t = start .args .t in let i = start .args .i in
+    sym (every-missed (bit-length-held (pgn-at (packOf s) t i)) (length (pgn-at (packOf s) t i .fields)) (loop .k)
+    (omega (arith, start .pre .1 .fields, loop-test .taken))
+    (sym (c .before .bit-length-held .ensures) ∙ not-true (c .before .bit-length-held .result) (c .if1 .taken)))
 
 add-k : tie.Need-add-k Inv-loop μ-loop
-add-k c = omega (arith, c .before .before .before .loop-test .taken, c .before .before .before .before .before .before .before .pre .1 .fields, fields-few (c .before .before .before .before .before .before .before .pre .0))
+add-k c =
+    let start = c .before .before .before .before .before .before .before in
+    let loop-test = c .before .before .before .loop-test in
+    omega (arith, loop-test .taken, start .pre .1 .fields, fields-few (start .pre .0))
 
 loop-less : tie.Need-loop-less Inv-loop μ-loop
 loop-less c = search needs
 
 loop-again : tie.Need-loop-again Inv-loop μ-loop
-loop-again c = (search needs, every-turn (bit-length-held (pgn-at (packOf (now (c .before .before .before .before .before .before .before .args .s))) (c .before .before .before .before .before .before .before .args .t) (c .before .before .before .before .before .before .before .args .i))) (c .before .before .before .before .loop .k) ∙ (rw (c .before .before .before .before .loop .inv .1) (sym (c .before .bit-length-held .ensures) ∙ not-false (c .before .bit-length-held .result) (c .if1 .left))))
+loop-again c =
+    let start = c .before .before .before .before .before .before .before in
+    let loop = c .before .before .before .before .loop in (
+      omega (arith, c),
+      every-turn (bit-length-held (pgn-at (packOf (now (start .args .s))) (start .args .t) (start .args .i))) (loop .k)
+          ∙ (rw (loop .inv .1) (sym (c .before .bit-length-held .ensures) ∙ not-false (c .before .bit-length-held .result) (c .if1 .left))),
+    )
 
 returns-2 : tie.Need-returns-2 Inv-loop μ-loop
 returns-2 c =
-    let q : length (pgn-at (packOf (now (c .before .before .before .before .args .s))) (c .before .before .before .before .args .t) (c .before .before .before .before .args .i) .fields) ≡ c .before .loop .k = omega (arith, c .before .before .before .before .pre .1 .fields, c .before .loop .inv .0, c .loop-test .left) in
-    sym (ap (everyBelow (bit-length-held (pgn-at (packOf (now (c .before .before .before .before .args .s))) (c .before .before .before .before .args .t) (c .before .before .before .before .args .i)))) q ∙ c .before .loop .inv .1)
+    let start = c .before .before .before .before in
+    let s = now (start .args .s) in let t = start .args .t in let i = start .args .i in
+    let q : length (pgn-at (packOf s) t i .fields) ≡ c .before .loop .k = omega (arith, start .pre .1 .fields, c .before .loop .inv .0, c .loop-test .left) in
+    sym (ap (everyBelow (bit-length-held (pgn-at (packOf s) t i))) q ∙ c .before .loop .inv .1)
 
 pub bit-lengths-held-spec : {M : Type 1} → statement M
 bit-lengths-held-spec =

@@ -36,25 +36,58 @@ clash-requires : tie.Need-clash-requires
 clash-requires c κs = search needs
 
 returns : tie.Need-returns
-returns c = shared (packOf (now (c .before .before .before .before .args .s))) (pgn-at (packOf (now (c .before .before .before .before .args .s))) (c .before .before .before .before .args .t) (c .before .before .before .before .args .i)) (c .before .clash .result) (shares-two (c .before .before .before .before .pre .1) ∙ ap not (sym (c .before .clash .ensures (layout (pgn-at (packOf (now (c .before .before .before .before .args .s))) (c .before .before .before .before .args .t) (c .before .before .before .before .args .i))) (c .before .before .before .before .pre .1)))) (c .if1 .taken)
+returns c =
+    let start = c .before .before .before .before in
+    let s = now (start .args .s) in let t = start .args .t in let i = start .args .i in
+    shared (packOf s) (pgn-at (packOf s) t i) (c .before .clash .result)
+    (shares-two (start .pre .1) ∙ ap not (sym (c .before .clash .ensures (layout (pgn-at (packOf s) t i)) (start .pre .1)))) (c .if1 .taken)
 
 count-fields-held-requires : tie.Need-count-fields-held-requires
 count-fields-held-requires c κs = search needs
 
 returns-2 : tie.Need-returns-2
-returns-2 c = uncounted (packOf (now (c .before .before .before .before .before .before .args .s))) (pgn-at (packOf (now (c .before .before .before .before .before .before .args .s))) (c .before .before .before .before .before .before .args .t) (c .before .before .before .before .before .before .args .i)) (c .before .before .before .clash .result) (shares-two (c .before .before .before .before .before .before .pre .1) ∙ ap not (sym (c .before .before .before .clash .ensures (layout (pgn-at (packOf (now (c .before .before .before .before .before .before .args .s))) (c .before .before .before .before .before .before .args .t) (c .before .before .before .before .before .before .args .i))) (c .before .before .before .before .before .before .pre .1)))) (c .before .before .if1 .left) (c .before .count-fields-held .result) (c .before .count-fields-held .ensures (layout (pgn-at (packOf (now (c .before .before .before .before .before .before .args .s))) (c .before .before .before .before .before .before .args .t) (c .before .before .before .before .before .before .args .i))) (c .before .before .before .before .before .before .pre .1)) (not-true (c .before .count-fields-held .result) (c .if2 .taken))
+returns-2 c =
+    let start = c .before .before .before .before .before .before in
+    let clash = c .before .before .before .clash in
+    let s = now (start .args .s) in let t = start .args .t in let i = start .args .i in
+    uncounted (packOf s) (pgn-at (packOf s) t i) (clash .result)
+    (shares-two (start .pre .1) ∙ ap not (sym (clash .ensures (layout (pgn-at (packOf s) t i)) (start .pre .1)))) (c .before .before .if1 .left)
+    (c .before .count-fields-held .result) (c .before .count-fields-held .ensures (layout (pgn-at (packOf s) t i)) (start .pre .1))
+    (not-true (c .before .count-fields-held .result) (c .if2 .taken))
 
 bit-lengths-held-requires : tie.Need-bit-lengths-held-requires
 bit-lengths-held-requires c κs = search needs
 
 returns-3 : tie.Need-returns-3
-returns-3 c = unmeasured (packOf (now (c .before .before .before .before .before .before .before .before .args .s))) (pgn-at (packOf (now (c .before .before .before .before .before .before .before .before .args .s))) (c .before .before .before .before .before .before .before .before .args .t) (c .before .before .before .before .before .before .before .before .args .i)) (c .before .before .before .before .before .clash .result) (shares-two (c .before .before .before .before .before .before .before .before .pre .1) ∙ ap not (sym (c .before .before .before .before .before .clash .ensures (layout (pgn-at (packOf (now (c .before .before .before .before .before .before .before .before .args .s))) (c .before .before .before .before .before .before .before .before .args .t) (c .before .before .before .before .before .before .before .before .args .i))) (c .before .before .before .before .before .before .before .before .pre .1)))) (c .before .before .before .before .if1 .left) (c .before .before .before .count-fields-held .result) (c .before .before .before .count-fields-held .ensures (layout (pgn-at (packOf (now (c .before .before .before .before .before .before .before .before .args .s))) (c .before .before .before .before .before .before .before .before .args .t) (c .before .before .before .before .before .before .before .before .args .i))) (c .before .before .before .before .before .before .before .before .pre .1)) (not-false (c .before .before .before .count-fields-held .result) (c .before .before .if2 .left)) (c .before .bit-lengths-held .result) (c .before .bit-lengths-held .ensures) (not-true (c .before .bit-lengths-held .result) (c .if3 .taken))
+returns-3 c =
+    let start = c .before .before .before .before .before .before .before .before in
+    let clash = c .before .before .before .before .before .clash in
+    let if1 = c .before .before .before .before .if1 in
+    let count-fields-held-call = c .before .before .before .count-fields-held in
+    let s = now (start .args .s) in let t = start .args .t in let i = start .args .i in
+    unmeasured (packOf s) (pgn-at (packOf s) t i) (clash .result)
+    (shares-two (start .pre .1) ∙ ap not (sym (clash .ensures (layout (pgn-at (packOf s) t i)) (start .pre .1)))) (if1 .left) (count-fields-held-call .result)
+    (count-fields-held-call .ensures (layout (pgn-at (packOf s) t i)) (start .pre .1))
+    (not-false (count-fields-held-call .result) (c .before .before .if2 .left)) (c .before .bit-lengths-held .result) (c .before .bit-lengths-held .ensures)
+    (not-true (c .before .bit-lengths-held .result) (c .if3 .taken))
 
 dynamic-values-held-requires : tie.Need-dynamic-values-held-requires
 dynamic-values-held-requires c κs = search needs
 
 returns-4 : tie.Need-returns-4
-returns-4 c = measured (packOf (now (c .before .before .before .before .before .before .before .before .before .args .s))) (pgn-at (packOf (now (c .before .before .before .before .before .before .before .before .before .args .s))) (c .before .before .before .before .before .before .before .before .before .args .t) (c .before .before .before .before .before .before .before .before .before .args .i)) (c .before .before .before .before .before .before .clash .result) (shares-two (c .before .before .before .before .before .before .before .before .before .pre .1) ∙ ap not (sym (c .before .before .before .before .before .before .clash .ensures (layout (pgn-at (packOf (now (c .before .before .before .before .before .before .before .before .before .args .s))) (c .before .before .before .before .before .before .before .before .before .args .t) (c .before .before .before .before .before .before .before .before .before .args .i))) (c .before .before .before .before .before .before .before .before .before .pre .1)))) (c .before .before .before .before .before .if1 .left) (c .before .before .before .before .count-fields-held .result) (c .before .before .before .before .count-fields-held .ensures (layout (pgn-at (packOf (now (c .before .before .before .before .before .before .before .before .before .args .s))) (c .before .before .before .before .before .before .before .before .before .args .t) (c .before .before .before .before .before .before .before .before .before .args .i))) (c .before .before .before .before .before .before .before .before .before .pre .1)) (not-false (c .before .before .before .before .count-fields-held .result) (c .before .before .before .if2 .left)) (c .before .before .bit-lengths-held .result) (c .before .before .bit-lengths-held .ensures) (not-false (c .before .before .bit-lengths-held .result) (c .before .if3 .left)) (c .dynamic-values-held .result) (c .dynamic-values-held .ensures)
+returns-4 c =
+    let start = c .before .before .before .before .before .before .before .before .before in
+    let clash = c .before .before .before .before .before .before .clash in
+    let if1 = c .before .before .before .before .before .if1 in
+    let count-fields-held-call = c .before .before .before .before .count-fields-held in
+    let if2 = c .before .before .before .if2 in
+    let bit-lengths-held = c .before .before .bit-lengths-held in
+    let s = now (start .args .s) in let t = start .args .t in let i = start .args .i in
+    measured (packOf s) (pgn-at (packOf s) t i) (clash .result)
+    (shares-two (start .pre .1) ∙ ap not (sym (clash .ensures (layout (pgn-at (packOf s) t i)) (start .pre .1)))) (if1 .left) (count-fields-held-call .result)
+    (count-fields-held-call .ensures (layout (pgn-at (packOf s) t i)) (start .pre .1)) (not-false (count-fields-held-call .result) (if2 .left))
+    (bit-lengths-held .result) (bit-lengths-held .ensures) (not-false (bit-lengths-held .result) (c .before .if3 .left)) (c .dynamic-values-held .result)
+    (c .dynamic-values-held .ensures)
 
 pub held-at-spec : {M : Type 1} → statement M
 held-at-spec =

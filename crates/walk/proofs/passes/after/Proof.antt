@@ -13,7 +13,10 @@ sub-more : tie.Need-sub-more
 sub-more c = search needs
 
 returns-3 : tie.Need-returns-3
-returns-3 c = rw (c .before .before .before .if1 .left) (turn-more (c .before .before .before .before .args .further .more) (c .before .if2 .left))
+returns-3 c =
+    let start = c .before .before .before .before in
+    let if1 = c .before .before .before .if1 in
+    rw (if1 .left) (turn-more (start .args .further .more) (c .before .if2 .left))
 
 pub after-spec : {M : Type 1} → statement M
 after-spec = tie.close (tie.spec returns returns-2 sub-more returns-3)

@@ -6,7 +6,10 @@ use Rattle.walk.proofs.passes.is_counter.Statement.{statement}
 use Rattle.walk.proofs.passes.is_counter.Tie as tie
 
 returns : tie.Need-returns
-returns c = let e : suc (c .before .before .before .args .o .0 - 1) ≡ c .before .before .before .args .o .0 = omega (arith, c .before .before .before .pre) in rw (c .before .before .if1 .taken, e)
+returns c =
+    let start = c .before .before .before in
+    let e : suc (start .args .o .0 - 1) ≡ start .args .o .0 = omega (arith, start .pre) in
+    rw (c .before .before .if1 .taken, e)
 
 returns-2 : tie.Need-returns-2
 returns-2 c = search needs

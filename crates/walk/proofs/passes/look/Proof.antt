@@ -14,10 +14,18 @@ arrives-requires-2 : tie.Need-arrives-requires-2
 arrives-requires-2 c κs = search needs
 
 returns-2 : tie.Need-returns-2
-returns-2 c = λ L a. look-first a (place-of (c .before .before .before .before .args .spot)) (c .before .before .before .arrives .result) (c .before .before .before .arrives .ensures) (c .before .before .if1 .left) (c .before .arrives2 .result) (c .before .arrives2 .ensures) (c .if2 .taken)
+returns-2 c =
+    let start = c .before .before .before .before in
+    let arrives = c .before .before .before .arrives in
+    λ L a. look-first a (place-of (start .args .spot)) (arrives .result) (arrives .ensures) (c .before .before .if1 .left) (c .before .arrives2 .result)
+    (c .before .arrives2 .ensures) (c .if2 .taken)
 
 returns-3 : tie.Need-returns-3
-returns-3 c = λ L a. look-none a (place-of (c .before .before .before .before .args .spot)) (c .before .before .before .arrives .result) (c .before .before .before .arrives .ensures) (c .before .before .if1 .left) (c .before .arrives2 .result) (c .before .arrives2 .ensures) (c .if2 .left)
+returns-3 c =
+    let start = c .before .before .before .before in
+    let arrives = c .before .before .before .arrives in
+    λ L a. look-none a (place-of (start .args .spot)) (arrives .result) (arrives .ensures) (c .before .before .if1 .left) (c .before .arrives2 .result)
+    (c .before .arrives2 .ensures) (c .if2 .left)
 
 pub look-spec : {M : Type 1} → statement M
 look-spec = tie.close (tie.spec arrives-requires returns arrives-requires-2 returns-2 returns-3)

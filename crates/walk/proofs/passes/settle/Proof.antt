@@ -11,7 +11,9 @@ use Rattle.walk.proofs.passes.settle.Statement.{statement}
 use Rattle.walk.proofs.passes.settle.Tie as tie
 
 abbrev Inv-loop : tie.InvT-loop
-Inv-loop sets counts spot here₀ rounds₀ here rounds = (L : Layout) → SetsAre L sets → settle L (by-place L) rounds (stand L (place-of here)) (memory-of counts) ≡ settled L (by-place L) (place-of spot) (memory-of counts)
+Inv-loop sets counts spot here₀ rounds₀ here rounds =
+    (L : Layout) → SetsAre L sets
+    → settle L (by-place L) rounds (stand L (place-of here)) (memory-of counts) ≡ settled L (by-place L) (place-of spot) (memory-of counts)
 
 abbrev μ-loop : tie.MeasureT-loop
 μ-loop sets counts spot here₀ rounds₀ here rounds = rounds
@@ -32,7 +34,15 @@ enum-known-answer : tie.Need-enum-known-answer Inv-loop μ-loop
 enum-known-answer c = search needs
 
 returns : tie.Need-returns Inv-loop μ-loop
-returns c = λ L a. rounds-settled L (memory-of (c .before .before .before .before .before .before .before .args .counts)) (stand L (place-of (c .before .before .before .before .before .loop .here))) (c .before .before .before .settle-once .result) (c .before .before .before .settle-once .ensures L a) (settled L (by-place L) (place-of (c .before .before .before .before .before .before .before .args .spot)) (memory-of (c .before .before .before .before .before .before .before .args .counts))) (c .before .before .before .before .before .loop .rounds) (c .before .before .before .before .loop-test .taken) (c .before .before .before .before .before .loop .inv L a) (c .before .answer .given .0 .0) (c .before .answer .given .1)
+returns c =
+    let start = c .before .before .before .before .before .before .before in
+    let loop = c .before .before .before .before .before .loop in
+    let loop-test = c .before .before .before .before .loop-test in
+    let settle-once = c .before .before .before .settle-once in
+    let counts = start .args .counts in
+    λ L a. rounds-settled L (memory-of counts) (stand L (place-of (loop .here))) (settle-once .result) (settle-once .ensures L a)
+    (settled L (by-place L) (place-of (start .args .spot)) (memory-of counts)) (loop .rounds) (loop-test .taken) (loop .inv L a)
+    (c .before .answer .given .0 .0) (c .before .answer .given .1)
 
 enum-known-next : tie.Need-enum-known-next Inv-loop μ-loop
 enum-known-next c = search needs
@@ -44,13 +54,27 @@ loop-less : tie.Need-loop-less Inv-loop μ-loop
 loop-less c = search needs
 
 loop-again : tie.Need-loop-again Inv-loop μ-loop
-loop-again c = λ L a. rounds-over L (memory-of (c .before .before .before .before .before .before .before .args .counts)) (stand L (place-of (c .before .before .before .before .before .loop .here))) (c .before .before .before .settle-once .result) (c .before .before .before .settle-once .ensures L a) (settled L (by-place L) (place-of (c .before .before .before .before .before .before .before .args .spot)) (memory-of (c .before .before .before .before .before .before .before .args .counts))) (c .before .before .before .before .before .loop .rounds) (c .before .before .before .before .loop-test .taken) (c .before .before .before .before .before .loop .inv L a) (c .before .next .given .0 .0) (c .before .next .given .1)
+loop-again c =
+    let start = c .before .before .before .before .before .before .before in
+    let loop = c .before .before .before .before .before .loop in
+    let loop-test = c .before .before .before .before .loop-test in
+    let settle-once = c .before .before .before .settle-once in
+    let counts = start .args .counts in
+    λ L a. rounds-over L (memory-of counts) (stand L (place-of (loop .here))) (settle-once .result) (settle-once .ensures L a)
+    (settled L (by-place L) (place-of (start .args .spot)) (memory-of counts)) (loop .rounds) (loop-test .taken) (loop .inv L a) (c .before .next .given .0 .0)
+    (c .before .next .given .1)
 
 not-due-requires : tie.Need-not-due-requires Inv-loop μ-loop
 not-due-requires c κs = search needs
 
 returns-2 : tie.Need-returns-2 Inv-loop μ-loop
-returns-2 c = λ L a. (c .not-due .ensures (memory-of (c .before .before .before .before .args .counts)) ∙ rounds-none L (memory-of (c .before .before .before .before .args .counts)) (stand L (place-of (c .before .before .loop .here))) (settled L (by-place L) (place-of (c .before .before .before .before .args .spot)) (memory-of (c .before .before .before .before .args .counts))) (c .before .before .loop .rounds) (c .before .loop-test .left) (c .before .before .loop .inv L a))
+returns-2 c =
+    let start = c .before .before .before .before in
+    let loop = c .before .before .loop in
+    let counts = start .args .counts in
+    λ L a. (c .not-due .ensures (memory-of counts)
+    ∙ rounds-none L (memory-of counts) (stand L (place-of (loop .here))) (settled L (by-place L) (place-of (start .args .spot)) (memory-of counts))
+    (loop .rounds) (c .before .loop-test .left) (loop .inv L a))
 
 pub settle-spec : {M : Type 1} → statement M
 settle-spec =

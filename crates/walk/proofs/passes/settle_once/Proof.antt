@@ -49,22 +49,59 @@ not-due-requires : tie.Need-not-due-requires
 not-due-requires c κs = search needs
 
 returns : tie.Need-returns
-returns c = λ L a n. (c .due .ensures (memory-of (c .before .before .before .before .before .args .counts)) ∙ round-again L (memory-of (c .before .before .before .before .before .args .counts)) n (stand L (place-of (c .before .before .before .before .before .args .spot))) 0 (place-of (c .before .before .at .given .0 .0)) (ap stand-of (sym (c .before .before .at .given .1)) ∙ c .before .before .before .before .stand .ensures L a))
+returns c =
+    let start = c .before .before .before .before .before in
+    let stand-call = c .before .before .before .before .stand in
+    let at = c .before .before .at in
+    let counts = start .args .counts in
+    λ L a n. (c .due .ensures (memory-of counts)
+    ∙ round-again L (memory-of counts) n (stand L (place-of (start .args .spot))) 0 (place-of (at .given .0 .0))
+    (ap stand-of (sym (at .given .1)) ∙ stand-call .ensures L a))
 
 returns-2 : tie.Need-returns-2
-returns-2 c = λ L a n. (c .due2 .ensures (memory-of (c .before .before .before .before .before .args .counts)) ∙ round-again L (memory-of (c .before .before .before .before .before .args .counts)) n (stand L (place-of (c .before .before .before .before .before .args .spot))) 1 (place-of (c .before .before .at2 .given .0 .0)) (ap stand-of (sym (c .before .before .at2 .given .1)) ∙ c .before .before .before .before .stand .ensures L a))
+returns-2 c =
+    let start = c .before .before .before .before .before in
+    let stand-call = c .before .before .before .before .stand in
+    let at2 = c .before .before .at2 in
+    let counts = start .args .counts in
+    λ L a n. (c .due2 .ensures (memory-of counts)
+    ∙ round-again L (memory-of counts) n (stand L (place-of (start .args .spot))) 1 (place-of (at2 .given .0 .0))
+    (ap stand-of (sym (at2 .given .1)) ∙ stand-call .ensures L a))
 
 returns-3 : tie.Need-returns-3
-returns-3 c = λ L a n. (c .due3 .ensures (memory-of (c .before .before .before .before .before .args .counts)) ∙ round-ready L (memory-of (c .before .before .before .before .before .args .counts)) n (stand L (place-of (c .before .before .before .before .before .args .spot))) (place-of (c .before .before .at3 .given .0 .0)) (ap stand-of (sym (c .before .before .at3 .given .1)) ∙ c .before .before .before .before .stand .ensures L a))
+returns-3 c =
+    let start = c .before .before .before .before .before in
+    let stand-call = c .before .before .before .before .stand in
+    let at3 = c .before .before .at3 in
+    let counts = start .args .counts in
+    λ L a n. (c .due3 .ensures (memory-of counts)
+    ∙ round-ready L (memory-of counts) n (stand L (place-of (start .args .spot))) (place-of (at3 .given .0 .0))
+    (ap stand-of (sym (at3 .given .1)) ∙ stand-call .ensures L a))
 
 returns-4 : tie.Need-returns-4
-returns-4 c = λ L a n. (c .at-first .ensures L a n ∙ ap (λ (x : Stand). settle L (by-place L) (suc n) x (memory-of (c .before .before .before .before .before .args .counts))) (ap stand-of (sym (c .before .before .at4 .given .1)) ∙ c .before .before .before .before .stand .ensures L a))
+returns-4 c =
+    let start = c .before .before .before .before .before in
+    let stand-call = c .before .before .before .before .stand in
+    λ L a n. (c .at-first .ensures L a n
+    ∙ ap (λ (x : Stand). settle L (by-place L) (suc n) x (memory-of (start .args .counts)))
+    (ap stand-of (sym (c .before .before .at4 .given .1)) ∙ stand-call .ensures L a))
 
 returns-5 : tie.Need-returns-5
-returns-5 c = λ L a n. (c .at-second .ensures L a n ∙ ap (λ (x : Stand). settle L (by-place L) (suc n) x (memory-of (c .before .before .before .before .before .args .counts))) (ap stand-of (sym (c .before .before .at5 .given .1)) ∙ c .before .before .before .before .stand .ensures L a))
+returns-5 c =
+    let start = c .before .before .before .before .before in
+    let stand-call = c .before .before .before .before .stand in
+    λ L a n. (c .at-second .ensures L a n
+    ∙ ap (λ (x : Stand). settle L (by-place L) (suc n) x (memory-of (start .args .counts)))
+    (ap stand-of (sym (c .before .before .at5 .given .1)) ∙ stand-call .ensures L a))
 
 returns-6 : tie.Need-returns-6
-returns-6 c = λ L a n. (c .not-due .ensures (memory-of (c .before .before .before .before .args .counts)) ∙ round-beyond L (memory-of (c .before .before .before .before .args .counts)) n (stand L (place-of (c .before .before .before .before .args .spot))) (ap stand-of (sym (c .before .enum-told .given .1)) ∙ c .before .before .before .stand .ensures L a))
+returns-6 c =
+    let start = c .before .before .before .before in
+    let stand-call = c .before .before .before .stand in
+    let counts = start .args .counts in
+    λ L a n. (c .not-due .ensures (memory-of counts)
+    ∙ round-beyond L (memory-of counts) n (stand L (place-of (start .args .spot)))
+    (ap stand-of (sym (c .before .enum-told .given .1)) ∙ stand-call .ensures L a))
 
 pub settle-once-spec : {M : Type 1} → statement M
 settle-once-spec =

@@ -38,13 +38,33 @@ with-second-requires-2 : tie.Need-with-second-requires-2
 with-second-requires-2 c κs = search needs
 
 returns : tie.Need-returns
-returns c = λ L a. (c .close-first .ensures L a ∙ sym (second-goes-on a (place-of (c .before .before .before .before .before .args .spot)) (turn-of (c .before .before .before .turn .result)) (c .before .before .before .turn .ensures) (ap turn-of (c .before .enum-told .given .1))))
+returns c =
+    let start = c .before .before .before .before .before in
+    let turn = c .before .before .before .turn in
+    λ L a. (c .close-first .ensures L a
+    ∙ sym (second-goes-on a (place-of (start .args .spot)) (turn-of (turn .result)) (turn .ensures) (ap turn-of (c .before .enum-told .given .1))))
 
 returns-2 : tie.Need-returns-2
-returns-2 c = λ L a. (c .close-first2 .ensures L a ∙ ap (close L 1) (put-as (place-of (c .before .before .before .before .before .before .before .args .spot)) (place-of (c .before .with-second .result)) (c .before .before .before .before .before .before .before .args .spot .order .0) 1 (left-of (c .before .before .gone .result)) none (c .before .with-second .ensures) (c .before .before .gone .ensures)) ∙ sym (second-leaves a (place-of (c .before .before .before .before .before .before .before .args .spot)) (turn-of (c .before .before .before .before .before .turn .result)) (c .before .before .before .before .before .turn .ensures) (ap turn-of (c .before .before .before .enum-told2 .given .1))))
+returns-2 c =
+    let start = c .before .before .before .before .before .before .before in
+    let turn = c .before .before .before .before .before .turn in
+    let enum-told2 = c .before .before .before .enum-told2 in
+    let gone = c .before .before .gone in
+    let spot = start .args .spot in
+    λ L a. (c .close-first2 .ensures L a
+    ∙ ap (close L 1) (put-as (place-of spot) (place-of (c .before .with-second .result)) (start .args .spot .order .0) 1 (left-of (gone .result)) none
+    (c .before .with-second .ensures) (gone .ensures))
+    ∙ sym (second-leaves a (place-of spot) (turn-of (turn .result)) (turn .ensures) (ap turn-of (enum-told2 .given .1))))
 
 returns-3 : tie.Need-returns-3
-returns-3 c = λ L a. (ap (again 1) (put-as (place-of (c .before .before .before .before .before .before .before .args .spot)) (place-of (c .with-second2 .result)) (c .before .before .before .before .before .before .before .args .sets .second .start .0) 1 (left-of (c .before .pass .result)) (some (rest-of (c .before .before .before .further .given .0 .0))) (c .with-second2 .ensures) (c .before .pass .ensures)) ∙ sym (second-begins a (place-of (c .before .before .before .before .before .before .before .args .spot)) (turn-of (c .before .before .before .before .before .turn .result)) (c .before .before .before .before .before .turn .ensures) (rest-of (c .before .before .before .further .given .0 .0)) (ap turn-of (c .before .before .before .further .given .1))))
+returns-3 c =
+    let start = c .before .before .before .before .before .before .before in
+    let turn = c .before .before .before .before .before .turn in
+    let further = c .before .before .before .further in
+    let spot = start .args .spot in
+    λ L a. (ap (again 1) (put-as (place-of spot) (place-of (c .with-second2 .result)) (start .args .sets .second .start .0) 1
+    (left-of (c .before .pass .result)) (some (rest-of (further .given .0 .0))) (c .with-second2 .ensures) (c .before .pass .ensures))
+    ∙ sym (second-begins a (place-of spot) (turn-of (turn .result)) (turn .ensures) (rest-of (further .given .0 .0)) (ap turn-of (further .given .1))))
 
 pub stand-spec : {M : Type 1} → statement M
 stand-spec =

@@ -8,7 +8,9 @@ use Rattle.walk.proofs.passes.with_second.Statement.{statement}
 use Rattle.walk.proofs.passes.with_second.Tie as tie
 
 returns : tie.Need-returns
-returns c = ap (λ (l : ℕ → Option Rest). record { order = c .before .args .o .0; left = l }) (sym (put-second (left-of (c .before .args .spot .first)) (left-of (c .before .args .spot .second)) none (left-of (c .before .args .left))))
+returns c =
+    ap (λ (l : ℕ → Option Rest). record { order = c .before .args .o .0; left = l })
+    (sym (put-second (left-of (c .before .args .spot .first)) (left-of (c .before .args .spot .second)) none (left-of (c .before .args .left))))
 
 pub with-second-spec : {M : Type 1} → statement M
 with-second-spec = tie.close (tie.spec returns)

@@ -13,7 +13,9 @@ share-requires : tie.Need-share-requires
 share-requires c κs = search needs
 
 returns-2 : tie.Need-returns-2
-returns-2 c = λ L a. (rw (clash-two a, c .before .if1 .left) (c .share .ensures ∙ sym (and-true (sets-share (c .before .before .args .sets .first) (c .before .before .args .sets .second)))))
+returns-2 c =
+    let start = c .before .before in
+    λ L a. (rw (clash-two a, c .before .if1 .left) (c .share .ensures ∙ sym (and-true (sets-share (start .args .sets .first) (start .args .sets .second)))))
 
 pub clash-spec : {M : Type 1} → statement M
 clash-spec = tie.close (tie.spec returns share-requires returns-2)

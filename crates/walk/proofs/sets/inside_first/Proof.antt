@@ -11,7 +11,10 @@ precedes-requires-2 : tie.Need-precedes-requires-2
 precedes-requires-2 c κs = search needs
 
 returns : tie.Need-returns
-returns c = rw (← c .before .before .precedes .ensures, c .before .if1 .taken, c .precedes2 .ensures) (sym (leb-not (c .before .before .before .args .sets .second .end .0) (c .before .before .before .args .sets .first .end .0)))
+returns c =
+    let start = c .before .before .before in
+    rw (← c .before .before .precedes .ensures, c .before .if1 .taken, c .precedes2 .ensures)
+    (sym (leb-not (start .args .sets .second .end .0) (start .args .sets .first .end .0)))
 
 returns-2 : tie.Need-returns-2
 returns-2 c = rw (← c .before .precedes .ensures, c .if1 .left)

@@ -13,13 +13,19 @@ out-of-range-requires : tie.Need-out-of-range-requires
 out-of-range-requires c κs = search needs
 
 returns-2 : tie.Need-returns-2
-returns-2 c = rw (← c .before .before .before .is-nonempty .ensures, not-false (c .before .before .before .is-nonempty .result) (c .before .before .if1 .left), ← c .before .out-of-range .ensures, c .if2 .taken)
+returns-2 c =
+    let is-nonempty = c .before .before .before .is-nonempty in
+    rw (← is-nonempty .ensures, not-false (is-nonempty .result) (c .before .before .if1 .left), ← c .before .out-of-range .ensures, c .if2 .taken)
 
 and-not-requires : tie.Need-and-not-requires
 and-not-requires c κs = search needs
 
 returns-3 : tie.Need-returns-3
-returns-3 c = rw (← c .before .before .before .before .is-nonempty .ensures, not-false (c .before .before .before .before .is-nonempty .result) (c .before .before .before .if1 .left), ← c .before .before .out-of-range .ensures, c .before .if2 .left) (c .and-not .ensures)
+returns-3 c =
+    let is-nonempty = c .before .before .before .before .is-nonempty in
+    let if1 = c .before .before .before .if1 in
+    rw (← is-nonempty .ensures, not-false (is-nonempty .result) (if1 .left), ← c .before .before .out-of-range .ensures, c .before .if2 .left)
+    (c .and-not .ensures)
 
 pub misplaced-spec : {M : Type 1} → statement M
 misplaced-spec =

@@ -14,7 +14,9 @@ cast-result : tie.Need-cast-result
 cast-result c = search needs
 
 returns-2 : tie.Need-returns-2
-returns-2 c = rw (ne-eqb _ _ (c .before .if1 .left), ← add-one (c .before .before .before .args .fields))
+returns-2 c =
+    let start = c .before .before .before in
+    rw (ne-eqb _ _ (c .before .if1 .left), ← add-one (start .args .fields))
 
 pub out-of-range-spec : {M : Type 1} → statement M
 out-of-range-spec = tie.close (tie.spec returns add-result cast-result returns-2)

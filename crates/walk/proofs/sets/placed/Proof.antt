@@ -13,10 +13,18 @@ sets-hold-requires : tie.Need-sets-hold-requires
 sets-hold-requires c κs = search needs
 
 returns : tie.Need-returns
-returns c = λ L a. (rw (placed-by L (c .before .before .before .before .args .o .0) (c .before .before .before .before .args .t .0) (c .before .before .before .order .result .0) (c .before .before .before .order .ensures), ← c .before .before .precedes .ensures, c .before .if1 .taken) (c .sets-hold .ensures L a))
+returns c =
+    let start = c .before .before .before .before in
+    let order = c .before .before .before .order in
+    λ L a. (rw
+    (placed-by L (start .args .o .0) (start .args .t .0) (order .result .0) (order .ensures), ← c .before .before .precedes .ensures, c .before .if1 .taken)
+    (c .sets-hold .ensures L a))
 
 returns-2 : tie.Need-returns-2
-returns-2 c = λ L a. (rw (placed-by L (c .before .before .before .args .o .0) (c .before .before .before .args .t .0) (c .before .before .order .result .0) (c .before .before .order .ensures), ← c .before .precedes .ensures, c .if1 .left))
+returns-2 c =
+    let start = c .before .before .before in
+    let order = c .before .before .order in
+    λ L a. (rw (placed-by L (start .args .o .0) (start .args .t .0) (order .result .0) (order .ensures), ← c .before .precedes .ensures, c .if1 .left))
 
 pub placed-spec : {M : Type 1} → statement M
 placed-spec =

@@ -10,10 +10,15 @@ holds-both-requires-2 : tie.Need-holds-both-requires-2
 holds-both-requires-2 c κs = search needs
 
 returns : tie.Need-returns
-returns c = λ L a. (rw (sets-hold-two a (c .before .before .before .args .a .0) (c .before .before .before .args .b .0), ← c .before .before .holds-both .ensures, c .before .if1 .taken) (c .holds-both2 .ensures))
+returns c =
+    let start = c .before .before .before in
+    λ L a.
+    (rw (sets-hold-two a (start .args .a .0) (start .args .b .0), ← c .before .before .holds-both .ensures, c .before .if1 .taken) (c .holds-both2 .ensures))
 
 returns-2 : tie.Need-returns-2
-returns-2 c = λ L a. (rw (sets-hold-two a (c .before .before .args .a .0) (c .before .before .args .b .0), ← c .before .holds-both .ensures, c .if1 .left))
+returns-2 c =
+    let start = c .before .before in
+    λ L a. (rw (sets-hold-two a (start .args .a .0) (start .args .b .0), ← c .before .holds-both .ensures, c .if1 .left))
 
 pub sets-hold-spec : {M : Type 1} → statement M
 sets-hold-spec = tie.close (tie.spec holds-both-requires holds-both-requires-2 returns returns-2)

@@ -14,13 +14,24 @@ fits : (o : OptRepeating) (G : Option Repeating) → optRepeating o ≡ G → Se
 fits o G e f h = let q : optRepeating o ≡ some (repeatingMeaning (o .set)) = rw h in omega (arith, f (repeatingMeaning (o .set)) (sym e ∙ q))
 
 set-of-requires : tie.Need-set-of-requires
-set-of-requires c κs = fits (c .before .before .args .g .repeating1) _ (ap (λ (G : Pgn). G .repeating1) (c .before .before .pre .1 .means)) (pgn-sets-law (c .before .before .pre .0) .0)
+set-of-requires c κs =
+    let start = c .before .before in
+    fits (start .args .g .repeating1) _ (ap (λ (G : Pgn). G .repeating1) (start .pre .1 .means)) (pgn-sets-law (start .pre .0) .0)
 
 set-of-requires-2 : tie.Need-set-of-requires-2
-set-of-requires-2 c κs = fits (c .before .before .before .args .g .repeating2) _ (ap (λ (G : Pgn). G .repeating2) (c .before .before .before .pre .1 .means)) (pgn-sets-law (c .before .before .before .pre .0) .1)
+set-of-requires-2 c κs =
+    let start = c .before .before .before in
+    fits (start .args .g .repeating2) _ (ap (λ (G : Pgn). G .repeating2) (start .pre .1 .means)) (pgn-sets-law (start .pre .0) .1)
 
 returns : tie.Need-returns
-returns c = record { fields = c .before .before .before .before .pre .1 .fields; two = refl; first = (rw (← ap (λ (G : Pgn). G .repeating1) (c .before .before .before .before .pre .1 .means)) (c .before .set-of .ensures)); second = (rw (← ap (λ (G : Pgn). G .repeating2) (c .before .before .before .before .pre .1 .means)) (c .set-of2 .ensures)) }
+returns c =
+    let start = c .before .before .before .before in
+    record {
+      fields = start .pre .1 .fields;
+      two = refl;
+      first = (rw (← ap (λ (G : Pgn). G .repeating1) (start .pre .1 .means)) (c .before .set-of .ensures));
+      second = (rw (← ap (λ (G : Pgn). G .repeating2) (start .pre .1 .means)) (c .set-of2 .ensures));
+    }
 
 pub sets-of-spec : {M : Type 1} → statement M
 sets-of-spec = tie.close (tie.spec set-of-requires set-of-requires-2 returns)

@@ -11,10 +11,15 @@ use Rattle.walk.proofs.steps.run_on.Statement.{statement}
 use Rattle.walk.proofs.steps.run_on.Tie as tie
 
 returns : tie.Need-returns
-returns c = ((omega arith, c .before .before .before .before .before .before .pre .1), λ L a stops harm. no-step)
+returns c =
+    let start = c .before .before .before .before .before .before in
+    ((omega (arith, c), start .pre .1), λ L a stops harm. no-step)
 
 run-requires : tie.Need-run-requires
-run-requires c κs = let d = c .before .before .before .before .before .before .before .before .pre .0 (not-false (c .before .before .before .before .before .before .before .before .args .state .settling .due) (c .before .before .if1 .left)) in (d .0, d .1, c .before .before .before .before .before .before .before .before .pre .1, c .before .before .before .before .before .before .before .before .pre .2)
+run-requires c κs =
+    let start = c .before .before .before .before .before .before .before .before in
+    let d = start .pre .0 (not-false (start .args .state .settling .due) (c .before .before .if1 .left)) in
+    (d .0, d .1, start .pre .1, start .pre .2)
 
 moved-requires : tie.Need-moved-requires
 moved-requires c κs = search needs
@@ -26,7 +31,18 @@ same-length : tie.Need-same-length
 same-length c = search needs
 
 returns-2 : tie.Need-returns-2
-returns-2 c = (c .before .before .before .before .before .run .ensures .0, λ L a stops harm. run-told (c .before .before .before .before .before .before .before .before .before .before .before .before .before .before .args .state .settling) (c .before .due .result) (memory-of (c .before .before .before .before .before .before .before .before .before .before .before .before .before .before .args .state .counts)) (goto (place-of (c .before .before .before .before .before .before .before .before .before .before .before .before .before .before .args .state .settling .spot)) (c .before .before .before .before .before .run .result .order .0)) (not-false (c .before .before .before .before .before .before .before .before .before .before .before .before .before .before .args .state .settling .due) (c .before .before .before .before .before .before .before .before .if1 .left)) (c .before .due .ensures (memory-of (c .before .before .before .before .before .before .before .before .before .before .before .before .before .before .args .state .counts)) ∙ ap (λ (p : Place). due p (memory-of (c .before .before .before .before .before .before .before .before .before .before .before .before .before .before .args .state .counts))) (c .before .before .moved .ensures)) (c .before .before .before .before .before .run .ensures .1 L a stops harm (place-of (c .before .before .before .before .before .before .before .before .before .before .before .before .before .before .args .state .settling .spot)) refl (memory-of (c .before .before .before .before .before .before .before .before .before .before .before .before .before .before .args .state .counts))))
+returns-2 c =
+    let back12 = c .before .before .before .before .before .before .before .before .before .before .before .before in
+    let start = back12 .before .before in
+    let if1 = c .before .before .before .before .before .before .before .before .if1 in
+    let run = c .before .before .before .before .before .run in (
+      run .ensures .0,
+      λ L a stops harm. run-told (start .args .state .settling) (c .before .due .result) (memory-of (start .args .state .counts))
+          (goto (place-of (start .args .state .settling .spot)) (run .result .order .0)) (not-false (start .args .state .settling .due) (if1 .left))
+          (c .before .due .ensures (memory-of (start .args .state .counts))
+          ∙ ap (λ (p : Place). due p (memory-of (start .args .state .counts))) (c .before .before .moved .ensures))
+          (run .ensures .1 L a stops harm (place-of (start .args .state .settling .spot)) refl (memory-of (start .args .state .counts))),
+    )
 
 pub run-on-spec : {M : Type 1} → statement M
 run-on-spec =

@@ -12,7 +12,9 @@ finished-requires : tie.Need-finished-requires
 finished-requires c κs = search needs
 
 returns-2 : tie.Need-returns-2
-returns-2 c = c .finished .ensures ∙ used-finished (c .before .before .before .args .state .settling) (memory-of (c .before .before .before .args .state .counts)) (c .before .if1 .left)
+returns-2 c =
+    let start = c .before .before .before in
+    c .finished .ensures ∙ used-finished (start .args .state .settling) (memory-of (start .args .state .counts)) (c .before .if1 .left)
 
 pub used-spec : {M : Type 1} → statement M
 used-spec = tie.close (tie.spec returns finished-requires returns-2)

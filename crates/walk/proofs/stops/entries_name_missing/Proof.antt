@@ -18,9 +18,12 @@ use Rattle.walk.proofs.stops.entries_name_missing.Tie as tie
 
 -- whether entry e of lookup l is for the reading and names something missing
 abbrev hits : List ℕ → ℕ → ℕ → ℕ → Bool
-hits s l reading e = (getD (lookup-at (packOf s .lookups) l .entries) e noEntry .value == reading) && names-missing (packOf s) (getD (lookup-at (packOf s .lookups) l .entries) e noEntry)
+hits s l reading e =
+    (getD (lookup-at (packOf s .lookups) l .entries) e noEntry .value == reading)
+    && names-missing (packOf s) (getD (lookup-at (packOf s .lookups) l .entries) e noEntry)
 
-said : (s : List ℕ) (l reading e : ℕ) (v : EntryView) (r : Bool) → entryMeaning s v ≡ getD (lookup-at (packOf s .lookups) l .entries) e noEntry → r ≡ ((v .value == reading) && names-missing (packOf s) (entryMeaning s v)) → hits s l reading e ≡ r
+said : (s : List ℕ) (l reading e : ℕ) (v : EntryView) (r : Bool) → entryMeaning s v ≡ getD (lookup-at (packOf s .lookups) l .entries) e noEntry
+    → r ≡ ((v .value == reading) && names-missing (packOf s) (entryMeaning s v)) → hits s l reading e ≡ r
 said s l reading e v r y h = sym (h ∙ (λ j. (y j .value == reading) && names-missing (packOf s) (y j)))
 
 abbrev Inv-loop : tie.InvT-loop
@@ -33,16 +36,27 @@ loop-holds : tie.Need-loop-holds Inv-loop μ-loop
 loop-holds c = (search needs, refl)
 
 entry-of-requires : tie.Need-entry-of-requires Inv-loop μ-loop
-entry-of-requires c κs = (c .before .before .before .before .pre .0, c .before .before .before .before .pre .1, omega (arith, c .before .before .before .before .pre .2, c .loop-test .taken))
+entry-of-requires c κs =
+    let start = c .before .before .before .before in
+    (start .pre .0, start .pre .1, omega (arith, start .pre .2, c .loop-test .taken))
 
 entry-names-missing-requires : tie.Need-entry-names-missing-requires Inv-loop μ-loop
-entry-names-missing-requires c κs = (c .before .before .before .before .before .pre .0 .ready, c .before .before .before .before .before .pre .3)
+entry-names-missing-requires c κs =
+    let start = c .before .before .before .before .before in
+    (start .pre .0 .ready, start .pre .3)
 
 returns : tie.Need-returns Inv-loop μ-loop
 unfolding entries-name-missing
 returns c =
-    let h = said (now (c .before .before .before .before .before .before .before .args .s)) (c .before .before .before .before .before .before .before .args .l) (c .before .before .before .before .before .before .before .args .reading) (c .before .before .before .before .loop .e) (c .before .before .entry-of .result) (c .before .entry-names-missing .result) (c .before .before .entry-of .ensures) (c .before .entry-names-missing .ensures) in
-    sym (any-hit (hits (now (c .before .before .before .before .before .before .before .args .s)) (c .before .before .before .before .before .before .before .args .l) (c .before .before .before .before .before .before .before .args .reading)) (length (lookup-at (packOf (now (c .before .before .before .before .before .before .before .args .s)) .lookups) (c .before .before .before .before .before .before .before .args .l) .entries)) (c .before .before .before .before .loop .e) (omega (arith, c .before .before .before .before .before .before .before .pre .2, c .before .before .before .loop-test .taken)) (h ∙ c .if1 .taken))
+    let start = c .before .before .before .before .before .before .before in
+    let loop = c .before .before .before .before .loop in
+    let loop-test = c .before .before .before .loop-test in
+    let entry-of = c .before .before .entry-of in
+    let s = now (start .args .s) in let l = start .args .l in let reading = start .args .reading in
+    let h =
+    said s l reading (loop .e) (entry-of .result) (c .before .entry-names-missing .result) (entry-of .ensures) (c .before .entry-names-missing .ensures) in
+    sym (any-hit (hits s l reading) (length (lookup-at (packOf s .lookups) l .entries)) (loop .e) (omega (arith, start .pre .2, loop-test .taken))
+    (h ∙ c .if1 .taken))
 
 add-e : tie.Need-add-e Inv-loop μ-loop
 add-e c = search needs
@@ -52,13 +66,20 @@ loop-less c = search needs
 
 loop-again : tie.Need-loop-again Inv-loop μ-loop
 loop-again c =
-    let h = said (now (c .before .before .before .before .before .before .before .args .s)) (c .before .before .before .before .before .before .before .args .l) (c .before .before .before .before .before .before .before .args .reading) (c .before .before .before .before .loop .e) (c .before .before .entry-of .result) (c .before .entry-names-missing .result) (c .before .before .entry-of .ensures) (c .before .entry-names-missing .ensures) in
-    (search needs, any-turn (hits (now (c .before .before .before .before .before .before .before .args .s)) (c .before .before .before .before .before .before .before .args .l) (c .before .before .before .before .before .before .before .args .reading)) (c .before .before .before .before .loop .e) ∙ (rw (c .before .before .before .before .loop .inv .1, h ∙ c .if1 .left)))
+    let start = c .before .before .before .before .before .before .before in
+    let loop = c .before .before .before .before .loop in
+    let entry-of = c .before .before .entry-of in
+    let s = now (start .args .s) in let l = start .args .l in let reading = start .args .reading in
+    let h =
+    said s l reading (loop .e) (entry-of .result) (c .before .entry-names-missing .result) (entry-of .ensures) (c .before .entry-names-missing .ensures) in
+    (omega (arith, c), any-turn (hits s l reading) (loop .e) ∙ (rw (loop .inv .1, h ∙ c .if1 .left)))
 
 returns-2 : tie.Need-returns-2 Inv-loop μ-loop
 unfolding entries-name-missing
 returns-2 c =
-    let q : length (lookup-at (packOf (now (c .before .before .before .before .args .s)) .lookups) (c .before .before .before .before .args .l) .entries) ≡ c .before .loop .e = omega (arith, c .before .before .before .before .pre .2, c .before .loop .inv .0, c .loop-test .left) in
+    let start = c .before .before .before .before in
+    let q : length (lookup-at (packOf (now (start .args .s)) .lookups) (start .args .l) .entries) ≡ c .before .loop .e =
+    omega (arith, start .pre .2, c .before .loop .inv .0, c .loop-test .left) in
     rw (q, c .before .loop .inv .1)
 
 pub entries-name-missing-spec : {M : Type 1} → statement M

@@ -15,11 +15,15 @@ match-unfit-requires c κs = search needs
 
 returns-2 : tie.Need-returns-2
 unfolding field-stop
-returns-2 c = rw (← c .before .before .before .lookup-missing .ensures, c .before .before .if1 .left, ← c .before .match-unfit .ensures, c .if2 .taken)
+returns-2 c =
+    let lookup-missing = c .before .before .before .lookup-missing in
+    rw (← lookup-missing .ensures, c .before .before .if1 .left, ← c .before .match-unfit .ensures, c .if2 .taken)
 
 returns-3 : tie.Need-returns-3
 unfolding field-stop
-returns-3 c = rw (← c .before .before .before .lookup-missing .ensures, c .before .before .if1 .left, ← c .before .match-unfit .ensures, c .if2 .left)
+returns-3 c =
+    let lookup-missing = c .before .before .before .lookup-missing in
+    rw (← lookup-missing .ensures, c .before .before .if1 .left, ← c .before .match-unfit .ensures, c .if2 .left)
 
 pub field-stop-spec : {M : Type 1} → statement M
 field-stop-spec =

@@ -18,8 +18,16 @@ use borrow.Author.Needs.{needs}
 use Rattle.walk.proofs.stops.fieldtype_lookup.Statement.{statement}
 use Rattle.walk.proofs.stops.fieldtype_lookup.Tie as tie
 
-nobody : (s w : List ℕ) (r : Option Reference) → ((reading : ℕ) → reference-names-missing (packOf s) r reading ≡ false) → Named s w r (record { given = false; index = 0; place = 0; entries = 0 })
-nobody s w r h = record { place = λ e. absurd (false≢true e); kind = λ e. absurd (false≢true e); entries = λ e. absurd (false≢true e); decide = λ e. absurd (false≢true e); none = λ e. h }
+nobody : (s w : List ℕ) (r : Option Reference) → ((reading : ℕ) → reference-names-missing (packOf s) r reading ≡ false)
+    → Named s w r (record { given = false; index = 0; place = 0; entries = 0 })
+nobody s w r h =
+    record {
+      place = λ e. absurd (false≢true e);
+      kind = λ e. absurd (false≢true e);
+      entries = λ e. absurd (false≢true e);
+      decide = λ e. absurd (false≢true e);
+      none = λ e. h;
+    }
 
 no-reference : (P : Pack) (R : Reference) (g : Bool) → g ≡ false → (reading : ℕ) → reference-names-missing P (optional g R) reading ≡ false
 unfolding reference-names-missing
@@ -33,36 +41,73 @@ module _ (P : Pack) (R : Reference) (g : Bool) (h : g ≡ true) (b : Bool) (l : 
   module _ (x : b ≡ true) (s : List ℕ) (v : LookupView) (is : LookupIs s (lookup-at (P .lookups) l) v) where
     others : (v .kind ≡ 3 → ⊥) → (reading : ℕ) → reference-names-missing P (optional g R) reading ≡ false
     unfolding reference-names-missing lookup-names-missing entries-name-missing fieldtypes
-    others y reading = let q : (lookup-at (P .lookups) l .kind == 3) ≡ false = ap (λ (M : Lookup). M .kind == 3) (sym (is .means)) ∙ ne-eqb (v .kind) 3 y in rw (h, ← e, x, q)
+    others y reading =
+        let q : (lookup-at (P .lookups) l .kind == 3) ≡ false = ap (λ (M : Lookup). M .kind == 3) (sym (is .means)) ∙ ne-eqb (v .kind) 3 y in
+        rw (h, ← e, x, q)
 
     known : v .kind ≡ 3 → (reading : ℕ) → reference-names-missing P (optional g R) reading ≡ entries-name-missing P (lookup-at (P .lookups) l .entries) reading
     unfolding reference-names-missing lookup-names-missing fieldtypes
-    known y reading = let q : (lookup-at (P .lookups) l .kind == 3) ≡ true = ap (λ (M : Lookup). M .kind == 3) (sym (is .means)) ∙ eq-eqb (v .kind) 3 y in rw (h, ← e, x, q)
+    known y reading =
+        let q : (lookup-at (P .lookups) l .kind == 3) ≡ true = ap (λ (M : Lookup). M .kind == 3) (sym (is .means)) ∙ eq-eqb (v .kind) 3 y in
+        rw (h, ← e, x, q)
 
 returns : tie.Need-returns
-returns c = nobody (now (c .before .before .before .before .args .s)) (now (c .before .before .before .before .args .work)) (optReference (now (c .before .before .before .before .args .s)) (c .before .before .before .before .args .r)) (no-reference (packOf (now (c .before .before .before .before .args .s))) (record { kind = c .before .before .before .before .args .r .kind; name = bytesOf (now (c .before .before .before .before .args .s)) (c .before .before .before .before .args .r .name) }) (c .before .before .before .before .args .r .given) (not-true (c .before .before .before .before .args .r .given) (c .if1 .taken)))
+returns c =
+    let start = c .before .before .before .before in
+    let s = now (start .args .s) in
+    nobody s (now (start .args .work)) (optReference s (start .args .r))
+    (no-reference (packOf s) (record { kind = start .args .r .kind; name = bytesOf s (start .args .r .name) }) (start .args .r .given)
+    (not-true (start .args .r .given) (c .if1 .taken)))
 
 find-lookup-requires : tie.Need-find-lookup-requires
 find-lookup-requires c κs = search needs
 
 returns-2 : tie.Need-returns-2
-returns-2 c = nobody (now (c .before .before .before .before .before .before .before .args .s)) (now (c .before .before .before .before .before .before .before .args .work)) (optReference (now (c .before .before .before .before .before .before .before .args .s)) (c .before .before .before .before .before .before .before .args .r)) (unknown (packOf (now (c .before .before .before .before .before .before .before .args .s))) (record { kind = c .before .before .before .before .before .before .before .args .r .kind; name = bytesOf (now (c .before .before .before .before .before .before .before .args .s)) (c .before .before .before .before .before .before .before .args .r .name) }) (c .before .before .before .before .before .before .before .args .r .given) (not-false (c .before .before .before .before .before .before .before .args .r .given) (c .before .before .before .if1 .left)) (c .before .before .find-lookup .result .given) (c .before .before .find-lookup .result .index) (c .before .before .find-lookup .ensures .0) (not-true (c .before .before .find-lookup .result .given) (c .if2 .taken)))
+returns-2 c =
+    let start = c .before .before .before .before .before .before .before in
+    let if1 = c .before .before .before .if1 in
+    let find-lookup-call = c .before .before .find-lookup in
+    let s = now (start .args .s) in
+    nobody s (now (start .args .work)) (optReference s (start .args .r))
+    (unknown (packOf s) (record { kind = start .args .r .kind; name = bytesOf s (start .args .r .name) }) (start .args .r .given)
+    (not-false (start .args .r .given) (if1 .left)) (find-lookup-call .result .given) (find-lookup-call .result .index) (find-lookup-call .ensures .0)
+    (not-true (find-lookup-call .result .given) (c .if2 .taken)))
 
 lookup-of-requires : tie.Need-lookup-of-requires
-lookup-of-requires c κs = c .before .before .find-lookup .ensures .1 (not-false (c .before .before .find-lookup .result .given) (c .if2 .left))
+lookup-of-requires c κs =
+    let find-lookup-call = c .before .before .find-lookup in
+    find-lookup-call .ensures .1 (not-false (find-lookup-call .result .given) (c .if2 .left))
 
 returns-3 : tie.Need-returns-3
-returns-3 c = nobody (now (c .before .before .before .before .before .before .before .before .before .before .args .s)) (now (c .before .before .before .before .before .before .before .before .before .before .args .work)) (optReference (now (c .before .before .before .before .before .before .before .before .before .before .args .s)) (c .before .before .before .before .before .before .before .before .before .before .args .r)) (others (packOf (now (c .before .before .before .before .before .before .before .before .before .before .args .s))) (record { kind = c .before .before .before .before .before .before .before .before .before .before .args .r .kind; name = bytesOf (now (c .before .before .before .before .before .before .before .before .before .before .args .s)) (c .before .before .before .before .before .before .before .before .before .before .args .r .name) }) (c .before .before .before .before .before .before .before .before .before .before .args .r .given) (not-false (c .before .before .before .before .before .before .before .before .before .before .args .r .given) (c .before .before .before .before .before .before .if1 .left)) (c .before .before .before .before .before .find-lookup .result .given) (c .before .before .before .before .before .find-lookup .result .index) (c .before .before .before .before .before .find-lookup .ensures .0) (not-false (c .before .before .before .before .before .find-lookup .result .given) (c .before .before .before .if2 .left)) (now (c .before .before .before .before .before .before .before .before .before .before .args .s)) (c .before .before .lookup-of .result) (c .before .before .lookup-of .ensures) (c .if3 .taken))
+returns-3 c =
+    let start = c .before .before .before .before .before .before .before .before .before .before in
+    let if1 = c .before .before .before .before .before .before .if1 in
+    let find-lookup-call = c .before .before .before .before .before .find-lookup in
+    let if2 = c .before .before .before .if2 in
+    let lookup-of = c .before .before .lookup-of in
+    let s = now (start .args .s) in
+    nobody s (now (start .args .work)) (optReference s (start .args .r))
+    (others (packOf s) (record { kind = start .args .r .kind; name = bytesOf s (start .args .r .name) }) (start .args .r .given)
+    (not-false (start .args .r .given) (if1 .left)) (find-lookup-call .result .given) (find-lookup-call .result .index) (find-lookup-call .ensures .0)
+    (not-false (find-lookup-call .result .given) (if2 .left)) s (lookup-of .result) (lookup-of .ensures) (c .if3 .taken))
 
 returns-4 : tie.Need-returns-4
 returns-4 c =
-    let a = c .before .before .before .before .before .find-lookup .ensures .1 (not-false (c .before .before .before .before .before .find-lookup .result .given) (c .before .before .before .if2 .left)) in
-    let k = ap (λ (M : Lookup). M .kind) (c .before .before .lookup-of .ensures .means) in
+    let start = c .before .before .before .before .before .before .before .before .before .before in
+    let if1 = c .before .before .before .before .before .before .if1 in
+    let find-lookup-call = c .before .before .before .before .before .find-lookup in
+    let if2 = c .before .before .before .if2 in
+    let lookup-of = c .before .before .lookup-of in
+    let s = now (start .args .s) in
+    let a = find-lookup-call .ensures .1 (not-false (find-lookup-call .result .given) (if2 .left)) in
+    let k = ap (λ (M : Lookup). M .kind) (lookup-of .ensures .means) in
     record {
       place = λ e. a;
       kind = λ e. sym (c .if3 .left) ∙ k;
-      entries = λ e. c .before .before .lookup-of .ensures .entries;
-      decide = λ e. known (packOf (now (c .before .before .before .before .before .before .before .before .before .before .args .s))) (record { kind = c .before .before .before .before .before .before .before .before .before .before .args .r .kind; name = bytesOf (now (c .before .before .before .before .before .before .before .before .before .before .args .s)) (c .before .before .before .before .before .before .before .before .before .before .args .r .name) }) (c .before .before .before .before .before .before .before .before .before .before .args .r .given) (not-false (c .before .before .before .before .before .before .before .before .before .before .args .r .given) (c .before .before .before .before .before .before .if1 .left)) (c .before .before .before .before .before .find-lookup .result .given) (c .before .before .before .before .before .find-lookup .result .index) (c .before .before .before .before .before .find-lookup .ensures .0) (not-false (c .before .before .before .before .before .find-lookup .result .given) (c .before .before .before .if2 .left)) (now (c .before .before .before .before .before .before .before .before .before .before .args .s)) (c .before .before .lookup-of .result) (c .before .before .lookup-of .ensures) (c .if3 .left);
+      entries = λ e. lookup-of .ensures .entries;
+      decide = λ e. known (packOf s) (record { kind = start .args .r .kind; name = bytesOf s (start .args .r .name) }) (start .args .r .given)
+          (not-false (start .args .r .given) (if1 .left)) (find-lookup-call .result .given) (find-lookup-call .result .index) (find-lookup-call .ensures .0)
+          (not-false (find-lookup-call .result .given) (if2 .left)) s (lookup-of .result) (lookup-of .ensures) (c .if3 .left);
       none = λ e. absurd (false≢true (sym e));
     }
 

@@ -29,15 +29,26 @@ length-source-at-requires c κs = search needs
 
 returns : tie.Need-returns
 returns c =
-    let L = layout (pgn-at (packOf (now (c .before .before .before .before .before .before .args .s))) (c .before .before .before .before .before .before .args .t) (c .before .before .before .before .before .before .args .i)) in
-    let e : sets-hold L (suc (c .before .before .before .before .before .before .args .j)) (c .before .before .before .before .before .before .args .o .0) ≡ true = ap (λ (n : ℕ). sets-hold L n (c .before .before .before .before .before .before .args .o .0)) (sym (c .before .before .before .order .ensures ∙ add-one (c .before .before .before .before .before .before .args .j))) ∙ sym (c .before .before .sets-hold .ensures L (c .before .before .before .before .before .before .pre .1)) ∙ c .before .if1 .taken in
-    both (length-source (packOf (now (c .before .before .before .before .before .before .args .s)) .fieldtypes) (field-at (pgn-at (packOf (now (c .before .before .before .before .before .before .args .s))) (c .before .before .before .before .before .before .args .t) (c .before .before .before .before .before .before .args .i)) (c .before .before .before .before .before .before .args .j))) (sets-hold L (suc (c .before .before .before .before .before .before .args .j)) (c .before .before .before .before .before .before .args .o .0)) (c .length-source-at .result) e (c .length-source-at .ensures)
+    let start = c .before .before .before .before .before .before in
+    let order = c .before .before .before .order in
+    let s = now (start .args .s) in let t = start .args .t in let i = start .args .i in let j = start .args .j in
+    let L = layout (pgn-at (packOf s) t i) in
+    let e : sets-hold L (suc j) (start .args .o .0) ≡ true = ap (λ (n : ℕ). sets-hold L n (start .args .o .0)) (sym (order .ensures ∙ add-one j))
+    ∙ sym (c .before .before .sets-hold .ensures L (start .pre .1))
+    ∙ c .before .if1 .taken in
+    both (length-source (packOf s .fieldtypes) (field-at (pgn-at (packOf s) t i) j)) (sets-hold L (suc j) (start .args .o .0)) (c .length-source-at .result) e
+    (c .length-source-at .ensures)
 
 returns-2 : tie.Need-returns-2
 returns-2 c =
-    let L = layout (pgn-at (packOf (now (c .before .before .before .before .before .args .s))) (c .before .before .before .before .before .args .t) (c .before .before .before .before .before .args .i)) in
-    let e : sets-hold L (suc (c .before .before .before .before .before .args .j)) (c .before .before .before .before .before .args .o .0) ≡ false = ap (λ (n : ℕ). sets-hold L n (c .before .before .before .before .before .args .o .0)) (sym (c .before .before .order .ensures ∙ add-one (c .before .before .before .before .before .args .j))) ∙ sym (c .before .sets-hold .ensures L (c .before .before .before .before .before .pre .1)) ∙ c .if1 .left in
-    off (length-source (packOf (now (c .before .before .before .before .before .args .s)) .fieldtypes) (field-at (pgn-at (packOf (now (c .before .before .before .before .before .args .s))) (c .before .before .before .before .before .args .t) (c .before .before .before .before .before .args .i)) (c .before .before .before .before .before .args .j))) (sets-hold L (suc (c .before .before .before .before .before .args .j)) (c .before .before .before .before .before .args .o .0)) e
+    let start = c .before .before .before .before .before in
+    let s = now (start .args .s) in let t = start .args .t in let i = start .args .i in let j = start .args .j in
+    let L = layout (pgn-at (packOf s) t i) in
+    let e : sets-hold L (suc j) (start .args .o .0) ≡ false = ap (λ (n : ℕ). sets-hold L n (start .args .o .0))
+    (sym (c .before .before .order .ensures ∙ add-one j))
+    ∙ sym (c .before .sets-hold .ensures L (start .pre .1))
+    ∙ c .if1 .left in
+    off (length-source (packOf s .fieldtypes) (field-at (pgn-at (packOf s) t i) j)) (sets-hold L (suc j) (start .args .o .0)) e
 
 pub gives-length-spec : {M : Type 1} → statement M
 gives-length-spec =

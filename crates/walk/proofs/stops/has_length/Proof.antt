@@ -21,8 +21,12 @@ abbrev found : List ℕ → ℕ → ℕ → ℕ → ℕ → Bool
 found s t i k = gives (packOf s) (pgn-at (packOf s) t i) (layout (pgn-at (packOf s) t i)) k
 
 said : (s : List ℕ) (t i k j own : ℕ) (r : Bool) → own ≡ k + 1
-    → r ≡ (length-source (packOf s .fieldtypes) (field-at (pgn-at (packOf s) t i) j) && sets-hold (layout (pgn-at (packOf s) t i)) (suc j) own) → found s t i k j ≡ r
-said s t i k j own r o h = sym (h ∙ ap (λ (n : ℕ). length-source (packOf s .fieldtypes) (field-at (pgn-at (packOf s) t i) j) && sets-hold (layout (pgn-at (packOf s) t i)) (suc j) n) (o ∙ add-one k))
+    → r ≡ (length-source (packOf s .fieldtypes) (field-at (pgn-at (packOf s) t i) j) && sets-hold (layout (pgn-at (packOf s) t i)) (suc j) own)
+    → found s t i k j ≡ r
+said s t i k j own r o h =
+    sym (h
+    ∙ ap (λ (n : ℕ). length-source (packOf s .fieldtypes) (field-at (pgn-at (packOf s) t i) j) && sets-hold (layout (pgn-at (packOf s) t i)) (suc j) n)
+    (o ∙ add-one k))
 
 abbrev Inv-loop : tie.InvT-loop
 Inv-loop s work t i p sets k own j₀ j = (j ≤ k) × (anyBelow (found s t i k) j ≡ false)
@@ -31,18 +35,26 @@ abbrev μ-loop : tie.MeasureT-loop
 μ-loop s work t i p sets k own j₀ j = k - j
 
 order-requires : tie.Need-order-requires Inv-loop μ-loop
-order-requires c κs = omega (arith, c .before .before .pre .2, fields-few (c .before .before .pre .0))
+order-requires c κs =
+    let start = c .before .before in
+    omega (arith, start .pre .2, fields-few (start .pre .0))
 
 loop-holds : tie.Need-loop-holds Inv-loop μ-loop
 loop-holds c = (search needs, refl)
 
 gives-length-requires : tie.Need-gives-length-requires Inv-loop μ-loop
-gives-length-requires c κs = (c .before .before .before .before .before .pre .0, c .before .before .before .before .before .pre .1, omega (arith, c .before .before .before .before .before .pre .2, c .loop-test .taken))
+gives-length-requires c κs =
+    let start = c .before .before .before .before .before in
+    (start .pre .0, start .pre .1, omega (arith, start .pre .2, c .loop-test .taken))
 
 returns : tie.Need-returns Inv-loop μ-loop
 returns c =
-    let h = said (now (c .before .before .before .before .before .before .before .args .s)) (c .before .before .before .before .before .before .before .args .t) (c .before .before .before .before .before .before .before .args .i) (c .before .before .before .before .before .before .before .args .k) (c .before .before .before .loop .j) (c .before .before .before .before .order .result .0) (c .before .gives-length .result) (c .before .before .before .before .order .ensures) (c .before .gives-length .ensures) in
-    sym (any-hit (found (now (c .before .before .before .before .before .before .before .args .s)) (c .before .before .before .before .before .before .before .args .t) (c .before .before .before .before .before .before .before .args .i) (c .before .before .before .before .before .before .before .args .k)) (c .before .before .before .before .before .before .before .args .k) (c .before .before .before .loop .j) (c .before .before .loop-test .taken) (h ∙ c .if1 .taken))
+    let start = c .before .before .before .before .before .before .before in
+    let order = c .before .before .before .before .order in
+    let loop = c .before .before .before .loop in
+    let s = now (start .args .s) in let t = start .args .t in let i = start .args .i in let k = start .args .k in
+    let h = said s t i k (loop .j) (order .result .0) (c .before .gives-length .result) (order .ensures) (c .before .gives-length .ensures) in
+    sym (any-hit (found s t i k) k (loop .j) (c .before .before .loop-test .taken) (h ∙ c .if1 .taken))
 
 add-j : tie.Need-add-j Inv-loop μ-loop
 add-j c = search needs
@@ -52,13 +64,18 @@ loop-less c = search needs
 
 loop-again : tie.Need-loop-again Inv-loop μ-loop
 loop-again c =
-    let h = said (now (c .before .before .before .before .before .before .before .args .s)) (c .before .before .before .before .before .before .before .args .t) (c .before .before .before .before .before .before .before .args .i) (c .before .before .before .before .before .before .before .args .k) (c .before .before .before .loop .j) (c .before .before .before .before .order .result .0) (c .before .gives-length .result) (c .before .before .before .before .order .ensures) (c .before .gives-length .ensures) in
-    (search needs, any-turn (found (now (c .before .before .before .before .before .before .before .args .s)) (c .before .before .before .before .before .before .before .args .t) (c .before .before .before .before .before .before .before .args .i) (c .before .before .before .before .before .before .before .args .k)) (c .before .before .before .loop .j) ∙ (rw (c .before .before .before .loop .inv .1, h ∙ c .if1 .left)))
+    let start = c .before .before .before .before .before .before .before in
+    let order = c .before .before .before .before .order in
+    let loop = c .before .before .before .loop in
+    let s = now (start .args .s) in let t = start .args .t in let i = start .args .i in let k = start .args .k in
+    let h = said s t i k (loop .j) (order .result .0) (c .before .gives-length .result) (order .ensures) (c .before .gives-length .ensures) in
+    (omega (arith, c), any-turn (found s t i k) (loop .j) ∙ (rw (loop .inv .1, h ∙ c .if1 .left)))
 
 returns-2 : tie.Need-returns-2 Inv-loop μ-loop
 returns-2 c =
-    let q : c .before .loop .j ≡ c .before .before .before .before .before .args .k = omega (arith, c .before .loop .inv .0, c .loop-test .left) in
-    sym (ap (anyBelow (found (now (c .before .before .before .before .before .args .s)) (c .before .before .before .before .before .args .t) (c .before .before .before .before .before .args .i) (c .before .before .before .before .before .args .k))) (sym q) ∙ c .before .loop .inv .1)
+    let start = c .before .before .before .before .before in
+    let q : c .before .loop .j ≡ start .args .k = omega (arith, c .before .loop .inv .0, c .loop-test .left) in
+    sym (ap (anyBelow (found (now (start .args .s)) (start .args .t) (start .args .i) (start .args .k))) (sym q) ∙ c .before .loop .inv .1)
 
 pub has-length-spec : {M : Type 1} → statement M
 has-length-spec =

@@ -18,22 +18,45 @@ use Rattle.walk.proofs.stops.lacks.Tie as tie
 
 returns : tie.Need-returns
 unfolding lacks
-returns c = rw (not-true (c .before .before .before .before .args .id .given) (c .if1 .taken))
+returns c =
+    let start = c .before .before .before .before in
+    rw (not-true (start .args .id .given) (c .if1 .taken))
 
 target-requires : tie.Need-target-requires
 target-requires c κs = search needs
 
 returns-2 : tie.Need-returns-2
-returns-2 c = rw (not-false (c .before .before .before .before .before .before .before .args .id .given) (c .before .before .before .if1 .left)) (sym (lacks-unknown (pgn-at (packOf (now (c .before .before .before .before .before .before .before .args .s))) (c .before .before .before .before .before .before .before .args .t) (c .before .before .before .before .before .before .before .args .i)) (placed (layout (pgn-at (packOf (now (c .before .before .before .before .before .before .before .args .s))) (c .before .before .before .before .before .before .before .args .t) (c .before .before .before .before .before .before .before .args .i))) (c .before .before .before .before .before .before .before .args .o .0)) (bytesOf (now (c .before .before .before .before .before .before .before .args .s)) (c .before .before .before .before .before .before .before .args .id .text)) (c .before .before .target .result .value) (c .before .before .target .result .given) (c .before .before .target .ensures) (not-true (c .before .before .target .result .given) (c .if2 .taken))))
+returns-2 c =
+    let start = c .before .before .before .before .before .before .before in
+    let if1 = c .before .before .before .if1 in
+    let target = c .before .before .target in
+    let s = now (start .args .s) in let t = start .args .t in let i = start .args .i in
+    rw (not-false (start .args .id .given) (if1 .left)) (sym (lacks-unknown (pgn-at (packOf s) t i)
+    (placed (layout (pgn-at (packOf s) t i)) (start .args .o .0)) (bytesOf s (start .args .id .text)) (target .result .value) (target .result .given)
+    (target .ensures) (not-true (target .result .given) (c .if2 .taken))))
 
 placed-requires : tie.Need-placed-requires
 placed-requires c κs =
-    let h = not-false (c .before .before .target .result .given) (c .if2 .left) in
-    let e = ap (λ (b : Bool). optional b (c .before .before .target .result .value)) (sym h) ∙ c .before .before .target .ensures in
-    omega (arith, target-below (pgn-at (packOf (now (c .before .before .before .before .before .before .before .args .s))) (c .before .before .before .before .before .before .before .args .t) (c .before .before .before .before .before .before .before .args .i)) (bytesOf (now (c .before .before .before .before .before .before .before .args .s)) (c .before .before .before .before .before .before .before .args .id .text)) (c .before .before .target .result .value) (sym e), fields-few (c .before .before .before .before .before .before .before .pre .0))
+    let start = c .before .before .before .before .before .before .before in
+    let target = c .before .before .target in
+    let s = now (start .args .s) in
+    let h = not-false (target .result .given) (c .if2 .left) in
+    let e = ap (λ (b : Bool). optional b (target .result .value)) (sym h) ∙ target .ensures in
+    omega (
+      arith,
+      target-below (pgn-at (packOf s) (start .args .t) (start .args .i)) (bytesOf s (start .args .id .text)) (target .result .value) (sym e),
+      fields-few (start .pre .0),
+    )
 
 returns-3 : tie.Need-returns-3
-returns-3 c = rw (not-false (c .before .before .before .before .before .before .before .before .args .id .given) (c .before .before .before .before .if1 .left)) (ap not (c .placed .ensures (layout (pgn-at (packOf (now (c .before .before .before .before .before .before .before .before .args .s))) (c .before .before .before .before .before .before .before .before .args .t) (c .before .before .before .before .before .before .before .before .args .i))) (c .before .before .before .before .before .before .before .before .pre .1)) ∙ sym (lacks-known (pgn-at (packOf (now (c .before .before .before .before .before .before .before .before .args .s))) (c .before .before .before .before .before .before .before .before .args .t) (c .before .before .before .before .before .before .before .before .args .i)) (placed (layout (pgn-at (packOf (now (c .before .before .before .before .before .before .before .before .args .s))) (c .before .before .before .before .before .before .before .before .args .t) (c .before .before .before .before .before .before .before .before .args .i))) (c .before .before .before .before .before .before .before .before .args .o .0)) (bytesOf (now (c .before .before .before .before .before .before .before .before .args .s)) (c .before .before .before .before .before .before .before .before .args .id .text)) (c .before .before .before .target .result .value) (c .before .before .before .target .result .given) (c .before .before .before .target .ensures) (not-false (c .before .before .before .target .result .given) (c .before .if2 .left))))
+returns-3 c =
+    let start = c .before .before .before .before .before .before .before .before in
+    let if1 = c .before .before .before .before .if1 in
+    let target = c .before .before .before .target in
+    let s = now (start .args .s) in let t = start .args .t in let i = start .args .i in
+    rw (not-false (start .args .id .given) (if1 .left)) (ap not (c .placed .ensures (layout (pgn-at (packOf s) t i)) (start .pre .1))
+    ∙ sym (lacks-known (pgn-at (packOf s) t i) (placed (layout (pgn-at (packOf s) t i)) (start .args .o .0)) (bytesOf s (start .args .id .text))
+    (target .result .value) (target .result .given) (target .ensures) (not-false (target .result .given) (c .before .if2 .left))))
 
 pub lacks-spec : {M : Type 1} → statement M
 lacks-spec = tie.close (tie.spec returns target-requires returns-2 placed-requires returns-3)

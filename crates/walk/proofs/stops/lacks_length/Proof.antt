@@ -13,8 +13,11 @@ use Rattle.walk.proofs.stops.lacks_length.Tie as tie
 
 root-of-requires : tie.Need-root-of-requires
 root-of-requires c κs =
-    let e : c .before .before .args .f .ft ≡ field-at (pgn-at (packOf (now (c .before .before .args .s))) (c .before .before .args .t) (c .before .before .args .i)) (c .before .before .args .k) .ft = ap (λ (F : Field). F .ft) (c .before .before .pre .3) in
-    (c .before .before .pre .0 .ready, omega (arith, e, field-ft-law (c .before .before .pre .0) (c .before .before .args .k) (c .before .before .pre .2)))
+    let start = c .before .before in
+    let k = start .args .k in
+    let e : start .args .f .ft ≡ field-at (pgn-at (packOf (now (start .args .s))) (start .args .t) (start .args .i)) k .ft =
+    ap (λ (F : Field). F .ft) (start .pre .3) in
+    (start .pre .0 .ready, omega (arith, e, field-ft-law (start .pre .0) k (start .pre .2)))
 
 slice-aggregate-text-is : tie.Need-slice-aggregate-text-is
 slice-aggregate-text-is c = search needs
@@ -26,10 +29,22 @@ has-length-requires : tie.Need-has-length-requires
 has-length-requires c κs = search needs
 
 returns : tie.Need-returns
-returns c = sym (a-value (packOf (now (c .before .before .before .before .before .before .before .args .s))) (pgn-at (packOf (now (c .before .before .before .before .before .before .before .args .s))) (c .before .before .before .before .before .before .before .args .t) (c .before .before .before .before .before .before .before .args .i)) (layout (pgn-at (packOf (now (c .before .before .before .before .before .before .before .args .s))) (c .before .before .before .before .before .before .before .args .t) (c .before .before .before .before .before .before .before .args .i))) (c .before .before .before .before .before .before .before .args .k) (fieldMeaning (now (c .before .before .before .before .before .before .before .args .s)) (c .before .before .before .before .before .before .before .args .f)) (c .before .before .before .before .before .before .before .pre .3) (bytesOf (now (c .before .before .before .before .before .before .before .args .s)) (c .before .before .before .before .root-of .result)) (c .before .before .before .before .root-of .ensures) (c .before .before .text-is .result) (c .before .before .text-is .ensures) (c .before .if1 .taken) (c .has-length .result) (c .has-length .ensures))
+returns c =
+    let start = c .before .before .before .before .before .before .before in
+    let root-of = c .before .before .before .before .root-of in
+    let text-is = c .before .before .text-is in
+    let s = now (start .args .s) in let t = start .args .t in let i = start .args .i in
+    sym (a-value (packOf s) (pgn-at (packOf s) t i) (layout (pgn-at (packOf s) t i)) (start .args .k) (fieldMeaning s (start .args .f)) (start .pre .3)
+    (bytesOf s (root-of .result)) (root-of .ensures) (text-is .result) (text-is .ensures) (c .before .if1 .taken) (c .has-length .result)
+    (c .has-length .ensures))
 
 returns-2 : tie.Need-returns-2
-returns-2 c = sym (no-value (packOf (now (c .before .before .before .before .before .before .args .s))) (pgn-at (packOf (now (c .before .before .before .before .before .before .args .s))) (c .before .before .before .before .before .before .args .t) (c .before .before .before .before .before .before .args .i)) (layout (pgn-at (packOf (now (c .before .before .before .before .before .before .args .s))) (c .before .before .before .before .before .before .args .t) (c .before .before .before .before .before .before .args .i))) (c .before .before .before .before .before .before .args .k) (fieldMeaning (now (c .before .before .before .before .before .before .args .s)) (c .before .before .before .before .before .before .args .f)) (c .before .before .before .before .before .before .pre .3) (bytesOf (now (c .before .before .before .before .before .before .args .s)) (c .before .before .before .root-of .result)) (c .before .before .before .root-of .ensures) (c .before .text-is .result) (c .before .text-is .ensures) (c .if1 .left))
+returns-2 c =
+    let start = c .before .before .before .before .before .before in
+    let root-of = c .before .before .before .root-of in
+    let s = now (start .args .s) in let t = start .args .t in let i = start .args .i in
+    sym (no-value (packOf s) (pgn-at (packOf s) t i) (layout (pgn-at (packOf s) t i)) (start .args .k) (fieldMeaning s (start .args .f)) (start .pre .3)
+    (bytesOf s (root-of .result)) (root-of .ensures) (c .before .text-is .result) (c .before .text-is .ensures) (c .if1 .left))
 
 pub lacks-length-spec : {M : Type 1} → statement M
 lacks-length-spec =

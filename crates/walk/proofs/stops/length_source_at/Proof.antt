@@ -14,8 +14,11 @@ field-of-requires c κs = search needs
 
 root-of-requires : tie.Need-root-of-requires
 root-of-requires c κs =
-    let e : c .field-of .result .ft ≡ field-at (pgn-at (packOf (now (c .before .before .before .args .s))) (c .before .before .before .args .t) (c .before .before .before .args .i)) (c .before .before .before .args .j) .ft = ap (λ (F : Field). F .ft) (c .field-of .ensures) in
-    (c .before .before .before .pre .0 .ready, omega (arith, e, field-ft-law (c .before .before .before .pre .0) (c .before .before .before .args .j) (c .before .before .before .pre .1)))
+    let start = c .before .before .before in
+    let j = start .args .j in
+    let e : c .field-of .result .ft ≡ field-at (pgn-at (packOf (now (start .args .s))) (start .args .t) (start .args .i)) j .ft =
+    ap (λ (F : Field). F .ft) (c .field-of .ensures) in
+    (start .pre .0 .ready, omega (arith, e, field-ft-law (start .pre .0) j (start .pre .1)))
 
 length-source-requires : tie.Need-length-source-requires
 length-source-requires c κs = search needs

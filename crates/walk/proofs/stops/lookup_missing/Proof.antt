@@ -24,7 +24,10 @@ is-missing-requires c κs = search needs
 
 returns : tie.Need-returns
 unfolding lookup-missing
-returns c = c .is-missing .ensures ∙ ap (is-missing (packOf (now (c .before .before .before .before .before .args .s)))) (name-is (now (c .before .before .before .before .before .args .s)) (c .before .before .before .before .before .args .f .links .reference))
+returns c =
+    let start = c .before .before .before .before .before in
+    let s = now (start .args .s) in
+    c .is-missing .ensures ∙ ap (is-missing (packOf s)) (name-is s (start .args .f .links .reference))
 
 pub lookup-missing-spec : {M : Type 1} → statement M
 lookup-missing-spec = tie.close (tie.spec is-missing-requires returns)

@@ -3,13 +3,20 @@ use Rattle.walk.proofs.stops.lookup_names_missing.Statement.{statement}
 use Rattle.walk.proofs.stops.lookup_names_missing.Tie as tie
 
 returns : tie.Need-returns
-returns c = rw (not-true (c .before .before .before .before .args .l .given) (c .if1 .taken))
+returns c =
+    let start = c .before .before .before .before in
+    rw (not-true (start .args .l .given) (c .if1 .taken))
 
 entries-name-missing-requires : tie.Need-entries-name-missing-requires
-entries-name-missing-requires c κs = let h = not-false (c .before .before .before .before .args .l .given) (c .if1 .left) in (c .before .before .before .before .pre .1 h, c .before .before .before .before .pre .2 h, c .before .before .before .before .pre .3 h, c .before .before .before .before .pre .0)
+entries-name-missing-requires c κs =
+    let start = c .before .before .before .before in
+    let h = not-false (start .args .l .given) (c .if1 .left) in
+    (start .pre .1 h, start .pre .2 h, start .pre .3 h, start .pre .0)
 
 returns-2 : tie.Need-returns-2
-returns-2 c = rw (not-false (c .before .before .before .before .before .args .l .given) (c .before .if1 .left)) (c .entries-name-missing .ensures)
+returns-2 c =
+    let start = c .before .before .before .before .before in
+    rw (not-false (start .args .l .given) (c .before .if1 .left)) (c .entries-name-missing .ensures)
 
 pub lookup-names-missing-spec : {M : Type 1} → statement M
 lookup-names-missing-spec = tie.close (tie.spec returns entries-name-missing-requires returns-2)

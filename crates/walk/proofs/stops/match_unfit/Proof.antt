@@ -11,19 +11,36 @@ use Rattle.walk.proofs.stops.match_unfit.Tie as tie
 
 returns : tie.Need-returns
 unfolding match-unfit
-returns c = rw (not-true (c .before .before .before .before .args .f .authored .matched .given) (c .if1 .taken))
+returns c =
+    let start = c .before .before .before .before in
+    rw (not-true (start .args .f .authored .matched .given) (c .if1 .taken))
 
 resolve-match-requires : tie.Need-resolve-match-requires
 resolve-match-requires c κs = search needs
 
 returns-2 : tie.Need-returns-2
-returns-2 c = sym (unresolved (packOf (now (c .before .before .before .before .before .before .before .args .s))) (fieldMeaning (now (c .before .before .before .before .before .before .before .args .s)) (c .before .before .before .before .before .before .before .args .f)) (c .before .before .resolve-match .result .given) (c .before .before .resolve-match .result .value) (c .before .before .resolve-match .ensures) (c .before .before .before .before .before .before .before .args .f .authored .matched .given) (bytesOf (now (c .before .before .before .before .before .before .before .args .s)) (c .before .before .before .before .before .before .before .args .f .authored .matched .text)) refl (not-false (c .before .before .before .before .before .before .before .args .f .authored .matched .given) (c .before .before .before .if1 .left)) (not-true (c .before .before .resolve-match .result .given) (c .if2 .taken)))
+returns-2 c =
+    let start = c .before .before .before .before .before .before .before in
+    let if1 = c .before .before .before .if1 in
+    let resolve-match = c .before .before .resolve-match in
+    let s = now (start .args .s) in
+    sym (unresolved (packOf s) (fieldMeaning s (start .args .f)) (resolve-match .result .given) (resolve-match .result .value) (resolve-match .ensures)
+    (start .args .f .authored .matched .given) (bytesOf s (start .args .f .authored .matched .text)) refl
+    (not-false (start .args .f .authored .matched .given) (if1 .left)) (not-true (resolve-match .result .given) (c .if2 .taken)))
 
 exceeds-requires : tie.Need-exceeds-requires
 exceeds-requires c κs = search needs
 
 returns-3 : tie.Need-returns-3
-returns-3 c = c .exceeds .ensures ∙ sym (resolved (packOf (now (c .before .before .before .before .before .before .before .before .args .s))) (fieldMeaning (now (c .before .before .before .before .before .before .before .before .args .s)) (c .before .before .before .before .before .before .before .before .args .f)) (c .before .before .before .resolve-match .result .given) (c .before .before .before .resolve-match .result .value) (c .before .before .before .resolve-match .ensures) (c .before .before .before .before .before .before .before .before .args .f .authored .matched .given) (bytesOf (now (c .before .before .before .before .before .before .before .before .args .s)) (c .before .before .before .before .before .before .before .before .args .f .authored .matched .text)) refl (not-false (c .before .before .before .before .before .before .before .before .args .f .authored .matched .given) (c .before .before .before .before .if1 .left)) (not-false (c .before .before .before .resolve-match .result .given) (c .before .if2 .left)))
+returns-3 c =
+    let start = c .before .before .before .before .before .before .before .before in
+    let if1 = c .before .before .before .before .if1 in
+    let resolve-match = c .before .before .before .resolve-match in
+    let s = now (start .args .s) in
+    c .exceeds .ensures
+    ∙ sym (resolved (packOf s) (fieldMeaning s (start .args .f)) (resolve-match .result .given) (resolve-match .result .value) (resolve-match .ensures)
+    (start .args .f .authored .matched .given) (bytesOf s (start .args .f .authored .matched .text)) refl
+    (not-false (start .args .f .authored .matched .given) (if1 .left)) (not-false (resolve-match .result .given) (c .before .if2 .left)))
 
 pub match-unfit-spec : {M : Type 1} → statement M
 match-unfit-spec =

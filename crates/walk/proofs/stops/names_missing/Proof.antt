@@ -16,7 +16,9 @@ is-missing-requires c κs = search needs
 
 returns-2 : tie.Need-returns-2
 unfolding names-missing
-returns-2 c = rw (← c .before .before .is-fieldtype .ensures, not-false (c .before .before .is-fieldtype .result) (c .before .if1 .left)) (c .is-missing .ensures)
+returns-2 c =
+    let is-fieldtype = c .before .before .is-fieldtype in
+    rw (← is-fieldtype .ensures, not-false (is-fieldtype .result) (c .before .if1 .left)) (c .is-missing .ensures)
 
 pub names-missing-spec : {M : Type 1} → statement M
 names-missing-spec =

@@ -16,10 +16,12 @@ use Rattle.pack.proofs.cursor.Cursor.field.Statement.{statement}
 use Rattle.pack.proofs.cursor.Cursor.field.Tie as tie
 
 -- the record that the six reads give, over variables: `cc` at the function's own context is too dear
-joined : (types total : ℕ) (s : List ℕ) (c : Cursor) (n : NamesItem) (ft fl : NumberItem) (sc : ScalingItem) (au : AuthoredItem) (li : LinksItem) (ff : FieldFlags)
-    → n ≡ namesAt s c → ft ≡ indexAt types s (n .next) → fl ≡ codeAt 63 s (ft .next) → sc ≡ scalingAt total s (fl .next) → au ≡ authoredAt s (sc .next)
-    → li ≡ linksAt (sc .value .bits) s (au .next) → ff ≡ fieldFlags (fl .value)
-    → _≡_ {A = FieldItem} (record { value = record { names = n .value; ft = ft .value; flags = ff; scaling = sc .value; authored = au .value; links = li .value }; next = li .next }) (fieldAt types total s c)
+joined : (types total : ℕ) (s : List ℕ) (c : Cursor) (n : NamesItem) (ft fl : NumberItem) (sc : ScalingItem) (au : AuthoredItem) (li : LinksItem)
+    (ff : FieldFlags) → n ≡ namesAt s c → ft ≡ indexAt types s (n .next) → fl ≡ codeAt 63 s (ft .next) → sc ≡ scalingAt total s (fl .next)
+    → au ≡ authoredAt s (sc .next) → li ≡ linksAt (sc .value .bits) s (au .next) → ff ≡ fieldFlags (fl .value)
+    → _≡_ {A = FieldItem}
+    (record { value = record { names = n .value; ft = ft .value; flags = ff; scaling = sc .value; authored = au .value; links = li .value }; next = li .next })
+    (fieldAt types total s c)
 unfolding fieldAt
 joined types total s c n ft fl sc au li ff e1 e2 e3 e4 e5 e6 e7 = rw (e7, e6, e5, e4, e3, e2, e1)
 
@@ -45,7 +47,18 @@ field-flags-requires : tie.Need-field-flags-requires
 field-flags-requires c κs = search needs
 
 returns : tie.Need-returns
-returns c = (joined _ _ _ _ _ _ _ _ _ _ _ (c .before .before .before .before .before .before .before .before .before .before .before .names .ensures) (c .before .before .before .before .before .before .before .before .before .before .index .ensures) (c .before .before .before .before .before .before .before .before .before .code .ensures) (c .before .before .before .before .before .before .before .before .scaling .ensures .0) (c .before .before .before .before .before .before .before .authored .ensures) (c .before .before .before .before .before .before .links .ensures) (c .before .before .before .before .field-flags .ensures), c .before .before .before .before .before .before .before .before .scaling .ensures .1)
+returns c =
+    let names = c .before .before .before .before .before .before .before .before .before .before .before .names in
+    let index = c .before .before .before .before .before .before .before .before .before .before .index in
+    let code = c .before .before .before .before .before .before .before .before .before .code in
+    let scaling = c .before .before .before .before .before .before .before .before .scaling in
+    let authored = c .before .before .before .before .before .before .before .authored in
+    let links = c .before .before .before .before .before .before .links in
+    let field-flags = c .before .before .before .before .field-flags in (
+      joined _ _ _ _ _ _ _ _ _ _ _ (names .ensures) (index .ensures) (code .ensures) (scaling .ensures .0) (authored .ensures) (links .ensures)
+          (field-flags .ensures),
+      scaling .ensures .1,
+    )
 
 pub field-spec : {M : Type 1} → statement M
 field-spec =

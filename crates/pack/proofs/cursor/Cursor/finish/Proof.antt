@@ -13,7 +13,9 @@ refuse-requires c κs = search needs
 
 returns-2 : tie.Need-returns-2
 unfolding finish
-returns-2 c = simp (c .refuse .ensures, eq-eqb _ _ (c .before .before .before .if1 .left), lt-ltb _ _ (c .before .if2 .taken))
+returns-2 c =
+    let if1 = c .before .before .before .if1 in
+    simp (c .refuse .ensures, eq-eqb _ _ (if1 .left), lt-ltb _ _ (c .before .if2 .taken))
 
 returns-3 : tie.Need-returns-3
 unfolding finish

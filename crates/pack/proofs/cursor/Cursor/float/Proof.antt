@@ -17,13 +17,19 @@ within-requires : tie.Need-within-requires
 within-requires c κs = search needs
 
 four-bytes-requires : tie.Need-four-bytes-requires
-four-bytes-requires c κs = omega (arith, leb-true (c .before .before .before .before .before .args .self .at + 8) (length (now (c .before .before .before .before .before .args .s))) (sym (c .before .within .ensures) ∙ c .if2 .taken))
+four-bytes-requires c κs =
+    let start = c .before .before .before .before .before in
+    omega (arith, leb-true (start .args .self .at + 8) (length (now (start .args .s))) (sym (c .before .within .ensures) ∙ c .if2 .taken))
 
 add-four-bytes : tie.Need-add-four-bytes
-add-four-bytes c = omega (arith, leb-true (c .before .before .before .before .before .before .args .self .at + 8) (length (now (c .before .before .before .before .before .before .args .s))) (sym (c .before .before .within .ensures) ∙ c .before .if2 .taken))
+add-four-bytes c =
+    let start = c .before .before .before .before .before .before in
+    omega (arith, leb-true (start .args .self .at + 8) (length (now (start .args .s))) (sym (c .before .before .within .ensures) ∙ c .before .if2 .taken))
 
 four-bytes-requires-2 : tie.Need-four-bytes-requires-2
-four-bytes-requires-2 c κs = omega (arith, leb-true (c .before .before .before .before .before .before .args .self .at + 8) (length (now (c .before .before .before .before .before .before .args .s))) (sym (c .before .before .within .ensures) ∙ c .before .if2 .taken))
+four-bytes-requires-2 c κs =
+    let start = c .before .before .before .before .before .before in
+    omega (arith, leb-true (start .args .self .at + 8) (length (now (start .args .s))) (sym (c .before .before .within .ensures) ∙ c .before .if2 .taken))
 
 mul-t12 : tie.Need-mul-t12
 mul-t12 c = search needs
@@ -32,18 +38,26 @@ add-t13 : tie.Need-add-t13
 add-t13 c = search needs
 
 add-t11 : tie.Need-add-t11
-add-t11 c = omega (arith, leb-true (c .before .before .before .before .before .before .before .args .self .at + 8) (length (now (c .before .before .before .before .before .before .before .args .s))) (sym (c .before .before .before .within .ensures) ∙ c .before .before .if2 .taken))
+add-t11 c =
+    let start = c .before .before .before .before .before .before .before in
+    let within = c .before .before .before .within in
+    omega (arith, leb-true (start .args .self .at + 8) (length (now (start .args .s))) (sym (within .ensures) ∙ c .before .before .if2 .taken))
 
 refuse-requires : tie.Need-refuse-requires
 refuse-requires c κs = search needs
 
 returns-2 : tie.Need-returns-2
 unfolding floatAt
-returns-2 c = simp (eq-eqb _ _ (c .before .before .before .before .if1 .left), ← c .before .before .before .within .ensures, c .before .before .if2 .taken, c .before .four-bytes .ensures .0, c .four-bytes2 .ensures .0)
+returns-2 c =
+    let if1 = c .before .before .before .before .if1 in
+    let within = c .before .before .before .within in
+    simp (eq-eqb _ _ (if1 .left), ← within .ensures, c .before .before .if2 .taken, c .before .four-bytes .ensures .0, c .four-bytes2 .ensures .0)
 
 returns-3 : tie.Need-returns-3
 unfolding floatAt
-returns-3 c = simp (c .refuse .ensures, eq-eqb _ _ (c .before .before .before .if1 .left), ← c .before .before .within .ensures, c .before .if2 .left)
+returns-3 c =
+    let if1 = c .before .before .before .if1 in
+    simp (c .refuse .ensures, eq-eqb _ _ (if1 .left), ← c .before .before .within .ensures, c .before .if2 .left)
 
 pub float-spec : {M : Type 1} → statement M
 float-spec =

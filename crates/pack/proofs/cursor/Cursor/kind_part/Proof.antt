@@ -12,7 +12,11 @@ opt-text-requires c κs = search needs
 
 returns : tie.Need-returns
 unfolding kindPartAt
-returns c = simp (eq-eqb _ _ (c .before .before .before .before .before .if1 .taken), ← c .before .before .before .before .text .ensures, ← c .before .before .before .opt-text .ensures)
+returns c =
+    let if1 = c .before .before .before .before .before .if1 in
+    let text = c .before .before .before .before .text in
+    let opt-text = c .before .before .before .opt-text in
+    simp (eq-eqb _ _ (if1 .taken), ← text .ensures, ← opt-text .ensures)
 
 returns-2 : tie.Need-returns-2
 unfolding kindPartAt

@@ -14,14 +14,18 @@ some-number-requires c κs = search needs
 
 returns : tie.Need-returns
 unfolding optBytesAt
-returns c = simp (c .some-number .ensures, ← c .before .before .before .before .mark .ensures, c .before .before .if1 .taken, c .before .bytes .ensures)
+returns c =
+    let mark = c .before .before .before .before .mark in
+    simp (c .some-number .ensures, ← mark .ensures, c .before .before .if1 .taken, c .before .bytes .ensures)
 
 no-number-requires : tie.Need-no-number-requires
 no-number-requires c κs = search needs
 
 returns-2 : tie.Need-returns-2
 unfolding optBytesAt
-returns-2 c = simp (c .no-number .ensures, ← c .before .before .before .mark .ensures, c .before .if1 .left)
+returns-2 c =
+    let mark = c .before .before .before .mark in
+    simp (c .no-number .ensures, ← mark .ensures, c .before .if1 .left)
 
 pub opt-bytes-spec : {M : Type 1} → statement M
 opt-bytes-spec =

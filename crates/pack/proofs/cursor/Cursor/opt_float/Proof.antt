@@ -11,7 +11,9 @@ float-requires c κs = search needs
 
 returns : tie.Need-returns
 unfolding optFloatAt
-returns c = simp (← c .before .before .before .before .mark .ensures, c .before .before .if1 .taken, ← c .before .float .ensures)
+returns c =
+    let mark = c .before .before .before .before .mark in
+    simp (← mark .ensures, c .before .before .if1 .taken, ← c .before .float .ensures)
 
 returns-2 : tie.Need-returns-2
 unfolding optFloatAt

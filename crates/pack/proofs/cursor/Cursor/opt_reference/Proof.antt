@@ -14,7 +14,11 @@ text-requires c κs = search needs
 
 returns : tie.Need-returns
 unfolding optReferenceAt
-returns c = simp (← c .before .before .before .before .before .before .mark .ensures, c .before .before .before .before .if1 .taken, ← c .before .before .before .code .ensures, ← c .before .before .text .ensures)
+returns c =
+    let mark = c .before .before .before .before .before .before .mark in
+    let if1 = c .before .before .before .before .if1 in
+    let code = c .before .before .before .code in
+    simp (← mark .ensures, if1 .taken, ← code .ensures, ← c .before .before .text .ensures)
 
 returns-2 : tie.Need-returns-2
 unfolding optReferenceAt

@@ -19,7 +19,20 @@ use Rattle.pack.proofs.cursor.Cursor.pgn.Tie as tie
 joined : (s : List ℕ) (c : Cursor) (n : NumberItem) (i : TextItem) (k f l : NumberItem) (m : OptNumberItem) (a b : OptRepeatingItem) (d : NumberItem)
     → n ≡ numberAt s c → i ≡ textAt s (n .next) → k ≡ codeAt 3 s (i .next) → f ≡ codeAt 7 s (k .next) → l ≡ numberAt s (f .next) → m ≡ optBytesAt s (l .next)
     → a ≡ optRepeatingAt s (m .next) → b ≡ optRepeatingAt s (a .next) → d ≡ numberAt s (b .next)
-    → _≡_ {A = PgnItem} (record { value = record { pgn = n .value; id = i .value; kind = k .value; flags = record { fallback = f .value % 2 == 1; variable = f .value / 2 % 2 == 1; incomplete = f .value / 4 % 2 == 1 }; length = l .value; minimum = m .value; repeating1 = a .value; repeating2 = b .value; fields = d .value }; next = d .next }) (pgnAt s c)
+    → _≡_ {A = PgnItem} (record {
+      value = record {
+        pgn = n .value;
+        id = i .value;
+        kind = k .value;
+        flags = record { fallback = f .value % 2 == 1; variable = f .value / 2 % 2 == 1; incomplete = f .value / 4 % 2 == 1 };
+        length = l .value;
+        minimum = m .value;
+        repeating1 = a .value;
+        repeating2 = b .value;
+        fields = d .value;
+      };
+      next = d .next;
+    }) (pgnAt s c)
 unfolding pgnAt
 joined s c n i k f l m a b d e1 e2 e3 e4 e5 e6 e7 e8 e9 = rw (e9, e8, e7, e6, e5, e4, e3, e2, e1)
 
@@ -51,7 +64,19 @@ number-requires-3 : tie.Need-number-requires-3
 number-requires-3 c κs = search needs
 
 returns : tie.Need-returns
-returns c = joined _ _ _ _ _ _ _ _ _ _ _ (c .before .before .before .before .before .before .before .before .before .before .before .before .before .number .ensures) (c .before .before .before .before .before .before .before .before .before .before .before .before .text .ensures) (c .before .before .before .before .before .before .before .before .before .before .before .code .ensures) (c .before .before .before .before .before .before .before .before .before .before .code2 .ensures) (c .before .before .before .before .before .before .before .before .before .number2 .ensures) (c .before .before .before .before .before .before .before .before .opt-bytes .ensures) (c .before .before .before .before .before .before .before .opt-repeating .ensures) (c .before .before .before .before .before .before .opt-repeating2 .ensures) (c .before .before .before .before .before .number3 .ensures)
+returns c =
+    let back12 = c .before .before .before .before .before .before .before .before .before .before .before .before in
+    let number = back12 .before .number in
+    let text = c .before .before .before .before .before .before .before .before .before .before .before .before .text in
+    let code = c .before .before .before .before .before .before .before .before .before .before .before .code in
+    let code2 = c .before .before .before .before .before .before .before .before .before .before .code2 in
+    let number2 = c .before .before .before .before .before .before .before .before .before .number2 in
+    let opt-bytes = c .before .before .before .before .before .before .before .before .opt-bytes in
+    let opt-repeating = c .before .before .before .before .before .before .before .opt-repeating in
+    let opt-repeating2 = c .before .before .before .before .before .before .opt-repeating2 in
+    let number3 = c .before .before .before .before .before .number3 in
+    joined _ _ _ _ _ _ _ _ _ _ _ (number .ensures) (text .ensures) (code .ensures) (code2 .ensures) (number2 .ensures) (opt-bytes .ensures)
+    (opt-repeating .ensures) (opt-repeating2 .ensures) (number3 .ensures)
 
 pub pgn-spec : {M : Type 1} → statement M
 pgn-spec =

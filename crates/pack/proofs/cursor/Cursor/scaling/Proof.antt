@@ -17,7 +17,9 @@ opt-text-requires c κs = search needs
 
 returns : tie.Need-returns
 unfolding scalingAt
-returns c = (cc, c .before .before .before .before .before .sum .ensures .1)
+returns c =
+    let sum = c .before .before .before .before .before .sum in
+    (cc, sum .ensures .1)
 
 pub scaling-spec : {M : Type 1} → statement M
 scaling-spec =

@@ -17,7 +17,8 @@ fits : (c : Cursor) (item : NumberItem) (other : ℕ) → other ≤ largest32 �
 unfolding judged
 fits c item other h = go (eqb (item .next .refused) 0) refl (leb (other + item .value) largest32) refl
   where
-    go : (a : Bool) → eqb (item .next .refused) 0 ≡ a → (b : Bool) → leb (other + item .value) largest32 ≡ b → other + judged c item (other + item .value ≤ᵇ largest32) 7 .value ≤ largest32
+    go : (a : Bool) → eqb (item .next .refused) 0 ≡ a → (b : Bool) → leb (other + item .value) largest32 ≡ b
+        → other + judged c item (other + item .value ≤ᵇ largest32) 7 .value ≤ largest32
     go true e true d = rw (e, d, judged) (leb-true _ _ d)
     go true e false d = rw (e, d, judged) (omega arith)
     go false e b d = rw (e, judged) (omega arith)
@@ -36,7 +37,9 @@ judged-requires c κs = search needs
 
 returns : tie.Need-returns
 unfolding sumAt
-returns c = ((cc), (rw (c .judged .ensures) (fits (c .before .before .before .before .args .self) (c .before .before .number .result) (c .before .before .before .before .args .other) (omega (arith, c .before .before .before .before .fits .other)))))
+returns c =
+    let start = c .before .before .before .before in
+    ((cc), (rw (c .judged .ensures) (fits (start .args .self) (c .before .before .number .result) (start .args .other) (omega (arith, start .fits .other)))))
 
 pub sum-spec : {M : Type 1} → statement M
 sum-spec = tie.close (tie.spec number-requires cast-v add-judged judged-requires returns)

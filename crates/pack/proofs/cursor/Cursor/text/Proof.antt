@@ -14,7 +14,9 @@ number-requires c κs = search needs
 
 returns : tie.Need-returns
 unfolding textAt
-returns c = simp (← c .before .before .before .number .ensures, ne-eqb _ _ (c .if1 .taken))
+returns c =
+    let number = c .before .before .before .number in
+    simp (← number .ensures, ne-eqb _ _ (c .if1 .taken))
 
 cast-len : tie.Need-cast-len
 cast-len c = search needs
@@ -23,18 +25,28 @@ within-requires : tie.Need-within-requires
 within-requires c κs = search needs
 
 add-t14 : tie.Need-add-t14
-add-t14 c = omega (arith, leb-true (c .before .before .before .before .before .before .number .result .next .at + c .before .before .before .before .before .before .number .result .value) (length (now (c .before .before .before .before .before .before .before .before .args .s))) (sym (c .before .within .ensures) ∙ c .if2 .taken))
+add-t14 c =
+    let start = c .before .before .before .before .before .before .before .before in
+    let number = c .before .before .before .before .before .before .number in
+    omega
+    (arith, leb-true (number .result .next .at + number .result .value) (length (now (start .args .s))) (sym (c .before .within .ensures) ∙ c .if2 .taken))
 
 refuse-requires : tie.Need-refuse-requires
 refuse-requires c κs = search needs
 
 returns-2 : tie.Need-returns-2
 unfolding textAt
-returns-2 c = simp (← c .before .before .before .before .before .before .number .ensures, eq-eqb _ _ (c .before .before .before .if1 .left), ← c .before .within .ensures, c .if2 .taken)
+returns-2 c =
+    let number = c .before .before .before .before .before .before .number in
+    let if1 = c .before .before .before .if1 in
+    simp (← number .ensures, eq-eqb _ _ (if1 .left), ← c .before .within .ensures, c .if2 .taken)
 
 returns-3 : tie.Need-returns-3
 unfolding textAt
-returns-3 c = simp (c .refuse .ensures, ← c .before .before .before .before .before .before .before .number .ensures, eq-eqb _ _ (c .before .before .before .before .if1 .left), ← c .before .before .within .ensures, c .before .if2 .left)
+returns-3 c =
+    let number = c .before .before .before .before .before .before .before .number in
+    let if1 = c .before .before .before .before .if1 in
+    simp (c .refuse .ensures, ← number .ensures, eq-eqb _ _ (if1 .left), ← c .before .before .within .ensures, c .before .if2 .left)
 
 pub text-spec : {M : Type 1} → statement M
 text-spec =

@@ -1,3 +1,4 @@
+use native.Mathlib.Omega.{arith}
 use Rattle.pack.specs.Items.{wideAt}
 use borrow.Author.Needs.{needs}
 use borrow.Author.Tests.{lt-ltb, le-ltb, eq-eqb, ne-eqb, not-true, not-false}
@@ -16,7 +17,9 @@ refuse-requires c κs = search needs
 
 returns-2 : tie.Need-returns-2
 unfolding wideAt
-returns-2 c = (simp (c .refuse .ensures, eq-eqb _ _ (c .before .before .before .if1 .left), ← c .before .before .last-byte .ensures, le-ltb _ _ (c .before .if2 .taken)), search needs)
+returns-2 c =
+    let if1 = c .before .before .before .if1 in
+    (simp (c .refuse .ensures, eq-eqb _ _ (if1 .left), ← c .before .before .last-byte .ensures, le-ltb _ _ (c .before .if2 .taken)), omega (arith, c))
 
 is-shortest-requires : tie.Need-is-shortest-requires
 is-shortest-requires c κs = search needs
@@ -26,7 +29,21 @@ refuse-requires-2 c κs = search needs
 
 returns-3 : tie.Need-returns-3
 unfolding wideAt
-returns-3 c = (simp (c .refuse2 .ensures, eq-eqb _ _ (c .before .before .before .before .before .if1 .left), ← c .before .before .before .before .last-byte .ensures, lt-ltb _ _ (c .before .before .before .if2 .left), ← c .before .before .is-shortest .ensures, not-true (c .before .before .is-shortest .result) (c .before .if3 .taken)), search needs)
+returns-3 c =
+    let if1 = c .before .before .before .before .before .if1 in
+    let last-byte = c .before .before .before .before .last-byte in
+    let if2 = c .before .before .before .if2 in
+    let is-shortest = c .before .before .is-shortest in (
+      simp (
+        c .refuse2 .ensures,
+        eq-eqb _ _ (if1 .left),
+        ← last-byte .ensures,
+        lt-ltb _ _ (if2 .left),
+        ← is-shortest .ensures,
+        not-true (is-shortest .result) (c .before .if3 .taken),
+      ),
+      omega (arith, c),
+    )
 
 add-decode : tie.Need-add-decode
 add-decode c = search needs
@@ -45,14 +62,46 @@ refuse-requires-3 c κs = search needs
 
 returns-4 : tie.Need-returns-4
 unfolding wideAt
-returns-4 c = (simp (c .refuse3 .ensures, eq-eqb _ _ (c .before .before .before .before .before .before .before .if1 .left), ← c .before .before .before .before .before .before .last-byte .ensures, lt-ltb _ _ (c .before .before .before .before .before .if2 .left), ← c .before .before .before .before .is-shortest .ensures, not-false (c .before .before .before .before .is-shortest .result) (c .before .before .before .if3 .left), ← c .before .before .decode .ensures .0, c .before .if4 .taken), search needs)
+returns-4 c =
+    let if1 = c .before .before .before .before .before .before .before .if1 in
+    let last-byte = c .before .before .before .before .before .before .last-byte in
+    let if2 = c .before .before .before .before .before .if2 in
+    let is-shortest = c .before .before .before .before .is-shortest in
+    let if3 = c .before .before .before .if3 in (
+      simp (
+        c .refuse3 .ensures,
+        eq-eqb _ _ (if1 .left),
+        ← last-byte .ensures,
+        lt-ltb _ _ (if2 .left),
+        ← is-shortest .ensures,
+        not-false (is-shortest .result) (if3 .left),
+        ← c .before .before .decode .ensures .0,
+        c .before .if4 .taken,
+      ),
+      omega (arith, c),
+    )
 
 add-t14 : tie.Need-add-t14
 add-t14 c = search needs
 
 returns-5 : tie.Need-returns-5
 unfolding wideAt
-returns-5 c = (simp (eq-eqb _ _ (c .before .before .before .before .before .before .if1 .left), ← c .before .before .before .before .before .last-byte .ensures, lt-ltb _ _ (c .before .before .before .before .if2 .left), ← c .before .before .before .is-shortest .ensures, not-false (c .before .before .before .is-shortest .result) (c .before .before .if3 .left), ← c .before .decode .ensures .0, c .if4 .left), c .before .decode .ensures .1)
+returns-5 c =
+    let if1 = c .before .before .before .before .before .before .if1 in
+    let last-byte = c .before .before .before .before .before .last-byte in
+    let if2 = c .before .before .before .before .if2 in
+    let is-shortest = c .before .before .before .is-shortest in (
+      simp (
+        eq-eqb _ _ (if1 .left),
+        ← last-byte .ensures,
+        lt-ltb _ _ (if2 .left),
+        ← is-shortest .ensures,
+        not-false (is-shortest .result) (c .before .before .if3 .left),
+        ← c .before .decode .ensures .0,
+        c .if4 .left,
+      ),
+      c .before .decode .ensures .1,
+    )
 
 pub wide-spec : {M : Type 1} → statement M
 wide-spec =
