@@ -198,6 +198,10 @@ def named(flags, names):
     return b''.join(b', ' + name for flag, name in zip(flags, names) if flag)
 
 
+def counted(n, one, many):
+    return b'%d %s' % (n, one if n == 1 else many)
+
+
 KINDS = [b'pair', b'triplet', b'bit', b'fieldtype']
 
 
@@ -207,7 +211,8 @@ def list_type(i, t):
 
 
 def list_lookup(i, l):
-    out = b'  %d %s at byte %d: %s, %d bits, %d entries\n' % (i, l['name'], l['at'], KINDS[l['kind']], l['bits'], len(l['entries']))
+    out = b'  %d %s at byte %d: %s, %s, %s\n' % (
+        i, l['name'], l['at'], KINDS[l['kind']], counted(l['bits'], b'bit', b'bits'), counted(len(l['entries']), b'entry', b'entries'))
     for e in l['entries']:
         out += b'    %s %s at byte %d%s%s\n' % (
             b' '.join(map(decimal, e['values'])), e['name'], e['at'],
@@ -223,8 +228,8 @@ def list_set(i, s):
 def list_field(order, f, types):
     flags = [b'bits given', b'unit given', b'proprietary', b'allowLookupWidthMismatch', b'dynamicFieldLength', b'overhead']
     reference = f['reference'] and KINDS[f['reference'][0]] + b' ' + f['reference'][1]
-    return b'    %d %s "%s" at byte %d: type %s, field type %d %s, %d bits, resolution %016x, offset %016x%s' % (
-        order, f['id'], f['name'], f['at'], f['type'], f['ft'], types[f['ft']]['name'], f['bits'], f['res_resolution'],
+    return b'    %d %s "%s" at byte %d: type %s, field type %d %s, %s, resolution %016x, offset %016x%s' % (
+        order, f['id'], f['name'], f['at'], f['type'], f['ft'], types[f['ft']]['name'], counted(f['bits'], b'bit', b'bits'), f['res_resolution'],
         f['res_offset'], named(f['flags'], flags)) + b''.join([
             given(b'unit', f['unit']), given(b'authored resolution', pattern(f['resolution'])),
             given(b'authored offset', pattern(f['offset'])), given(b'spn', decimal(f['spn'])), given(b'continues', f['continues']),
@@ -235,16 +240,16 @@ def list_field(order, f, types):
 
 def list_pgn(p, types):
     flags = [b'fallback', b'variable', b'MissingCompanyFields']
-    out = b'  %d %s at byte %d: %s, length %d%s%s, %d fields\n' % (
+    out = b'  %d %s at byte %d: %s, length %d%s%s, %s\n' % (
         p['number'], p['id'], p['at'], [b'Single', b'Fast', b'ISO', b'Mixed'][p['type']], p['length'],
-        given(b'minimum', decimal(p['minimum'])), named(p['flags'], flags), len(p['fields']))
+        given(b'minimum', decimal(p['minimum'])), named(p['flags'], flags), counted(len(p['fields']), b'field', b'fields'))
     out += list_set(1, p['sets'][0]) + list_set(2, p['sets'][1])
     return out + b''.join(list_field(i + 1, f, types) for i, f in enumerate(p['fields']))
 
 
 def listing(data):
     p = Pack(data)
-    out = b'pack of %d bytes, version 1, %d records\n' % (len(data), len(p.offsets))
+    out = b'pack of %d bytes, version 1, %s\n' % (len(data), counted(len(p.offsets), b'record', b'records'))
     out += b'field types %d\n' % len(p.types) + b''.join(list_type(i, t) for i, t in enumerate(p.types))
     out += b'lookups %d\n' % len(p.lookups) + b''.join(list_lookup(i, l) for i, l in enumerate(p.lookups))
     for i, name in enumerate([b'NMEA 2000', b'J1939', b'Quick']):
