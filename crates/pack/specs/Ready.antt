@@ -37,7 +37,7 @@ treePlace P (suc t) = treePlace P t + pgnRecordsBelow (pgns-of P t) (length (pgn
 abbrev pub pgnPlace : Pack → ℕ → ℕ → ℕ
 pgnPlace P t i = treePlace P t + pgnRecordsBelow (pgns-of P t) i
 
--- the index of a pack: the counts and places of its lists
+-- The index of a pack: the counts and places of its lists. The field types begin at 0, and nothing above needs the number of records.
 pub record IndexIs (P : Pack) (i : Index) : Type 0 where
   pub types : i .types .count ≡ length (P .fieldtypes)
   pub lookups : i .lookups .count ≡ length (P .lookups)

@@ -35,7 +35,7 @@ pub fn text_at(s: &[u8], at: usize) -> Text
 }
 
 // The text behind it: a field's name.
-pub fn second_text_at(s: &[u8], at: usize) -> Text
+pub(crate) fn second_text_at(s: &[u8], at: usize) -> Text
     ensures { λ r. ⌜ r ≡ textAt (now (s .entry)) (textAt (now (s .entry)) (fresh at) .next) .value ⌝ }
 {
     let first = cursor_at(at).text(s);

@@ -11,7 +11,7 @@ use crate::cursor::Cursor;
 use crate::text::OptText;
 use crate::text::Text;
 
-pub const MOST_BYTES: usize = 1_048_576;
+const MOST_BYTES: usize = 1_048_576;
 
 // A list of records: how many, and the work position at which it begins.
 pub struct Section {

@@ -10,7 +10,6 @@ ghost use Rattle.pack.specs.Ready.{Ready, LookupAt, PgnAt, LookupIs, Pgn
 use crate::at::entry_at;
 use crate::at::field_at;
 use crate::at::lookup_at;
-use crate::at::number_at;
 use crate::at::pgn_at;
 use crate::at::second_text_at;
 use crate::at::text_at;
@@ -75,15 +74,6 @@ pub fn pgn_of(s: &[u8], work: &[u32], t: u32, i: u32, p: usize) -> PgnView
 {
     let at = offset(work, p);
     pgn_at(s, at)
-}
-
-// The number of PGN i of tree t, at p.
-pub fn pgn_number_of(s: &[u8], work: &[u32], t: u32, i: u32, p: usize) -> u32
-    requires { ⌜ PgnAt (now s) (now work) t i p ⌝ }
-    ensures { λ r. ⌜ r ≡ pgn-at (packOf (now (s .entry))) t i .pgn ⌝ }
-{
-    let at = offset(work, p);
-    number_at(s, at)
 }
 
 // Field j of PGN i of tree t, which is at p.

@@ -2,7 +2,7 @@
 ghost use mathlib.Core.Path.{_≡_};
 ghost use mathlib.Core.Bool.{_&&_};
 ghost use Prim.Native.Nat.{_+_, _<_};
-ghost use Rattle.pack.specs.Notation.{_<ᵇ_, _≤ᵇ_};
+ghost use Rattle.pack.specs.Notation.{_<ᵇ_, _≤ᵇ_, _==_};
 ghost use Rattle.pack.specs.Trees.{treeNumber, protocolOf, prefixOf, sectionOf};
 use crate::load::Index;
 use crate::load::Section;
@@ -93,14 +93,20 @@ impl FieldIndex {
     }
 }
 
-// Whether an order comes before another. Sets compare orders by this and by `among` alone.
+// Orders are compared by these three: whether one comes before another, whether two are the same, whether one is among a set's.
 pub fn precedes(a: FieldOrder, b: FieldOrder) -> bool
     ensures { λ r. ⌜ r ≡ (a .0 <ᵇ b .0) ⌝ }
 {
     a.0 < b.0
 }
 
-// Whether an order is one of so many from `start` on.
+pub fn same_order(a: FieldOrder, b: FieldOrder) -> bool
+    ensures { λ r. ⌜ r ≡ (a .0 == b .0) ⌝ }
+{
+    a.0 == b.0
+}
+
+// So many orders from `start` on.
 pub fn among(order: FieldOrder, start: FieldOrder, count: u32) -> bool
     ensures { λ r. ⌜ r ≡ ((start .0 ≤ᵇ order .0) && (order .0 <ᵇ start .0 + count)) ⌝ }
 {

@@ -33,7 +33,7 @@ pub fn part(s: &[u8], t: Text) -> &[u8]
 }
 
 // Whether two texts are the same bytes.
-pub fn same(a: &[u8], b: &[u8]) -> bool
+pub(crate) fn same(a: &[u8], b: &[u8]) -> bool
     ensures { λ r. ⌜ r ≡ now (a .entry) ≐ now (b .entry) ⌝ }
 {
     if a.len() != b.len() {
@@ -50,7 +50,7 @@ pub fn same(a: &[u8], b: &[u8]) -> bool
 }
 
 // Whether a stands before b in byte order, a shorter prefix first.
-pub fn precedes(a: &[u8], b: &[u8]) -> bool
+pub(crate) fn precedes(a: &[u8], b: &[u8]) -> bool
     ensures { λ r. ⌜ r ≡ now (a .entry) ≺ now (b .entry) ⌝ }
 {
     let mut i = 0;
@@ -75,7 +75,7 @@ pub fn same_text(s: &[u8], t: Text, u: Text) -> bool
     same(part(s, t), part(s, u))
 }
 
-pub fn text_precedes(s: &[u8], t: Text, u: Text) -> bool
+pub(crate) fn text_precedes(s: &[u8], t: Text, u: Text) -> bool
     ensures { λ r. ⌜ r ≡ bytesOf (now (s .entry)) t ≺ bytesOf (now (s .entry)) u ⌝ }
 {
     precedes(part(s, t), part(s, u))

@@ -5,6 +5,7 @@ use listing::say;
 use pack::pgn::OptRepeating;
 use pack::pgn::PgnView;
 use pack::protocol::FieldOrder;
+use pack::protocol::same_order;
 use rules::continues::holds_order;
 
 // How many passes of each set have begun, of set 2 since set 1's latest.
@@ -24,7 +25,7 @@ pub fn none() -> Passes
 
 fn begins(set: OptRepeating, order: FieldOrder) -> bool {
     if holds_order(set, order) {
-        return order.0 == set.set.start;
+        return same_order(order, FieldOrder(set.set.start));
     }
     false
 }

@@ -5,9 +5,9 @@ use mathlib.Core.Path.{_≡_, refl, ap}
 use mathlib.Core.Bool.{Bool, true, false, not, _||_}
 use mathlib.Core.Option.{Option, none, some}
 use lib.ListN.{length}
-use lib.Dec.{ltb, leb, eqb}
+use lib.Dec.{eqb}
 use borrow.Author.Tests.{ltb-true, eqb-true, not-true, lt-ltb, le-ltb, le-leb, ne-eqb}
-use Rattle.walk.specs.Layout.{Layout, set-at, start, end, nonempty, holds, nested-in, inside-previous, misplaced, clash, stop-1}
+use Rattle.walk.specs.Layout.{Layout, set-at, start, end, nonempty, nested-in, inside-previous, misplaced, clash, stop-1}
 use Rattle.walk.specs.Held.{shares-held}
 use Rattle.walk.specs.HeldReadings.{field-in, may-hold, count-field-widest, widest-count-fields-held}
 use Rattle.walk.proofs.Tests.{and-i, or-i, and-not, imp-e, every-e, none-below}

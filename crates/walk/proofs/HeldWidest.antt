@@ -8,7 +8,7 @@ use lib.ListN.{length}
 use lib.Dec.{ltb, leb, eqb}
 use Rattle.pack.specs.Value.{Pgn, Pack}
 use Rattle.rules.specs.SearchLaws.{any-hit}
-use Rattle.rules.specs.Search.{anyBelow, everyBelow}
+use Rattle.rules.specs.Search.{anyBelow}
 use Rattle.walk.specs.Layout.{Layout, layout, set-at, nonempty, holds, nested-in}
 use Rattle.walk.specs.Held.{shares-held, count-field-held, count-fields-held, held-by, held}
 use Rattle.walk.specs.HeldReadings.{of-every-set, of-nonempty-sets, in-no-set, field-in, may-hold}

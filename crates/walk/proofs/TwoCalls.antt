@@ -1,16 +1,14 @@
 -- Demand 3 from the contracts of the two calls and the guarantee.
-use Prim.Native.Nat.{ℕ, _+_, _*_}
-use native.Mathlib.Omega.{arith}
+use Prim.Native.Nat.{ℕ, _*_}
 use mathlib.Core.Path.{_≡_, refl}
 use mathlib.Core.Bool.{Bool, true, false, false≢true}
-use mathlib.Core.List.{List, [], _∷_}
+use mathlib.Core.List.{List}
 use lib.ListN.{length}
-use lib.Dec.{ltb, leb, eqb}
+use lib.Dec.{ltb, leb}
 use borrow.Author.Tests.{ltb-true, leb-false, eqb-true}
 use Rattle.pack.specs.Load.{Verdict, refused, accepted, verdict, indexOf, loaded}
 use Rattle.pack.specs.Meaning.{packOf}
 use Rattle.pack.specs.Value.{Pgn, Pack, pgns-of, pgn-at}
-use Rattle.rules.specs.declared.Finding.{Finding}
 use Rattle.rules.specs.Check.{check}
 use Rattle.rules.specs.Clean.{errors-clean}
 use Rattle.rules.specs.Checked.{checked}

@@ -1,7 +1,7 @@
 // The stops with a memory: of the first 256 fields one that has no fieldtype lookup and does not stop is read once, however many passes
 // visit it. By the law of position only stop 5 goes by more than the field.
 ghost use mathlib.Core.Path.{_≡_};
-ghost use mathlib.Core.Bool.{false, true, _||_};
+ghost use mathlib.Core.Bool.{false, true};
 ghost use Prim.Native.Nat.{suc, _<_};
 ghost use lib.ListN.{length, getD, set};
 ghost use Rattle.pack.specs.Meaning.{packOf};

@@ -1,4 +1,5 @@
-// "A field's index runs from 0 and its order from 1": here one is made of the other. Any other order of the walk is a set's.
+// "A field's index runs from 0 and its order from 1": the first order, the next one, and back to an index. Else an order is `FieldIndex::order`
+// of a field, or a set's.
 ghost use mathlib.Core.Path.{_≡_};
 ghost use Prim.Native.Nat.{_+_, _-_, _≤_, _<_};
 use pack::protocol::FieldIndex;

@@ -17,6 +17,7 @@ use crate::sets::Sets;
 use crate::sets::is_nonempty;
 use crate::sets::placed;
 use pack::protocol::FieldOrder;
+use pack::protocol::same_order;
 
 // What is left of a set's passes after the present one: they never end, or so many.
 pub struct Further {
@@ -101,7 +102,7 @@ fn after(further: Further) -> Turning
 fn turn(left: Left, o: FieldOrder, end: FieldOrder) -> Turning
     ensures { λ r. ⌜ turn-of r ≡ turn (o .0 == end .0) (left-of left) ⌝ }
 {
-    if o.0 != end.0 {
+    if !same_order(o, end) {
         return Turning::GoesOn;
     }
     if !left.present {
@@ -140,7 +141,7 @@ fn arrives(set: Set, o: FieldOrder, left: Left) -> bool
     if !is_nonempty(set) {
         return false;
     }
-    if set.start.0 != o.0 {
+    if !same_order(set.start, o) {
         return false;
     }
     !left.present
@@ -352,7 +353,7 @@ pub fn is_counter(counter: OptOrder, o: FieldOrder) -> bool
     ensures { λ r. ⌜ r ≡ counts (opt-order counter) (o .0 - 1) ⌝ }
 {
     if counter.given {
-        return counter.order.0 == o.0;
+        return same_order(counter.order, o);
     }
     false
 }

@@ -19,6 +19,7 @@ use crate::sets::Set;
 use crate::sets::Sets;
 use pack::protocol::FieldIndex;
 use pack::protocol::FieldOrder;
+use pack::protocol::same_order;
 
 // Where a run ends: the order that is due there, and the number of visits by then.
 pub struct RunEnd {
@@ -38,10 +39,10 @@ pub fn write_visit(visits: &mut [u32], n: usize, field: FieldIndex)
 fn is_edge(set: Set, o: FieldOrder) -> bool
     ensures { λ r. ⌜ r ≡ ((set .start .0 == o .0) || (o .0 == set .end .0)) ⌝ }
 {
-    if set.start.0 == o.0 {
+    if same_order(set.start, o) {
         return true;
     }
-    o.0 == set.end.0
+    same_order(o, set.end)
 }
 
 // Whether a visit at the order o, of a field that is no countField, leads to the next order and changes nothing else.

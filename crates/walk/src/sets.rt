@@ -1,6 +1,6 @@
 // The repeating sets of a PGN as values: "sets and countField use orders".
 ghost use mathlib.Core.Path.{_≡_};
-ghost use mathlib.Core.Bool.{true, not, _&&_, _||_};
+ghost use mathlib.Core.Bool.{true, _&&_, _||_};
 ghost use Prim.Native.Nat.{suc, _+_, _<_};
 ghost use Rattle.pack.specs.Meaning.{optRepeating, packOf};
 ghost use Rattle.pack.specs.Notation.{_<ᵇ_, _==_};

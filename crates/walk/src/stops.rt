@@ -1,6 +1,6 @@
 // The stops 3 to 9 at a due field: "At a field, in this order".
 ghost use mathlib.Core.Path.{_≡_};
-ghost use mathlib.Core.Bool.{true, false, not, _&&_};
+ghost use mathlib.Core.Bool.{true, false, _&&_};
 ghost use mathlib.Core.Option.{none};
 ghost use Prim.Native.Nat.{ℕ, suc, _+_, _<_};
 ghost use lib.ListN.{length};
@@ -15,8 +15,7 @@ ghost use Rattle.walk.specs.Layout.{layout, sets-hold};
 ghost use Rattle.walk.specs.Naming.{IsFound, found-pgn};
 ghost use Rattle.walk.specs.SetsOf.{SetsAre};
 ghost use Rattle.walk.specs.StopParts.{Named, stop-number, field-stop, need-stop};
-ghost use Rattle.walk.specs.Stops.{is-missing, lookup-missing, match-unfit, names-missing, entries-name-missing, reference-names-missing, lacks};
-ghost use Rattle.walk.specs.Stops.{lacks-length, stop-at};
+ghost use Rattle.walk.specs.Stops.{is-missing, lookup-missing, match-unfit, names-missing, entries-name-missing, lacks, lacks-length, stop-at};
 use crate::named::FoundPgn;
 use crate::sets::Sets;
 use crate::sets::placed;

@@ -6,13 +6,12 @@ use Rattle.walk.specs.SetsOf.{SetsAre}
 use Rattle.walk.specs.Steps.{Run}
 use Rattle.walk.specs.Walk.{Stops, due}
 use borrow.Author.Tests.{not-false}
-use borrow.Author.Needs.{needs}
 use native.Mathlib.Omega.{arith}
 use Prim.Native.Nat.{ℕ, suc, _-_, _≤_}
 use mathlib.Core.Path.{_≡_, refl, _∙_}
 use mathlib.Core.Bool.{true, false}
 use mathlib.Core.Option.{none}
-use lib.ListN.{length, getD, length-set}
+use lib.ListN.{length, getD}
 use denote.Ref.{now}
 use Rattle.walk.proofs.runs.run.Statement.{statement}
 use Rattle.walk.proofs.runs.run.Tie as tie

@@ -1,7 +1,6 @@
 use Rattle.pack.specs.Meaning.{packOf}
 use Rattle.pack.specs.Value.{pgn-at}
 use denote.Ref.{now}
-use mathlib.Core.Path.{refl}
 use Prim.Native.Nat.{_-_}
 use native.Mathlib.Omega.{arith}
 use Rattle.walk.proofs.Walks.{step-stops, step-visits}
