@@ -1,6 +1,6 @@
 //! The harness's commands.
 
-use harness::{bench, diff, reader, record, report, show, text};
+use harness::{bench, diff, library, oracle, reader, record, report, show, text};
 use std::io::{Read, Write};
 use std::process::ExitCode;
 
@@ -51,6 +51,15 @@ fn run_diff(options: &[&str]) -> Result<(), String> {
     let runs: Vec<_> = diff::RUNS.iter().filter(|(name, _)| what == "all" || what == *name).collect();
     if runs.is_empty() {
         return Err(USAGE.into());
+    }
+    // what is asked for by name must run
+    let missing = match what {
+        "oracle" | "rust" if !oracle::PRESENT => Some("the oracle's files were not there at build time"),
+        "rust" if !library::PRESENT => Some("no library is linked"),
+        _ => None,
+    };
+    if let Some(missing) = missing {
+        return Err(format!("{what}: cannot run, {missing}"));
     }
     runs.into_iter().try_for_each(|(name, run)| run(seed, count).map_err(|failure| format!("{name}: {failure}")))
 }
