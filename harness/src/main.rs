@@ -1,6 +1,6 @@
 //! The harness's commands.
 
-use harness::{bench, diff, record, report, show, text};
+use harness::{bench, diff, library, oracle, reader, record, report, show, text};
 use std::io::{Read, Write};
 use std::process::ExitCode;
 
@@ -10,7 +10,8 @@ const USAGE: &str = "usage:
   harness record DIR    write a fixed list of packs with their answers
   harness bench [--what load|check|walk|all]
                         time the same inputs on each side
-  harness pack FILE     turn the readable form into a pack on standard output
+  harness pack FILE     write the pack that a text says (docs/TEXT-FORM.md) to standard output
+  harness unpack FILE   write a pack in the text form to standard output
   harness show          list the pack on standard input in words
   harness report        print what the report program prints for the pack on standard input";
 
@@ -23,6 +24,7 @@ fn main() -> ExitCode {
         ["bench"] => run_bench("all"),
         ["bench", "--what", what] => run_bench(what),
         ["pack", file] => pack(file),
+        ["unpack", file] => unpack(file),
         ["show"] => answer(|bytes| show::show(bytes).into_bytes()),
         ["report"] => answer(report::report),
         _ => Err(USAGE.into()),
@@ -50,6 +52,15 @@ fn run_diff(options: &[&str]) -> Result<(), String> {
     if runs.is_empty() {
         return Err(USAGE.into());
     }
+    // what is asked for by name must run
+    let missing = match what {
+        "oracle" | "rust" if !oracle::PRESENT => Some("the oracle's files were not there at build time"),
+        "rust" if !library::PRESENT => Some("no library is linked"),
+        _ => None,
+    };
+    if let Some(missing) = missing {
+        return Err(format!("{what}: cannot run, {missing}"));
+    }
     runs.into_iter().try_for_each(|(name, run)| run(seed, count).map_err(|failure| format!("{name}: {failure}")))
 }
 
@@ -63,14 +74,30 @@ fn run_bench(what: &str) -> Result<(), String> {
 }
 
 fn pack(file: &str) -> Result<(), String> {
-    let source = std::fs::read_to_string(file).map_err(|error| format!("{file}: {error}"))?;
-    let bytes = text::to_bytes(&source).map_err(|error| format!("{file}: {error}"))?;
-    std::io::stdout().write_all(&bytes).map_err(|error| error.to_string())
+    let said = text::read(&read(file)?).map_err(|error| format!("{file}: {error}"))?;
+    for note in &said.notes {
+        eprintln!("{file}: note: {note}");
+    }
+    write(&said.bytes())
+}
+
+fn unpack(file: &str) -> Result<(), String> {
+    let loaded = reader::read(&read(file)?);
+    let loaded = loaded.map_err(|refusal| format!("{file}: refused {} {}", refusal.number, refusal.detail))?;
+    write(text::from_pack(&loaded.pack).as_bytes())
+}
+
+fn read(file: &str) -> Result<Vec<u8>, String> {
+    std::fs::read(file).map_err(|error| format!("{file}: {error}"))
+}
+
+fn write(bytes: &[u8]) -> Result<(), String> {
+    std::io::stdout().write_all(bytes).map_err(|error| error.to_string())
 }
 
 /// Writes what is said of the pack on standard input.
 fn answer(of: impl Fn(&[u8]) -> Vec<u8>) -> Result<(), String> {
     let mut bytes = Vec::new();
     std::io::stdin().read_to_end(&mut bytes).map_err(|error| error.to_string())?;
-    std::io::stdout().write_all(&of(&bytes)).map_err(|error| error.to_string())
+    write(&of(&bytes))
 }

@@ -1,182 +1,167 @@
-//! The readable form of a pack: what an author writes, in lines; what keel derives from it is derived here as keel does
-//! (root types, widths, scalings, lengths, the lookup of SPN names).
-//!
-//! ```text
-//! type NAME [base NAME] [prints] [signed] [size N] [resolution X] [offset X] [unit U]
-//! lookup NAME pair|triplet|bit|fieldtype BITS
-//!   value N "Name"                                   (pair, bit)
-//!   value N N "Name"                                 (triplet)
-//!   value N "Name" TYPE [lookup NAME]                (fieldtype)
-//! tree nmea2000|j1939|quick
-//! pgn NUMBER ID Single|Fast|ISO|Mixed [fallback] [missingCompanyFields] [minLength N]
-//!   set 1|2 start N count N [countField N] [nested]
-//!   field ID "Name" TYPE [bits N] [resolution X] [offset X] [unit U] [spn N] [continues ID] [match M]
-//!         [lookup|lookupIndirect|lookupBits|lookupFieldtype NAME] [allowLookupWidthMismatch] [proprietary]
-//!         [specialValues N] [bitLengthField ID] [trailingZeroIsDigit ID] [dynamicFieldLength] [overhead]
-//! ```
-//!
-//! One record a line. A word with blanks stands in quotes; `#` begins a comment. Lookups may stand in any order.
+//! The text form of a pack (docs/TEXT-FORM.md): what an author writes, in lines. What keel derives from it is derived here as
+//! keel does (root types, widths, scalings, lengths, the lookup of SPN names), unless the text states it; so any pack can be
+//! written, a faulty one too. An error is one of the text and names its line; to refuse a pack is the library's.
 
-use crate::encode::encode;
+mod line;
+mod write;
+
+use self::line::{Answer, Line, lossy, unknown};
+pub use self::write::from_pack;
+use crate::encode::{encode, number};
 use crate::rules::first_carriers;
 use crate::value::*;
-use std::str::FromStr;
+
+/// The lookup that is made from the SPNs.
+const SPN_LOOKUP: &[u8] = b"J1939_SPN";
+const TREES: [&str; 3] = ["nmea2000", "j1939", "quick"];
+/// A reference by the kind of its lookup.
+const REFERENCES: [&str; 4] = ["lookup", "lookupIndirect", "lookupBits", "lookupFieldtype"];
+
+/// What a text says.
+pub struct Said {
+    pub pack: Pack,
+    pub version: u32,
+    /// bytes after the last tree
+    pub tail: Text,
+    /// what an author may have meant otherwise, with its line
+    pub notes: Vec<String>,
+}
+
+impl Said {
+    pub fn bytes(&self) -> Vec<u8> {
+        // a pack is encoded with version 1, which is one byte
+        [&number(self.version.into()), &encode(&self.pack).bytes[1..], &self.tail].concat()
+    }
+}
 
 /// The pack's bytes, or what is wrong and in which line.
 pub fn to_bytes(source: &str) -> Result<Vec<u8>, String> {
-    to_pack(source).map(|pack| encode(&pack).bytes)
+    read(source.as_bytes()).map(|said| said.bytes())
 }
 
 pub fn to_pack(source: &str) -> Result<Pack, String> {
-    let mut author = Author::default();
-    for (number, line) in source.lines().enumerate() {
-        author.line(line).map_err(|error| format!("line {}: {error}", number + 1))?;
-    }
-    author.finish()
+    read(source.as_bytes()).map(|said| said.pack)
 }
 
-type Answer<T> = Result<T, String>;
+pub fn read(source: &[u8]) -> Result<Said, String> {
+    let mut author = Author { version: 1, ..Author::default() };
+    let source = str::from_utf8(source).map_err(|error| {
+        let before = &source[..error.valid_up_to()];
+        let line = before.iter().filter(|byte| **byte == b'\n').count() + 1;
+        format!("line {line}: bytes that are not UTF-8 are written as \\xNN in quotes")
+    })?;
+    for (number, line) in source.lines().enumerate() {
+        author.number = number + 1;
+        author.line(line).map_err(|error| format!("line {}: {error}", number + 1))?;
+    }
+    Ok(author.finish())
+}
 
 /// What a type hands down that the pack does not say of it.
 #[derive(Clone, Default)]
 struct Inherited {
     unit: Option<Text>,
-    offset: f64,
+    offset: Float,
+}
+
+/// A PGN, with what was stated of it that else is derived.
+#[derive(Default)]
+struct Draft {
+    pgn: Pgn,
+    line: usize,
+    length_stated: bool,
+    /// of each field
+    continuation_stated: Vec<bool>,
 }
 
 #[derive(Default)]
 struct Author {
-    pack: Pack,
+    version: u32,
+    fieldtypes: Vec<FieldType>,
     inherited: Vec<Inherited>,
+    lookups: Vec<Lookup>,
+    lookups_as_written: bool,
+    trees: [Vec<Draft>; 3],
+    tail: Text,
     tree: usize,
-}
-
-/// The words of a line, a quoted one without its quotes.
-fn split(line: &str) -> Answer<Vec<String>> {
-    let mut words = Vec::new();
-    let mut rest = line.trim_start();
-    while !rest.is_empty() && !rest.starts_with('#') {
-        let (word, after) = match rest.strip_prefix('"') {
-            Some(quoted) => quoted.split_once('"').ok_or("a quote is not closed")?,
-            None => rest.split_at(rest.find(char::is_whitespace).unwrap_or(rest.len())),
-        };
-        words.push(word.to_string());
-        rest = after.trim_start();
-    }
-    Ok(words)
-}
-
-/// The words of a line that are left.
-struct Line {
-    words: std::vec::IntoIter<String>,
-}
-
-impl Line {
-    fn text(&mut self) -> Answer<String> {
-        self.words.next().ok_or("the line ends too early".into())
-    }
-
-    fn bytes(&mut self) -> Answer<Text> {
-        self.text().map(String::into_bytes)
-    }
-
-    fn number<T: FromStr>(&mut self) -> Answer<T> {
-        let word = self.text()?;
-        word.parse().map_err(|_| format!("{word} is no number that fits"))
-    }
-
-    fn float(&mut self) -> Answer<Float> {
-        self.number().map(Float::of)
-    }
-
-    /// One of a few names.
-    fn one_of<T: Copy>(&mut self, all: &[T], name: impl Fn(T) -> &'static str) -> Answer<T> {
-        let word = self.text()?;
-        all.iter().copied().find(|one| name(*one) == word).ok_or(format!("{word} is none of its names"))
-    }
-
-    /// The next option's name, if one is left.
-    fn option(&mut self) -> Option<String> {
-        self.words.next()
-    }
-}
-
-fn unknown<T>(option: &str) -> Answer<T> {
-    Err(format!("{option} is not known here"))
+    /// of the line
+    number: usize,
 }
 
 impl Author {
     fn line(&mut self, line: &str) -> Answer<()> {
-        let mut line = Line { words: split(line)?.into_iter() };
+        let mut line = Line::of(line)?;
         match line.option().as_deref() {
-            None => Ok(()),
-            Some("type") => self.fieldtype(&mut line),
-            Some("lookup") => self.lookup(&mut line),
-            Some("value") => self.value(&mut line),
-            Some("tree") => {
-                let names = ["nmea2000", "j1939", "quick"];
-                self.tree = line.one_of(&[0, 1, 2], |tree| names[tree])?;
-                Ok(())
-            }
-            Some("pgn") => self.pgn(&mut line),
-            Some("set") => self.set(&mut line),
-            Some("field") => self.field(&mut line),
-            Some(other) => unknown(other),
+            None => {}
+            Some("version") => self.version = line.number()?,
+            Some("lookupsAsWritten") => self.lookups_as_written = true,
+            Some("type") => self.fieldtype(&mut line)?,
+            Some("lookup") => self.lookup(&mut line)?,
+            Some("value") => self.value(&mut line)?,
+            Some("tree") => self.tree = line.one_of(&[0, 1, 2], |tree| TREES[tree])?,
+            Some("pgn") => self.pgn(&mut line)?,
+            Some("set") => self.set(&mut line)?,
+            Some("field") => self.field(&mut line)?,
+            Some("tail") => self.tail.extend(line.text()?),
+            Some(other) => return unknown(other),
         }
+        line.end()
     }
 
     fn type_index(&self, name: &[u8]) -> Answer<usize> {
-        let found = self.pack.fieldtypes.iter().position(|ft| ft.name == name);
-        found.ok_or(format!("there is no type {} so far", String::from_utf8_lossy(name)))
+        let found = self.fieldtypes.iter().position(|ft| ft.name == name);
+        found.ok_or_else(|| format!("there is no type {} so far", lossy(name)))
     }
 
     /// A type takes from its base what it does not say itself.
     fn fieldtype(&mut self, line: &mut Line) -> Answer<()> {
-        let name = line.bytes()?;
+        let name = line.text()?;
         let mut ft = FieldType { root_name: name.clone(), name, ..FieldType::default() };
         let mut own = Inherited::default();
         while let Some(option) = line.option() {
             match option.as_str() {
                 "base" => {
-                    let base = self.type_index(&line.bytes()?)?;
+                    let base = self.type_index(&line.text()?)?;
                     own = self.inherited[base].clone();
-                    ft = FieldType { name: ft.name, base: true, ..self.pack.fieldtypes[base].clone() };
+                    ft = FieldType { name: ft.name, base: true, ..self.fieldtypes[base].clone() };
                 }
+                "hasBase" => ft.base = true,
+                "root" => ft.root_name = line.text()?,
                 "prints" => ft.print_function = true,
                 "signed" => ft.signed = true,
                 "size" => ft.size = line.number()?,
                 "resolution" => ft.resolution = line.float()?,
-                "offset" => own.offset = line.number()?,
-                "unit" => own.unit = Some(line.bytes()?),
+                "offset" => own.offset = line.float()?,
+                "unit" => own.unit = Some(line.text()?),
                 other => return unknown(other),
             }
         }
-        self.pack.fieldtypes.push(ft);
+        self.fieldtypes.push(ft);
         self.inherited.push(own);
         Ok(())
     }
 
     fn lookup(&mut self, line: &mut Line) -> Answer<()> {
-        let name = line.bytes()?;
+        let name = line.text()?;
         let kind = line.one_of(&Kind::ALL, Kind::name)?;
-        self.pack.lookups.push(Lookup { name, kind, bits: line.number()?, entries: Vec::new() });
+        self.lookups.push(Lookup { name, kind, bits: line.number()?, entries: Vec::new() });
         Ok(())
     }
 
     fn value(&mut self, line: &mut Line) -> Answer<()> {
-        let lookup = self.pack.lookups.last_mut().ok_or("a value before any lookup")?;
+        let lookup = self.lookups.last_mut().ok_or("a value before any lookup")?;
         let mut entry = Entry::default();
         if lookup.kind == Kind::Triplet {
             entry.first = line.number()?;
         }
         entry.value = line.number()?;
-        entry.name = line.bytes()?;
+        entry.name = line.text()?;
         if lookup.kind == Kind::Fieldtype {
-            entry.fieldtype = line.bytes()?;
+            entry.fieldtype = line.text()?;
         }
         match line.option().as_deref() {
             None => {}
-            Some("lookup") if lookup.kind == Kind::Fieldtype => entry.nested = Some(line.bytes()?),
+            Some("lookup") if lookup.kind == Kind::Fieldtype => entry.nested = Some(line.text()?),
             Some(other) => return unknown(other),
         }
         lookup.entries.push(entry);
@@ -184,22 +169,29 @@ impl Author {
     }
 
     fn pgn(&mut self, line: &mut Line) -> Answer<()> {
-        let mut pgn = Pgn { pgn: line.number()?, id: line.bytes()?, ..Pgn::default() };
+        let mut draft = Draft { line: self.number, ..Draft::default() };
+        let pgn = &mut draft.pgn;
+        (pgn.pgn, pgn.id) = (line.number()?, line.text()?);
         pgn.packet = line.one_of(&PacketType::ALL, PacketType::name)?;
         while let Some(option) = line.option() {
             match option.as_str() {
                 "fallback" => pgn.fallback = true,
                 "missingCompanyFields" => pgn.missing_company_fields = true,
+                "length" => {
+                    draft.length_stated = true;
+                    pgn.length = line.number()?;
+                }
+                "variable" => pgn.variable = true,
                 "minLength" => pgn.min_length = Some(line.number()?),
                 other => return unknown(other),
             }
         }
-        self.pack.trees[self.tree].push(pgn);
+        self.trees[self.tree].push(draft);
         Ok(())
     }
 
-    fn last_pgn(&mut self) -> Answer<&mut Pgn> {
-        self.pack.trees[self.tree].last_mut().ok_or("no PGN so far".into())
+    fn last_pgn(&mut self) -> Answer<&mut Draft> {
+        self.trees[self.tree].last_mut().ok_or("no PGN so far in this tree".into())
     }
 
     fn set(&mut self, line: &mut Line) -> Answer<()> {
@@ -214,75 +206,108 @@ impl Author {
                 other => return unknown(other),
             }
         }
-        self.last_pgn()?.sets[which] = Some(set);
+        self.last_pgn()?.pgn.sets[which] = Some(set);
         Ok(())
     }
 
-    fn field(&mut self, line: &mut Line) -> Answer<()> {
-        let (id, name, type_) = (line.bytes()?, line.bytes()?, line.bytes()?);
-        let ft = self.type_index(&type_)?;
-        let fieldtype = &self.pack.fieldtypes[ft];
-        let mut field = Field {
-            id,
-            name,
-            type_,
+    /// What a field of this type has where its line says nothing.
+    fn field_of_type(&self, ft: usize) -> Field {
+        Field {
             ft: ft as u32,
-            res_bits: fieldtype.size,
-            res_resolution: default_resolution(fieldtype),
-            res_offset: Float::of(self.inherited[ft].offset),
+            res_bits: self.fieldtypes[ft].size,
+            res_resolution: default_resolution(&self.fieldtypes[ft]),
+            res_offset: self.inherited[ft].offset,
             res_unit: self.inherited[ft].unit.clone(),
             ..Field::default()
+        }
+    }
+
+    fn field(&mut self, line: &mut Line) -> Answer<()> {
+        let (id, name, type_) = (line.text()?, line.text()?, line.text()?);
+        let mut option = line.option();
+        // it comes first, because what the others leave unsaid hangs on it
+        let unsaid = if option.as_deref() == Some("typeIndex") {
+            let ft = line.number()?;
+            option = line.option();
+            Field { ft, ..Field::default() }
+        } else {
+            self.field_of_type(self.type_index(&type_)?)
         };
-        while let Some(option) = line.option() {
-            match option.as_str() {
+        let mut field = Field { id, name, type_, ..unsaid };
+        let mut continuation_stated = false;
+        while let Some(name) = option {
+            match name.as_str() {
                 "bits" => {
                     field.bits_given = true;
                     field.res_bits = line.number()?;
                 }
+                "resBits" => field.res_bits = line.number()?,
                 "resolution" => {
                     field.res_resolution = line.float()?;
                     field.resolution = Some(field.res_resolution);
                 }
+                "resResolution" => field.res_resolution = line.float()?,
                 "offset" => {
                     field.res_offset = line.float()?;
                     field.offset = Some(field.res_offset);
                 }
+                "resOffset" => field.res_offset = line.float()?,
                 "unit" => {
                     field.unit_given = true;
-                    field.res_unit = Some(line.bytes()?);
+                    field.res_unit = Some(line.text()?);
                 }
+                "unitGiven" => field.unit_given = true,
+                "resUnit" => field.res_unit = Some(line.text()?),
+                "noUnit" => field.res_unit = None,
                 "spn" => field.spn = Some(line.number()?),
-                "continues" => field.continues = Some(line.bytes()?),
-                "match" => field.match_ = Some(line.bytes()?),
-                "lookup" => field.reference = Some((Kind::Pair, line.bytes()?)),
-                "lookupIndirect" => field.reference = Some((Kind::Triplet, line.bytes()?)),
-                "lookupBits" => field.reference = Some((Kind::Bit, line.bytes()?)),
-                "lookupFieldtype" => field.reference = Some((Kind::Fieldtype, line.bytes()?)),
+                "continues" => field.continues = Some(line.text()?),
+                "match" => field.match_ = Some(line.text()?),
                 "allowLookupWidthMismatch" => field.allow_lookup_width_mismatch = true,
                 "proprietary" => field.proprietary = true,
                 "specialValues" => field.special_values = Some(line.number()?),
-                "bitLengthField" => field.bit_length_field = Some(line.bytes()?),
-                "trailingZeroIsDigit" => field.trailing_zero = Some(line.bytes()?),
+                "bitLengthField" => field.bit_length_field = Some(line.text()?),
+                "trailingZeroIsDigit" => field.trailing_zero = Some(line.text()?),
                 "dynamicFieldLength" => field.dynamic_field_length = true,
                 "overhead" => field.overhead = true,
-                other => return unknown(other),
+                "continuation" => {
+                    continuation_stated = true;
+                    field.continuation = Some(line.number()?);
+                }
+                "noContinuation" => {
+                    continuation_stated = true;
+                    field.continuation = None;
+                }
+                other => match REFERENCES.iter().position(|name| *name == other) {
+                    Some(kind) => field.reference = Some((Kind::ALL[kind], line.text()?)),
+                    None => return unknown(other),
+                },
             }
+            option = line.option();
         }
-        self.last_pgn()?.fields.push(field);
+        let draft = self.last_pgn()?;
+        draft.pgn.fields.push(field);
+        draft.continuation_stated.push(continuation_stated);
         Ok(())
     }
 
-    fn finish(mut self) -> Answer<Pack> {
-        for pgn in self.pack.trees.iter_mut().flatten() {
-            place_continuations(pgn);
-            measure(pgn).map_err(|error| format!("PGN {}: {error}", pgn.pgn))?;
+    fn finish(mut self) -> Said {
+        let mut notes = Vec::new();
+        for draft in self.trees.iter_mut().flatten() {
+            place_continuations(draft);
+            if !draft.length_stated {
+                let note = measure(&mut draft.pgn);
+                notes.extend(note.map(|note| format!("line {}: {note}", draft.line)));
+            }
         }
-        self.pack.lookups.extend(spn_lookup(&self.pack.trees[1]));
-        self.pack.lookups.sort_by(|a, b| a.name.cmp(&b.name));
-        if let Some(pair) = self.pack.lookups.windows(2).find(|pair| pair[0].name == pair[1].name) {
-            return Err(format!("two lookups {}", String::from_utf8_lossy(&pair[0].name)));
+        let trees = self.trees.map(|tree| tree.into_iter().map(|draft| draft.pgn).collect());
+        let mut pack = Pack { fieldtypes: self.fieldtypes, lookups: self.lookups, trees };
+        if !self.lookups_as_written {
+            if !pack.lookups.iter().any(|lookup| lookup.name == SPN_LOOKUP) {
+                pack.lookups.extend(spn_lookup(&pack.trees[1]));
+            }
+            pack.lookups.sort_by(|a, b| a.name.cmp(&b.name));
         }
-        Ok(self.pack)
+        Said { pack, version: self.version, tail: self.tail, notes }
     }
 }
 
@@ -293,35 +318,41 @@ fn default_resolution(ft: &FieldType) -> Float {
 }
 
 /// A continued field gets the width of the field that continues it, where both lie in one stretch of fixed widths.
-fn place_continuations(pgn: &mut Pgn) {
+fn place_continuations(Draft { pgn, continuation_stated, .. }: &mut Draft) {
     let fixed = pgn.fields.iter().take_while(|field| field.res_bits != 0).count();
-    for i in 0..pgn.fields.len() {
+    for i in 0..pgn.fields.len().min(fixed + 1) {
         let Some(id) = pgn.fields[i].continues.clone() else { continue };
         let width = pgn.fields[i].res_bits;
-        if let Some(low) = pgn.fields[..i].iter_mut().find(|field| field.id == id)
-            && i <= fixed
+        if let Some(low) = pgn.fields[..i].iter().position(|field| field.id == id)
+            && !continuation_stated[low]
         {
-            low.continuation.get_or_insert(width);
+            pgn.fields[low].continuation.get_or_insert(width);
         }
     }
 }
 
-/// The length of the part that does not repeat, and whether there is any other.
-fn measure(pgn: &mut Pgn) -> Answer<()> {
+/// The length of the part that does not repeat, and whether there is any other; a note where keel would give none.
+fn measure(pgn: &mut Pgn) -> Option<String> {
     let [one, two] = &pgn.sets;
     let repeated = match one {
-        Some(one) if one.count > 0 => one.count + two.as_ref().filter(|two| !two.nested).map_or(0, |two| two.count),
+        Some(one) if one.count > 0 => {
+            u64::from(one.count) + two.as_ref().filter(|two| !two.nested).map_or(0, |two| two.count.into())
+        }
         _ => 0,
     };
-    let counted = pgn.fields.len().checked_sub(repeated as usize).ok_or("its sets have more fields than it has")?;
-    let counted = &pgn.fields[..counted];
-    let bits: u32 = counted.iter().map(|field| field.res_bits).sum();
-    pgn.variable = repeated > 0 || counted.iter().any(|field| field.res_bits == 0);
-    if !bits.is_multiple_of(8) {
-        return Err(format!("a length of {bits} bits does not fill bytes"));
+    let counted = (pgn.fields.len() as u64).checked_sub(repeated);
+    let counted_fields = &pgn.fields[..counted.unwrap_or(0) as usize];
+    let bits: u64 = counted_fields.iter().map(|field| u64::from(field.res_bits)).sum();
+    pgn.variable |= repeated > 0 || counted_fields.iter().any(|field| field.res_bits == 0);
+    pgn.length = u32::try_from(bits.div_ceil(8)).unwrap_or(u32::MAX);
+    let length = pgn.length;
+    if counted.is_none() {
+        Some(format!("the sets have more fields than the PGN, its length is taken as {length}"))
+    } else if !bits.is_multiple_of(8) || bits > u32::MAX.into() {
+        Some(format!("{bits} bits are no length in bytes, it is taken as {length}"))
+    } else {
+        None
     }
-    pgn.length = bits / 8;
-    Ok(())
 }
 
 /// J1939_SPN, which names each SPN by the first field that carries it.
@@ -334,5 +365,5 @@ fn spn_lookup(pgns: &[Pgn]) -> Option<Lookup> {
             ..Entry::default()
         })
         .collect();
-    (!entries.is_empty()).then(|| Lookup { name: b"J1939_SPN".to_vec(), kind: Kind::Pair, bits: 19, entries })
+    (!entries.is_empty()).then(|| Lookup { name: SPN_LOOKUP.to_vec(), kind: Kind::Pair, bits: 19, entries })
 }

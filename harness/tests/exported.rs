@@ -1,6 +1,13 @@
 //! The exported calls are declared alike in the library's source, in the C header and in the harness: the same functions in
-//! the same order, with the same parameters.
+//! the same order, with the same parameters. The header's constants are the numbers that the harness uses.
 
+use harness::encode::encode;
+use harness::finding::{self, Finding};
+use harness::reader::{LIMIT, Refusal};
+use harness::report::worked_example;
+use harness::text::{to_bytes, to_pack};
+use harness::walk::End;
+use harness::{calls, library};
 use std::path::Path;
 use std::process::Command;
 
@@ -188,7 +195,10 @@ fn a_missing_function_is_seen() {
 /// The compiler takes a file of this one line without a warning; none where there is no compiler of that language.
 fn compiles(language: &str, line: &str) -> Option<Result<(), String>> {
     let include = Path::new(env!("CARGO_MANIFEST_DIR")).join("../include");
-    let file = std::env::temp_dir().join(format!("sarwymp-{}-{}", std::process::id(), language.replace('+', "p")));
+    // tests run at once, each with a file of its own
+    let thread = format!("{:?}", std::thread::current().id());
+    let name = format!("sarwymp-{}-{thread}-{}", std::process::id(), language.replace('+', "p"));
+    let file = std::env::temp_dir().join(name);
     std::fs::write(&file, line).unwrap();
     let mut command = Command::new("cc");
     command.args(["-x", language, "-Wall", "-Wextra", "-Werror", "-fsyntax-only", "-I"]).arg(include).arg(&file);
@@ -209,6 +219,140 @@ fn header_compiles() {
                 assert!(language == "c++" || compiles(language, wrong) != Some(Ok(())), "{language}");
             }
             _ => println!("header_compiles: skipped, `cc` does not compile {language} here"),
+        }
+    }
+}
+
+/// The header's constants of numbers, in their order.
+fn constants(header: &str) -> Vec<(String, u64)> {
+    let defined = header.lines().filter_map(|line| line.strip_prefix("#define SARWYMP_"));
+    let split = defined.filter_map(|rest| rest.split_once(' '));
+    let number = |rest: &str| rest.split_whitespace().next().unwrap().parse().unwrap();
+    split.map(|(name, rest)| (name.to_string(), number(rest))).collect()
+}
+
+/// The number that the library refuses by, and where it was not linked the harness.
+fn number<const N: usize>(theirs: Option<(u32, [u64; N])>, ours: Result<[u64; N], Refusal>) -> u64 {
+    let ours = library::as_numbers(ours);
+    assert_eq!(theirs.unwrap_or(ours), ours);
+    ours.0.into()
+}
+
+/// The number of the refusal that each name is for.
+fn refusals() -> Vec<(&'static str, u64)> {
+    let load = |bytes: &[u8], lent: usize| {
+        let (mut work, mut other) = (vec![0; lent], vec![0; lent]);
+        number(library::load(bytes, &mut work), calls::load(bytes, &mut other))
+    };
+    let text = |text: &str| load(&to_bytes(text).unwrap(), 9);
+    let bytes = encode(&worked_example()).bytes;
+    let (work, other) = (&mut [0; 9], &mut [0; 9]);
+    let findings = number(library::check(&bytes, work, &mut []), calls::check(&bytes, other, &mut []));
+    let named = number(library::held(&bytes, work, 3, 0), calls::held_pgn(&bytes, other, 3, 0));
+    let place = library::place_text(&bytes, work, 1, 0, 0, &mut []);
+    let place = number(place, calls::place_text(&bytes, other, 1, 0, 0, &mut []));
+    let visits = library::walk(&bytes, work, 0, 0, &[0], &mut []);
+    let visits = number(visits, calls::walk_pgn(&bytes, other, 0, 0, &[0], &mut []));
+    vec![
+        ("DONE", load(&bytes, 9)),
+        ("REFUSED_CUT", load(&[], 9)),
+        ("REFUSED_NUMBER", load(&[0x81, 0], 9)),
+        ("REFUSED_VERSION", text("version 2")),
+        ("REFUSED_CODE", load(&[1, 1, 0, 8], 9)),
+        ("REFUSED_LOOKUP_ORDER", text("lookup A pair 1\nlookup A pair 1")),
+        ("REFUSED_FIELD_TYPE", text("pgn 1 a Fast\nfield f F T typeIndex 0")),
+        ("REFUSED_SUM", text("pgn 1 a Fast\nset 1 start 1 count 4294967295")),
+        ("REFUSED_TAIL", text("tail x")),
+        ("REFUSED_LONG", load(&vec![0; LIMIT + 1], 9)),
+        ("REFUSED_WORK", load(&bytes, 0)),
+        ("REFUSED_FINDINGS", findings),
+        ("REFUSED_NAMED", named),
+        ("REFUSED_TEXT", place),
+        ("REFUSED_VISITS", visits),
+    ]
+}
+
+/// Every constant but the sizes of stacks, which stack.rs tries.
+fn in_harness() -> Vec<(&'static str, u64)> {
+    let tree = |name: &str| {
+        let pack = to_pack(&format!("tree {name}\npgn 1 a Fast")).unwrap();
+        pack.trees.iter().position(|pgns| !pgns.is_empty()).unwrap() as u64
+    };
+    let at = Finding::from_numbers([0, 1, 2, 3, 4, 5, 6, 7]);
+    let severity = |error| {
+        let fits = |severity: &u32| Finding { severity: *severity, ..Finding::default() }.is_error() == error;
+        (0..2).find(fits).unwrap().into()
+    };
+    let ends = [
+        "END_WHOLE",
+        "END_SETS",
+        "END_COUNT_FIELD",
+        "END_LOOKUP",
+        "END_MATCH",
+        "END_ENTRY",
+        "END_BIT_LENGTH",
+        "END_CONTINUES",
+        "END_DYNAMIC",
+        "END_TRAILING_ZERO",
+        "END_USED_UP",
+    ];
+    let stops = (1..=9).map(End::Stop);
+    let numbers = [End::Whole].into_iter().chain(stops).chain([End::UsedUp]).map(End::number);
+    let mut all = refusals();
+    all.extend([
+        ("PACK_MOST", LIMIT as u64),
+        ("TREE_NMEA2000", tree("nmea2000")),
+        ("TREE_J1939", tree("j1939")),
+        ("TREE_QUICK", tree("quick")),
+        ("FINDING_RULE", at.rule.into()),
+        ("FINDING_SEVERITY", at.severity.into()),
+        ("FINDING_CAUSE", at.cause.into()),
+        ("FINDING_PLACE", at.place.into()),
+        ("FINDING_TREE", at.tree.into()),
+        ("FINDING_ITEM", at.item.into()),
+        ("FINDING_PART", at.part.into()),
+        ("FINDING_OTHER", at.other.into()),
+        ("FINDING_NUMBERS", at.numbers().len() as u64),
+        ("SEVERITY_WARNING", severity(false)),
+        ("SEVERITY_ERROR", severity(true)),
+        ("PLACE_FIELD_TYPES", finding::FIELDTYPES.into()),
+        ("PLACE_PGN", finding::PGN.into()),
+        ("PLACE_LOOKUP", finding::LOOKUP.into()),
+        ("PLACE_PGN_GROUP", finding::GROUP.into()),
+    ]);
+    all.extend(ends.into_iter().zip(numbers));
+    all
+}
+
+#[test]
+fn constants_are_the_harnesss_numbers() {
+    let header = constants(HEADER);
+    let header: Vec<(&str, u64)> = header.iter().map(|(name, number)| (name.as_str(), *number)).collect();
+    let (stacks, others): (Vec<_>, Vec<_>) = header.into_iter().partition(|(name, _)| name.starts_with("STACK_"));
+    assert_eq!(others, in_harness());
+    assert_eq!(stacks.len(), 3);
+}
+
+/// A call that is refused leaves 0 where the number of errors stands, as the header says at the call.
+#[test]
+fn a_refused_check_counts_no_error() {
+    let bytes = encode(&worked_example()).bytes;
+    for (work, findings) in [(0, 100), (9, 0)] {
+        let (number, answer) = library::as_numbers(calls::check(&bytes, &mut vec![0; work], &mut vec![0; findings]));
+        let theirs = library::check(&bytes, &mut vec![0; work], &mut vec![0; findings]);
+        assert_eq!(theirs.unwrap_or((number, answer)), (number, answer));
+        assert!(number != 0 && answer[1] == 0);
+    }
+}
+
+/// The constants as a compiler reads them.
+#[test]
+fn constants_compile() {
+    for (language, assert) in [("c", "_Static_assert"), ("c++", "static_assert")] {
+        let one = |(name, number): &(String, u64)| format!("{assert}(SARWYMP_{name} == {number}, \"{name}\");\n");
+        let lines: String = constants(HEADER).iter().map(one).collect();
+        if compiles(language, "int nothing;\n") == Some(Ok(())) {
+            assert_eq!(compiles(language, &format!("#include \"sarwymp.h\"\n{lines}")), Some(Ok(())), "{language}");
         }
     }
 }
