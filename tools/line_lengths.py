@@ -1,17 +1,17 @@
 #!/usr/bin/env python3
-"""Says whether a line of crates/*/src or crates/*/specs is longer than LIMIT characters.
+"""Says whether a line of a crate is longer than its LIMIT of characters: in src and specs, and in proofs.
 
     line_lengths.py            fail on a line above the limit that tools/long_lines.txt does not allow
     line_lengths.py --write    write tools/long_lines.txt anew, from the lines as they are
 
 tools/long_lines.txt has a line for each file that may have longer lines: how many, the longest, the file. A file that no longer needs
-what it is allowed is named, so that the list gets shorter and not longer. Proofs are not looked at.
+what it is allowed is named, so that the list gets shorter and not longer.
 """
 import glob
 import os
 import sys
 
-LIMIT = 160
+LIMIT = {'src': 160, 'specs': 160, 'proofs': 240}
 TOP = os.path.join(os.path.dirname(os.path.abspath(__file__)), '..')
 LIST = 'tools/long_lines.txt'
 
@@ -19,12 +19,12 @@ LIST = 'tools/long_lines.txt'
 def long_lines():
     """For each file its lines above the limit, as (line number, characters)."""
     found = {}
-    for part in ('src', 'specs'):
+    for part, limit in LIMIT.items():
         for path in sorted(glob.glob(f'crates/*/{part}/**', recursive=True)):
-            if os.path.isfile(path):
+            if path.endswith(('.rt', '.antt')):
                 with open(path, encoding='utf-8') as lines:
                     lengths = enumerate((len(line.rstrip('\n')) for line in lines), 1)
-                    over = [(number, length) for number, length in lengths if length > LIMIT]
+                    over = [(number, length) for number, length in lengths if length > limit]
                 if over:
                     found[path] = over
     return found
@@ -38,7 +38,7 @@ def allowed():
 
 def write(found):
     with open(LIST, 'w', encoding='utf-8') as out:
-        out.write(f'# Files with lines above {LIMIT} characters: how many, the longest (tools/line_lengths.py).\n')
+        out.write('# Files with lines above their limit: how many, the longest (tools/line_lengths.py).\n')
         for path, over in sorted(found.items()):
             out.write(f'{len(over):4} {max(length for _, length in over):5} {path}\n')
 
@@ -53,11 +53,11 @@ def main():
     listed = allowed()
     wrong = False
     for path, over in found.items():
-        count, longest = listed.get(path, (0, LIMIT))
+        count, longest = listed.get(path, (0, 0))
         too_long = over if len(over) > count else [one for one in over if one[1] > longest]
         if too_long:
             wrong = True
-            print(f'{path}: {len(over)} lines above {LIMIT} characters, the longest {max(n for _, n in over)}; '
+            print(f'{path}: {len(over)} lines above the limit, the longest {max(n for _, n in over)}; '
                   f'allowed {count}, the longest {longest}')
             for number, length in too_long:
                 print(f'  line {number}: {length}')
@@ -66,7 +66,7 @@ def main():
         if len(over) < count or max((n for _, n in over), default=0) < longest:
             print(f'{path}: is allowed more long lines than it has; `tools/line_lengths.py --write` says it anew')
     total = sum(len(over) for over in found.values())
-    print(f'{total} lines above {LIMIT} characters in {len(found)} files')
+    print(f'{total} lines above their limit in {len(found)} files')
     sys.exit(wrong)
 
 

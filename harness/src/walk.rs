@@ -260,7 +260,7 @@ pub fn held(pack: &Pack, pgn: &Pgn) -> bool {
     {
         return false;
     }
-    // To the letter: the countField of every set, an empty one's too.
+    // The countField of every set, an empty one's too (docs/DECISIONS.md 13).
     for (set, this) in pgn.sets.iter().enumerate().filter_map(|(set, this)| Some((set, this.as_ref()?))) {
         let Some(count_field) = this.count_field else { continue };
         for (other, holder) in &sets {
