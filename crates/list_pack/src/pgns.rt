@@ -53,18 +53,10 @@ fn list_pgn(s: &[u8], work: &[u32], p: usize) -> usize {
     work::behind(p, g.fields)
 }
 
-fn say_protocol(protocol: Protocol) {
-    match protocol {
-        Protocol::Nmea2000 => say::words(b" NMEA 2000"),
-        Protocol::J1939 => say::words(b" J1939"),
-        Protocol::Quick => say::words(b" Quick"),
-    }
-}
-
 pub fn list(s: &[u8], work: &[u32], protocol: Protocol, section: Section) {
     let n = section.count;
     say::number(b"tree ", protocol.tree() as u64);
-    say_protocol(protocol);
+    say::protocol(protocol);
     say::number(b", PGNs ", n as u64);
     say::words(b"\n");
     let mut p = section.place;

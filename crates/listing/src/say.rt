@@ -3,6 +3,7 @@ use libc::STDOUT_FILENO;
 use pack::load::Refusal;
 use pack::optional::OptFloat;
 use pack::optional::OptNumber;
+use pack::protocol::Protocol;
 use pack::text::OptText;
 use pack::text::Text;
 use pack::text::part;
@@ -58,6 +59,15 @@ pub fn opt_text(w: &[u8], s: &[u8], t: OptText) {
 pub fn opt_pattern(w: &[u8], f: OptFloat) {
     if f.given {
         pattern(w, f.pattern);
+    }
+}
+
+// What a tree's protocol is called.
+pub fn protocol(p: Protocol) {
+    match p {
+        Protocol::Nmea2000 => words(b" NMEA 2000"),
+        Protocol::J1939 => words(b" J1939"),
+        Protocol::Quick => words(b" Quick"),
     }
 }
 

@@ -16,25 +16,33 @@ fn usage() {
 }
 
 // The PGN that the second argument names. An argument longer than the buffer is read as an empty one, which names none.
-fn show_named(pack: &[u8], work: &mut [u32], tree: u32, readings: &[u64], visits: &mut [u32]) {
+fn show_named(
+    pack: &[u8],
+    work: &mut [u32],
+    findings: &mut [u32],
+    tree: u32,
+    readings: &[u64],
+    visits: &mut [u32],
+) {
     let mut name = io::buffer();
     let n = os::arg(2, &mut name);
     if n == 0 {
         usage();
         return;
     }
-    show::show(pack, work, tree, &name[..n], readings, visits);
+    show::show(pack, work, findings, tree, &name[..n], readings, visits);
 }
 
 // Arrays become slices behind references, where their lengths are known by their types.
 fn lend(
     pack: &[u8],
     work: &mut [u32; 16_384],
+    findings: &mut [u32; 16_384],
     tree: u32,
     readings: &[u64],
     visits: &mut [u32; 256],
 ) {
-    show_named(pack, work, tree, readings, visits);
+    show_named(pack, work, findings, tree, readings, visits);
 }
 
 fn show_in_pack(tree: u32, readings: &[u64]) {
@@ -45,8 +53,16 @@ fn show_in_pack(tree: u32, readings: &[u64]) {
     }
     let n = input.len;
     let mut work = [0u32; 16_384];
+    let mut findings = [0u32; 16_384];
     let mut visits = [0u32; 256];
-    lend(&buf[..n], &mut work, tree, readings, &mut visits);
+    lend(
+        &buf[..n],
+        &mut work,
+        &mut findings,
+        tree,
+        readings,
+        &mut visits,
+    );
 }
 
 // As many readings as there are arguments behind the second.

@@ -7,35 +7,68 @@ use listing::work;
 use pack::at::pgn_at;
 use pack::at::text_at;
 use pack::load::Loaded;
-use pack::load::Refusal;
 use pack::load::load;
 use pack::pgn::PgnView;
 use pack::protocol::FieldIndex;
 use pack::protocol::FieldOrder;
 use pack::protocol::Protocol;
+use rules::check::Checked;
+use rules::check::check;
 use walk::walk::End;
 use walk::walk::HeldAnswer;
 use walk::walk::Walked;
 use walk::walk::held;
 use walk::walk::walk;
 
+fn show_tree(tree: u32) {
+    say::number(b"tree ", tree as u64);
+    say::protocol(Protocol::of_tree(tree));
+}
+
 fn heading(s: &[u8], g: PgnView, tree: u32, pgn: u32) {
     say::number(b"PGN ", g.pgn as u64);
     say::text(b" ", s, g.id);
-    say::number(b" of tree ", tree as u64);
+    say::words(b" of ");
+    show_tree(tree);
     say::number(b", index ", pgn as u64);
     say::words(b"\n");
 }
 
-fn show_held(s: &[u8], work: &mut [u32], tree: u32, pgn: u32) {
+// What being held means for a pack that was checked without one error, or not.
+fn say_held(yes: bool, clean: bool) {
+    if !yes {
+        say::words(b"not held: a walk may stop even where there is no error\n");
+        return;
+    }
+    if clean {
+        say::words(b"held, and no error: no walk stops, whatever the readings\n");
+        return;
+    }
+    say::words(b"held, but a walk may stop: the pack is not without error\n");
+}
+
+fn show_held(s: &[u8], work: &mut [u32], tree: u32, pgn: u32, clean: bool) {
     match held(s, work, tree, pgn) {
         HeldAnswer::Refused(r) => say::refused(r),
-        HeldAnswer::Held(yes) => {
-            if yes {
-                say::words(b"held: no stop where the report shows no error\n");
-            } else {
-                say::words(b"not held: a walk may stop even where the report shows no error\n");
-            }
+        HeldAnswer::Held(yes) => say_held(yes, clean),
+    }
+}
+
+// How many errors the pack has. Whether it has none: a check that is refused, by 22 here, shows nothing.
+fn show_errors(s: &[u8], work: &mut [u32], findings: &mut [u32]) -> bool {
+    match check(s, work, findings) {
+        Checked::Refused(r) => {
+            say::words(b"its pack's errors are not counted: ");
+            say::refused(r);
+            false
+        }
+        Checked::Reported {
+            findings: n,
+            errors,
+        } => {
+            say::counted(b"its pack has ", n as u64, b" finding", b" findings");
+            say::counted(b", ", errors as u64, b" error\n", b" errors\n");
+            errors == 0
         }
     }
 }
@@ -148,18 +181,22 @@ fn show_walk(
 fn show_found(
     s: &[u8],
     work: &mut [u32],
+    findings: &mut [u32],
     tree: u32,
     found: Found,
     readings: &[u64],
     visits: &mut [u32],
 ) {
     if !found.given {
-        say::refused(Refusal::Absent);
+        say::words(b"not in the pack: no PGN of that number or id in ");
+        show_tree(tree);
+        say::words(b"\n");
         return;
     }
     let g = pgn_at(s, work::offset(work, found.place));
     heading(s, g, tree, found.pgn);
-    show_held(s, work, tree, found.pgn);
+    let clean = show_errors(s, work, findings);
+    show_held(s, work, tree, found.pgn, clean);
     show_walk(s, work, tree, found, g, readings, visits);
 }
 
@@ -167,6 +204,7 @@ fn show_found(
 pub fn show(
     s: &[u8],
     work: &mut [u32],
+    findings: &mut [u32],
     tree: u32,
     name: &[u8],
     readings: &[u64],
@@ -177,7 +215,7 @@ pub fn show(
         Loaded::Accepted(index) => {
             let section = Protocol::of_tree(tree).section(index);
             let found = find(s, work, section, name);
-            show_found(s, work, tree, found, readings, visits);
+            show_found(s, work, findings, tree, found, readings, visits);
         }
     }
 }

@@ -22,8 +22,8 @@ cast-number c = search needs
 number-requires : tie.Need-number-requires Inv-loop μ-loop
 number-requires c κs = search needs
 
-say-protocol-requires : tie.Need-say-protocol-requires Inv-loop μ-loop
-say-protocol-requires c κs = search needs
+protocol-requires : tie.Need-protocol-requires Inv-loop μ-loop
+protocol-requires c κs = search needs
 
 slice-aggregate-number-2 : tie.Need-slice-aggregate-number-2 Inv-loop μ-loop
 slice-aggregate-number-2 c = search needs
@@ -68,7 +68,7 @@ list-spec =
     tree-requires
     cast-number
     number-requires
-    say-protocol-requires
+    protocol-requires
     slice-aggregate-number-2
     cast-number-2
     number-requires-2
