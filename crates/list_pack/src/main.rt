@@ -5,6 +5,8 @@ mod pgns;
 mod refusal;
 mod types;
 
+use listing::input::longest_pack;
+use listing::input::most_records;
 use listing::input::read_pack;
 use listing::say;
 use pack::load::Index;
@@ -37,19 +39,26 @@ fn show(s: &[u8], work: &[u32], loaded: Loaded) {
     }
 }
 
-// A pack of at most 65,536 bytes has at most half as many records.
-fn list_pack(s: &[u8]) {
-    let mut space = [0u32; 32768];
-    let work: &mut [u32] = &mut space;
+fn list_pack(s: &[u8], work: &mut [u32]) {
     let loaded = load(s, work);
     show(s, work, loaded);
 }
 
-fn main() {
-    let mut buf = io::large_buffer();
-    let input = read_pack(&mut buf);
+fn read_and_list(buf: &mut [u8], work: &mut [u32]) {
+    let input = read_pack(buf);
     if input.whole {
         let n = input.len;
-        list_pack(&buf[..n]);
+        list_pack(&buf[..n], work);
     }
+}
+
+// Arrays become slices behind references, where their lengths are known by their types.
+fn lend(buf: &mut [u8; 1_048_576], work: &mut [u32; 524_288]) {
+    read_and_list(buf, work);
+}
+
+fn main() {
+    let mut buf = longest_pack();
+    let mut work = most_records();
+    lend(&mut buf, &mut work);
 }

@@ -10,14 +10,23 @@ pub struct Input {
 }
 
 // Where the input is longer than the buffer, that is said.
-pub fn read_pack(buf: &mut [u8; 65_536]) -> Input
+pub fn read_pack(buf: &mut [u8]) -> Input
     ensures { λ r. ⌜ Counts (r .len) (now (buf .exit)) ⌝ }
 {
     let len = io::read_full(STDIN_FILENO, buf);
     let mut more = [0u8; 1];
-    if len == 65_536 && io::read_full(STDIN_FILENO, &mut more) == 1 {
+    if len == buf.len() && io::read_full(STDIN_FILENO, &mut more) == 1 {
         say::words(b"too long\n");
         return Input { whole: false, len };
     }
     Input { whole: true, len }
+}
+
+// Room for a pack that `load` takes, and for the offsets of its records: none has more than one for every two bytes.
+pub fn longest_pack() -> [u8; 1_048_576] {
+    [0; 1_048_576]
+}
+
+pub fn most_records() -> [u32; 524_288] {
+    [0; 524_288]
 }

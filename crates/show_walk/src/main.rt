@@ -4,6 +4,8 @@ mod find;
 mod passes;
 mod show;
 
+use listing::input::longest_pack;
+use listing::input::most_records;
 use listing::input::read_pack;
 use listing::say;
 
@@ -33,30 +35,40 @@ fn show_named(
     show::show(pack, work, findings, tree, &name[..n], readings, visits);
 }
 
+fn read_and_show(
+    buf: &mut [u8],
+    work: &mut [u32],
+    findings: &mut [u32],
+    tree: u32,
+    readings: &[u64],
+    visits: &mut [u32],
+) {
+    let input = read_pack(buf);
+    if input.whole {
+        let n = input.len;
+        show_named(&buf[..n], work, findings, tree, readings, visits);
+    }
+}
+
 // Arrays become slices behind references, where their lengths are known by their types.
 fn lend(
-    pack: &[u8],
-    work: &mut [u32; 16_384],
+    buf: &mut [u8; 1_048_576],
+    work: &mut [u32; 524_288],
     findings: &mut [u32; 16_384],
     tree: u32,
     readings: &[u64],
     visits: &mut [u32; 256],
 ) {
-    show_named(pack, work, findings, tree, readings, visits);
+    read_and_show(buf, work, findings, tree, readings, visits);
 }
 
 fn show_in_pack(tree: u32, readings: &[u64]) {
-    let mut buf = io::large_buffer();
-    let input = read_pack(&mut buf);
-    if !input.whole {
-        return;
-    }
-    let n = input.len;
-    let mut work = [0u32; 16_384];
+    let mut buf = longest_pack();
+    let mut work = most_records();
     let mut findings = [0u32; 16_384];
     let mut visits = [0u32; 256];
     lend(
-        &buf[..n],
+        &mut buf,
         &mut work,
         &mut findings,
         tree,
@@ -66,7 +78,7 @@ fn show_in_pack(tree: u32, readings: &[u64]) {
 }
 
 // As many readings as there are arguments behind the second.
-fn read_and_show(readings: &mut [u64]) {
+fn with_readings(readings: &mut [u64]) {
     let tree = arguments::tree();
     if 2 < tree {
         usage();
@@ -84,7 +96,7 @@ fn first_readings(readings: &mut [u64], n: usize) {
         usage();
         return;
     }
-    read_and_show(&mut readings[..n]);
+    with_readings(&mut readings[..n]);
 }
 
 fn lend_readings(readings: &mut [u64; 256], n: usize) {

@@ -11,14 +11,14 @@ usage-requires c κs = search needs
 returns : tie.Need-returns
 returns c = search needs
 
-slice-relend-prefix-read-and-show : tie.Need-slice-relend-prefix-read-and-show
-slice-relend-prefix-read-and-show c = search needs
+slice-relend-prefix-with-readings : tie.Need-slice-relend-prefix-with-readings
+slice-relend-prefix-with-readings c = search needs
 
-slice-aggregate-read-and-show : tie.Need-slice-aggregate-read-and-show
-slice-aggregate-read-and-show c = sym (length-take-le _ _ (search needs))
+slice-aggregate-with-readings : tie.Need-slice-aggregate-with-readings
+slice-aggregate-with-readings c = sym (length-take-le _ _ (search needs))
 
-read-and-show-requires : tie.Need-read-and-show-requires
-read-and-show-requires c κs = search needs
+with-readings-requires : tie.Need-with-readings-requires
+with-readings-requires c κs = search needs
 
 same-length : tie.Need-same-length
 same-length c = search needs
@@ -32,8 +32,8 @@ first-readings-spec =
     (tie.spec
     usage-requires
     returns
-    slice-relend-prefix-read-and-show
-    slice-aggregate-read-and-show
-    read-and-show-requires
+    slice-relend-prefix-with-readings
+    slice-aggregate-with-readings
+    with-readings-requires
     same-length
     returns-2)
