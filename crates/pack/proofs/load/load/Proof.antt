@@ -1,6 +1,8 @@
 use Rattle.pack.proofs.Told.{promised}
 use Rattle.pack.proofs.Loading.{too-long, input-refused, work-short, loads}
 use Rattle.pack.specs.declared.load.Index.{Index}
+use Rattle.pack.specs.declared.load.Loaded.the-variants.{Refused}
+use Rattle.pack.specs.declared.load.Refusal.the-variants.{Work}
 use Rattle.pack.specs.Load.{indexOf}
 use Rattle.pack.specs.Format.{packEnd, offsets}
 use Prim.Native.Nat.{ℕ}
@@ -60,7 +62,7 @@ returns-3 c =
     let z : packEnd s .refused ≡ 0 = rw (← place-all .ensures .end) (if2 .left) in
     let n : place-all .result .index .records ≡ length (offsets s) = ap (λ (i : Index). i .records) (place-all .ensures .index z) in
     let a = work-short s w (omega (arith, c)) z (rw (x, n) at (c .if3 .taken)) in
-    promised _ _ _ _ (rw n (a .answer)) (x ∙ a .work)
+    promised _ _ _ _ (ap (λ (k : ℕ). Refused (Work k)) n ∙ a .answer) (x ∙ a .work)
 
 place-all-requires-2 : tie.Need-place-all-requires-2
 place-all-requires-2 c κs = search needs
