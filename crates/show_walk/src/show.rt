@@ -178,6 +178,7 @@ fn show_walk(
     }
 }
 
+// The walk first, since a check can take long.
 fn show_found(
     s: &[u8],
     work: &mut [u32],
@@ -195,9 +196,9 @@ fn show_found(
     }
     let g = pgn_at(s, work::offset(work, found.place));
     heading(s, g, tree, found.pgn);
+    show_walk(s, work, tree, found, g, readings, visits);
     let clean = show_errors(s, work, findings);
     show_held(s, work, tree, found.pgn, clean);
-    show_walk(s, work, tree, found, g, readings, visits);
 }
 
 // The PGN of that name in the tree.
