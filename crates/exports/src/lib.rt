@@ -1,11 +1,11 @@
 // The calls as a Rust or C program makes them: numbers and slices alone. Each answers 01's refusal number, 0 where there is none.
 ghost use mathlib.Core.Path.{_≡_};
 ghost use lib.ListN.{length};
-ghost use Rattle.pack.specs.Load.{load-tells, workAfter};
+ghost use Rattle.pack.specs.Load.{load-tells, work-after};
 ghost use Rattle.exports.specs.Answers.{filled};
-ghost use Rattle.rules.specs.Checked.{check-tells, findingsAfter};
-ghost use Rattle.rules.specs.PlaceCall.{place-tells, textAfter};
-ghost use Rattle.walk.specs.WalkCall.{walk-tells, visitsAfter, held-tells};
+ghost use Rattle.rules.specs.Checked.{check-tells, findings-after};
+ghost use Rattle.rules.specs.PlaceCall.{place-tells, text-after};
+ghost use Rattle.walk.specs.WalkCall.{walk-tells, visits-after, held-tells};
 use crate::answers::check_answer;
 use crate::answers::check_number;
 use crate::answers::held_answer;
@@ -30,7 +30,7 @@ mod answers;
 pub extern "C" fn sarwymp_load(pack: &[u8], work: &mut [u32], answer: &mut [u64; 11]) -> u32
     ensures number { λ r. ⌜ r ≡ load-tells (now (pack .entry)) (length (now (work .entry))) .number ⌝ }
     ensures numbers { λ r. ⌜ now (answer .exit) ≡ filled 11 (load-tells (now (pack .entry)) (length (now (work .entry))) .values) ⌝ }
-    ensures work { λ r. ⌜ now (work .exit) ≡ workAfter (now (pack .entry)) (now (work .entry)) ⌝ }
+    ensures work { λ r. ⌜ now (work .exit) ≡ work-after (now (pack .entry)) (now (work .entry)) ⌝ }
 {
     let l = load(pack, work);
     *answer = load_answer(l);
@@ -47,8 +47,8 @@ pub extern "C" fn sarwymp_check(
 ) -> u32
     ensures number { λ r. ⌜ r ≡ check-tells (now (pack .entry)) (length (now (work .entry))) (length (now (findings .entry))) .number ⌝ }
     ensures numbers { λ r. ⌜ now (answer .exit) ≡ filled 2 (check-tells (now (pack .entry)) (length (now (work .entry))) (length (now (findings .entry))) .values) ⌝ }
-    ensures work { λ r. ⌜ now (work .exit) ≡ workAfter (now (pack .entry)) (now (work .entry)) ⌝ }
-    ensures findings { λ r. ⌜ now (findings .exit) ≡ findingsAfter (now (pack .entry)) (length (now (work .entry))) (now (findings .entry)) ⌝ }
+    ensures work { λ r. ⌜ now (work .exit) ≡ work-after (now (pack .entry)) (now (work .entry)) ⌝ }
+    ensures findings { λ r. ⌜ now (findings .exit) ≡ findings-after (now (pack .entry)) (length (now (work .entry))) (now (findings .entry)) ⌝ }
 {
     let c = check(pack, work, findings);
     *answer = check_answer(c);
@@ -68,8 +68,8 @@ pub extern "C" fn sarwymp_place_text(
 ) -> u32
     ensures number { λ r. ⌜ r ≡ place-tells (now (pack .entry)) (length (now (work .entry))) place tree item (length (now (text .entry))) .number ⌝ }
     ensures numbers { λ r. ⌜ now (answer .exit) ≡ filled 1 (place-tells (now (pack .entry)) (length (now (work .entry))) place tree item (length (now (text .entry))) .values) ⌝ }
-    ensures work { λ r. ⌜ now (work .exit) ≡ workAfter (now (pack .entry)) (now (work .entry)) ⌝ }
-    ensures text { λ r. ⌜ now (text .exit) ≡ textAfter (now (pack .entry)) (length (now (work .entry))) place tree item (now (text .entry)) ⌝ }
+    ensures work { λ r. ⌜ now (work .exit) ≡ work-after (now (pack .entry)) (now (work .entry)) ⌝ }
+    ensures text { λ r. ⌜ now (text .exit) ≡ text-after (now (pack .entry)) (length (now (work .entry))) place tree item (now (text .entry)) ⌝ }
 {
     let p = place_text(pack, work, place, tree, item, text);
     *answer = place_answer(p);
@@ -90,8 +90,8 @@ pub extern "C" fn sarwymp_walk(
 ) -> u32
     ensures number { λ r. ⌜ r ≡ walk-tells (now (pack .entry)) (length (now (work .entry))) tree pgn (now (readings .entry)) (length (now (visits .entry))) .number ⌝ }
     ensures numbers { λ r. ⌜ now (answer .exit) ≡ filled 2 (walk-tells (now (pack .entry)) (length (now (work .entry))) tree pgn (now (readings .entry)) (length (now (visits .entry))) .values) ⌝ }
-    ensures work { λ r. ⌜ now (work .exit) ≡ workAfter (now (pack .entry)) (now (work .entry)) ⌝ }
-    ensures visits { λ r. ⌜ now (visits .exit) ≡ visitsAfter (now (pack .entry)) (length (now (work .entry))) tree pgn (now (readings .entry)) (now (visits .entry)) ⌝ }
+    ensures work { λ r. ⌜ now (work .exit) ≡ work-after (now (pack .entry)) (now (work .entry)) ⌝ }
+    ensures visits { λ r. ⌜ now (visits .exit) ≡ visits-after (now (pack .entry)) (length (now (work .entry))) tree pgn (now (readings .entry)) (now (visits .entry)) ⌝ }
 {
     let w = walk(pack, work, tree, pgn, readings, visits);
     *answer = walk_answer(w);
@@ -109,7 +109,7 @@ pub extern "C" fn sarwymp_held(
 ) -> u32
     ensures number { λ r. ⌜ r ≡ held-tells (now (pack .entry)) (length (now (work .entry))) tree pgn .number ⌝ }
     ensures numbers { λ r. ⌜ now (answer .exit) ≡ filled 1 (held-tells (now (pack .entry)) (length (now (work .entry))) tree pgn .values) ⌝ }
-    ensures work { λ r. ⌜ now (work .exit) ≡ workAfter (now (pack .entry)) (now (work .entry)) ⌝ }
+    ensures work { λ r. ⌜ now (work .exit) ≡ work-after (now (pack .entry)) (now (work .entry)) ⌝ }
 {
     let h = held(pack, work, tree, pgn);
     *answer = held_answer(h);

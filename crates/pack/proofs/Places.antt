@@ -7,9 +7,9 @@ use mathlib.Core.Path.{_≡_, refl, ap, _∙_}
 use mathlib.Core.List.{List, [], _∷_, _++_}
 use borrow.Author.Tests.{eq-eqb, ne-eqb}
 use lib.ListN.{set}
-use Rattle.pack.specs.Records.{typeAt, entryAt}
-use Rattle.pack.specs.Format.{types, typeOffsets, entries, entryOffsets, lookupNext, lookupRecords, lookups, lookupOffsets, noText, fieldNext, fields}
-use Rattle.pack.specs.Format.{fieldOffsets, pgnNext, pgnRecords, pgns, pgnOffsets}
+use Rattle.pack.specs.Records.{read-type, read-entry}
+use Rattle.pack.specs.Format.{types, type-offsets, entries, entry-offsets, lookup-next, lookup-records, lookups, lookup-offsets, no-text, field-next, fields}
+use Rattle.pack.specs.Format.{field-offsets, pgn-next, pgn-records, pgns, pgn-offsets}
 use Rattle.pack.specs.Placing.{Room, PlacedTo, counted}
 use Rattle.pack.specs.declared.cursor.Cursor.{Cursor}
 use Rattle.pack.proofs.Reading.{Reader, Moves, stays, type-reader, entry-reader, lookup-steps, field-steps, pgn-next-reader}
@@ -68,61 +68,61 @@ room-head {s} {f} r m c p room z = record { short = room .short; inside = r .wit
 -- ---- a turn of each loop, and where a refused one stays
 
 module _ (s : List ℕ) (c : Cursor) where
-  pub types-turn : (i : ℕ) → types s c (i + 1) ≡ typeAt s (types s c i) .next
+  pub types-turn : (i : ℕ) → types s c (i + 1) ≡ read-type s (types s c i) .next
   unfolding types
   types-turn i = rw add-one
 
-  pub typeOffsets-turn : (i : ℕ) → typeOffsets s c (i + 1) ≡ typeOffsets s c i ++ types s c i .at ∷ []
-  unfolding typeOffsets
-  typeOffsets-turn i = rw add-one
+  pub type-offsets-turn : (i : ℕ) → type-offsets s c (i + 1) ≡ type-offsets s c i ++ types s c i .at ∷ []
+  unfolding type-offsets
+  type-offsets-turn i = rw add-one
 
   pub types-stay : (i n : ℕ) → i ≤ n → (types s c i .refused ≡ 0 → ⊥) → types s c n ≡ types s c i
   unfolding types
   types-stay i n h = stays (type-reader s) c i n h
 
-  pub entries-turn : (k i : ℕ) → entries k s c (i + 1) ≡ entryAt k s (entries k s c i) .next
+  pub entries-turn : (k i : ℕ) → entries k s c (i + 1) ≡ read-entry k s (entries k s c i) .next
   unfolding entries
   entries-turn k i = rw add-one
 
-  pub entryOffsets-turn : (k i : ℕ) → entryOffsets k s c (i + 1) ≡ entryOffsets k s c i ++ entries k s c i .at ∷ []
-  unfolding entryOffsets
-  entryOffsets-turn k i = rw add-one
+  pub entry-offsets-turn : (k i : ℕ) → entry-offsets k s c (i + 1) ≡ entry-offsets k s c i ++ entries k s c i .at ∷ []
+  unfolding entry-offsets
+  entry-offsets-turn k i = rw add-one
 
   pub entries-stay : (k i n : ℕ) → i ≤ n → (entries k s c i .refused ≡ 0 → ⊥) → entries k s c n ≡ entries k s c i
   unfolding entries
   entries-stay k i n h = stays (entry-reader s k) c i n h
 
-  pub lookups-turn : (i : ℕ) → lookups s c (i + 1) ≡ lookupNext s (lookups s c i)
+  pub lookups-turn : (i : ℕ) → lookups s c (i + 1) ≡ lookup-next s (lookups s c i)
   unfolding lookups
   lookups-turn i = rw add-one
 
-  pub lookupOffsets-turn : (i : ℕ) → lookupOffsets s c (i + 1) ≡ lookupOffsets s c i ++ lookupRecords s (lookups s c i)
-  unfolding lookupOffsets
-  lookupOffsets-turn i = rw add-one
+  pub lookup-offsets-turn : (i : ℕ) → lookup-offsets s c (i + 1) ≡ lookup-offsets s c i ++ lookup-records s (lookups s c i)
+  unfolding lookup-offsets
+  lookup-offsets-turn i = rw add-one
 
   pub lookups-stay : (i n : ℕ) → i ≤ n → (lookups s c i .next .refused ≡ 0 → ⊥) → lookups s c n .next ≡ lookups s c i .next
   unfolding lookups
-  lookups-stay i n h = stays (lookup-steps s) (record { next = c; before = noText }) i n h
+  lookups-stay i n h = stays (lookup-steps s) (record { next = c; before = no-text }) i n h
 
-  pub fields-turn : (k i : ℕ) → fields k s c (i + 1) ≡ fieldNext k s (fields k s c i)
+  pub fields-turn : (k i : ℕ) → fields k s c (i + 1) ≡ field-next k s (fields k s c i)
   unfolding fields
   fields-turn k i = rw add-one
 
-  pub fieldOffsets-turn : (k i : ℕ) → fieldOffsets k s c (i + 1) ≡ fieldOffsets k s c i ++ fields k s c i .next .at ∷ []
-  unfolding fieldOffsets
-  fieldOffsets-turn k i = rw add-one
+  pub field-offsets-turn : (k i : ℕ) → field-offsets k s c (i + 1) ≡ field-offsets k s c i ++ fields k s c i .next .at ∷ []
+  unfolding field-offsets
+  field-offsets-turn k i = rw add-one
 
   pub fields-stay : (k i n : ℕ) → i ≤ n → (fields k s c i .next .refused ≡ 0 → ⊥) → fields k s c n .next ≡ fields k s c i .next
   unfolding fields
   fields-stay k i n h = stays (field-steps s k) (record { next = c; total = 0 }) i n h
 
-  pub pgns-turn : (k i : ℕ) → pgns k s c (i + 1) ≡ pgnNext k s (pgns k s c i)
+  pub pgns-turn : (k i : ℕ) → pgns k s c (i + 1) ≡ pgn-next k s (pgns k s c i)
   unfolding pgns
   pgns-turn k i = rw add-one
 
-  pub pgnOffsets-turn : (k i : ℕ) → pgnOffsets k s c (i + 1) ≡ pgnOffsets k s c i ++ pgnRecords k s (pgns k s c i)
-  unfolding pgnOffsets
-  pgnOffsets-turn k i = rw add-one
+  pub pgn-offsets-turn : (k i : ℕ) → pgn-offsets k s c (i + 1) ≡ pgn-offsets k s c i ++ pgn-records k s (pgns k s c i)
+  unfolding pgn-offsets
+  pgn-offsets-turn k i = rw add-one
 
   pub pgns-stay : (k i n : ℕ) → i ≤ n → (pgns k s c i .refused ≡ 0 → ⊥) → pgns k s c n ≡ pgns k s c i
   unfolding pgns

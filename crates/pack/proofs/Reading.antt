@@ -8,11 +8,11 @@ use mathlib.Core.Bool.{Bool, true, false}
 use borrow.Author.Tests.{ne-eqb, eqb-false, ltb-true, leb-true}
 use lib.ListN.{length}
 use Rattle.pack.specs.Notation.{_==_, _<ᵇ_, _≤ᵇ_, if_then_else_}
-use Rattle.pack.specs.Items.{_≺_, bytesOf, refuse, moved, lastByte, shortest, capped, groups, largest32, largest64, wideAt, numberAt, judged, versionAt}
-use Rattle.pack.specs.Items.{codeAt, indexAt, sumAt, bytesAt, textAt, nameAt, floatAt, markAt, optTextAt, optNumberAt, optBytesAt, optSumAt, optFloatAt}
-use Rattle.pack.specs.Records.{typeAt, firstAt, kindPartAt, entryAt, lookupAt, repeatingAt, optRepeatingAt, pgnAt, namesAt, scalingAt, authoredAt}
-use Rattle.pack.specs.Records.{optReferenceAt, linksAt, fieldAt}
-use Rattle.pack.specs.Format.{iter, types, entries, LookupState, lookupNext, lookups, noText, FieldState, fieldNext, fields, pgnNext, pgns}
+use Rattle.pack.specs.Items.{_≺_, bytes-of, refuse, moved, last-byte-at, shortest, capped, groups, largest32, largest64, read-wide, read-number, judged, read-version}
+use Rattle.pack.specs.Items.{read-code, read-index, read-sum, read-bytes, read-text, read-name, read-float, read-mark, read-opt-text, read-opt-number, read-opt-bytes, read-opt-sum, read-opt-float}
+use Rattle.pack.specs.Records.{read-type, read-first, read-kind-part, read-entry, read-lookup, read-repeating, read-opt-repeating, read-pgn, read-names, read-scaling, read-authored}
+use Rattle.pack.specs.Records.{read-opt-reference, read-links, read-field}
+use Rattle.pack.specs.Format.{iter, types, entries, LookupState, lookup-next, lookups, no-text, FieldState, field-next, fields, pgn-next, pgns}
 use Rattle.pack.specs.declared.text.OptText.{OptText}
 use Rattle.pack.specs.declared.number.Value.{Value}
 use Rattle.pack.specs.declared.cursor.Cursor.{Cursor}
@@ -131,11 +131,11 @@ module _ {s : List ℕ} where
 module _ (s : List ℕ) where
   -- the ends of a number: left as it was, cut short, refused by 2, read
   wide-all : (most : ℕ) (P : WideItem → Type 0) (c : Cursor) → ((c .refused == 0) ≡ false → P (record { value = 0; next = c })) → P (record { value = 0; next = refuse c 1 })
-      → P (record { value = 0; next = refuse c 2 }) → ((v : ℕ) → lastByte s (c .at) < length s → P (record { value = v; next = moved c (lastByte s (c .at) + 1) }))
-      → P (wideAt most s c)
-  unfolding wideAt
+      → P (record { value = 0; next = refuse c 2 }) → ((v : ℕ) → last-byte-at s (c .at) < length s → P (record { value = v; next = moved c (last-byte-at s (c .at) + 1) }))
+      → P (read-wide most s c)
+  unfolding read-wide
   wide-all most P c a b d e =
-      let l = lastByte s (c .at) in
+      let l = last-byte-at s (c .at) in
       if-all P (c .refused == 0) _ _
       (λ _. if-all P (l <ᵇ length s) _ _
       (λ h. if-all P (shortest s (c .at) l) _ _
@@ -144,8 +144,8 @@ module _ (s : List ℕ) where
       (λ _. b))
       a
 
-  pub wide-reader : (most : ℕ) → Reader s (λ c. wideAt most s c .next)
-  unfolding wideAt
+  pub wide-reader : (most : ℕ) → Reader s (λ c. read-wide most s c .next)
+  unfolding read-wide
   wide-reader most =
       record {
         sticky = λ c h. stick c h;
@@ -154,88 +154,88 @@ module _ (s : List ℕ) where
         numbered = λ c h. wide-all most (λ w. w .next .refused ≤ 8) c (λ _. h) (omega arith) (omega arith) (λ v l. h);
       }
     where
-      stick : (c : Cursor) → (c .refused ≡ 0 → ⊥) → wideAt most s c .next ≡ c
+      stick : (c : Cursor) → (c .refused ≡ 0 → ⊥) → read-wide most s c .next ≡ c
       stick c h = rw (ne-eqb _ _ h)
 
-  pub wide-moves : (most : ℕ) → Moves (λ c. wideAt most s c .next)
+  pub wide-moves : (most : ℕ) → Moves (λ c. read-wide most s c .next)
   wide-moves most c e =
       wide-all most (λ w. w .next .refused ≡ 0 → c .at + 1 ≤ w .next .at) c (λ h z. absurd (eqb-false _ _ h z)) (λ z. absurd (omega arith)) (λ z. absurd (omega arith)) (λ v l z. omega arith) e
 
-  pub number-reader : Reader s (λ c. numberAt s c .next)
-  unfolding numberAt
+  pub number-reader : Reader s (λ c. read-number s c .next)
+  unfolding read-number
   number-reader = wide-reader largest32
 
-  pub number-moves : Moves (λ c. numberAt s c .next)
-  unfolding numberAt
+  pub number-moves : Moves (λ c. read-number s c .next)
+  unfolding read-number
   number-moves = wide-moves largest32
 
-  judged-reader : (good : Cursor → Bool) (n : ℕ) → n ≤ 8 → Reader s (λ c. judged c (numberAt s c) (good c) n .next)
+  judged-reader : (good : Cursor → Bool) (n : ℕ) → n ≤ 8 → Reader s (λ c. judged c (read-number s c) (good c) n .next)
   unfolding judged
   judged-reader good n l =
       record {
         sticky = λ c h. stick c h;
         within =
             λ c h.
-            if-all (λ (w : NumberItem). w .next .at ≤ length s) (numberAt s c .next .refused == 0) _ _
+            if-all (λ (w : NumberItem). w .next .at ≤ length s) (read-number s c .next .refused == 0) _ _
             (λ _. if-all (λ (w : NumberItem). w .next .at ≤ length s) (good c) _ _ (λ _. number-reader .within c h) (λ _. h))
             (λ _. number-reader .within c h);
         grows =
             λ c.
-            if-all (λ (w : NumberItem). c .at ≤ w .next .at) (numberAt s c .next .refused == 0) _ _
+            if-all (λ (w : NumberItem). c .at ≤ w .next .at) (read-number s c .next .refused == 0) _ _
             (λ _. if-all (λ (w : NumberItem). c .at ≤ w .next .at) (good c) _ _ (λ _. number-reader .grows c) (λ _. omega arith))
             (λ _. number-reader .grows c);
         numbered =
             λ c h.
-            if-all (λ (w : NumberItem). w .next .refused ≤ 8) (numberAt s c .next .refused == 0) _ _
+            if-all (λ (w : NumberItem). w .next .refused ≤ 8) (read-number s c .next .refused == 0) _ _
             (λ _. if-all (λ (w : NumberItem). w .next .refused ≤ 8) (good c) _ _ (λ _. number-reader .numbered c h) (λ _. l))
             (λ _. number-reader .numbered c h);
       }
     where
-      stick : (c : Cursor) → (c .refused ≡ 0 → ⊥) → judged c (numberAt s c) (good c) n .next ≡ c
+      stick : (c : Cursor) → (c .refused ≡ 0 → ⊥) → judged c (read-number s c) (good c) n .next ≡ c
       stick c h = let e = number-reader .sticky c h in rw (e, ne-eqb _ _ h)
 
-  judged-moves : (good : Cursor → Bool) (n : ℕ) → Moves (λ c. judged c (numberAt s c) (good c) (suc n) .next)
+  judged-moves : (good : Cursor → Bool) (n : ℕ) → Moves (λ c. judged c (read-number s c) (good c) (suc n) .next)
   unfolding judged
   judged-moves good n c =
-      if-all (λ (w : NumberItem). w .next .refused ≡ 0 → c .at + 1 ≤ w .next .at) (numberAt s c .next .refused == 0) _ _
+      if-all (λ (w : NumberItem). w .next .refused ≡ 0 → c .at + 1 ≤ w .next .at) (read-number s c .next .refused == 0) _ _
       (λ _. if-all (λ (w : NumberItem). w .next .refused ≡ 0 → c .at + 1 ≤ w .next .at) (good c) _ _ (λ _. number-moves c) (λ _ z. absurd (omega arith)))
       (λ _. number-moves c)
 
-  pub version-reader : Reader s (λ c. versionAt s c .next)
-  unfolding versionAt
-  version-reader = judged-reader (λ c. numberAt s c .value == 1) 3 (omega arith)
+  pub version-reader : Reader s (λ c. read-version s c .next)
+  unfolding read-version
+  version-reader = judged-reader (λ c. read-number s c .value == 1) 3 (omega arith)
 
-  pub code-reader : (most : ℕ) → Reader s (λ c. codeAt most s c .next)
-  unfolding codeAt
-  code-reader most = judged-reader (λ c. numberAt s c .value ≤ᵇ most) 4 (omega arith)
+  pub code-reader : (most : ℕ) → Reader s (λ c. read-code most s c .next)
+  unfolding read-code
+  code-reader most = judged-reader (λ c. read-number s c .value ≤ᵇ most) 4 (omega arith)
 
-  pub index-reader : (k : ℕ) → Reader s (λ c. indexAt k s c .next)
-  unfolding indexAt
-  index-reader k = judged-reader (λ c. numberAt s c .value <ᵇ k) 6 (omega arith)
+  pub index-reader : (k : ℕ) → Reader s (λ c. read-index k s c .next)
+  unfolding read-index
+  index-reader k = judged-reader (λ c. read-number s c .value <ᵇ k) 6 (omega arith)
 
-  pub sum-reader : (o : ℕ) → Reader s (λ c. sumAt o s c .next)
-  unfolding sumAt
-  sum-reader o = judged-reader (λ c. o + numberAt s c .value ≤ᵇ largest32) 7 (omega arith)
+  pub sum-reader : (o : ℕ) → Reader s (λ c. read-sum o s c .next)
+  unfolding read-sum
+  sum-reader o = judged-reader (λ c. o + read-number s c .value ≤ᵇ largest32) 7 (omega arith)
 
-  pub bytes-reader : Reader s (λ c. bytesAt s c .next)
-  unfolding bytesAt
-  bytes-reader = judged-reader (λ c. numberAt s c .value * 8 ≤ᵇ largest32) 7 (omega arith)
+  pub bytes-reader : Reader s (λ c. read-bytes s c .next)
+  unfolding read-bytes
+  bytes-reader = judged-reader (λ c. read-number s c .value * 8 ≤ᵇ largest32) 7 (omega arith)
 
-  pub mark-reader : Reader s (λ c. markAt s c .next)
-  unfolding markAt
+  pub mark-reader : Reader s (λ c. read-mark s c .next)
+  unfolding read-mark
   mark-reader = code-reader 1
 
   -- the ends of a text: its length refused, cut short, read
-  text-all : (P : TextItem → Type 0) (c : Cursor) → ((numberAt s c .next .refused == 0) ≡ false → P (record { value = record { start = 0; len = 0 }; next = numberAt s c .next }))
+  text-all : (P : TextItem → Type 0) (c : Cursor) → ((read-number s c .next .refused == 0) ≡ false → P (record { value = record { start = 0; len = 0 }; next = read-number s c .next }))
       → P (record { value = record { start = 0; len = 0 }; next = refuse c 1 })
-      → ((v : Text) (e : ℕ) → numberAt s c .next .at ≤ e → e ≤ length s → P (record { value = v; next = moved (numberAt s c .next) e })) → P (textAt s c)
-  unfolding textAt
+      → ((v : Text) (e : ℕ) → read-number s c .next .at ≤ e → e ≤ length s → P (record { value = v; next = moved (read-number s c .next) e })) → P (read-text s c)
+  unfolding read-text
   text-all P c a b d =
-      let n = numberAt s c in
+      let n = read-number s c in
       if-all P (n .next .refused == 0) _ _ (λ _. if-all P (n .next .at + n .value ≤ᵇ length s) _ _ (λ h. d _ _ (omega arith) (leb-true _ _ h)) (λ _. b)) a
 
-  pub text-reader : Reader s (λ c. textAt s c .next)
-  unfolding textAt
+  pub text-reader : Reader s (λ c. read-text s c .next)
+  unfolding read-text
   text-reader =
       record {
         sticky = λ c h. stick c h;
@@ -244,23 +244,23 @@ module _ (s : List ℕ) where
         numbered = λ c h. text-all (λ w. w .next .refused ≤ 8) c (λ _. number-reader .numbered c h) (omega arith) (λ v e k l. number-reader .numbered c h);
       }
     where
-      stick : (c : Cursor) → (c .refused ≡ 0 → ⊥) → textAt s c .next ≡ c
+      stick : (c : Cursor) → (c .refused ≡ 0 → ⊥) → read-text s c .next ≡ c
       stick c h = let e = number-reader .sticky c h in rw (e, ne-eqb _ _ h)
 
-  pub text-moves : Moves (λ c. textAt s c .next)
+  pub text-moves : Moves (λ c. read-text s c .next)
   text-moves c =
       text-all (λ w. w .next .refused ≡ 0 → c .at + 1 ≤ w .next .at) c (λ h z. absurd (eqb-false _ _ h z)) (λ z. absurd (omega arith)) (λ v e k l z. omega (arith, number-moves c z))
 
-  name-all : (before : OptText) (P : TextItem → Type 0) (c : Cursor) → P (textAt s c) → P (record { value = record { start = 0; len = 0 }; next = refuse c 5 }) → P (nameAt before s c)
-  unfolding nameAt
+  name-all : (before : OptText) (P : TextItem → Type 0) (c : Cursor) → P (read-text s c) → P (record { value = record { start = 0; len = 0 }; next = refuse c 5 }) → P (read-name before s c)
+  unfolding read-name
   name-all before P c a b =
-      let t = textAt s c in
+      let t = read-text s c in
       if-all P (t .next .refused == 0) _ _
-      (λ _. if-all P (before .given) _ _ (λ _. if-all P (bytesOf s (before .text) ≺ bytesOf s (t .value)) _ _ (λ _. a) (λ _. b)) (λ _. a))
+      (λ _. if-all P (before .given) _ _ (λ _. if-all P (bytes-of s (before .text) ≺ bytes-of s (t .value)) _ _ (λ _. a) (λ _. b)) (λ _. a))
       (λ _. a)
 
-  pub name-reader : (before : OptText) → Reader s (λ c. nameAt before s c .next)
-  unfolding nameAt
+  pub name-reader : (before : OptText) → Reader s (λ c. read-name before s c .next)
+  unfolding read-name
   name-reader before =
       record {
         sticky = λ c h. stick c h;
@@ -269,14 +269,14 @@ module _ (s : List ℕ) where
         numbered = λ c h. name-all before (λ w. w .next .refused ≤ 8) c (text-reader .numbered c h) (omega arith);
       }
     where
-      stick : (c : Cursor) → (c .refused ≡ 0 → ⊥) → nameAt before s c .next ≡ c
+      stick : (c : Cursor) → (c .refused ≡ 0 → ⊥) → read-name before s c .next ≡ c
       stick c h = let e = text-reader .sticky c h in rw (e, ne-eqb _ _ h)
 
-  pub name-moves : (before : OptText) → Moves (λ c. nameAt before s c .next)
+  pub name-moves : (before : OptText) → Moves (λ c. read-name before s c .next)
   name-moves before c = name-all before (λ w. w .next .refused ≡ 0 → c .at + 1 ≤ w .next .at) c (text-moves c) (λ z. absurd (omega arith))
 
-  pub float-reader : Reader s (λ c. floatAt s c .next)
-  unfolding floatAt
+  pub float-reader : Reader s (λ c. read-float s c .next)
+  unfolding read-float
   float-reader =
       record {
         sticky = λ c h. stick c h;
@@ -297,31 +297,31 @@ module _ (s : List ℕ) where
             (λ _. h);
       }
     where
-      stick : (c : Cursor) → (c .refused ≡ 0 → ⊥) → floatAt s c .next ≡ c
+      stick : (c : Cursor) → (c .refused ≡ 0 → ⊥) → read-float s c .next ≡ c
       stick c h = rw (ne-eqb _ _ h)
 
   -- an optional item: a mark, and then the item or nothing
-  optionally : {f g : Cursor → Cursor} → Reader s f → ((c : Cursor) → markAt s c .value ≡ true → g c ≡ f (markAt s c .next)) → ((c : Cursor) → markAt s c .value ≡ false → g c ≡ markAt s c .next) → Reader s g
-  optionally {f} {g} p t e = choose (λ c. markAt s c .value) (λ c. f (markAt s c .next)) (λ c. markAt s c .next) g t e (followed mark-reader (λ c. p)) mark-reader
+  optionally : {f g : Cursor → Cursor} → Reader s f → ((c : Cursor) → read-mark s c .value ≡ true → g c ≡ f (read-mark s c .next)) → ((c : Cursor) → read-mark s c .value ≡ false → g c ≡ read-mark s c .next) → Reader s g
+  optionally {f} {g} p t e = choose (λ c. read-mark s c .value) (λ c. f (read-mark s c .next)) (λ c. read-mark s c .next) g t e (followed mark-reader (λ c. p)) mark-reader
 
-  pub opt-text-reader : Reader s (λ c. optTextAt s c .next)
-  unfolding optTextAt
+  pub opt-text-reader : Reader s (λ c. read-opt-text s c .next)
+  unfolding read-opt-text
   opt-text-reader = optionally text-reader (λ c e. rw e) (λ c e. rw e)
 
-  pub opt-number-reader : Reader s (λ c. optNumberAt s c .next)
-  unfolding optNumberAt
+  pub opt-number-reader : Reader s (λ c. read-opt-number s c .next)
+  unfolding read-opt-number
   opt-number-reader = optionally number-reader (λ c e. rw e) (λ c e. rw e)
 
-  pub opt-bytes-reader : Reader s (λ c. optBytesAt s c .next)
-  unfolding optBytesAt
+  pub opt-bytes-reader : Reader s (λ c. read-opt-bytes s c .next)
+  unfolding read-opt-bytes
   opt-bytes-reader = optionally bytes-reader (λ c e. rw e) (λ c e. rw e)
 
-  pub opt-sum-reader : (o : ℕ) → Reader s (λ c. optSumAt o s c .next)
-  unfolding optSumAt
+  pub opt-sum-reader : (o : ℕ) → Reader s (λ c. read-opt-sum o s c .next)
+  unfolding read-opt-sum
   opt-sum-reader o = optionally (sum-reader o) (λ c e. rw e) (λ c e. rw e)
 
-  pub opt-float-reader : Reader s (λ c. optFloatAt s c .next)
-  unfolding optFloatAt
+  pub opt-float-reader : Reader s (λ c. read-opt-float s c .next)
+  unfolding read-opt-float
   opt-float-reader = optionally float-reader (λ c e. rw e) (λ c e. rw e)
 
   -- ---- the records
@@ -330,93 +330,93 @@ module _ (s : List ℕ) where
   _▸_ : {f g : Cursor → Cursor} → Reader s f → Reader s g → Reader s (λ c. g (f c))
   p ▸ q = followed p (λ c. q)
 
-  pub type-reader : Reader s (λ c. typeAt s c .next)
-  unfolding typeAt
+  pub type-reader : Reader s (λ c. read-type s c .next)
+  unfolding read-type
   type-reader = text-reader ▸ code-reader 7 ▸ number-reader ▸ float-reader ▸ text-reader
 
-  pub type-moves : Moves (λ c. typeAt s c .next)
-  unfolding typeAt
+  pub type-moves : Moves (λ c. read-type s c .next)
+  unfolding read-type
   type-moves = moves-then text-moves (λ c. code-reader 7 ▸ number-reader ▸ float-reader ▸ text-reader)
 
-  first-reader : (kind : ℕ) → Reader s (λ c. firstAt kind s c .next)
-  unfolding firstAt
-  first-reader kind = choose (λ c. kind == 1) (λ c. wideAt largest64 s c .next) (λ c. c) _ (λ c e. rw e) (λ c e. rw e) (wide-reader largest64) stay
+  first-reader : (kind : ℕ) → Reader s (λ c. read-first kind s c .next)
+  unfolding read-first
+  first-reader kind = choose (λ c. kind == 1) (λ c. read-wide largest64 s c .next) (λ c. c) _ (λ c e. rw e) (λ c e. rw e) (wide-reader largest64) stay
 
-  kind-part-reader : (kind : ℕ) → Reader s (λ c. kindPartAt kind s c .next)
-  unfolding kindPartAt
-  kind-part-reader kind = choose (λ c. kind == 3) (λ c. optTextAt s (textAt s c .next) .next) (λ c. c) _ (λ c e. rw e) (λ c e. rw e) (text-reader ▸ opt-text-reader) stay
+  kind-part-reader : (kind : ℕ) → Reader s (λ c. read-kind-part kind s c .next)
+  unfolding read-kind-part
+  kind-part-reader kind = choose (λ c. kind == 3) (λ c. read-opt-text s (read-text s c .next) .next) (λ c. c) _ (λ c e. rw e) (λ c e. rw e) (text-reader ▸ opt-text-reader) stay
 
-  pub entry-reader : (kind : ℕ) → Reader s (λ c. entryAt kind s c .next)
-  unfolding entryAt
+  pub entry-reader : (kind : ℕ) → Reader s (λ c. read-entry kind s c .next)
+  unfolding read-entry
   entry-reader kind = first-reader kind ▸ wide-reader largest64 ▸ text-reader ▸ kind-part-reader kind
 
-  pub entry-moves : (kind : ℕ) → Moves (λ c. entryAt kind s c .next)
-  unfolding entryAt
+  pub entry-moves : (kind : ℕ) → Moves (λ c. read-entry kind s c .next)
+  unfolding read-entry
   entry-moves kind = after-moves (first-reader kind) (λ c. moves-then (wide-moves largest64) (λ c. text-reader ▸ kind-part-reader kind))
 
-  pub lookup-reader : (before : OptText) → Reader s (λ c. lookupAt before s c .next)
-  unfolding lookupAt
+  pub lookup-reader : (before : OptText) → Reader s (λ c. read-lookup before s c .next)
+  unfolding read-lookup
   lookup-reader before = name-reader before ▸ code-reader 3 ▸ number-reader ▸ number-reader
 
-  pub lookup-moves : (before : OptText) → Moves (λ c. lookupAt before s c .next)
-  unfolding lookupAt
+  pub lookup-moves : (before : OptText) → Moves (λ c. read-lookup before s c .next)
+  unfolding read-lookup
   lookup-moves before = moves-then (name-moves before) (λ c. code-reader 3 ▸ number-reader ▸ number-reader)
 
-  repeating-reader : Reader s (λ c. repeatingAt s c .next)
-  unfolding repeatingAt
-  repeating-reader = followed number-reader (λ c. sum-reader (numberAt s c .value)) ▸ opt-number-reader ▸ mark-reader
+  repeating-reader : Reader s (λ c. read-repeating s c .next)
+  unfolding read-repeating
+  repeating-reader = followed number-reader (λ c. sum-reader (read-number s c .value)) ▸ opt-number-reader ▸ mark-reader
 
-  pub opt-repeating-reader : Reader s (λ c. optRepeatingAt s c .next)
-  unfolding optRepeatingAt
+  pub opt-repeating-reader : Reader s (λ c. read-opt-repeating s c .next)
+  unfolding read-opt-repeating
   opt-repeating-reader = optionally repeating-reader (λ c e. rw e) (λ c e. rw e)
 
-  pub pgn-reader : Reader s (λ c. pgnAt s c .next)
-  unfolding pgnAt
+  pub pgn-reader : Reader s (λ c. read-pgn s c .next)
+  unfolding read-pgn
   pgn-reader = number-reader ▸ text-reader ▸ code-reader 3 ▸ code-reader 7 ▸ number-reader ▸ opt-bytes-reader ▸ opt-repeating-reader ▸ opt-repeating-reader ▸ number-reader
 
-  pub pgn-moves : Moves (λ c. pgnAt s c .next)
-  unfolding pgnAt
+  pub pgn-moves : Moves (λ c. read-pgn s c .next)
+  unfolding read-pgn
   pgn-moves = moves-then number-moves (λ c. text-reader ▸ code-reader 3 ▸ code-reader 7 ▸ number-reader ▸ opt-bytes-reader ▸ opt-repeating-reader ▸ opt-repeating-reader ▸ number-reader)
 
-  pub names-reader : Reader s (λ c. namesAt s c .next)
-  unfolding namesAt
+  pub names-reader : Reader s (λ c. read-names s c .next)
+  unfolding read-names
   names-reader = text-reader ▸ text-reader ▸ text-reader
 
-  names-moves : Moves (λ c. namesAt s c .next)
-  unfolding namesAt
+  names-moves : Moves (λ c. read-names s c .next)
+  unfolding read-names
   names-moves = moves-then text-moves (λ c. text-reader ▸ text-reader)
 
-  pub scaling-reader : (total : ℕ) → Reader s (λ c. scalingAt total s c .next)
-  unfolding scalingAt
+  pub scaling-reader : (total : ℕ) → Reader s (λ c. read-scaling total s c .next)
+  unfolding read-scaling
   scaling-reader total = sum-reader total ▸ float-reader ▸ float-reader ▸ opt-text-reader
 
-  pub authored-reader : Reader s (λ c. authoredAt s c .next)
-  unfolding authoredAt
+  pub authored-reader : Reader s (λ c. read-authored s c .next)
+  unfolding read-authored
   authored-reader = opt-float-reader ▸ opt-float-reader ▸ opt-number-reader ▸ opt-text-reader ▸ opt-text-reader
 
-  opt-reference-reader : Reader s (λ c. optReferenceAt s c .next)
-  unfolding optReferenceAt
+  opt-reference-reader : Reader s (λ c. read-opt-reference s c .next)
+  unfolding read-opt-reference
   opt-reference-reader = optionally (code-reader 3 ▸ text-reader) (λ c e. rw e) (λ c e. rw e)
 
-  pub links-reader : (bits : ℕ) → Reader s (λ c. linksAt bits s c .next)
-  unfolding linksAt
+  pub links-reader : (bits : ℕ) → Reader s (λ c. read-links bits s c .next)
+  unfolding read-links
   links-reader bits = opt-reference-reader ▸ opt-number-reader ▸ opt-text-reader ▸ opt-text-reader ▸ opt-sum-reader bits
 
   -- what follows a field's names
   abbrev fieldRest : ℕ → ℕ → Cursor → Cursor
   fieldRest k total c =
-      let scaling = scalingAt total s (codeAt 63 s (indexAt k s c .next) .next) in linksAt (scaling .value .bits) s (authoredAt s (scaling .next) .next) .next
+      let scaling = read-scaling total s (read-code 63 s (read-index k s c .next) .next) in read-links (scaling .value .bits) s (read-authored s (scaling .next) .next) .next
 
   field-rest-reader : (k total : ℕ) → Reader s (fieldRest k total)
   field-rest-reader k total =
-      followed (index-reader k ▸ code-reader 63 ▸ scaling-reader total ▸ authored-reader) (λ c. links-reader (scalingAt total s (codeAt 63 s (indexAt k s c .next) .next) .value .bits))
+      followed (index-reader k ▸ code-reader 63 ▸ scaling-reader total ▸ authored-reader) (λ c. links-reader (read-scaling total s (read-code 63 s (read-index k s c .next) .next) .value .bits))
 
-  pub field-reader : (k total : ℕ) → Reader s (λ c. fieldAt k total s c .next)
-  unfolding fieldAt
+  pub field-reader : (k total : ℕ) → Reader s (λ c. read-field k total s c .next)
+  unfolding read-field
   field-reader k total = names-reader ▸ field-rest-reader k total
 
-  pub field-moves : (k total : ℕ) → Moves (λ c. fieldAt k total s c .next)
-  unfolding fieldAt
+  pub field-moves : (k total : ℕ) → Moves (λ c. read-field k total s c .next)
+  unfolding read-field
   field-moves k total = moves-then names-moves (λ c. field-rest-reader k total)
 
   -- ---- the lists
@@ -429,12 +429,12 @@ module _ (s : List ℕ) where
   unfolding entries
   entries-reader kind n = often (entry-reader kind) n
 
-  pub lookup-next-reader : (before : OptText) → Reader s (λ c. lookupNext s (record { next = c; before = before }) .next)
-  unfolding lookupNext
+  pub lookup-next-reader : (before : OptText) → Reader s (λ c. lookup-next s (record { next = c; before = before }) .next)
+  unfolding lookup-next
   lookup-next-reader before =
-      followed (lookup-reader before) (λ c. entries-reader (lookupAt before s c .value .kind) (lookupAt before s c .value .entries))
+      followed (lookup-reader before) (λ c. entries-reader (read-lookup before s c .value .kind) (read-lookup before s c .value .entries))
 
-  pub lookup-steps : Steps s (λ (a : LookupState). a .next) (lookupNext s)
+  pub lookup-steps : Steps s (λ (a : LookupState). a .next) (lookup-next s)
   lookup-steps =
       record {
         sticky = λ a. lookup-next-reader (a .before) .sticky (a .next);
@@ -448,14 +448,14 @@ module _ (s : List ℕ) where
   lookups-reader n =
       let r = often lookup-steps n in
       record {
-        sticky = λ c. r .sticky (record { next = c; before = noText });
-        within = λ c. r .within (record { next = c; before = noText });
-        grows = λ c. r .grows (record { next = c; before = noText });
-        numbered = λ c. r .numbered (record { next = c; before = noText });
+        sticky = λ c. r .sticky (record { next = c; before = no-text });
+        within = λ c. r .within (record { next = c; before = no-text });
+        grows = λ c. r .grows (record { next = c; before = no-text });
+        numbered = λ c. r .numbered (record { next = c; before = no-text });
       }
 
-  pub field-steps : (k : ℕ) → Steps s (λ (a : FieldState). a .next) (fieldNext k s)
-  unfolding fieldNext
+  pub field-steps : (k : ℕ) → Steps s (λ (a : FieldState). a .next) (field-next k s)
+  unfolding field-next
   field-steps k =
       record {
         sticky = λ a. field-reader k (a .total) .sticky (a .next);
@@ -475,9 +475,9 @@ module _ (s : List ℕ) where
         numbered = λ c. r .numbered (record { next = c; total = 0 });
       }
 
-  pub pgn-next-reader : (k : ℕ) → Reader s (pgnNext k s)
-  unfolding pgnNext
-  pgn-next-reader k = followed pgn-reader (λ c. fields-reader k (pgnAt s c .value .fields))
+  pub pgn-next-reader : (k : ℕ) → Reader s (pgn-next k s)
+  unfolding pgn-next
+  pgn-next-reader k = followed pgn-reader (λ c. fields-reader k (read-pgn s c .value .fields))
 
   pub pgns-reader : (k n : ℕ) → Reader s (λ c. pgns k s c n)
   unfolding pgns
@@ -489,11 +489,11 @@ capped-fits : (most n : ℕ) → capped most n .value ≤ most
 unfolding capped
 capped-fits most n = if-all (λ (v : Value). v .value ≤ most) (n ≤ᵇ most) _ _ (λ e. leb-true _ _ e) (λ _. omega arith)
 
-pub number-fits : (s : List ℕ) (c : Cursor) → numberAt s c .value ≤ largest32
-unfolding numberAt wideAt
+pub number-fits : (s : List ℕ) (c : Cursor) → read-number s c .value ≤ largest32
+unfolding read-number read-wide
 number-fits s c =
     let P : WideItem → Type 0 = λ w. w .value ≤ largest32 in
-    let l = lastByte s (c .at) in
+    let l = last-byte-at s (c .at) in
     let v = capped largest32 (groups s (l + 1) (l + 1 - c .at)) in
     if-all P (c .refused == 0) _ _
     (λ _. if-all P (l <ᵇ length s) _ _

@@ -6,10 +6,10 @@ use mathlib.Core.List.{List}
 use mathlib.Core.Bool.{Bool, true, false}
 use mathlib.Core.Option.{Option, none, some}
 use Rattle.pack.specs.Value.{Repeating, pgn-at}
-use Rattle.pack.specs.Items.{largest32, numberAt, markAt}
-use Rattle.pack.specs.Records.{repeatingAt, optRepeatingAt, pgnAt}
-use Rattle.pack.specs.Format.{fields, treeList, pgnStart}
-use Rattle.pack.specs.Meaning.{repeatingMeaning, optRepeating, pgnOf, packOf}
+use Rattle.pack.specs.Items.{largest32, read-number, read-mark}
+use Rattle.pack.specs.Records.{read-repeating, read-opt-repeating, read-pgn}
+use Rattle.pack.specs.Format.{fields, tree-list, pgn-start}
+use Rattle.pack.specs.Meaning.{repeating-meaning, optional-repeating, pgn-of-pack, pack-of}
 use Rattle.pack.specs.Ready.{PgnAt}
 use Rattle.pack.specs.declared.cursor.Cursor.{Cursor}
 use Rattle.pack.proofs.Reading.{back, number-reader, opt-number-reader, mark-reader, opt-repeating-reader}
@@ -22,35 +22,35 @@ abbrev pub SetFits : Option Repeating → Type 0
 SetFits o = (r : Repeating) → o ≡ some r → r .start + r .count ≤ largest32
 
 module _ (s : List ℕ) where
-  set-fits : (c : Cursor) → repeatingAt s c .next .refused ≡ 0 → repeatingAt s c .value .start + repeatingAt s c .value .count ≤ largest32
-  unfolding repeatingAt
+  set-fits : (c : Cursor) → read-repeating s c .next .refused ≡ 0 → read-repeating s c .value .start + read-repeating s c .value .count ≤ largest32
+  unfolding read-repeating
   set-fits c e =
-      let n = numberAt s c in
+      let n = read-number s c in
       let a = sum-fits s (n .next) (n .value) (back (opt-number-reader s) _ (back (mark-reader s) _ e)) in
       omega (arith, a)
 
-  opt-set-fits : (c : Cursor) → optRepeatingAt s c .next .refused ≡ 0 → SetFits (optRepeating (optRepeatingAt s c .value))
-  unfolding optRepeatingAt
-  opt-set-fits c e r h = go (markAt s c .value) refl
+  opt-set-fits : (c : Cursor) → read-opt-repeating s c .next .refused ≡ 0 → SetFits (optional-repeating (read-opt-repeating s c .value))
+  unfolding read-opt-repeating
+  opt-set-fits c e r h = go (read-mark s c .value) refl
     where
-      go : (b : Bool) → markAt s c .value ≡ b → r .start + r .count ≤ largest32
+      go : (b : Bool) → read-mark s c .value ≡ b → r .start + r .count ≤ largest32
       go true x =
-          let m = repeatingMeaning (repeatingAt s (markAt s c .next) .value) in
+          let m = repeating-meaning (read-repeating s (read-mark s c .next) .value) in
           let q : some m ≡ some r = rw x at h in
           let y : m ≡ r = cc in
-          rw (← y) (set-fits (markAt s c .next) (rw x at e))
+          rw (← y) (set-fits (read-mark s c .next) (rw x at e))
       go false x = let q : none ≡ some r = rw x at h in let u : _≡_ {A = ℕ} 0 1 = cc in absurd (omega arith)
 
-  pgn-sets-fit : (c : Cursor) → pgnAt s c .next .refused ≡ 0 → SetFits (optRepeating (pgnAt s c .value .repeating1)) × SetFits (optRepeating (pgnAt s c .value .repeating2))
-  unfolding pgnAt
+  pgn-sets-fit : (c : Cursor) → read-pgn s c .next .refused ≡ 0 → SetFits (optional-repeating (read-pgn s c .value .repeating1)) × SetFits (optional-repeating (read-pgn s c .value .repeating2))
+  unfolding read-pgn
   pgn-sets-fit c e =
       let b = back (number-reader s) _ e in
       (opt-set-fits _ (back (opt-repeating-reader s) _ b), opt-set-fits _ b)
 
 module _ {s w : List ℕ} {t i p : ℕ} (a : PgnAt s w t i p) where
-  pub pgn-sets-law : SetFits (pgn-at (packOf s) t i .repeating1) × SetFits (pgn-at (packOf s) t i .repeating2)
-  unfolding fields pgnOf
+  pub pgn-sets-law : SetFits (pgn-at (pack-of s) t i .repeating1) × SetFits (pgn-at (pack-of s) t i .repeating2)
+  unfolding fields pgn-of-pack
   pgn-sets-law =
-      let l : i < treeList s t .value = omega (arith, pgns-are s t (a .tree), a .pgn) in
+      let l : i < tree-list s t .value = omega (arith, pgns-are s t (a .tree), a .pgn) in
       let e = field-clean s (accepted-end s (a .ready .accepted) .0) t i 0 (a .tree) l (omega arith) in
-      rw (pgn-is s t i (a .tree) l) (pgn-sets-fit s (pgnStart s t i) e)
+      rw (pgn-is s t i (a .tree) l) (pgn-sets-fit s (pgn-start s t i) e)

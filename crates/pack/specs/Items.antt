@@ -40,8 +40,8 @@ run [] = 0
 run (b ∷ bs) = if b <ᵇ 128 then 0 else suc (run bs)
 
 -- where the number that begins at `at` has its last byte; the length or more where it has none
-abbrev pub lastByte : List ℕ → ℕ → ℕ
-lastByte s at = at + run (drop at s)
+abbrev pub last-byte-at : List ℕ → ℕ → ℕ
+last-byte-at s at = at + run (drop at s)
 
 -- "groups of seven bits, lowest group first": the value of the n groups before e
 abbrev pub groups : List ℕ → ℕ → ℕ → ℕ
@@ -57,9 +57,9 @@ unfoldable pub capped : ℕ → ℕ → Value
 capped most n = if n ≤ᵇ most then record { over = false; value = n } else record { over = true; value = 0 }
 
 -- 1: "bytes end inside an item or before the next one"; 2: "a number not in shortest form, or too large for its width"
-unfoldable pub wideAt : ℕ → List ℕ → Cursor → WideItem
-wideAt most s c =
-    let e = lastByte s (c .at) in
+unfoldable pub read-wide : ℕ → List ℕ → Cursor → WideItem
+read-wide most s c =
+    let e = last-byte-at s (c .at) in
     let v = capped most (groups s (e + 1) (e + 1 - c .at)) in
     if c .refused == 0
     then if e <ᵇ length s
@@ -78,8 +78,8 @@ largest32 = 4294967295
 abbrev pub largest64 : ℕ
 largest64 = 18446744073709551615
 
-unfoldable pub numberAt : List ℕ → Cursor → NumberItem
-numberAt s c = let w = wideAt largest32 s c in record { value = w .value; next = w .next }
+unfoldable pub read-number : List ℕ → Cursor → NumberItem
+read-number s c = let w = read-wide largest32 s c in record { value = w .value; next = w .next }
 
 -- an item that was read, judged by a further point: refused by that number where it is not good
 unfoldable pub judged : Cursor → NumberItem → Bool → ℕ → NumberItem
@@ -89,31 +89,31 @@ judged c item good n =
     else record { value = 0; next = item .next }
 
 -- 3: "pack version other than 1"
-unfoldable pub versionAt : List ℕ → Cursor → NumberItem
-versionAt s c = let n = numberAt s c in judged c n (n .value == 1) 3
+unfoldable pub read-version : List ℕ → Cursor → NumberItem
+read-version s c = let n = read-number s c in judged c n (n .value == 1) 3
 
 -- 4: "a code, mark or flag outside its values", which are 0 to `most`
-unfoldable pub codeAt : ℕ → List ℕ → Cursor → NumberItem
-codeAt most s c = let n = numberAt s c in judged c n (n .value ≤ᵇ most) 4
+unfoldable pub read-code : ℕ → List ℕ → Cursor → NumberItem
+read-code most s c = let n = read-number s c in judged c n (n .value ≤ᵇ most) 4
 
 -- 6: "a field's field type index not below the number of field types"
-unfoldable pub indexAt : ℕ → List ℕ → Cursor → NumberItem
-indexAt count s c = let n = numberAt s c in judged c n (n .value <ᵇ count) 6
+unfoldable pub read-index : ℕ → List ℕ → Cursor → NumberItem
+read-index count s c = let n = read-number s c in judged c n (n .value <ᵇ count) 6
 
 -- 7: "a sum above 4,294,967,295", at "the item that completes the sum"
-unfoldable pub sumAt : ℕ → List ℕ → Cursor → NumberItem
-sumAt other s c = let n = numberAt s c in judged c n (other + n .value ≤ᵇ largest32) 7
+unfoldable pub read-sum : ℕ → List ℕ → Cursor → NumberItem
+read-sum other s c = let n = read-number s c in judged c n (other + n .value ≤ᵇ largest32) 7
 
 -- 7 for "minimum length × 8"
-unfoldable pub bytesAt : List ℕ → Cursor → NumberItem
-bytesAt s c = let n = numberAt s c in judged c n (n .value * 8 ≤ᵇ largest32) 7
+unfoldable pub read-bytes : List ℕ → Cursor → NumberItem
+read-bytes s c = let n = read-number s c in judged c n (n .value * 8 ≤ᵇ largest32) 7
 
 -- ---- texts and floats
 
 -- "A text is a length and bytes", "one item with its length, which is judged before its bytes"
-unfoldable pub textAt : List ℕ → Cursor → TextItem
-textAt s c =
-    let n = numberAt s c in
+unfoldable pub read-text : List ℕ → Cursor → TextItem
+read-text s c =
+    let n = read-number s c in
     let e = n .next .at + n .value in
     if n .next .refused == 0
     then if e ≤ᵇ length s
@@ -122,8 +122,8 @@ textAt s c =
     else record { value = record { start = 0; len = 0 }; next = n .next }
 
 -- the bytes of a text
-abbrev pub bytesOf : List ℕ → Text → List ℕ
-bytesOf s t = take (t .len) (drop (t .start) s)
+abbrev pub bytes-of : List ℕ → Text → List ℕ
+bytes-of s t = take (t .len) (drop (t .start) s)
 
 -- "byte order": by the first byte that differs, a shorter prefix before a longer text
 abbrev pub _≺_ : List ℕ → List ℕ → Bool
@@ -133,12 +133,12 @@ abbrev pub _≺_ : List ℕ → List ℕ → Bool
 (a ∷ as′) ≺ (b ∷ bs) = if a <ᵇ b then true else if b <ᵇ a then false else as′ ≺ bs
 
 -- 5: "a lookup's name not above the previous one (byte order)"; the first has no previous one
-unfoldable pub nameAt : OptText → List ℕ → Cursor → TextItem
-nameAt before s c =
-    let t = textAt s c in
+unfoldable pub read-name : OptText → List ℕ → Cursor → TextItem
+read-name before s c =
+    let t = read-text s c in
     if t .next .refused == 0
     then if before .given
-    then if bytesOf s (before .text) ≺ bytesOf s (t .value)
+    then if bytes-of s (before .text) ≺ bytes-of s (t .value)
     then t
     else record { value = record { start = 0; len = 0 }; next = refuse c 5 }
     else t
@@ -148,8 +148,8 @@ nameAt before s c =
 abbrev pub four : List ℕ → ℕ → ℕ
 four s at = getD s at 0 + 256 * (getD s (at + 1) 0 + 256 * (getD s (at + 2) 0 + 256 * getD s (at + 3) 0))
 
-unfoldable pub floatAt : List ℕ → Cursor → WideItem
-floatAt s c =
+unfoldable pub read-float : List ℕ → Cursor → WideItem
+read-float s c =
     if c .refused == 0
     then if c .at + 8 ≤ᵇ length s
     then record { value = four s (c .at) + 2 ^ 32 * four s (c .at + 4); next = moved c (c .at + 8) }
@@ -158,36 +158,36 @@ floatAt s c =
 
 -- ---- optional items: "a mark, 0 or 1, then the item if 1"
 
-unfoldable pub markAt : List ℕ → Cursor → MarkItem
-markAt s c = let n = codeAt 1 s c in record { value = n .value == 1; next = n .next }
+unfoldable pub read-mark : List ℕ → Cursor → MarkItem
+read-mark s c = let n = read-code 1 s c in record { value = n .value == 1; next = n .next }
 
-unfoldable pub optTextAt : List ℕ → Cursor → OptTextItem
-optTextAt s c =
-    let m = markAt s c in
-    let t = textAt s (m .next) in
+unfoldable pub read-opt-text : List ℕ → Cursor → OptTextItem
+read-opt-text s c =
+    let m = read-mark s c in
+    let t = read-text s (m .next) in
     if m .value
     then record { value = record { given = true; text = t .value }; next = t .next }
     else record { value = record { given = false; text = record { start = 0; len = 0 } }; next = m .next }
 
-abbrev pub someNumber : NumberItem → OptNumberItem
-someNumber n = record { value = record { given = true; value = n .value }; next = n .next }
+abbrev pub some-number : NumberItem → OptNumberItem
+some-number n = record { value = record { given = true; value = n .value }; next = n .next }
 
-abbrev pub noNumber : Cursor → OptNumberItem
-noNumber c = record { value = record { given = false; value = 0 }; next = c }
+abbrev pub no-number : Cursor → OptNumberItem
+no-number c = record { value = record { given = false; value = 0 }; next = c }
 
-unfoldable pub optNumberAt : List ℕ → Cursor → OptNumberItem
-optNumberAt s c = let m = markAt s c in if m .value then someNumber (numberAt s (m .next)) else noNumber (m .next)
+unfoldable pub read-opt-number : List ℕ → Cursor → OptNumberItem
+read-opt-number s c = let m = read-mark s c in if m .value then some-number (read-number s (m .next)) else no-number (m .next)
 
-unfoldable pub optBytesAt : List ℕ → Cursor → OptNumberItem
-optBytesAt s c = let m = markAt s c in if m .value then someNumber (bytesAt s (m .next)) else noNumber (m .next)
+unfoldable pub read-opt-bytes : List ℕ → Cursor → OptNumberItem
+read-opt-bytes s c = let m = read-mark s c in if m .value then some-number (read-bytes s (m .next)) else no-number (m .next)
 
-unfoldable pub optSumAt : ℕ → List ℕ → Cursor → OptNumberItem
-optSumAt other s c = let m = markAt s c in if m .value then someNumber (sumAt other s (m .next)) else noNumber (m .next)
+unfoldable pub read-opt-sum : ℕ → List ℕ → Cursor → OptNumberItem
+read-opt-sum other s c = let m = read-mark s c in if m .value then some-number (read-sum other s (m .next)) else no-number (m .next)
 
-unfoldable pub optFloatAt : List ℕ → Cursor → OptFloatItem
-optFloatAt s c =
-    let m = markAt s c in
-    let f = floatAt s (m .next) in
+unfoldable pub read-opt-float : List ℕ → Cursor → OptFloatItem
+read-opt-float s c =
+    let m = read-mark s c in
+    let f = read-float s (m .next) in
     if m .value
     then record { value = record { given = true; pattern = f .value }; next = f .next }
     else record { value = record { given = false; pattern = 0 }; next = m .next }

@@ -4,9 +4,9 @@ use mathlib.Core.List.{List}
 use mathlib.Core.Option.{Option}
 use Rattle.pack.specs.Notation.{tab, optional}
 use Rattle.pack.specs.Value.{Bytes, FieldType, Entry, Lookup, Repeating, Reference, Field, Pgn, Pack}
-use Rattle.pack.specs.Items.{bytesOf}
-use Rattle.pack.specs.Records.{typeAt, entryAt, lookupAt, pgnAt, fieldAt}
-use Rattle.pack.specs.Format.{entries, fields, typeList, lookupList, treeList, typeStart, lookupStart, pgnStart, offsets}
+use Rattle.pack.specs.Items.{bytes-of}
+use Rattle.pack.specs.Records.{read-type, read-entry, read-lookup, read-pgn, read-field}
+use Rattle.pack.specs.Format.{entries, fields, type-list, lookup-list, tree-list, type-start, lookup-start, pgn-start, offsets}
 use Rattle.pack.specs.Load.{Verdict, refused, accepted, verdict}
 use Rattle.pack.specs.declared.text.OptText.{OptText}
 use Rattle.pack.specs.declared.optional.OptNumber.{OptNumber}
@@ -23,57 +23,57 @@ use Rattle.pack.specs.declared.field.FieldView.{FieldView}
 
 -- ---- what a view means
 
-abbrev pub optBytes : List ℕ → OptText → Option Bytes
-optBytes s o = optional (o .given) (bytesOf s (o .text))
+abbrev pub optional-bytes : List ℕ → OptText → Option Bytes
+optional-bytes s o = optional (o .given) (bytes-of s (o .text))
 
-abbrev pub optNumber : OptNumber → Option ℕ
-optNumber o = optional (o .given) (o .value)
+abbrev pub optional-number : OptNumber → Option ℕ
+optional-number o = optional (o .given) (o .value)
 
-abbrev pub optFloat : OptFloat → Option ℕ
-optFloat o = optional (o .given) (o .pattern)
+abbrev pub optional-float : OptFloat → Option ℕ
+optional-float o = optional (o .given) (o .pattern)
 
-abbrev pub typeMeaning : List ℕ → FieldTypeView → FieldType
-typeMeaning s v =
+abbrev pub type-meaning : List ℕ → FieldTypeView → FieldType
+type-meaning s v =
     record {
-      name = bytesOf s (v .name);
+      name = bytes-of s (v .name);
       base = v .base;
       print-function = v .print;
       signed = v .signed;
       size = v .size;
       resolution = v .resolution;
-      root-name = bytesOf s (v .root);
+      root-name = bytes-of s (v .root);
     }
 
-abbrev pub entryMeaning : List ℕ → EntryView → Entry
-entryMeaning s v =
+abbrev pub entry-meaning : List ℕ → EntryView → Entry
+entry-meaning s v =
     record {
       first = v .first;
       value = v .value;
-      name = bytesOf s (v .name);
-      fieldtype = bytesOf s (v .fieldtype);
-      nested = optBytes s (v .nested);
+      name = bytes-of s (v .name);
+      fieldtype = bytes-of s (v .fieldtype);
+      nested = optional-bytes s (v .nested);
     }
 
 -- a lookup's view has only the number of its entries
-abbrev pub lookupMeaning : List ℕ → LookupView → List Entry → Lookup
-lookupMeaning s v es = record { name = bytesOf s (v .name); kind = v .kind; bits = v .bits; entries = es }
+abbrev pub lookup-meaning : List ℕ → LookupView → List Entry → Lookup
+lookup-meaning s v es = record { name = bytes-of s (v .name); kind = v .kind; bits = v .bits; entries = es }
 
-abbrev pub repeatingMeaning : RepeatingView → Repeating
-repeatingMeaning v =
-    record { count = v .count; start = v .start; count-field = optNumber (v .counter); nested = v .nested }
+abbrev pub repeating-meaning : RepeatingView → Repeating
+repeating-meaning v =
+    record { count = v .count; start = v .start; count-field = optional-number (v .counter); nested = v .nested }
 
-abbrev pub optRepeating : OptRepeating → Option Repeating
-optRepeating o = optional (o .given) (repeatingMeaning (o .set))
+abbrev pub optional-repeating : OptRepeating → Option Repeating
+optional-repeating o = optional (o .given) (repeating-meaning (o .set))
 
-abbrev pub optReference : List ℕ → OptReference → Option Reference
-optReference s o = optional (o .given) (record { kind = o .kind; name = bytesOf s (o .name) })
+abbrev pub optional-reference : List ℕ → OptReference → Option Reference
+optional-reference s o = optional (o .given) (record { kind = o .kind; name = bytes-of s (o .name) })
 
-abbrev pub fieldMeaning : List ℕ → FieldView → Field
-fieldMeaning s v =
+abbrev pub field-meaning : List ℕ → FieldView → Field
+field-meaning s v =
     record {
-      id = bytesOf s (v .names .id);
-      name = bytesOf s (v .names .name);
-      type = bytesOf s (v .names .kind);
+      id = bytes-of s (v .names .id);
+      name = bytes-of s (v .names .name);
+      type = bytes-of s (v .names .kind);
       ft = v .ft;
       bits-given = v .flags .bits;
       unit-given = v .flags .unit;
@@ -84,66 +84,66 @@ fieldMeaning s v =
       res-bits = v .scaling .bits;
       res-resolution = v .scaling .resolution;
       res-offset = v .scaling .offset;
-      res-unit = optBytes s (v .scaling .unit);
-      resolution = optFloat (v .authored .resolution);
-      offset = optFloat (v .authored .offset);
-      spn = optNumber (v .authored .spn);
-      continues = optBytes s (v .authored .continues);
-      match = optBytes s (v .authored .matched);
-      reference = optReference s (v .links .reference);
-      special-values = optNumber (v .links .special);
-      bit-length-field = optBytes s (v .links .length);
-      trailing-zero = optBytes s (v .links .trailing);
-      continuation = optNumber (v .links .continuation);
+      res-unit = optional-bytes s (v .scaling .unit);
+      resolution = optional-float (v .authored .resolution);
+      offset = optional-float (v .authored .offset);
+      spn = optional-number (v .authored .spn);
+      continues = optional-bytes s (v .authored .continues);
+      match = optional-bytes s (v .authored .matched);
+      reference = optional-reference s (v .links .reference);
+      special-values = optional-number (v .links .special);
+      bit-length-field = optional-bytes s (v .links .length);
+      trailing-zero = optional-bytes s (v .links .trailing);
+      continuation = optional-number (v .links .continuation);
     }
 
 -- a PGN's view has only the number of its fields
-abbrev pub pgnMeaning : List ℕ → PgnView → List Field → Pgn
-pgnMeaning s v fs =
+abbrev pub pgn-meaning : List ℕ → PgnView → List Field → Pgn
+pgn-meaning s v fs =
     record {
       pgn = v .pgn;
-      id = bytesOf s (v .id);
+      id = bytes-of s (v .id);
       type = v .kind;
       fallback = v .flags .fallback;
       variable = v .flags .variable;
       missing-company-fields = v .flags .incomplete;
       length = v .length;
-      min-length = optNumber (v .minimum);
-      repeating1 = optRepeating (v .repeating1);
-      repeating2 = optRepeating (v .repeating2);
+      min-length = optional-number (v .minimum);
+      repeating1 = optional-repeating (v .repeating1);
+      repeating2 = optional-repeating (v .repeating2);
       fields = fs;
     }
 
 -- ---- the records of the pack s
 
-unfoldable pub typeOf : List ℕ → ℕ → FieldType
-typeOf s i = typeMeaning s (typeAt s (typeStart s i) .value)
+unfoldable pub type-of-pack : List ℕ → ℕ → FieldType
+type-of-pack s i = type-meaning s (read-type s (type-start s i) .value)
 
-unfoldable pub lookupOf : List ℕ → ℕ → Lookup
-lookupOf s i =
-    let a = lookupStart s i in
-    let l = lookupAt (a .before) s (a .next) in
+unfoldable pub lookup-of-pack : List ℕ → ℕ → Lookup
+lookup-of-pack s i =
+    let a = lookup-start s i in
+    let l = read-lookup (a .before) s (a .next) in
     let k = l .value .kind in
-    lookupMeaning s (l .value) (tab (λ j. entryMeaning s (entryAt k s (entries k s (l .next) j) .value)) (l .value .entries))
+    lookup-meaning s (l .value) (tab (λ j. entry-meaning s (read-entry k s (entries k s (l .next) j) .value)) (l .value .entries))
 
-unfoldable pub pgnOf : List ℕ → ℕ → ℕ → Pgn
-pgnOf s t i =
-    let p = pgnAt s (pgnStart s t i) in
-    let k = typeList s .value in
-    pgnMeaning s (p .value)
-    (tab (λ j. let a = fields k s (p .next) j in fieldMeaning s (fieldAt k (a .total) s (a .next) .value)) (p .value .fields))
+unfoldable pub pgn-of-pack : List ℕ → ℕ → ℕ → Pgn
+pgn-of-pack s t i =
+    let p = read-pgn s (pgn-start s t i) in
+    let k = type-list s .value in
+    pgn-meaning s (p .value)
+    (tab (λ j. let a = fields k s (p .next) j in field-meaning s (read-field k (a .total) s (a .next) .value)) (p .value .fields))
 
-unfoldable pub treeOf : List ℕ → ℕ → List Pgn
-treeOf s t = tab (pgnOf s t) (treeList s t .value)
+unfoldable pub tree-of-pack : List ℕ → ℕ → List Pgn
+tree-of-pack s t = tab (pgn-of-pack s t) (tree-list s t .value)
 
-unfoldable pub packOf : List ℕ → Pack
-packOf s =
+unfoldable pub pack-of : List ℕ → Pack
+pack-of s =
     record {
-      fieldtypes = tab (typeOf s) (typeList s .value);
-      lookups = tab (lookupOf s) (lookupList s .value);
-      pgns = treeOf s 0;
-      pgns-j1939 = treeOf s 1;
-      pgns-quick = treeOf s 2;
+      fieldtypes = tab (type-of-pack s) (type-list s .value);
+      lookups = tab (lookup-of-pack s) (lookup-list s .value);
+      pgns = tree-of-pack s 0;
+      pgns-j1939 = tree-of-pack s 1;
+      pgns-quick = tree-of-pack s 2;
     }
 
 -- ---- from bytes to the refusal, or to the value and the record offsets
@@ -152,9 +152,9 @@ pub data Reading : Type 0 where
   refused-by : Refusal → Reading
   holds : Pack → List ℕ → Reading
 
-abbrev pub readingOf : Verdict → Pack → List ℕ → Reading
-readingOf (refused r) P os = refused-by r
-readingOf accepted P os = holds P os
+abbrev pub reading-of : Verdict → Pack → List ℕ → Reading
+reading-of (refused r) P os = refused-by r
+reading-of accepted P os = holds P os
 
 unfoldable pub read : List ℕ → Reading
-read s = readingOf (verdict s) (packOf s) (offsets s)
+read s = reading-of (verdict s) (pack-of s) (offsets s)

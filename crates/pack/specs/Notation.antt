@@ -31,13 +31,13 @@ abbrev pub _≐_ : List ℕ → List ℕ → Bool
 (a ∷ as′) ≐ (b ∷ bs) = (a == b) && (as′ ≐ bs)
 
 -- f 0, f 1, .. f (n - 1), one after the other
-abbrev pub concatBelow : {A : Type 0} → (ℕ → List A) → ℕ → List A
-concatBelow f zero = []
-concatBelow f (suc n) = concatBelow f n ++ f n
+abbrev pub concat-below : {A : Type 0} → (ℕ → List A) → ℕ → List A
+concat-below f zero = []
+concat-below f (suc n) = concat-below f n ++ f n
 
 -- the list of f 0, f 1, .. f (n - 1)
 abbrev pub tab : {A : Type 0} → (ℕ → A) → ℕ → List A
-tab f n = concatBelow (λ i. f i ∷ []) n
+tab f n = concat-below (λ i. f i ∷ []) n
 
 -- what is given, where it is given
 abbrev pub optional : {A : Type 0} → Bool → A → Option A

@@ -5,9 +5,9 @@ use mathlib.Core.List.{List}
 use lib.ListN.{length}
 use lib.Seq.{sets}
 use Rattle.pack.specs.Notation.{_==_, if_then_else_}
-use Rattle.pack.specs.Items.{numberAt}
-use Rattle.pack.specs.Format.{LookupState, lookupNext, lookupRecords, pgns, pgnOffsets, packEnd, offsets}
-use Rattle.pack.specs.Load.{indexOf}
+use Rattle.pack.specs.Items.{read-number}
+use Rattle.pack.specs.Format.{LookupState, lookup-next, lookup-records, pgns, pgn-offsets, pack-end, offsets}
+use Rattle.pack.specs.Load.{load-index}
 use Rattle.pack.specs.declared.cursor.Cursor.{Cursor}
 use Rattle.pack.specs.declared.load.Placed.{Placed}
 use Rattle.pack.specs.declared.load.LookupPlaced.{LookupPlaced}
@@ -35,17 +35,17 @@ abbrev pub Placing : Cursor → List ℕ → ℕ → List ℕ → List ℕ → P
 Placing end w p xs w′ r = PlacedTo end w p xs w′ (r .next) (r .place)
 
 pub record LookupPlacing (s : List ℕ) (a : LookupState) (w : List ℕ) (p : ℕ) (w′ : List ℕ) (r : LookupPlaced) : Type 0 where
-  pub placed : PlacedTo (lookupNext s a .next) w p (lookupRecords s a) w′ (r .next) (r .place)
-  pub before : r .before ≡ lookupNext s a .before
+  pub placed : PlacedTo (lookup-next s a .next) w p (lookup-records s a) w′ (r .next) (r .place)
+  pub before : r .before ≡ lookup-next s a .before
 
 pub record TreePlacing (s : List ℕ) (k : ℕ) (c : Cursor) (w : List ℕ) (p : ℕ) (w′ : List ℕ) (r : TreePlaced) : Type 0 where
-  pub count : r .count ≡ numberAt s c .value
-  pub placed : PlacedTo (pgns k s (numberAt s c .next) (numberAt s c .value)) w p (pgnOffsets k s (numberAt s c .next) (numberAt s c .value)) w′ (r .next) (r .place)
+  pub count : r .count ≡ read-number s c .value
+  pub placed : PlacedTo (pgns k s (read-number s c .next) (read-number s c .value)) w p (pgn-offsets k s (read-number s c .next) (read-number s c .value)) w′ (r .next) (r .place)
 
 pub record Walking (s w w′ : List ℕ) (r : Walked) : Type 0 where
-  pub end : r .end ≡ packEnd s
-  pub index : packEnd s .refused ≡ 0 → r .index ≡ indexOf s
-  pub work : packEnd s .refused ≡ 0 → w′ ≡ sets w 0 (offsets s)
+  pub end : r .end ≡ pack-end s
+  pub index : pack-end s .refused ≡ 0 → r .index ≡ load-index s
+  pub work : pack-end s .refused ≡ 0 → w′ ≡ sets w 0 (offsets s)
 
 -- a record that ends at c is counted where it was read
 abbrev pub counted : Cursor → ℕ → ℕ

@@ -3,11 +3,11 @@ use Prim.Native.Nat.{ℕ, zero, suc, _+_, _<_}
 use mathlib.Core.Path.{_≡_}
 use mathlib.Core.List.{List}
 use lib.ListN.{length, getD, take}
-use Rattle.pack.specs.Value.{Lookup, Pgn, Pack, pgns-of, noPgn, lookup-at}
+use Rattle.pack.specs.Value.{Lookup, Pgn, Pack, pgns-of, no-pgn, lookup-at}
 use Rattle.pack.specs.Format.{offsets}
 use Rattle.pack.specs.Load.{accepted, verdict}
-use Rattle.pack.specs.Meaning.{lookupMeaning, pgnMeaning, packOf}
-use Rattle.pack.specs.Trees.{protocolOf, sectionOf}
+use Rattle.pack.specs.Meaning.{lookup-meaning, pgn-meaning, pack-of}
+use Rattle.pack.specs.Trees.{protocol-of, section-of}
 use Rattle.pack.specs.declared.load.Index.{Index}
 use Rattle.pack.specs.declared.lookup.LookupView.{LookupView}
 use Rattle.pack.specs.declared.pgn.PgnView.{PgnView}
@@ -20,52 +20,52 @@ pub record Ready (s w : List ℕ) : Type 0 where
 -- ---- work positions
 
 -- field type i is at i; the lookups follow, each with its entries behind it
-abbrev pub lookupPlace : Pack → ℕ → ℕ
-lookupPlace P zero = length (P .fieldtypes)
-lookupPlace P (suc i) = lookupPlace P i + 1 + length (lookup-at (P .lookups) i .entries)
+abbrev pub place-of-lookup : Pack → ℕ → ℕ
+place-of-lookup P zero = length (P .fieldtypes)
+place-of-lookup P (suc i) = place-of-lookup P i + 1 + length (lookup-at (P .lookups) i .entries)
 
 -- the records of the first i PGNs
-abbrev pub pgnRecordsBelow : List Pgn → ℕ → ℕ
-pgnRecordsBelow ps zero = 0
-pgnRecordsBelow ps (suc i) = pgnRecordsBelow ps i + 1 + length (getD ps i noPgn .fields)
+abbrev pub pgn-records-below : List Pgn → ℕ → ℕ
+pgn-records-below ps zero = 0
+pgn-records-below ps (suc i) = pgn-records-below ps i + 1 + length (getD ps i no-pgn .fields)
 
 -- where tree t begins
-abbrev pub treePlace : Pack → ℕ → ℕ
-treePlace P zero = lookupPlace P (length (P .lookups))
-treePlace P (suc t) = treePlace P t + pgnRecordsBelow (pgns-of P t) (length (pgns-of P t))
+abbrev pub place-of-tree : Pack → ℕ → ℕ
+place-of-tree P zero = place-of-lookup P (length (P .lookups))
+place-of-tree P (suc t) = place-of-tree P t + pgn-records-below (pgns-of P t) (length (pgns-of P t))
 
-abbrev pub pgnPlace : Pack → ℕ → ℕ → ℕ
-pgnPlace P t i = treePlace P t + pgnRecordsBelow (pgns-of P t) i
+abbrev pub place-of-pgn : Pack → ℕ → ℕ → ℕ
+place-of-pgn P t i = place-of-tree P t + pgn-records-below (pgns-of P t) i
 
 -- The index of a pack: the counts and places of its lists. The field types begin at 0, and nothing above needs the number of records.
 pub record IndexIs (P : Pack) (i : Index) : Type 0 where
   pub types : i .types .count ≡ length (P .fieldtypes)
   pub lookups : i .lookups .count ≡ length (P .lookups)
-  pub lookups-place : i .lookups .place ≡ lookupPlace P 0
-  pub trees : (t : ℕ) → t < 3 → sectionOf (protocolOf t) i .count ≡ length (pgns-of P t)
-  pub trees-place : (t : ℕ) → t < 3 → sectionOf (protocolOf t) i .place ≡ treePlace P t
+  pub lookups-place : i .lookups .place ≡ place-of-lookup P 0
+  pub trees : (t : ℕ) → t < 3 → section-of (protocol-of t) i .count ≡ length (pgns-of P t)
+  pub trees-place : (t : ℕ) → t < 3 → section-of (protocol-of t) i .place ≡ place-of-tree P t
 
 -- p is the work position of lookup i
 pub record LookupAt (s w : List ℕ) (i p : ℕ) : Type 0 where
   pub ready : Ready s w
-  pub lookup : i < length (packOf s .lookups)
-  pub place : p ≡ lookupPlace (packOf s) i
+  pub lookup : i < length (pack-of s .lookups)
+  pub place : p ≡ place-of-lookup (pack-of s) i
 
 -- p is the work position of PGN i of tree t
 pub record PgnAt (s w : List ℕ) (t i p : ℕ) : Type 0 where
   pub ready : Ready s w
   pub tree : t < 3
-  pub pgn : i < length (pgns-of (packOf s) t)
-  pub place : p ≡ pgnPlace (packOf s) t i
+  pub pgn : i < length (pgns-of (pack-of s) t)
+  pub place : p ≡ place-of-pgn (pack-of s) t i
 
 -- ---- what a view is
 
 -- the view of a lookup means it, and has the number of its entries
 pub record LookupIs (s : List ℕ) (L : Lookup) (v : LookupView) : Type 0 where
-  pub means : lookupMeaning s v (L .entries) ≡ L
+  pub means : lookup-meaning s v (L .entries) ≡ L
   pub entries : v .entries ≡ length (L .entries)
 
 -- the view of a PGN means it, and has the number of its fields
 pub record PgnIs (s : List ℕ) (G : Pgn) (v : PgnView) : Type 0 where
-  pub means : pgnMeaning s v (G .fields) ≡ G
+  pub means : pgn-meaning s v (G .fields) ≡ G
   pub fields : v .fields ≡ length (G .fields)

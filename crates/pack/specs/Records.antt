@@ -3,8 +3,8 @@ use Prim.Native.Nat.{ℕ, _/_, _%_}
 use mathlib.Core.List.{List}
 use mathlib.Core.Bool.{true, false}
 use Rattle.pack.specs.Notation.{_==_, if_then_else_}
-use Rattle.pack.specs.Items.{largest64, wideAt, numberAt, codeAt, indexAt, sumAt, markAt, textAt, nameAt, floatAt, optTextAt, optNumberAt, optFloatAt}
-use Rattle.pack.specs.Items.{optBytesAt, optSumAt}
+use Rattle.pack.specs.Items.{largest64, read-wide, read-number, read-code, read-index, read-sum, read-mark, read-text, read-name, read-float, read-opt-text, read-opt-number, read-opt-float}
+use Rattle.pack.specs.Items.{read-opt-bytes, read-opt-sum}
 use Rattle.pack.specs.declared.text.OptText.{OptText}
 use Rattle.pack.specs.declared.cursor.Cursor.{Cursor}
 use Rattle.pack.specs.declared.cursor.WideItem.{WideItem}
@@ -24,13 +24,13 @@ use Rattle.pack.specs.declared.field.LinksItem.{LinksItem}
 use Rattle.pack.specs.declared.field.FieldItem.{FieldItem}
 
 -- "Field type: name, flags (1 base, 2 print function, 4 signed), `size`, `resolution` float, `root_name`."
-unfoldable pub typeAt : List ℕ → Cursor → FieldTypeItem
-typeAt s c =
-    let name = textAt s c in
-    let flags = codeAt 7 s (name .next) in
-    let size = numberAt s (flags .next) in
-    let resolution = floatAt s (size .next) in
-    let root = textAt s (resolution .next) in
+unfoldable pub read-type : List ℕ → Cursor → FieldTypeItem
+read-type s c =
+    let name = read-text s c in
+    let flags = read-code 7 s (name .next) in
+    let size = read-number s (flags .next) in
+    let resolution = read-float s (size .next) in
+    let root = read-text s (resolution .next) in
     record {
       value =
           record {
@@ -46,25 +46,25 @@ typeAt s c =
     }
 
 -- "Triplet: first, second, name": what stands before an entry's value
-unfoldable pub firstAt : ℕ → List ℕ → Cursor → WideItem
-firstAt kind s c = if kind == 1 then wideAt largest64 s c else record { value = 0; next = c }
+unfoldable pub read-first : ℕ → List ℕ → Cursor → WideItem
+read-first kind s c = if kind == 1 then read-wide largest64 s c else record { value = 0; next = c }
 
 -- "Fieldtype: value, name, fieldtype, optional nested lookup": what stands behind an entry's name
-unfoldable pub kindPartAt : ℕ → List ℕ → Cursor → KindPartItem
-kindPartAt kind s c =
-    let t = textAt s c in
-    let n = optTextAt s (t .next) in
+unfoldable pub read-kind-part : ℕ → List ℕ → Cursor → KindPartItem
+read-kind-part kind s c =
+    let t = read-text s c in
+    let n = read-opt-text s (t .next) in
     if kind == 3
     then record { fieldtype = t .value; nested = n .value; next = n .next }
     else record { fieldtype = record { start = 0; len = 0 }; nested = record { given = false; text = record { start = 0; len = 0 } }; next = c }
 
 -- an entry of a lookup of that kind. "Pair and bit: value, name."
-unfoldable pub entryAt : ℕ → List ℕ → Cursor → EntryItem
-entryAt kind s c =
-    let first = firstAt kind s c in
-    let value = wideAt largest64 s (first .next) in
-    let name = textAt s (value .next) in
-    let rest = kindPartAt kind s (name .next) in
+unfoldable pub read-entry : ℕ → List ℕ → Cursor → EntryItem
+read-entry kind s c =
+    let first = read-first kind s c in
+    let value = read-wide largest64 s (first .next) in
+    let name = read-text s (value .next) in
+    let rest = read-kind-part kind s (name .next) in
     record {
       value =
           record {
@@ -78,33 +78,33 @@ entryAt kind s c =
     }
 
 -- "Lookup: name, kind (0 pair, 1 triplet, 2 bit, 3 fieldtype), `bits`, list of entries": up to the count of the entries
-unfoldable pub lookupAt : OptText → List ℕ → Cursor → LookupItem
-lookupAt before s c =
-    let name = nameAt before s c in
-    let kind = codeAt 3 s (name .next) in
-    let bits = numberAt s (kind .next) in
-    let entries = numberAt s (bits .next) in
+unfoldable pub read-lookup : OptText → List ℕ → Cursor → LookupItem
+read-lookup before s c =
+    let name = read-name before s c in
+    let kind = read-code 3 s (name .next) in
+    let bits = read-number s (kind .next) in
+    let entries = read-number s (bits .next) in
     record {
       value = record { name = name .value; kind = kind .value; bits = bits .value; entries = entries .value };
       next = entries .next;
     }
 
 -- "Set: count, start, optional countField, nested mark." "Sums under 7: a set's start + count"
-unfoldable pub repeatingAt : List ℕ → Cursor → RepeatingItem
-repeatingAt s c =
-    let count = numberAt s c in
-    let start = sumAt (count .value) s (count .next) in
-    let counter = optNumberAt s (start .next) in
-    let nested = markAt s (counter .next) in
+unfoldable pub read-repeating : List ℕ → Cursor → RepeatingItem
+read-repeating s c =
+    let count = read-number s c in
+    let start = read-sum (count .value) s (count .next) in
+    let counter = read-opt-number s (start .next) in
+    let nested = read-mark s (counter .next) in
     record {
       value = record { count = count .value; start = start .value; counter = counter .value; nested = nested .value };
       next = nested .next;
     }
 
-unfoldable pub optRepeatingAt : List ℕ → Cursor → OptRepeatingItem
-optRepeatingAt s c =
-    let m = markAt s c in
-    let r = repeatingAt s (m .next) in
+unfoldable pub read-opt-repeating : List ℕ → Cursor → OptRepeatingItem
+read-opt-repeating s c =
+    let m = read-mark s c in
+    let r = read-repeating s (m .next) in
     if m .value
     then record { value = record { given = true; set = r .value }; next = r .next }
     else
@@ -119,17 +119,17 @@ optRepeatingAt s c =
 
 -- "PGN: number, id, type (0 Single, 1 Fast, 2 ISO, 3 Mixed), flags (1 fallback, 2 variable, 4 MissingCompanyFields), length,
 -- optional minimum length, two optional sets, list of fields": up to the count of the fields
-unfoldable pub pgnAt : List ℕ → Cursor → PgnItem
-pgnAt s c =
-    let pgn = numberAt s c in
-    let id = textAt s (pgn .next) in
-    let kind = codeAt 3 s (id .next) in
-    let flags = codeAt 7 s (kind .next) in
-    let length = numberAt s (flags .next) in
-    let minimum = optBytesAt s (length .next) in
-    let first = optRepeatingAt s (minimum .next) in
-    let second = optRepeatingAt s (first .next) in
-    let fields = numberAt s (second .next) in
+unfoldable pub read-pgn : List ℕ → Cursor → PgnItem
+read-pgn s c =
+    let pgn = read-number s c in
+    let id = read-text s (pgn .next) in
+    let kind = read-code 3 s (id .next) in
+    let flags = read-code 7 s (kind .next) in
+    let length = read-number s (flags .next) in
+    let minimum = read-opt-bytes s (length .next) in
+    let first = read-opt-repeating s (minimum .next) in
+    let second = read-opt-repeating s (first .next) in
+    let fields = read-number s (second .next) in
     record {
       value =
           record {
@@ -152,16 +152,16 @@ pgnAt s c =
     }
 
 -- "Field: id, name, type text, .."
-unfoldable pub namesAt : List ℕ → Cursor → NamesItem
-namesAt s c =
-    let id = textAt s c in
-    let name = textAt s (id .next) in
-    let kind = textAt s (name .next) in
+unfoldable pub read-names : List ℕ → Cursor → NamesItem
+read-names s c =
+    let id = read-text s c in
+    let name = read-text s (id .next) in
+    let kind = read-text s (name .next) in
     record { value = record { id = id .value; name = name .value; kind = kind .value }; next = kind .next }
 
 -- ".. flags (1 `bits` given, 2 `unit` given, 4 proprietary, 8 allowLookupWidthMismatch, 16 dynamicFieldLength, 32 overhead not 0), .."
-abbrev pub fieldFlags : ℕ → FieldFlags
-fieldFlags n =
+abbrev pub field-flags-of : ℕ → FieldFlags
+field-flags-of n =
     record {
       bits = n % 2 == 1;
       unit = n / 2 % 2 == 1;
@@ -172,12 +172,12 @@ fieldFlags n =
     }
 
 -- ".. `res_bits`, `res_resolution`, `res_offset`; then optional `res_unit`, ..", with `total` bits in the PGN's fields before it
-unfoldable pub scalingAt : ℕ → List ℕ → Cursor → ScalingItem
-scalingAt total s c =
-    let bits = sumAt total s c in
-    let resolution = floatAt s (bits .next) in
-    let offset = floatAt s (resolution .next) in
-    let unit = optTextAt s (offset .next) in
+unfoldable pub read-scaling : ℕ → List ℕ → Cursor → ScalingItem
+read-scaling total s c =
+    let bits = read-sum total s c in
+    let resolution = read-float s (bits .next) in
+    let offset = read-float s (resolution .next) in
+    let unit = read-opt-text s (offset .next) in
     record {
       value =
           record {
@@ -190,13 +190,13 @@ scalingAt total s c =
     }
 
 -- ".. `resolution`, `offset`, `spn`, `continues`, `match_`, .."
-unfoldable pub authoredAt : List ℕ → Cursor → AuthoredItem
-authoredAt s c =
-    let resolution = optFloatAt s c in
-    let offset = optFloatAt s (resolution .next) in
-    let spn = optNumberAt s (offset .next) in
-    let continues = optTextAt s (spn .next) in
-    let matched = optTextAt s (continues .next) in
+unfoldable pub read-authored : List ℕ → Cursor → AuthoredItem
+read-authored s c =
+    let resolution = read-opt-float s c in
+    let offset = read-opt-float s (resolution .next) in
+    let spn = read-opt-number s (offset .next) in
+    let continues = read-opt-text s (spn .next) in
+    let matched = read-opt-text s (continues .next) in
     record {
       value =
           record {
@@ -210,23 +210,23 @@ authoredAt s c =
     }
 
 -- ".. reference (kind, name), .."
-unfoldable pub optReferenceAt : List ℕ → Cursor → OptReferenceItem
-optReferenceAt s c =
-    let m = markAt s c in
-    let kind = codeAt 3 s (m .next) in
-    let name = textAt s (kind .next) in
+unfoldable pub read-opt-reference : List ℕ → Cursor → OptReferenceItem
+read-opt-reference s c =
+    let m = read-mark s c in
+    let kind = read-code 3 s (m .next) in
+    let name = read-text s (kind .next) in
     if m .value
     then record { value = record { given = true; kind = kind .value; name = name .value }; next = name .next }
     else record { value = record { given = false; kind = 0; name = record { start = 0; len = 0 } }; next = m .next }
 
 -- ".. `special_values`, `bit_length_field`, trailing-zero target, continuation width", of a field of `bits` bits
-unfoldable pub linksAt : ℕ → List ℕ → Cursor → LinksItem
-linksAt bits s c =
-    let reference = optReferenceAt s c in
-    let special = optNumberAt s (reference .next) in
-    let length = optTextAt s (special .next) in
-    let trailing = optTextAt s (length .next) in
-    let continuation = optSumAt bits s (trailing .next) in
+unfoldable pub read-links : ℕ → List ℕ → Cursor → LinksItem
+read-links bits s c =
+    let reference = read-opt-reference s c in
+    let special = read-opt-number s (reference .next) in
+    let length = read-opt-text s (special .next) in
+    let trailing = read-opt-text s (length .next) in
+    let continuation = read-opt-sum bits s (trailing .next) in
     record {
       value =
           record {
@@ -240,20 +240,20 @@ linksAt bits s c =
     }
 
 -- a field, in a pack of `types` field types and a PGN whose fields before it have `total` bits
-unfoldable pub fieldAt : ℕ → ℕ → List ℕ → Cursor → FieldItem
-fieldAt types total s c =
-    let names = namesAt s c in
-    let ft = indexAt types s (names .next) in
-    let flags = codeAt 63 s (ft .next) in
-    let scaling = scalingAt total s (flags .next) in
-    let authored = authoredAt s (scaling .next) in
-    let links = linksAt (scaling .value .bits) s (authored .next) in
+unfoldable pub read-field : ℕ → ℕ → List ℕ → Cursor → FieldItem
+read-field types total s c =
+    let names = read-names s c in
+    let ft = read-index types s (names .next) in
+    let flags = read-code 63 s (ft .next) in
+    let scaling = read-scaling total s (flags .next) in
+    let authored = read-authored s (scaling .next) in
+    let links = read-links (scaling .value .bits) s (authored .next) in
     record {
       value =
           record {
             names = names .value;
             ft = ft .value;
-            flags = fieldFlags (flags .value);
+            flags = field-flags-of (flags .value);
             scaling = scaling .value;
             authored = authored .value;
             links = links .value;

@@ -8,21 +8,21 @@ use Rattle.pack.specs.declared.protocol.Protocol.{Protocol}
 use Rattle.pack.specs.declared.protocol.Protocol.the-variants.{Nmea2000, J1939, Quick}
 use Rattle.pack.specs.declared.protocol.Prefix.{Prefix}
 
-abbrev pub treeNumber : Protocol → ℕ
-treeNumber Nmea2000 = 0
-treeNumber J1939 = 1
-treeNumber Quick = 2
+abbrev pub tree-number : Protocol → ℕ
+tree-number Nmea2000 = 0
+tree-number J1939 = 1
+tree-number Quick = 2
 
-abbrev pub protocolOf : ℕ → Protocol
-protocolOf t = if t == 0 then Nmea2000 else if t == 1 then J1939 else Quick
+abbrev pub protocol-of : ℕ → Protocol
+protocol-of t = if t == 0 then Nmea2000 else if t == 1 then J1939 else Quick
 
 -- the Rust's `check_prefix`: "", "j1939/", "quick/"
-abbrev pub prefixOf : Protocol → Prefix
-prefixOf Nmea2000 = record { bytes = 0 ∷ 0 ∷ 0 ∷ 0 ∷ 0 ∷ 0 ∷ []; len = 0 }
-prefixOf J1939 = record { bytes = 106 ∷ 49 ∷ 57 ∷ 51 ∷ 57 ∷ 47 ∷ []; len = 6 }
-prefixOf Quick = record { bytes = 113 ∷ 117 ∷ 105 ∷ 99 ∷ 107 ∷ 47 ∷ []; len = 6 }
+abbrev pub prefix-of : Protocol → Prefix
+prefix-of Nmea2000 = record { bytes = 0 ∷ 0 ∷ 0 ∷ 0 ∷ 0 ∷ 0 ∷ []; len = 0 }
+prefix-of J1939 = record { bytes = 106 ∷ 49 ∷ 57 ∷ 51 ∷ 57 ∷ 47 ∷ []; len = 6 }
+prefix-of Quick = record { bytes = 113 ∷ 117 ∷ 105 ∷ 99 ∷ 107 ∷ 47 ∷ []; len = 6 }
 
-abbrev pub sectionOf : Protocol → Index → Section
-sectionOf Nmea2000 i = i .nmea2000
-sectionOf J1939 i = i .j1939
-sectionOf Quick i = i .quick
+abbrev pub section-of : Protocol → Index → Section
+section-of Nmea2000 i = i .nmea2000
+section-of J1939 i = i .j1939
+section-of Quick i = i .quick

@@ -107,17 +107,17 @@ pgns-of P (suc (suc zero)) = P .pgns-quick
 pgns-of P (suc (suc (suc t))) = []
 
 -- What stands at an index beyond a list.
-abbrev pub noFieldType : FieldType
-noFieldType = record { name = []; base = false; print-function = false; signed = false; size = 0; resolution = 0; root-name = [] }
+abbrev pub no-field-type : FieldType
+no-field-type = record { name = []; base = false; print-function = false; signed = false; size = 0; resolution = 0; root-name = [] }
 
-abbrev pub noEntry : Entry
-noEntry = record { first = 0; value = 0; name = []; fieldtype = []; nested = none }
+abbrev pub no-entry : Entry
+no-entry = record { first = 0; value = 0; name = []; fieldtype = []; nested = none }
 
-abbrev pub noLookup : Lookup
-noLookup = record { name = []; kind = 0; bits = 0; entries = [] }
+abbrev pub no-lookup : Lookup
+no-lookup = record { name = []; kind = 0; bits = 0; entries = [] }
 
-abbrev pub noField : Field
-noField =
+abbrev pub no-field : Field
+no-field =
     record {
       id = [];
       name = [];
@@ -145,8 +145,8 @@ noField =
       continuation = none;
     }
 
-abbrev pub noPgn : Pgn
-noPgn =
+abbrev pub no-pgn : Pgn
+no-pgn =
     record {
       pgn = 0;
       id = [];
@@ -164,13 +164,13 @@ noPgn =
 -- ---- records by their index
 
 abbrev pub lookup-at : List Lookup → ℕ → Lookup
-lookup-at ls l = getD ls l noLookup
+lookup-at ls l = getD ls l no-lookup
 
 abbrev pub entry-at : List Entry → ℕ → Entry
-entry-at es e = getD es e noEntry
+entry-at es e = getD es e no-entry
 
 abbrev pub pgn-at : Pack → (tree i : ℕ) → Pgn
-pgn-at P t i = getD (pgns-of P t) i noPgn
+pgn-at P t i = getD (pgns-of P t) i no-pgn
 
 abbrev pub field-at : Pgn → ℕ → Field
-field-at p k = getD (p .fields) k noField
+field-at p k = getD (p .fields) k no-field

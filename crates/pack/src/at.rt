@@ -1,8 +1,8 @@
 // Readers at an offset, total: what stands there, read as a record of that kind.
 ghost use mathlib.Core.Path.{_≡_};
-ghost use Rattle.pack.specs.Items.{fresh, numberAt, textAt};
-ghost use Rattle.pack.specs.Records.{typeAt, entryAt, lookupAt, pgnAt, fieldAt};
-ghost use Rattle.pack.specs.Format.{noText};
+ghost use Rattle.pack.specs.Items.{fresh, read-number, read-text};
+ghost use Rattle.pack.specs.Records.{read-type, read-entry, read-lookup, read-pgn, read-field};
+ghost use Rattle.pack.specs.Format.{no-text};
 use crate::cursor::Cursor;
 use crate::entry::EntryView;
 use crate::field::FieldView;
@@ -20,7 +20,7 @@ fn cursor_at(at: usize) -> Cursor
 
 // The number that a record begins with: a PGN's.
 pub fn number_at(s: &[u8], at: usize) -> u32
-    ensures { λ r. ⌜ r ≡ numberAt (now (s .entry)) (fresh at) .value ⌝ }
+    ensures { λ r. ⌜ r ≡ read-number (now (s .entry)) (fresh at) .value ⌝ }
 {
     let r = cursor_at(at).number(s);
     r.value
@@ -28,7 +28,7 @@ pub fn number_at(s: &[u8], at: usize) -> u32
 
 // The text that a record begins with: a field type's or lookup's name, a field's id.
 pub fn text_at(s: &[u8], at: usize) -> Text
-    ensures { λ r. ⌜ r ≡ textAt (now (s .entry)) (fresh at) .value ⌝ }
+    ensures { λ r. ⌜ r ≡ read-text (now (s .entry)) (fresh at) .value ⌝ }
 {
     let r = cursor_at(at).text(s);
     r.value
@@ -36,7 +36,7 @@ pub fn text_at(s: &[u8], at: usize) -> Text
 
 // The text behind it: a field's name.
 pub(crate) fn second_text_at(s: &[u8], at: usize) -> Text
-    ensures { λ r. ⌜ r ≡ textAt (now (s .entry)) (textAt (now (s .entry)) (fresh at) .next) .value ⌝ }
+    ensures { λ r. ⌜ r ≡ read-text (now (s .entry)) (read-text (now (s .entry)) (fresh at) .next) .value ⌝ }
 {
     let first = cursor_at(at).text(s);
     let r = first.next.text(s);
@@ -44,7 +44,7 @@ pub(crate) fn second_text_at(s: &[u8], at: usize) -> Text
 }
 
 pub fn type_at(s: &[u8], at: usize) -> FieldTypeView
-    ensures { λ r. ⌜ r ≡ typeAt (now (s .entry)) (fresh at) .value ⌝ }
+    ensures { λ r. ⌜ r ≡ read-type (now (s .entry)) (fresh at) .value ⌝ }
 {
     let r = cursor_at(at).field_type(s);
     r.value
@@ -52,7 +52,7 @@ pub fn type_at(s: &[u8], at: usize) -> FieldTypeView
 
 // A lookup without a name before it.
 pub fn lookup_at(s: &[u8], at: usize) -> LookupView
-    ensures { λ r. ⌜ r ≡ lookupAt noText (now (s .entry)) (fresh at) .value ⌝ }
+    ensures { λ r. ⌜ r ≡ read-lookup no-text (now (s .entry)) (fresh at) .value ⌝ }
 {
     let before = OptText {
         given: false,
@@ -64,14 +64,14 @@ pub fn lookup_at(s: &[u8], at: usize) -> LookupView
 
 // An entry of a lookup of that kind.
 pub fn entry_at(s: &[u8], at: usize, kind: u32) -> EntryView
-    ensures { λ r. ⌜ r ≡ entryAt kind (now (s .entry)) (fresh at) .value ⌝ }
+    ensures { λ r. ⌜ r ≡ read-entry kind (now (s .entry)) (fresh at) .value ⌝ }
 {
     let r = cursor_at(at).entry(s, kind);
     r.value
 }
 
 pub fn pgn_at(s: &[u8], at: usize) -> PgnView
-    ensures { λ r. ⌜ r ≡ pgnAt (now (s .entry)) (fresh at) .value ⌝ }
+    ensures { λ r. ⌜ r ≡ read-pgn (now (s .entry)) (fresh at) .value ⌝ }
 {
     let r = cursor_at(at).pgn(s);
     r.value
@@ -79,7 +79,7 @@ pub fn pgn_at(s: &[u8], at: usize) -> PgnView
 
 // A field with no limit on its field type index, and no fields before it.
 pub fn field_at(s: &[u8], at: usize) -> FieldView
-    ensures { λ r. ⌜ r ≡ fieldAt 4294967296 0 (now (s .entry)) (fresh at) .value ⌝ }
+    ensures { λ r. ⌜ r ≡ read-field 4294967296 0 (now (s .entry)) (fresh at) .value ⌝ }
 {
     let r = cursor_at(at).field(s, 0x1_0000_0000, 0);
     r.value

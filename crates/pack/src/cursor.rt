@@ -4,7 +4,7 @@ ghost use mathlib.Core.Path.{_≡_};
 ghost use Prim.Native.Nat.{_+_, _≤_, _<_, _^_};
 ghost use lib.ListN.{length, getD};
 ghost use lib.Dec.{leb};
-ghost use Rattle.pack.specs.Items.{refuse, judged, wideAt, numberAt, codeAt, versionAt, indexAt, sumAt, bytesAt, markAt, textAt, nameAt, four, floatAt};
+ghost use Rattle.pack.specs.Items.{refuse, judged, read-wide, read-number, read-code, read-version, read-index, read-sum, read-bytes, read-mark, read-text, read-name, four, read-float};
 ghost use Rattle.pack.specs.Items.{finish};
 use crate::number::decode;
 use crate::number::is_shortest;
@@ -77,7 +77,7 @@ impl Cursor {
     }
 
     pub fn wide(self, s: &[u8], most: u64) -> WideItem
-        ensures { λ r. ⌜ r ≡ wideAt most (now (s .entry)) self ⌝ }
+        ensures { λ r. ⌜ r ≡ read-wide most (now (s .entry)) self ⌝ }
         ensures { λ r. ⌜ r .value ≤ most ⌝ }
     {
         let at = self.at;
@@ -111,7 +111,7 @@ impl Cursor {
     }
 
     pub fn number(self, s: &[u8]) -> NumberItem
-        ensures { λ r. ⌜ r ≡ numberAt (now (s .entry)) self ⌝ }
+        ensures { λ r. ⌜ r ≡ read-number (now (s .entry)) self ⌝ }
     {
         let w = self.wide(s, 0xffff_ffff);
         let c = w.next;
@@ -138,14 +138,14 @@ impl Cursor {
 
     // A code, mark or flags.
     pub fn code(self, s: &[u8], most: u32) -> NumberItem
-        ensures { λ r. ⌜ r ≡ codeAt most (now (s .entry)) self ⌝ }
+        ensures { λ r. ⌜ r ≡ read-code most (now (s .entry)) self ⌝ }
     {
         let n = self.number(s);
         self.judged(n, n.value <= most, 4)
     }
 
     pub fn version(self, s: &[u8]) -> NumberItem
-        ensures { λ r. ⌜ r ≡ versionAt (now (s .entry)) self ⌝ }
+        ensures { λ r. ⌜ r ≡ read-version (now (s .entry)) self ⌝ }
     {
         let n = self.number(s);
         self.judged(n, n.value == 1, 3)
@@ -153,7 +153,7 @@ impl Cursor {
 
     // An index below `count`.
     pub fn index(self, s: &[u8], count: u64) -> NumberItem
-        ensures { λ r. ⌜ r ≡ indexAt count (now (s .entry)) self ⌝ }
+        ensures { λ r. ⌜ r ≡ read-index count (now (s .entry)) self ⌝ }
     {
         let n = self.number(s);
         let v = n.value as u64;
@@ -162,7 +162,7 @@ impl Cursor {
 
     // A number that completes a sum whose other part is `other`.
     pub fn sum(self, s: &[u8], other: u32) -> NumberItem
-        ensures { λ r. ⌜ r ≡ sumAt other (now (s .entry)) self ⌝ }
+        ensures { λ r. ⌜ r ≡ read-sum other (now (s .entry)) self ⌝ }
         ensures { λ r. ⌜ other + r .value ≤ 4294967295 ⌝ }
     {
         let n = self.number(s);
@@ -173,7 +173,7 @@ impl Cursor {
 
     // A length in bytes whose bits are counted in 32 bits.
     pub fn bytes(self, s: &[u8]) -> NumberItem
-        ensures { λ r. ⌜ r ≡ bytesAt (now (s .entry)) self ⌝ }
+        ensures { λ r. ⌜ r ≡ read-bytes (now (s .entry)) self ⌝ }
     {
         let n = self.number(s);
         let v = n.value as u64;
@@ -181,7 +181,7 @@ impl Cursor {
     }
 
     pub fn mark(self, s: &[u8]) -> MarkItem
-        ensures { λ r. ⌜ r ≡ markAt (now (s .entry)) self ⌝ }
+        ensures { λ r. ⌜ r ≡ read-mark (now (s .entry)) self ⌝ }
     {
         let n = self.code(s, 1);
         let c = n.next;
@@ -192,7 +192,7 @@ impl Cursor {
     }
 
     pub fn text(self, s: &[u8]) -> TextItem
-        ensures { λ r. ⌜ r ≡ textAt (now (s .entry)) self ⌝ }
+        ensures { λ r. ⌜ r ≡ read-text (now (s .entry)) self ⌝ }
     {
         let n = self.number(s);
         let c = n.next;
@@ -223,7 +223,7 @@ impl Cursor {
 
     // A lookup's name, which is above the one before it.
     pub fn name(self, s: &[u8], before: OptText) -> TextItem
-        ensures { λ r. ⌜ r ≡ nameAt before (now (s .entry)) self ⌝ }
+        ensures { λ r. ⌜ r ≡ read-name before (now (s .entry)) self ⌝ }
     {
         let t = self.text(s);
         let c = t.next;
@@ -246,7 +246,7 @@ impl Cursor {
     }
 
     pub fn float(self, s: &[u8]) -> WideItem
-        ensures { λ r. ⌜ r ≡ floatAt (now (s .entry)) self ⌝ }
+        ensures { λ r. ⌜ r ≡ read-float (now (s .entry)) self ⌝ }
     {
         let at = self.at;
         if self.refused != 0 {

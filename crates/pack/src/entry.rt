@@ -1,6 +1,6 @@
 // An entry of a lookup, read item by item in 01's order.
 ghost use mathlib.Core.Path.{_≡_};
-ghost use Rattle.pack.specs.Records.{firstAt, kindPartAt, entryAt};
+ghost use Rattle.pack.specs.Records.{read-first, read-kind-part, read-entry};
 use crate::cursor::Cursor;
 use crate::cursor::WideItem;
 use crate::text::OptText;
@@ -30,7 +30,7 @@ pub struct KindPartItem {
 impl Cursor {
     // A triplet's first value, which stands before its second.
     fn first(self, s: &[u8], kind: u32) -> WideItem
-        ensures { λ r. ⌜ r ≡ firstAt kind (now (s .entry)) self ⌝ }
+        ensures { λ r. ⌜ r ≡ read-first kind (now (s .entry)) self ⌝ }
     {
         if kind == 1 {
             return self.wide(s, 0xffff_ffff_ffff_ffff);
@@ -42,7 +42,7 @@ impl Cursor {
     }
 
     fn kind_part(self, s: &[u8], kind: u32) -> KindPartItem
-        ensures { λ r. ⌜ r ≡ kindPartAt kind (now (s .entry)) self ⌝ }
+        ensures { λ r. ⌜ r ≡ read-kind-part kind (now (s .entry)) self ⌝ }
     {
         if kind == 3 {
             let t = self.text(s);
@@ -68,7 +68,7 @@ impl Cursor {
 
     // An entry of a lookup of that kind.
     pub fn entry(self, s: &[u8], kind: u32) -> EntryItem
-        ensures { λ r. ⌜ r ≡ entryAt kind (now (s .entry)) self ⌝ }
+        ensures { λ r. ⌜ r ≡ read-entry kind (now (s .entry)) self ⌝ }
     {
         let first = self.first(s, kind);
         let value = first.next.wide(s, 0xffff_ffff_ffff_ffff);

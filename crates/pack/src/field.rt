@@ -1,7 +1,7 @@
 // A field, read item by item in 01's order.
 ghost use mathlib.Core.Path.{_≡_};
 ghost use Prim.Native.Nat.{_+_, _≤_};
-ghost use Rattle.pack.specs.Records.{namesAt, fieldFlags, scalingAt, authoredAt, optReferenceAt, linksAt, fieldAt};
+ghost use Rattle.pack.specs.Records.{read-names, field-flags-of, read-scaling, read-authored, read-opt-reference, read-links, read-field};
 use crate::cursor::Cursor;
 use crate::optional::OptFloat;
 use crate::optional::OptNumber;
@@ -96,7 +96,7 @@ pub struct FieldItem {
 }
 
 fn field_flags(n: u32) -> FieldFlags
-    ensures { λ r. ⌜ r ≡ fieldFlags n ⌝ }
+    ensures { λ r. ⌜ r ≡ field-flags-of n ⌝ }
 {
     FieldFlags {
         bits: n % 2 == 1,
@@ -110,7 +110,7 @@ fn field_flags(n: u32) -> FieldFlags
 
 impl Cursor {
     fn names(self, s: &[u8]) -> NamesItem
-        ensures { λ r. ⌜ r ≡ namesAt (now (s .entry)) self ⌝ }
+        ensures { λ r. ⌜ r ≡ read-names (now (s .entry)) self ⌝ }
     {
         let id = self.text(s);
         let name = id.next.text(s);
@@ -131,7 +131,7 @@ impl Cursor {
 
     // The scaling of a field, in a PGN whose fields before it have `total` bits.
     fn scaling(self, s: &[u8], total: u32) -> ScalingItem
-        ensures { λ r. ⌜ r ≡ scalingAt total (now (s .entry)) self ⌝ }
+        ensures { λ r. ⌜ r ≡ read-scaling total (now (s .entry)) self ⌝ }
         ensures { λ r. ⌜ total + r .value .bits ≤ 4294967295 ⌝ }
     {
         let bits = self.sum(s, total);
@@ -152,7 +152,7 @@ impl Cursor {
     }
 
     fn authored(self, s: &[u8]) -> AuthoredItem
-        ensures { λ r. ⌜ r ≡ authoredAt (now (s .entry)) self ⌝ }
+        ensures { λ r. ⌜ r ≡ read-authored (now (s .entry)) self ⌝ }
     {
         let resolution = self.opt_float(s);
         let offset = resolution.next.opt_float(s);
@@ -178,7 +178,7 @@ impl Cursor {
     }
 
     fn opt_reference(self, s: &[u8]) -> OptReferenceItem
-        ensures { λ r. ⌜ r ≡ optReferenceAt (now (s .entry)) self ⌝ }
+        ensures { λ r. ⌜ r ≡ read-opt-reference (now (s .entry)) self ⌝ }
     {
         let m = self.mark(s);
         let c = m.next;
@@ -208,7 +208,7 @@ impl Cursor {
 
     // What a field of `bits` bits refers to.
     fn links(self, s: &[u8], bits: u32) -> LinksItem
-        ensures { λ r. ⌜ r ≡ linksAt bits (now (s .entry)) self ⌝ }
+        ensures { λ r. ⌜ r ≡ read-links bits (now (s .entry)) self ⌝ }
     {
         let reference = self.opt_reference(s);
         let special = reference.next.opt_number(s);
@@ -235,7 +235,7 @@ impl Cursor {
 
     // A field, in a pack of `types` field types and a PGN whose fields before it have `total` bits.
     pub fn field(self, s: &[u8], types: u64, total: u32) -> FieldItem
-        ensures { λ r. ⌜ r ≡ fieldAt types total (now (s .entry)) self ⌝ }
+        ensures { λ r. ⌜ r ≡ read-field types total (now (s .entry)) self ⌝ }
         ensures { λ r. ⌜ total + r .value .scaling .bits ≤ 4294967295 ⌝ }
     {
         let names = self.names(s);

@@ -1,6 +1,6 @@
 // A field type, read item by item in 01's order. A view holds numbers, float patterns, and texts as parts of the pack.
 ghost use mathlib.Core.Path.{_≡_};
-ghost use Rattle.pack.specs.Records.{typeAt};
+ghost use Rattle.pack.specs.Records.{read-type};
 use crate::cursor::Cursor;
 use crate::text::Text;
 
@@ -21,7 +21,7 @@ pub struct FieldTypeItem {
 
 impl Cursor {
     pub fn field_type(self, s: &[u8]) -> FieldTypeItem
-        ensures { λ r. ⌜ r ≡ typeAt (now (s .entry)) self ⌝ }
+        ensures { λ r. ⌜ r ≡ read-type (now (s .entry)) self ⌝ }
     {
         let name = self.text(s);
         let flags = name.next.code(s, 7);

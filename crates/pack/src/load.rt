@@ -3,9 +3,9 @@
 ghost use mathlib.Core.Path.{_≡_};
 ghost use Prim.Native.Nat.{_≤_, _<_};
 ghost use lib.ListN.{length, set};
-ghost use Rattle.pack.specs.Format.{types, typeOffsets, entries, entryOffsets, lookupNext, lookupRecords, lookups, lookupOffsets, fields, fieldOffsets};
-ghost use Rattle.pack.specs.Format.{pgnNext, pgnRecords, pgns, pgnOffsets};
-ghost use Rattle.pack.specs.Load.{refusalNumber, refusalDetail, Loads};
+ghost use Rattle.pack.specs.Format.{types, type-offsets, entries, entry-offsets, lookup-next, lookup-records, lookups, lookup-offsets, fields, field-offsets};
+ghost use Rattle.pack.specs.Format.{pgn-next, pgn-records, pgns, pgn-offsets};
+ghost use Rattle.pack.specs.Load.{refusal-number, refusal-detail, Loads};
 ghost use Rattle.pack.specs.Placing.{Room, Placing, LookupPlacing, TreePlacing, Walking, counted};
 use crate::cursor::Cursor;
 use crate::text::OptText;
@@ -49,7 +49,7 @@ pub enum Refusal {
 // "A refusal gives its number and a detail."
 impl Refusal {
     pub fn number(self) -> u32
-        ensures { λ n. ⌜ n ≡ refusalNumber self ⌝ }
+        ensures { λ n. ⌜ n ≡ refusal-number self ⌝ }
     {
         match self {
             Refusal::Input { number, offset: _ } => number,
@@ -63,7 +63,7 @@ impl Refusal {
     }
 
     pub fn detail(self) -> usize
-        ensures { λ n. ⌜ n ≡ refusalDetail self ⌝ }
+        ensures { λ n. ⌜ n ≡ refusal-detail self ⌝ }
     {
         match self {
             Refusal::Input { number: _, offset } => offset,
@@ -125,7 +125,7 @@ fn past(c: Cursor, p: usize) -> usize
 
 fn place_types(s: &[u8], work: &mut [u32], c: Cursor, n: u32, p: usize) -> Placed
     requires { ⌜ Room (now s) c p ⌝ }
-    ensures { λ r. ⌜ Placing (types (now (s .entry)) c n) (now (work .entry)) p (typeOffsets (now (s .entry)) c n) (now (work .exit)) r ⌝ }
+    ensures { λ r. ⌜ Placing (types (now (s .entry)) c n) (now (work .entry)) p (type-offsets (now (s .entry)) c n) (now (work .exit)) r ⌝ }
 {
     let mut c = c;
     let mut p = p;
@@ -146,7 +146,7 @@ fn place_types(s: &[u8], work: &mut [u32], c: Cursor, n: u32, p: usize) -> Place
 
 fn place_entries(s: &[u8], work: &mut [u32], c: Cursor, kind: u32, n: u32, p: usize) -> Placed
     requires { ⌜ Room (now s) c p ⌝ }
-    ensures { λ r. ⌜ Placing (entries kind (now (s .entry)) c n) (now (work .entry)) p (entryOffsets kind (now (s .entry)) c n) (now (work .exit)) r ⌝ }
+    ensures { λ r. ⌜ Placing (entries kind (now (s .entry)) c n) (now (work .entry)) p (entry-offsets kind (now (s .entry)) c n) (now (work .exit)) r ⌝ }
 {
     let mut c = c;
     let mut p = p;
@@ -193,7 +193,7 @@ fn place_lookup(s: &[u8], work: &mut [u32], c: Cursor, before: OptText, p: usize
 
 fn place_lookups(s: &[u8], work: &mut [u32], c: Cursor, n: u32, p: usize) -> Placed
     requires { ⌜ Room (now s) c p ⌝ }
-    ensures { λ r. ⌜ Placing (lookups (now (s .entry)) c n .next) (now (work .entry)) p (lookupOffsets (now (s .entry)) c n) (now (work .exit)) r ⌝ }
+    ensures { λ r. ⌜ Placing (lookups (now (s .entry)) c n .next) (now (work .entry)) p (lookup-offsets (now (s .entry)) c n) (now (work .exit)) r ⌝ }
 {
     let mut c = c;
     let mut before = OptText {
@@ -218,7 +218,7 @@ fn place_lookups(s: &[u8], work: &mut [u32], c: Cursor, n: u32, p: usize) -> Pla
 // The fields of a PGN, in a pack of `types` field types.
 fn place_fields(s: &[u8], work: &mut [u32], c: Cursor, types: u32, n: u32, p: usize) -> Placed
     requires { ⌜ Room (now s) c p ⌝ }
-    ensures { λ r. ⌜ Placing (fields types (now (s .entry)) c n .next) (now (work .entry)) p (fieldOffsets types (now (s .entry)) c n) (now (work .exit)) r ⌝ }
+    ensures { λ r. ⌜ Placing (fields types (now (s .entry)) c n .next) (now (work .entry)) p (field-offsets types (now (s .entry)) c n) (now (work .exit)) r ⌝ }
 {
     let mut c = c;
     let mut total: u32 = 0;
@@ -242,7 +242,7 @@ fn place_fields(s: &[u8], work: &mut [u32], c: Cursor, types: u32, n: u32, p: us
 // A PGN and its fields.
 fn place_pgn(s: &[u8], work: &mut [u32], c: Cursor, types: u32, p: usize) -> Placed
     requires { ⌜ Room (now s) c p ⌝ }
-    ensures { λ r. ⌜ Placing (pgnNext types (now (s .entry)) c) (now (work .entry)) p (pgnRecords types (now (s .entry)) c) (now (work .exit)) r ⌝ }
+    ensures { λ r. ⌜ Placing (pgn-next types (now (s .entry)) c) (now (work .entry)) p (pgn-records types (now (s .entry)) c) (now (work .exit)) r ⌝ }
 {
     let at = c.at;
     put(work, p, at);
@@ -256,7 +256,7 @@ fn place_pgn(s: &[u8], work: &mut [u32], c: Cursor, types: u32, p: usize) -> Pla
 
 fn place_pgns(s: &[u8], work: &mut [u32], c: Cursor, types: u32, n: u32, p: usize) -> Placed
     requires { ⌜ Room (now s) c p ⌝ }
-    ensures { λ r. ⌜ Placing (pgns types (now (s .entry)) c n) (now (work .entry)) p (pgnOffsets types (now (s .entry)) c n) (now (work .exit)) r ⌝ }
+    ensures { λ r. ⌜ Placing (pgns types (now (s .entry)) c n) (now (work .entry)) p (pgn-offsets types (now (s .entry)) c n) (now (work .exit)) r ⌝ }
 {
     let mut c = c;
     let mut p = p;

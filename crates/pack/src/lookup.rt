@@ -1,6 +1,6 @@
 // A lookup, read item by item in 01's order, up to its entries.
 ghost use mathlib.Core.Path.{_≡_};
-ghost use Rattle.pack.specs.Records.{lookupAt};
+ghost use Rattle.pack.specs.Records.{read-lookup};
 use crate::cursor::Cursor;
 use crate::text::OptText;
 use crate::text::Text;
@@ -21,7 +21,7 @@ pub struct LookupItem {
 impl Cursor {
     // A lookup up to its entries, its name above the one before it.
     pub fn lookup(self, s: &[u8], before: OptText) -> LookupItem
-        ensures { λ r. ⌜ r ≡ lookupAt before (now (s .entry)) self ⌝ }
+        ensures { λ r. ⌜ r ≡ read-lookup before (now (s .entry)) self ⌝ }
     {
         let name = self.name(s, before);
         let kind = name.next.code(s, 3);

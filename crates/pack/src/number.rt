@@ -2,7 +2,7 @@
 ghost use mathlib.Core.Path.{_≡_};
 ghost use Prim.Native.Nat.{_≤_, _<_};
 ghost use lib.ListN.{length};
-ghost use Rattle.pack.specs.Items.{lastByte, groups, shortest, capped};
+ghost use Rattle.pack.specs.Items.{last-byte-at, groups, shortest, capped};
 
 // A number, or that it is above what its width holds.
 pub(crate) struct Value {
@@ -18,7 +18,7 @@ fn wide(b: u8) -> u64
 
 // Where the number that begins at `at` has its last byte; the length or more where it has none.
 pub(crate) fn last_byte(s: &[u8], at: usize) -> usize
-    ensures { λ r. ⌜ r ≡ lastByte (now (s .entry)) at ⌝ }
+    ensures { λ r. ⌜ r ≡ last-byte-at (now (s .entry)) at ⌝ }
 {
     let mut i = at;
     while i < s.len() {

@@ -3,9 +3,9 @@
 ghost use mathlib.Core.Path.{_≡_};
 ghost use Prim.Native.Nat.{_<_};
 ghost use lib.ListN.{length, getD};
-ghost use Rattle.pack.specs.Value.{noFieldType, noEntry, pgn-at, field-at, lookup-at};
-ghost use Rattle.pack.specs.Items.{bytesOf};
-ghost use Rattle.pack.specs.Meaning.{typeMeaning, entryMeaning, fieldMeaning, packOf};
+ghost use Rattle.pack.specs.Value.{no-field-type, no-entry, pgn-at, field-at, lookup-at};
+ghost use Rattle.pack.specs.Items.{bytes-of};
+ghost use Rattle.pack.specs.Meaning.{type-meaning, entry-meaning, field-meaning, pack-of};
 ghost use Rattle.pack.specs.Ready.{Ready, LookupAt, PgnAt, LookupIs, PgnIs};
 use crate::at::entry_at;
 use crate::at::field_at;
@@ -31,8 +31,8 @@ fn offset(work: &[u32], p: usize) -> usize
 
 // Field type i.
 pub fn type_of(s: &[u8], work: &[u32], i: u32) -> FieldTypeView
-    requires { ⌜ Ready (now s) (now work) × (i < length (packOf (now s) .fieldtypes)) ⌝ }
-    ensures { λ r. ⌜ typeMeaning (now (s .entry)) r ≡ getD (packOf (now (s .entry)) .fieldtypes) i noFieldType ⌝ }
+    requires { ⌜ Ready (now s) (now work) × (i < length (pack-of (now s) .fieldtypes)) ⌝ }
+    ensures { λ r. ⌜ type-meaning (now (s .entry)) r ≡ getD (pack-of (now (s .entry)) .fieldtypes) i no-field-type ⌝ }
 {
     let p = i as usize;
     let at = offset(work, p);
@@ -42,7 +42,7 @@ pub fn type_of(s: &[u8], work: &[u32], i: u32) -> FieldTypeView
 // Lookup i, at p.
 pub fn lookup_of(s: &[u8], work: &[u32], i: u32, p: usize) -> LookupView
     requires { ⌜ LookupAt (now s) (now work) i p ⌝ }
-    ensures { λ r. ⌜ LookupIs (now (s .entry)) (lookup-at (packOf (now (s .entry)) .lookups) i) r ⌝ }
+    ensures { λ r. ⌜ LookupIs (now (s .entry)) (lookup-at (pack-of (now (s .entry)) .lookups) i) r ⌝ }
 {
     let at = offset(work, p);
     lookup_at(s, at)
@@ -51,7 +51,7 @@ pub fn lookup_of(s: &[u8], work: &[u32], i: u32, p: usize) -> LookupView
 // The name of lookup i, at p.
 pub fn lookup_name_of(s: &[u8], work: &[u32], i: u32, p: usize) -> Text
     requires { ⌜ LookupAt (now s) (now work) i p ⌝ }
-    ensures { λ r. ⌜ bytesOf (now (s .entry)) r ≡ lookup-at (packOf (now (s .entry)) .lookups) i .name ⌝ }
+    ensures { λ r. ⌜ bytes-of (now (s .entry)) r ≡ lookup-at (pack-of (now (s .entry)) .lookups) i .name ⌝ }
 {
     let at = offset(work, p);
     text_at(s, at)
@@ -59,8 +59,8 @@ pub fn lookup_name_of(s: &[u8], work: &[u32], i: u32, p: usize) -> Text
 
 // Entry j of lookup i, at p, which is of that kind.
 pub fn entry_of(s: &[u8], work: &[u32], i: u32, p: usize, kind: u32, j: u32) -> EntryView
-    requires { ⌜ LookupAt (now s) (now work) i p × (kind ≡ lookup-at (packOf (now s) .lookups) i .kind) × (j < length (lookup-at (packOf (now s) .lookups) i .entries)) ⌝ }
-    ensures { λ r. ⌜ entryMeaning (now (s .entry)) r ≡ getD (lookup-at (packOf (now (s .entry)) .lookups) i .entries) j noEntry ⌝ }
+    requires { ⌜ LookupAt (now s) (now work) i p × (kind ≡ lookup-at (pack-of (now s) .lookups) i .kind) × (j < length (lookup-at (pack-of (now s) .lookups) i .entries)) ⌝ }
+    ensures { λ r. ⌜ entry-meaning (now (s .entry)) r ≡ getD (lookup-at (pack-of (now (s .entry)) .lookups) i .entries) j no-entry ⌝ }
 {
     let q = p + 1 + j as usize;
     let at = offset(work, q);
@@ -70,7 +70,7 @@ pub fn entry_of(s: &[u8], work: &[u32], i: u32, p: usize, kind: u32, j: u32) -> 
 // PGN i of tree t, at p.
 pub fn pgn_of(s: &[u8], work: &[u32], t: u32, i: u32, p: usize) -> PgnView
     requires { ⌜ PgnAt (now s) (now work) t i p ⌝ }
-    ensures { λ r. ⌜ PgnIs (now (s .entry)) (pgn-at (packOf (now (s .entry))) t i) r ⌝ }
+    ensures { λ r. ⌜ PgnIs (now (s .entry)) (pgn-at (pack-of (now (s .entry))) t i) r ⌝ }
 {
     let at = offset(work, p);
     pgn_at(s, at)
@@ -78,8 +78,8 @@ pub fn pgn_of(s: &[u8], work: &[u32], t: u32, i: u32, p: usize) -> PgnView
 
 // Field j of PGN i of tree t, which is at p.
 pub fn field_of(s: &[u8], work: &[u32], t: u32, i: u32, p: usize, j: u32) -> FieldView
-    requires { ⌜ PgnAt (now s) (now work) t i p × (j < length (pgn-at (packOf (now s)) t i .fields)) ⌝ }
-    ensures { λ r. ⌜ fieldMeaning (now (s .entry)) r ≡ field-at (pgn-at (packOf (now (s .entry))) t i) j ⌝ }
+    requires { ⌜ PgnAt (now s) (now work) t i p × (j < length (pgn-at (pack-of (now s)) t i .fields)) ⌝ }
+    ensures { λ r. ⌜ field-meaning (now (s .entry)) r ≡ field-at (pgn-at (pack-of (now (s .entry))) t i) j ⌝ }
 {
     let q = p + 1 + j as usize;
     let at = offset(work, q);
@@ -88,8 +88,8 @@ pub fn field_of(s: &[u8], work: &[u32], t: u32, i: u32, p: usize, j: u32) -> Fie
 
 // The id of field j of PGN i of tree t, which is at p.
 pub fn field_id_of(s: &[u8], work: &[u32], t: u32, i: u32, p: usize, j: u32) -> Text
-    requires { ⌜ PgnAt (now s) (now work) t i p × (j < length (pgn-at (packOf (now s)) t i .fields)) ⌝ }
-    ensures { λ r. ⌜ bytesOf (now (s .entry)) r ≡ field-at (pgn-at (packOf (now (s .entry))) t i) j .id ⌝ }
+    requires { ⌜ PgnAt (now s) (now work) t i p × (j < length (pgn-at (pack-of (now s)) t i .fields)) ⌝ }
+    ensures { λ r. ⌜ bytes-of (now (s .entry)) r ≡ field-at (pgn-at (pack-of (now (s .entry))) t i) j .id ⌝ }
 {
     let q = p + 1 + j as usize;
     let at = offset(work, q);
@@ -98,8 +98,8 @@ pub fn field_id_of(s: &[u8], work: &[u32], t: u32, i: u32, p: usize, j: u32) -> 
 
 // Its name.
 pub fn field_name_of(s: &[u8], work: &[u32], t: u32, i: u32, p: usize, j: u32) -> Text
-    requires { ⌜ PgnAt (now s) (now work) t i p × (j < length (pgn-at (packOf (now s)) t i .fields)) ⌝ }
-    ensures { λ r. ⌜ bytesOf (now (s .entry)) r ≡ field-at (pgn-at (packOf (now (s .entry))) t i) j .name ⌝ }
+    requires { ⌜ PgnAt (now s) (now work) t i p × (j < length (pgn-at (pack-of (now s)) t i .fields)) ⌝ }
+    ensures { λ r. ⌜ bytes-of (now (s .entry)) r ≡ field-at (pgn-at (pack-of (now (s .entry))) t i) j .name ⌝ }
 {
     let q = p + 1 + j as usize;
     let at = offset(work, q);

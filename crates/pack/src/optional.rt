@@ -1,6 +1,6 @@
 // Optional items: a mark, 0 or 1, then the item if 1.
 ghost use mathlib.Core.Path.{_≡_};
-ghost use Rattle.pack.specs.Items.{optTextAt, optNumberAt, optFloatAt, optBytesAt, optSumAt, someNumber, noNumber};
+ghost use Rattle.pack.specs.Items.{read-opt-text, read-opt-number, read-opt-float, read-opt-bytes, read-opt-sum, some-number, no-number};
 use crate::cursor::Cursor;
 use crate::cursor::NumberItem;
 use crate::text::OptText;
@@ -33,7 +33,7 @@ pub struct OptFloatItem {
 }
 
 fn some_number(n: NumberItem) -> OptNumberItem
-    ensures { λ r. ⌜ r ≡ someNumber n ⌝ }
+    ensures { λ r. ⌜ r ≡ some-number n ⌝ }
 {
     let d = n.next;
     OptNumberItem {
@@ -46,7 +46,7 @@ fn some_number(n: NumberItem) -> OptNumberItem
 }
 
 fn no_number(c: Cursor) -> OptNumberItem
-    ensures { λ r. ⌜ r ≡ noNumber c ⌝ }
+    ensures { λ r. ⌜ r ≡ no-number c ⌝ }
 {
     OptNumberItem {
         value: OptNumber {
@@ -59,7 +59,7 @@ fn no_number(c: Cursor) -> OptNumberItem
 
 impl Cursor {
     pub fn opt_text(self, s: &[u8]) -> OptTextItem
-        ensures { λ r. ⌜ r ≡ optTextAt (now (s .entry)) self ⌝ }
+        ensures { λ r. ⌜ r ≡ read-opt-text (now (s .entry)) self ⌝ }
     {
         let m = self.mark(s);
         let c = m.next;
@@ -82,7 +82,7 @@ impl Cursor {
     }
 
     pub fn opt_number(self, s: &[u8]) -> OptNumberItem
-        ensures { λ r. ⌜ r ≡ optNumberAt (now (s .entry)) self ⌝ }
+        ensures { λ r. ⌜ r ≡ read-opt-number (now (s .entry)) self ⌝ }
     {
         let m = self.mark(s);
         let c = m.next;
@@ -95,7 +95,7 @@ impl Cursor {
 
     // An optional length in bytes whose bits are counted in 32 bits.
     pub fn opt_bytes(self, s: &[u8]) -> OptNumberItem
-        ensures { λ r. ⌜ r ≡ optBytesAt (now (s .entry)) self ⌝ }
+        ensures { λ r. ⌜ r ≡ read-opt-bytes (now (s .entry)) self ⌝ }
     {
         let m = self.mark(s);
         let c = m.next;
@@ -108,7 +108,7 @@ impl Cursor {
 
     // An optional number that completes a sum whose other part is `other`.
     pub fn opt_sum(self, s: &[u8], other: u32) -> OptNumberItem
-        ensures { λ r. ⌜ r ≡ optSumAt other (now (s .entry)) self ⌝ }
+        ensures { λ r. ⌜ r ≡ read-opt-sum other (now (s .entry)) self ⌝ }
     {
         let m = self.mark(s);
         let c = m.next;
@@ -120,7 +120,7 @@ impl Cursor {
     }
 
     pub fn opt_float(self, s: &[u8]) -> OptFloatItem
-        ensures { λ r. ⌜ r ≡ optFloatAt (now (s .entry)) self ⌝ }
+        ensures { λ r. ⌜ r ≡ read-opt-float (now (s .entry)) self ⌝ }
     {
         let m = self.mark(s);
         let c = m.next;

@@ -1,6 +1,6 @@
 // A PGN and its sets, read item by item in 01's order, up to its fields.
 ghost use mathlib.Core.Path.{_≡_};
-ghost use Rattle.pack.specs.Records.{repeatingAt, optRepeatingAt, pgnAt};
+ghost use Rattle.pack.specs.Records.{read-repeating, read-opt-repeating, read-pgn};
 use crate::cursor::Cursor;
 use crate::optional::OptNumber;
 use crate::text::Text;
@@ -53,7 +53,7 @@ pub struct PgnItem {
 
 impl Cursor {
     fn repeating(self, s: &[u8]) -> RepeatingItem
-        ensures { λ r. ⌜ r ≡ repeatingAt (now (s .entry)) self ⌝ }
+        ensures { λ r. ⌜ r ≡ read-repeating (now (s .entry)) self ⌝ }
     {
         let count = self.number(s);
         let start = count.next.sum(s, count.value);
@@ -73,7 +73,7 @@ impl Cursor {
     }
 
     fn opt_repeating(self, s: &[u8]) -> OptRepeatingItem
-        ensures { λ r. ⌜ r ≡ optRepeatingAt (now (s .entry)) self ⌝ }
+        ensures { λ r. ⌜ r ≡ read-opt-repeating (now (s .entry)) self ⌝ }
     {
         let m = self.mark(s);
         let c = m.next;
@@ -105,7 +105,7 @@ impl Cursor {
 
     // A PGN up to its fields.
     pub fn pgn(self, s: &[u8]) -> PgnItem
-        ensures { λ r. ⌜ r ≡ pgnAt (now (s .entry)) self ⌝ }
+        ensures { λ r. ⌜ r ≡ read-pgn (now (s .entry)) self ⌝ }
     {
         let pgn = self.number(s);
         let id = pgn.next.text(s);

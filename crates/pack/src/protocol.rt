@@ -3,7 +3,7 @@ ghost use mathlib.Core.Path.{_≡_};
 ghost use mathlib.Core.Bool.{_&&_};
 ghost use Prim.Native.Nat.{_+_, _<_};
 ghost use Rattle.pack.specs.Notation.{_<ᵇ_, _≤ᵇ_, _==_};
-ghost use Rattle.pack.specs.Trees.{treeNumber, protocolOf, prefixOf, sectionOf};
+ghost use Rattle.pack.specs.Trees.{tree-number, protocol-of, prefix-of, section-of};
 use crate::load::Index;
 use crate::load::Section;
 
@@ -26,7 +26,7 @@ impl Protocol {
 
     // The tree of that number; Quick for every other.
     pub fn of_tree(tree: u32) -> Protocol
-        ensures { λ r. ⌜ r ≡ protocolOf tree ⌝ }
+        ensures { λ r. ⌜ r ≡ protocol-of tree ⌝ }
     {
         if tree == 0 {
             return Protocol::Nmea2000;
@@ -38,7 +38,7 @@ impl Protocol {
     }
 
     pub fn tree(self) -> u32
-        ensures { λ r. ⌜ r ≡ treeNumber self ⌝ }
+        ensures { λ r. ⌜ r ≡ tree-number self ⌝ }
     {
         match self {
             Protocol::Nmea2000 => 0,
@@ -49,7 +49,7 @@ impl Protocol {
 
     // `check_prefix`, before `pgns/`.
     pub fn prefix(protocol: Protocol) -> Prefix
-        ensures { λ r. ⌜ r ≡ prefixOf protocol ⌝ }
+        ensures { λ r. ⌜ r ≡ prefix-of protocol ⌝ }
     {
         match protocol {
             Protocol::Nmea2000 => Prefix {
@@ -69,7 +69,7 @@ impl Protocol {
 
     // Where its PGNs stand.
     pub fn section(self, index: Index) -> Section
-        ensures { λ r. ⌜ r ≡ sectionOf self index ⌝ }
+        ensures { λ r. ⌜ r ≡ section-of self index ⌝ }
     {
         match self {
             Protocol::Nmea2000 => index.nmea2000,

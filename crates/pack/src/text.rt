@@ -1,7 +1,7 @@
 // Texts: parts of the pack, compared as bytes.
 ghost use mathlib.Core.Path.{_≡_};
 ghost use Rattle.pack.specs.Notation.{_≐_};
-ghost use Rattle.pack.specs.Items.{_≺_, bytesOf};
+ghost use Rattle.pack.specs.Items.{_≺_, bytes-of};
 
 // A text, as the part of the pack that its bytes are.
 pub struct Text {
@@ -16,7 +16,7 @@ pub struct OptText {
 
 // The bytes of a text, as far as the pack has them.
 pub fn part(s: &[u8], t: Text) -> &[u8]
-    ensures { λ r. ⌜ now r ≡ bytesOf (now (s .entry)) t ⌝ }
+    ensures { λ r. ⌜ now r ≡ bytes-of (now (s .entry)) t ⌝ }
 {
     let a = t.start;
     let n = t.len;
@@ -70,19 +70,19 @@ pub(crate) fn precedes(a: &[u8], b: &[u8]) -> bool
 }
 
 pub fn same_text(s: &[u8], t: Text, u: Text) -> bool
-    ensures { λ r. ⌜ r ≡ bytesOf (now (s .entry)) t ≐ bytesOf (now (s .entry)) u ⌝ }
+    ensures { λ r. ⌜ r ≡ bytes-of (now (s .entry)) t ≐ bytes-of (now (s .entry)) u ⌝ }
 {
     same(part(s, t), part(s, u))
 }
 
 pub(crate) fn text_precedes(s: &[u8], t: Text, u: Text) -> bool
-    ensures { λ r. ⌜ r ≡ bytesOf (now (s .entry)) t ≺ bytesOf (now (s .entry)) u ⌝ }
+    ensures { λ r. ⌜ r ≡ bytes-of (now (s .entry)) t ≺ bytes-of (now (s .entry)) u ⌝ }
 {
     precedes(part(s, t), part(s, u))
 }
 
 pub fn text_is(s: &[u8], t: Text, b: &[u8]) -> bool
-    ensures { λ r. ⌜ r ≡ bytesOf (now (s .entry)) t ≐ now (b .entry) ⌝ }
+    ensures { λ r. ⌜ r ≡ bytes-of (now (s .entry)) t ≐ now (b .entry) ⌝ }
 {
     same(part(s, t), b)
 }

@@ -10,7 +10,7 @@ use borrow.Author.Tests.{leb-true}
 use Rattle.pack.specs.Notation.{_≤ᵇ_}
 use Rattle.pack.specs.Value.{Bytes}
 use Rattle.pack.specs.Load.{loaded}
-use Rattle.pack.specs.Meaning.{packOf}
+use Rattle.pack.specs.Meaning.{pack-of}
 use Rattle.pack.specs.declared.load.Loaded.{Loaded}
 use Rattle.pack.specs.declared.load.Loaded.the-variants as load
 use Rattle.rules.specs.Check.{check}
@@ -24,14 +24,14 @@ use Rattle.rules.specs.declared.place_text.Placed.the-variants.{Written}
 -- eight numbers a finding
 pub reported-fits : (s : List ℕ) (m n k e : ℕ) → checked s m n ≡ Reported k e → 8 * k ≤ n
 unfolding checked
-reported-fits s m n k e h = go (loaded s m) refl (8 * length (check (packOf s)) ≤ᵇ n) refl
+reported-fits s m n k e h = go (loaded s m) refl (8 * length (check (pack-of s)) ≤ᵇ n) refl
   where
-    go : (l : Loaded) → loaded s m ≡ l → (b : Bool) → (8 * length (check (packOf s)) ≤ᵇ n) ≡ b → 8 * k ≤ n
+    go : (l : Loaded) → loaded s m ≡ l → (b : Bool) → (8 * length (check (pack-of s)) ≤ᵇ n) ≡ b → 8 * k ≤ n
     go (load.Refused r) x b y = let u : _≡_ {A = ℕ} 0 1 = (let z = rw x at h in cc) in absurd (omega arith)
     go (load.Accepted i) x true y =
-        let z : Reported (length (check (packOf s))) (errors (check (packOf s))) ≡ Reported k e = rw (x, y) at h in
-        let q : length (check (packOf s)) ≡ k = cc in
-        omega (arith, leb-true (8 * length (check (packOf s))) n y)
+        let z : Reported (length (check (pack-of s))) (errors (check (pack-of s))) ≡ Reported k e = rw (x, y) at h in
+        let q : length (check (pack-of s)) ≡ k = cc in
+        omega (arith, leb-true (8 * length (check (pack-of s))) n y)
     go (load.Accepted i) x false y = let u : _≡_ {A = ℕ} 0 1 = (let z = rw (x, y) at h in cc) in absurd (omega arith)
 
 fitted-fits : (b : Bytes) (n k : ℕ) → fitted b n ≡ Written k → k ≤ n
@@ -43,9 +43,9 @@ fitted-fits b n k h = go (length b ≤ᵇ n) refl
 
 pub written-fits : (s : List ℕ) (m place tree item n k : ℕ) → placed s m place tree item n ≡ Written k → k ≤ n
 unfolding placed
-written-fits s m place tree item n k h = go (loaded s m) refl (place-text (packOf s) place tree item) refl
+written-fits s m place tree item n k h = go (loaded s m) refl (place-text (pack-of s) place tree item) refl
   where
-    go : (l : Loaded) → loaded s m ≡ l → (o : Option Bytes) → place-text (packOf s) place tree item ≡ o → k ≤ n
+    go : (l : Loaded) → loaded s m ≡ l → (o : Option Bytes) → place-text (pack-of s) place tree item ≡ o → k ≤ n
     go (load.Refused r) x o y = let u : _≡_ {A = ℕ} 0 1 = (let z = rw x at h in cc) in absurd (omega arith)
     go (load.Accepted i) x none y = let u : _≡_ {A = ℕ} 0 1 = (let z = rw (x, y) at h in cc) in absurd (omega arith)
     go (load.Accepted i) x (some b) y = fitted-fits b n k (rw (x, y) at h)

@@ -5,13 +5,13 @@ use mathlib.Core.Bool.{Bool, true, false, not, _&&_}
 use mathlib.Core.List.{List}
 use Rattle.pack.specs.Notation.{_==_}
 use Rattle.pack.specs.Value.{Pgn, pgns-of, pgn-at}
-use Rattle.pack.specs.Meaning.{packOf}
+use Rattle.pack.specs.Meaning.{pack-of}
 use Rattle.pack.specs.Ready.{PgnIs}
 use Rattle.pack.specs.declared.pgn.PgnView.{PgnView}
 use Rattle.rules.specs.Variants.{in-group}
 
-pub in-group-is : (s : List ℕ) (t number i : ℕ) (g : PgnView) → PgnIs s (pgn-at (packOf s) t i) g
-    → in-group t (pgns-of (packOf s) t) number i ≡ (not (g .flags .fallback) && (g .pgn == number))
+pub in-group-is : (s : List ℕ) (t number i : ℕ) (g : PgnView) → PgnIs s (pgn-at (pack-of s) t i) g
+    → in-group t (pgns-of (pack-of s) t) number i ≡ (not (g .flags .fallback) && (g .pgn == number))
 unfolding in-group
 in-group-is s t number i g is = ap (λ (p : Pgn). not (p .fallback) && (p .pgn == number)) (sym (is .means))
 

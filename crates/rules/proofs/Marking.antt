@@ -8,14 +8,14 @@ use mathlib.Core.List.{List, _++_}
 use lib.ListN.{length, getD, set, replicate, length-replicate}
 use borrow.Author.Tests.{eq-eqb, ne-eqb}
 use lib.Seq.{getD-set-same, getD-set-other}
-use Rattle.pack.specs.Notation.{_==_, concatBelow}
-use Rattle.pack.specs.Value.{Bytes, Lookup, Pack, noEntry, lookup-at}
+use Rattle.pack.specs.Notation.{_==_, concat-below}
+use Rattle.pack.specs.Value.{Bytes, Lookup, Pack, no-entry, lookup-at}
 use Rattle.pack.specs.Ready.{LookupIs}
 use Rattle.pack.specs.declared.lookup.LookupView.{LookupView}
 use Rattle.rules.specs.LookupWiring.{referenced-by-lookup}
 use Rattle.rules.specs.Marks.{Clear, Marked}
 use Rattle.rules.specs.Model.{is-text, fieldtypes}
-use Rattle.rules.specs.Search.{anyBelow}
+use Rattle.rules.specs.Search.{any-below}
 use Rattle.rules.specs.SearchLaws.{any-turn}
 
 or-none : (a : Bool) → a ≡ (a || false)
@@ -51,8 +51,8 @@ pub marked-then : {P : Pack} {m m′ m″ : List Bool} (q r : Bytes → Bool) �
 marked-then {P} {m} q r a b =
     record { marks = λ l h. b .marks l h ∙ ap (λ (d : Bool). d || r (lookup-at (P .lookups) l .name)) (a .marks l h) ∙ or-regroup (getD m l false) (q (lookup-at (P .lookups) l .name)) (r (lookup-at (P .lookups) l .name)) }
 
-pub marked-turn : {P : Pack} {m m′ m″ : List Bool} (f : Bytes → ℕ → Bool) (k : ℕ) → Marked P m (λ n. anyBelow (f n) k) m′ → Marked P m′ (λ n. f n k) m″ → Marked P m (λ n. anyBelow (f n) (k + 1)) m″
-marked-turn f k a b = marked-as (λ n. anyBelow (f n) k || f n k) (λ n. anyBelow (f n) (k + 1)) (λ n. sym (any-turn (f n) k)) (marked-then (λ n. anyBelow (f n) k) (λ n. f n k) a b)
+pub marked-turn : {P : Pack} {m m′ m″ : List Bool} (f : Bytes → ℕ → Bool) (k : ℕ) → Marked P m (λ n. any-below (f n) k) m′ → Marked P m′ (λ n. f n k) m″ → Marked P m (λ n. any-below (f n) (k + 1)) m″
+marked-turn f k a b = marked-as (λ n. any-below (f n) k || f n k) (λ n. any-below (f n) (k + 1)) (λ n. sym (any-turn (f n) k)) (marked-then (λ n. any-below (f n) k) (λ n. f n k) a b)
 
 -- ---- the lookups one after the other
 
@@ -89,7 +89,7 @@ marked-all e a = record { marks = λ j h. a .below j (omega arith) }
 pub marks-are : {P : Pack} {m m′ : List Bool} (q : Bytes → Bool) → Clear m → Marked P m q m′ → (l : ℕ) → l < length (P .lookups) → getD m′ l false ≡ q (lookup-at (P .lookups) l .name)
 marks-are {P} q z a l h = a .marks l h ∙ ap (λ (b : Bool). b || q (lookup-at (P .lookups) l .name)) (z .none-set l)
 
-pub concat-same : {A : Type 0} (f g : ℕ → List A) (n : ℕ) → ((k : ℕ) → k < n → f k ≡ g k) → concatBelow f n ≡ concatBelow g n
+pub concat-same : {A : Type 0} (f g : ℕ → List A) (n : ℕ) → ((k : ℕ) → k < n → f k ≡ g k) → concat-below f n ≡ concat-below g n
 concat-same f g zero h = refl
 concat-same f g (suc n) h = let e = concat-same f g n (λ k l. h k (omega arith)) in let d = h n (omega arith) in λ j. e j ++ d j
 
@@ -100,6 +100,6 @@ module _ (s name : List ℕ) (L : Lookup) (v : LookupView) (is : LookupIs s L v)
   unfolding referenced-by-lookup fieldtypes
   not-nesting h = let e : (L .kind == 3) ≡ false = ap (λ (M : Lookup). M .kind == 3) (sym (is .means)) ∙ ne-eqb (v .kind) 3 h in rw e
 
-  pub nesting : v .kind ≡ 3 → referenced-by-lookup name L ≡ anyBelow (λ e. is-text (getD (L .entries) e noEntry .nested) name) (length (L .entries))
+  pub nesting : v .kind ≡ 3 → referenced-by-lookup name L ≡ any-below (λ e. is-text (getD (L .entries) e no-entry .nested) name) (length (L .entries))
   unfolding referenced-by-lookup fieldtypes
   nesting h = let e : (L .kind == 3) ≡ true = ap (λ (M : Lookup). M .kind == 3) (sym (is .means)) ∙ eq-eqb (v .kind) 3 h in rw e

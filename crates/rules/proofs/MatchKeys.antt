@@ -10,9 +10,9 @@ use mathlib.Core.Option.{Option, none, some}
 use borrow.Author.Tests.{eq-eqb, ne-eqb}
 use lib.ListN.{length, getD, take, drop, drop-of-length-le}
 use lib.Seq.{drop-cons}
-use Rattle.pack.specs.Notation.{_≐_, if_then_else_, concatBelow}
+use Rattle.pack.specs.Notation.{_≐_, if_then_else_, concat-below}
 use Rattle.pack.specs.Value.{Bytes, Pgn, field-at}
-use Rattle.pack.specs.Items.{bytesOf}
+use Rattle.pack.specs.Items.{bytes-of}
 use Rattle.pack.specs.declared.text.Text.{Text}
 use Rattle.rules.specs.declared.match_keys.MatchKey.{MatchKey}
 use Rattle.rules.specs.declared.match_keys.KeyByte.{KeyByte}
@@ -36,7 +36,7 @@ pieces-last p k (suc many) =
     let e : k + suc many ≡ suc k + many = omega arith in
     rw (pieces-last p (suc k) many, e) (sym (append-assoc (piece k (field-at p k .match)) (pieces-from p (suc k) many) (piece (suc k + many) (field-at p (suc k + many) .match))))
 
-all-pieces : (p : Pgn) (n : ℕ) → pieces-from p 0 n ≡ concatBelow (λ k. piece k (field-at p k .match)) n
+all-pieces : (p : Pgn) (n : ℕ) → pieces-from p 0 n ≡ concat-below (λ k. piece k (field-at p k .match)) n
 all-pieces p zero = refl
 all-pieces p (suc n) =
     let e : 0 + n ≡ n = omega arith in
@@ -53,13 +53,13 @@ key-turn p n false none P K h e f = ((rw e), λ _. (rw (f refl)))
 key-turn p n false (some m) P K h e f = ((rw (e, f refl, h)), λ z. absurd (false≢true (sym z)))
 
 key-led : (p : Pgn) (n : ℕ)
-    → (concatBelow (λ k. piece k (field-at p k .match)) n ≡ (if has-match p n then 44 ∷ concatBelow (λ k. match-key-at p k (field-at p k .match)) n else []))
-    × (has-match p n ≡ false → concatBelow (λ k. match-key-at p k (field-at p k .match)) n ≡ [])
+    → (concat-below (λ k. piece k (field-at p k .match)) n ≡ (if has-match p n then 44 ∷ concat-below (λ k. match-key-at p k (field-at p k .match)) n else []))
+    × (has-match p n ≡ false → concat-below (λ k. match-key-at p k (field-at p k .match)) n ≡ [])
 unfolding has-match
 key-led p zero = (refl, λ _. refl)
 key-led p (suc n) =
     let r = key-led p n in
-    key-turn p n (has-match p n) (field-at p n .match) (concatBelow (λ k. piece k (field-at p k .match)) n) (concatBelow (λ k. match-key-at p k (field-at p k .match)) n) refl (r .0) (r .1)
+    key-turn p n (has-match p n) (field-at p n .match) (concat-below (λ k. piece k (field-at p k .match)) n) (concat-below (λ k. match-key-at p k (field-at p k .match)) n) refl (r .0) (r .1)
 
 pub same-keys : (p q : Pgn) → has-match p (length (p .fields)) ≡ true → has-match q (length (q .fields)) ≡ true
     → (pieces-from p 0 (length (p .fields)) ≐ pieces-from q 0 (length (q .fields))) ≡ (match-key p ≐ match-key q)
@@ -88,7 +88,7 @@ module _ (s : List ℕ) (p : Pgn) where
   unfolding to-come
   head-byte key h = rw (add-one (key .at), drop-cons (key .head) (key .at) 0 h)
 
-  module _ (key : MatchKey) (l : length (key .head) ≤ key .at) (b : Bytes) (e : b ≡ bytesOf s (key .text)) where
+  module _ (key : MatchKey) (l : length (key .head) ≤ key .at) (b : Bytes) (e : b ≡ bytes-of s (key .text)) where
     pub text-ended : length b ≡ 0 → to-come s p key ≡ pieces-from p (key .field) (length (p .fields) - key .field)
     unfolding to-come
     text-ended z = rw (drop-of-length-le (key .head) l, ← e) (go b z)
@@ -108,13 +108,13 @@ module _ (s : List ℕ) (p : Pgn) where
         rw (drop-of-length-le (key .head) l, e) (ap (λ (x : Bytes). x ++ pieces-from p (key .field) (length (p .fields) - key .field)) (t .2))
 
   -- a piece that begins
-  pub piece-begun : (k n : ℕ) (text : Text) (r : KeyByte) → k < n → n ≡ length (p .fields) → field-at p k .match ≡ some (bytesOf s text)
+  pub piece-begun : (k n : ℕ) (text : Text) (r : KeyByte) → k < n → n ≡ length (p .fields) → field-at p k .match ≡ some (bytes-of s text)
       → (r .given ≡ true) × (r .byte ≡ 44) × (drop (r .after .at) (r .after .head) ≡ digits k ++ bytes "=") × (r .after .text ≡ text) × (r .after .field ≡ k + 1) × (length (r .after .head) ≡ 11)
       → pieces-from p k (n - k) ≡ first-and (r .given) (r .byte) (to-come s p (r .after))
   unfolding to-come
   piece-begun k n text r h e m (g, b, d, t, f, _) =
       rw (pieces-next p k n h, m, g, b, d, t, f, ← e)
-      (ap (λ (x : Bytes). 44 ∷ x) (append-assoc (digits k ++ bytes "=") (bytesOf s text) (pieces-from p (k + 1) (n - (k + 1)))))
+      (ap (λ (x : Bytes). 44 ∷ x) (append-assoc (digits k ++ bytes "=") (bytes-of s text) (pieces-from p (k + 1) (n - (k + 1)))))
 
 -- ---- two streams, each a byte on
 

@@ -9,8 +9,8 @@ use mathlib.Core.Option.{Option, none, some}
 use lib.ListN.{length}
 use borrow.Author.Tests.{le-leb, lt-leb}
 use Rattle.pack.specs.Notation.{_≤ᵇ_, optional}
-use Rattle.pack.specs.Load.{Answer, loaded, workAfter}
-use Rattle.pack.specs.Meaning.{packOf}
+use Rattle.pack.specs.Load.{Answer, loaded, work-after}
+use Rattle.pack.specs.Meaning.{pack-of}
 use Rattle.pack.specs.Placing.{Stored}
 use Rattle.pack.specs.Value.{Bytes}
 use Rattle.pack.specs.declared.load.Index.{Index}
@@ -18,7 +18,7 @@ use Rattle.pack.specs.declared.load.Refusal.{Refusal}
 use Rattle.pack.specs.declared.load.Refusal.the-variants.{Absent, Place}
 use Rattle.pack.proofs.Stores.{sets-over}
 use Rattle.pack.proofs.Told.{after-refused, after-accepted}
-use Rattle.rules.specs.PlaceCall.{named, placed, textLeft, textAfter, place-answer, text-tells, place-tells, Places}
+use Rattle.rules.specs.PlaceCall.{named, placed, text-left, text-after, place-answer, text-tells, place-tells, Places}
 use Rattle.rules.specs.PlaceText.{place-text}
 use Rattle.rules.specs.declared.place_text.Placed.{Placed}
 use Rattle.rules.specs.declared.place_text.Placed.the-variants.{Refused, Written}
@@ -27,7 +27,7 @@ use Rattle.pack.specs.declared.load.Loaded.the-variants as load
 
 pub record Named (o : Option Bytes) (w : List ℕ) (r : Placed) (w′ : List ℕ) : Type 0 where
   pub answer : r ≡ named o (length w)
-  pub text : w′ ≡ textLeft (named o (length w)) o w
+  pub text : w′ ≡ text-left (named o (length w)) o w
 
 module _ (o : Option Bytes) (b : Bool) (x : Bytes) (e : optional b x ≡ o) (w : List ℕ) where
   pub not-there : b ≡ false → Named o w (Refused Absent) w
@@ -46,16 +46,16 @@ module _ (o : Option Bytes) (b : Bool) (x : Bytes) (e : optional b x ≡ o) (w :
 -- answer and text buffer of the call
 pub record Answered (s : List ℕ) (m place t item : ℕ) (w : List ℕ) (r : Placed) (w′ : List ℕ) : Type 0 where
   pub answer : r ≡ placed s m place t item (length w)
-  pub text : w′ ≡ textAfter s m place t item w
+  pub text : w′ ≡ text-after s m place t item w
 
 module _ (s : List ℕ) (m place t item : ℕ) (w : List ℕ) where
   pub not-loaded : (r : Refusal) → loaded s m ≡ load.Refused r → Answered s m place t item w (Refused r) w
-  unfolding placed textAfter
+  unfolding placed text-after
   not-loaded r e = record { answer = (rw e); text = (rw e) }
 
-  pub is-loaded : (i : Index) → loaded s m ≡ load.Accepted i → (r : Placed) (w′ : List ℕ) → r ≡ named (place-text (packOf s) place t item) (length w)
-      → w′ ≡ textLeft (named (place-text (packOf s) place t item) (length w)) (place-text (packOf s) place t item) w → Answered s m place t item w r w′
-  unfolding placed textAfter
+  pub is-loaded : (i : Index) → loaded s m ≡ load.Accepted i → (r : Placed) (w′ : List ℕ) → r ≡ named (place-text (pack-of s) place t item) (length w)
+      → w′ ≡ text-left (named (place-text (pack-of s) place t item) (length w)) (place-text (pack-of s) place t item) w → Answered s m place t item w r w′
+  unfolding placed text-after
   is-loaded i e r w′ a b = record { answer = (rw e a); text = (rw e b) }
 
 named-told : (o : Option Bytes) (n : ℕ) → place-answer (named o n) ≡ text-tells o n
@@ -71,13 +71,13 @@ unfolding placed place-tells
 place-told s m place t item n = go (loaded s m) refl
   where
     rest : Answer
-    rest = text-tells (place-text (packOf s) place t item) n
+    rest = text-tells (place-text (pack-of s) place t item) n
 
     go : (l : Loaded) → loaded s m ≡ l → place-answer (placed s m place t item n) ≡ place-tells s m place t item n
     go (load.Refused r) e = rw e (after-refused s m r e rest)
-    go (load.Accepted i) e = rw e (named-told (place-text (packOf s) place t item) n ∙ after-accepted s m i e rest)
+    go (load.Accepted i) e = rw e (named-told (place-text (pack-of s) place t item) n ∙ after-accepted s m i e rest)
 
-pub promised : (s : List ℕ) (place t item : ℕ) (w o w′ o′ : List ℕ) (r : Placed) → Answered s (length w) place t item o r o′ → w′ ≡ workAfter s w
+pub promised : (s : List ℕ) (place t item : ℕ) (w o w′ o′ : List ℕ) (r : Placed) → Answered s (length w) place t item o r o′ → w′ ≡ work-after s w
     → Places s place t item w o w′ o′ r
 promised s place t item w o w′ o′ r a e =
     record {

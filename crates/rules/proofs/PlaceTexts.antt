@@ -7,17 +7,17 @@ use mathlib.Core.Path.{_≡_, refl}
 use borrow.Author.Tests.{ne-eqb}
 use lib.ListN.{length, take, replicate, length-append}
 use Rattle.pack.specs.Notation.{_<ᵇ_, if_then_else_}
-use Rattle.pack.specs.Trees.{protocolOf, prefixOf}
+use Rattle.pack.specs.Trees.{protocol-of, prefix-of}
 use Rattle.rules.specs.Digits.{digits-within, digits, six-digits}
 use Rattle.rules.specs.PlaceText.{check-prefix}
 use Rattle.rules.specs.Texts.{bytes}
 
-pub prefix-is : (t : ℕ) → take (prefixOf (protocolOf t) .len) (prefixOf (protocolOf t) .bytes) ≡ check-prefix t
+pub prefix-is : (t : ℕ) → take (prefix-of (protocol-of t) .len) (prefix-of (protocol-of t) .bytes) ≡ check-prefix t
 prefix-is zero = refl
 prefix-is (suc zero) = refl
 prefix-is (suc (suc t)) = rw (ne-eqb (suc (suc t)) 0 (λ z. omega arith), ne-eqb (suc (suc t)) 1 (λ z. omega arith))
 
-pub prefix-within : (t : ℕ) → prefixOf (protocolOf t) .len ≤ length (prefixOf (protocolOf t) .bytes)
+pub prefix-within : (t : ℕ) → prefix-of (protocol-of t) .len ≤ length (prefix-of (protocol-of t) .bytes)
 prefix-within zero = omega arith
 prefix-within (suc zero) = omega arith
 prefix-within (suc (suc t)) = rw (ne-eqb (suc (suc t)) 0 (λ z. omega arith), ne-eqb (suc (suc t)) 1 (λ z. omega arith)) (omega arith)

@@ -7,8 +7,8 @@ use mathlib.Core.List.{List, []}
 use mathlib.Core.Option.{Option, none, some, Option·none-ne-some, Option·some-injective}
 use mathlib.Core.Path.{_≡_, refl, sym, ap, _∙_}
 use borrow.Author.Tests.{ltb-true, ltb-false, lt-ltb, le-ltb, leb-true, le-leb}
-use Rattle.pack.specs.Notation.{_<ᵇ_, _≤ᵇ_, if_then_else_, concatBelow, optional}
-use Rattle.rules.specs.Search.{sumBelow, smaller, minBelow, next-rank, ranked}
+use Rattle.pack.specs.Notation.{_<ᵇ_, _≤ᵇ_, if_then_else_, concat-below, optional}
+use Rattle.rules.specs.Search.{sum-below, smaller, min-below, next-rank, ranked}
 use Rattle.rules.specs.SearchLaws.{ranked-turn, below-suc, concat-ends}
 use Rattle.rules.proofs.Extremes.{min-is, optional-is}
 
@@ -110,7 +110,7 @@ module _ (least : ℕ → Option ℕ) (Held : ℕ → Type 0) (n : ℕ) (R : Ran
 
 -- so what is made of each rank's number is all there below n
 pub ranks-enough : {A : Type 0} (least : ℕ → Option ℕ) (Held : ℕ → Type 0) (n : ℕ) → Enumerates least Held n
-    → (f : Option ℕ → List A) → f none ≡ [] → (d : ℕ) → concatBelow (λ r. f (ranked least r)) (n + d) ≡ concatBelow (λ r. f (ranked least r)) n
+    → (f : Option ℕ → List A) → f none ≡ [] → (d : ℕ) → concat-below (λ r. f (ranked least r)) (n + d) ≡ concat-below (λ r. f (ranked least r)) n
 ranks-enough least Held n E f e d = concat-ends (λ r. f (ranked least r)) n d (λ k. ap f (E .ended (n + k) (omega arith)) ∙ e)
 
 -- ---- one thing, which may give a number
@@ -198,62 +198,62 @@ smaller-right (some a) b e h = go (b <ᵇ a) refl h
     go true u x = let q = Option·some-injective b e x in omega arith
     go false u x = let q = Option·some-injective a e x in omega (arith, ltb-false b a u)
 
-min-none : (f : ℕ → Option ℕ) (n : ℕ) → minBelow f n ≡ none → (k : ℕ) → k < n → f k ≡ none
+min-none : (f : ℕ → Option ℕ) (n : ℕ) → min-below f n ≡ none → (k : ℕ) → k < n → f k ≡ none
 min-none f zero e k h = absurd (omega arith)
 min-none f (suc n) e k h =
-    let q = smaller-none (minBelow f n) (f n) e in
+    let q = smaller-none (min-below f n) (f n) e in
     below-suc k n h (min-none f n (q .0) k) (λ x. ap f x ∙ q .1)
 
-min-bounds : (f : ℕ → Option ℕ) (n e : ℕ) → minBelow f n ≡ some e → (k x : ℕ) → k < n → f k ≡ some x → e ≤ x
+min-bounds : (f : ℕ → Option ℕ) (n e : ℕ) → min-below f n ≡ some e → (k x : ℕ) → k < n → f k ≡ some x → e ≤ x
 min-bounds f zero e h k x l q = absurd (omega arith)
 min-bounds f (suc n) e h k x l q =
-    below-suc k n l (λ y. go (minBelow f n) refl h y (min-bounds f n))
-    (λ y. smaller-right (minBelow f n) x e (ap (smaller (minBelow f n)) (sym (ap f (sym y) ∙ q)) ∙ h))
+    below-suc k n l (λ y. go (min-below f n) refl h y (min-bounds f n))
+    (λ y. smaller-right (min-below f n) x e (ap (smaller (min-below f n)) (sym (ap f (sym y) ∙ q)) ∙ h))
   where
-    go : (o : Option ℕ) → minBelow f n ≡ o → smaller o (f n) ≡ some e → k < n
-        → ((a : ℕ) → minBelow f n ≡ some a → (k x : ℕ) → k < n → f k ≡ some x → a ≤ x) → e ≤ x
+    go : (o : Option ℕ) → min-below f n ≡ o → smaller o (f n) ≡ some e → k < n
+        → ((a : ℕ) → min-below f n ≡ some a → (k x : ℕ) → k < n → f k ≡ some x → a ≤ x) → e ≤ x
     go none u v y rec = absurd (Option·none-ne-some x (sym (min-none f n u k y) ∙ q))
     go (some a) u v y rec = omega (arith, rec a u k x y q, smaller-left a (f n) e v)
 
-sum-most : (f g : ℕ → ℕ) (n : ℕ) → ((i : ℕ) → f i ≤ g i) → sumBelow f n ≤ sumBelow g n
+sum-most : (f g : ℕ → ℕ) (n : ℕ) → ((i : ℕ) → f i ≤ g i) → sum-below f n ≤ sum-below g n
 sum-most f g zero h = omega arith
 sum-most f g (suc n) h = omega (arith, sum-most f g n h, h n)
 
-sum-less : (f g : ℕ → ℕ) (n k : ℕ) → ((i : ℕ) → f i ≤ g i) → k < n → f k < g k → sumBelow f n < sumBelow g n
+sum-less : (f g : ℕ → ℕ) (n k : ℕ) → ((i : ℕ) → f i ≤ g i) → k < n → f k < g k → sum-below f n < sum-below g n
 sum-less f g zero k h l s = absurd (omega arith)
 sum-less f g (suc n) k h l s =
     below-suc k n l (λ x. omega (arith, sum-less f g n k h x s, h n)) (λ x. (let t : f n < g n = rw x at s in omega (arith, sum-most f g n h, t)))
 
-sum-ones : (n : ℕ) → sumBelow (λ i. 1) n ≡ n
+sum-ones : (n : ℕ) → sum-below (λ i. 1) n ≡ n
 sum-ones zero = refl
 sum-ones (suc n) = omega (arith, sum-ones n)
 
 module _ (f : ℕ → ℕ → Option ℕ) (Held : ℕ → ℕ → Type 0) (m : ℕ → ℕ) (R : (i : ℕ) → Ranking (λ b. f b i) (Held i) (m i)) (n : ℕ) where
-  all-found : (b v : ℕ) → minBelow (f b) n ≡ some v → (b ≤ v) × Among Held n v
+  all-found : (b v : ℕ) → min-below (f b) n ≡ some v → (b ≤ v) × Among Held n v
   all-found b v e =
       let g = min-is (f b) n v e in
       let q = R (g .index) .found b v (g .is) in
       (q .0, record { index = g .index; below = g .below; held = q .1 })
 
-  all-lowest : (b v w : ℕ) → minBelow (f b) n ≡ some v → Among Held n w → b ≤ w → v ≤ w
+  all-lowest : (b v w : ℕ) → min-below (f b) n ≡ some v → Among Held n w → b ≤ w → v ≤ w
   all-lowest b v w e a h = go (f b (a .index)) refl
     where
       go : (o : Option ℕ) → f b (a .index) ≡ o → v ≤ w
       go none x = absurd (R (a .index) .missed b w x (a .held) h)
       go (some u) x = omega (arith, min-bounds (f b) n v e (a .index) u (a .below) x, R (a .index) .lowest b u w x (a .held) h)
 
-  all-counts : (v : ℕ) → Among Held n v → sumBelow (λ i. R i .lower v) n < sumBelow (λ i. R i .lower (v + 1)) n
+  all-counts : (v : ℕ) → Among Held n v → sum-below (λ i. R i .lower v) n < sum-below (λ i. R i .lower (v + 1)) n
   all-counts v a =
       sum-less (λ i. R i .lower v) (λ i. R i .lower (v + 1)) n (a .index) (λ i. R i .grows v (v + 1) (omega arith)) (a .below)
       (R (a .index) .counts v (a .held))
 
-  pub of-all : Ranking (λ b. minBelow (f b) n) (Among Held n) (sumBelow m n)
+  pub of-all : Ranking (λ b. min-below (f b) n) (Among Held n) (sum-below m n)
   of-all =
       record {
         found = all-found;
         lowest = all-lowest;
         missed = λ b w e a h. R (a .index) .missed b w (min-none (f b) n e (a .index) (a .below)) (a .held) h;
-        lower = λ v. sumBelow (λ i. R i .lower v) n;
+        lower = λ v. sum-below (λ i. R i .lower v) n;
         few = λ v. sum-most (λ i. R i .lower v) m n (λ i. R i .few v);
         grows = λ v w h. sum-most (λ i. R i .lower v) (λ i. R i .lower w) n (λ i. R i .grows v w h);
         counts = all-counts;
@@ -261,5 +261,5 @@ module _ (f : ℕ → ℕ → Option ℕ) (Held : ℕ → ℕ → Type 0) (m : �
 
 -- things that give one number each, or none
 pub of-ones : (f : ℕ → ℕ → Option ℕ) (o : ℕ → Option ℕ) → ((b i : ℕ) → f b i ≡ from b (o i))
-    → (n : ℕ) → Ranking (λ b. minBelow (f b) n) (Among (λ i v. o i ≡ some v) n) n
+    → (n : ℕ) → Ranking (λ b. min-below (f b) n) (Among (λ i v. o i ≡ some v) n) n
 of-ones f o is n = rw (sum-ones n) at (of-all f (λ i v. o i ≡ some v) (λ i. 1) (λ i. of-one (λ b. f b i) (o i) (λ b. is b i)) n)

@@ -8,9 +8,9 @@ use mathlib.Core.Path.{_≡_, refl, sym, ap, _∙_}
 use lib.ListN.{length, getD}
 use borrow.Author.Tests.{eq-eqb}
 use Rattle.pack.specs.Notation.{_<ᵇ_, _≤ᵇ_, _≐_, optional}
-use Rattle.pack.specs.Value.{Pgn, Field, noPgn, pgn-at, field-at}
-use Rattle.pack.specs.Items.{bytesOf}
-use Rattle.pack.specs.Meaning.{packOf, fieldMeaning}
+use Rattle.pack.specs.Value.{Pgn, Field, no-pgn, pgn-at, field-at}
+use Rattle.pack.specs.Items.{bytes-of}
+use Rattle.pack.specs.Meaning.{pack-of, field-meaning}
 use Rattle.pack.specs.declared.field.FieldView.{FieldView}
 use Rattle.rules.specs.declared.spn_names.Namer.{Namer}
 use Rattle.rules.specs.Model.{given}
@@ -28,12 +28,12 @@ from-is pgns b s none h = absurd (Option·none-ne-some s h)
 from-is pgns b s (some x) h = ap some (optional-is (b ≤ᵇ x) x s h .1)
 
 -- an SPN that a field carries is named
-pub carried-named : (pgns : List Pgn) (s i k : ℕ) → i < length pgns → k < length (getD pgns i noPgn .fields) → field-at (getD pgns i noPgn) k .spn ≡ some s → given (spn-pgn pgns s) ≡ true
+pub carried-named : (pgns : List Pgn) (s i k : ℕ) → i < length pgns → k < length (getD pgns i no-pgn .fields) → field-at (getD pgns i no-pgn) k .spn ≡ some s → given (spn-pgn pgns s) ≡ true
 unfolding spn-pgn spn-field
 carried-named pgns s i k l m e =
-    let p = getD pgns i noPgn in
+    let p = getD pgns i no-pgn in
     let hit : is-number (field-at p k .spn) s ≡ true = ap (λ (o : Option ℕ). is-number o s) e ∙ eq-eqb s s refl in
-    least-given (λ i. getD pgns i noPgn .pgn) (λ i. given (spn-field (getD pgns i noPgn) s)) (length pgns) i l
+    least-given (λ i. getD pgns i no-pgn .pgn) (λ i. given (spn-field (getD pgns i no-pgn) s)) (length pgns) i l
     (first-given (λ k. is-number (field-at p k .spn) s) (length (p .fields)) k m hit)
 
 -- the least from b on
@@ -41,14 +41,14 @@ pub least-named : (pgns : List Pgn) (b s : ℕ) → least-spn pgns b ≡ some s 
 unfolding least-spn least-spn-in
 least-named pgns b s h =
     let i = min-is (least-spn-in pgns b) (length pgns) s h in
-    let p = getD pgns (i .index) noPgn in
+    let p = getD pgns (i .index) no-pgn in
     let k = min-is (λ k. spn-from pgns b (field-at p k .spn)) (length (p .fields)) s (i .is) in
     carried-named pgns s (i .index) (k .index) (i .below) (k .below) (from-is pgns b s (field-at p (k .index) .spn) (k .is))
 
 earlier-is : (pgns : List Pgn) (s i k e : ℕ) (o : Option ℕ) → earlier-if pgns s i k o ≡ some e → names-spn pgns e i k ≡ true
 earlier-is pgns s i k e none h = absurd (Option·none-ne-some e h)
 earlier-is pgns s i k e (some x) h =
-    let a = (x <ᵇ s) && (field-at (getD pgns i noPgn) k .name ≐ spn-name pgns s) in
+    let a = (x <ᵇ s) && (field-at (getD pgns i no-pgn) k .name ≐ spn-name pgns s) in
     let q = optional-is (a && names-spn pgns x i k) x e h in
     ap (λ (y : ℕ). names-spn pgns y i k) (sym (q .1)) ∙ and-right a (names-spn pgns x i k) (q .0)
 
@@ -57,15 +57,15 @@ pub earlier-named : (pgns : List Pgn) (s e : ℕ) → earlier-spn pgns s ≡ som
 unfolding earlier-spn earlier-in names-spn
 earlier-named pgns s e h =
     let i = max-is (earlier-in pgns s) (length pgns) e h in
-    let p = getD pgns (i .index) noPgn in
+    let p = getD pgns (i .index) no-pgn in
     let k = max-is (λ k. earlier-if pgns s (i .index) k (field-at p k .spn)) (length (p .fields)) e (i .is) in
     let n = earlier-is pgns s (i .index) (k .index) e (field-at p (k .index) .spn) (k .is) in
     number-given (spn-pgn pgns e) (i .index) (and-left (is-number (spn-pgn pgns e) (i .index)) (is-number (spn-field p e) (k .index)) n)
 
 -- ---- the field that names an SPN
 
-module _ (s w : List ℕ) (spn : ℕ) (r : Namer) (a : NamesAmong s w spn (length (packOf s .pgns-j1939)) r) where
-  pub given-both : r .given ≡ given (spn-pgn (packOf s .pgns-j1939) spn)
+module _ (s w : List ℕ) (spn : ℕ) (r : Namer) (a : NamesAmong s w spn (length (pack-of s .pgns-j1939)) r) where
+  pub given-both : r .given ≡ given (spn-pgn (pack-of s .pgns-j1939) spn)
   unfolding spn-pgn
   given-both = sym (given-is (r .given) (r .pgn)) ∙ ap given (a .least)
     where
@@ -73,15 +73,15 @@ module _ (s w : List ℕ) (spn : ℕ) (r : Namer) (a : NamesAmong s w spn (lengt
       given-is true x = refl
       given-is false x = refl
 
-  pub pgn-is : r .given ≡ true → spn-pgn (packOf s .pgns-j1939) spn ≡ some (r .pgn)
+  pub pgn-is : r .given ≡ true → spn-pgn (pack-of s .pgns-j1939) spn ≡ some (r .pgn)
   unfolding spn-pgn
   pgn-is e = sym (a .least) ∙ ap (λ (b : Bool). optional b (r .pgn)) e
 
-  pub name-is : r .given ≡ true → (v : FieldView) → fieldMeaning s v ≡ field-at (pgn-at (packOf s) 1 (r .pgn)) (r .field)
-      → bytesOf s (v .names .name) ≡ spn-name (packOf s .pgns-j1939) spn
+  pub name-is : r .given ≡ true → (v : FieldView) → field-meaning s v ≡ field-at (pgn-at (pack-of s) 1 (r .pgn)) (r .field)
+      → bytes-of s (v .names .name) ≡ spn-name (pack-of s .pgns-j1939) spn
   unfolding spn-name
   name-is e v is =
-      let pgns = packOf s .pgns-j1939 in
+      let pgns = pack-of s .pgns-j1939 in
       let x = ap (name-by pgns spn) (pgn-is e) in
-      let y = ap (name-in pgns (getD pgns (r .pgn) noPgn)) (a .field e) in
+      let y = ap (name-in pgns (getD pgns (r .pgn) no-pgn)) (a .field e) in
       ap (λ (F : Field). F .name) is ∙ sym (x ∙ y)

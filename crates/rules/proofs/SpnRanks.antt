@@ -4,8 +4,8 @@ use mathlib.Core.List.{List}
 use mathlib.Core.Option.{Option, none, some}
 use mathlib.Core.Path.{_≡_, refl}
 use lib.ListN.{length, getD}
-use Rattle.pack.specs.Notation.{concatBelow}
-use Rattle.pack.specs.Value.{Pgn, noPgn, field-at}
+use Rattle.pack.specs.Notation.{concat-below}
+use Rattle.pack.specs.Value.{Pgn, no-pgn, field-at}
 use Rattle.rules.specs.Bound.{fields-of}
 use Rattle.rules.specs.Search.{ranked}
 use Rattle.rules.specs.SpnNames.{clash-of, spn-from, least-spn-in, least-spn, check-spn-names}
@@ -14,7 +14,7 @@ use Rattle.rules.proofs.Ranks.{Enumerates, Among, from, of-ones, of-all
 module _ (pgns : List Pgn) where
   -- field k of PGN i carries the SPN, for a k; and for an i
   abbrev pub carried-in : (i spn : ℕ) → Type 0
-  carried-in i = Among (λ k spn. field-at (getD pgns i noPgn) k .spn ≡ some spn) (length (getD pgns i noPgn .fields))
+  carried-in i = Among (λ k spn. field-at (getD pgns i no-pgn) k .spn ≡ some spn) (length (getD pgns i no-pgn .fields))
 
   abbrev pub Carried : (spn : ℕ) → Type 0
   Carried = Among carried-in (length pgns)
@@ -28,12 +28,12 @@ module _ (pgns : List Pgn) where
   unfolding least-spn least-spn-in
   spn-ranks =
       ranks-enumerate (least-spn pgns) Carried (fields-of pgns)
-      (of-all (least-spn-in pgns) carried-in (λ i. length (getD pgns i noPgn .fields))
-      (λ i. of-ones (λ b k. spn-from pgns b (field-at (getD pgns i noPgn) k .spn)) (λ k. field-at (getD pgns i noPgn) k .spn)
-      (λ b k. from-same b (field-at (getD pgns i noPgn) k .spn)) (length (getD pgns i noPgn .fields)))
+      (of-all (least-spn-in pgns) carried-in (λ i. length (getD pgns i no-pgn .fields))
+      (λ i. of-ones (λ b k. spn-from pgns b (field-at (getD pgns i no-pgn) k .spn)) (λ k. field-at (getD pgns i no-pgn) k .spn)
+      (λ b k. from-same b (field-at (getD pgns i no-pgn) k .spn)) (length (getD pgns i no-pgn .fields)))
       (length pgns))
 
   -- so the rule over more ranks is the same
-  pub spns-enough : (d : ℕ) → concatBelow (λ r. clash-of pgns (ranked (least-spn pgns) r)) (fields-of pgns + d) ≡ check-spn-names pgns
+  pub spns-enough : (d : ℕ) → concat-below (λ r. clash-of pgns (ranked (least-spn pgns) r)) (fields-of pgns + d) ≡ check-spn-names pgns
   unfolding check-spn-names
   spns-enough d = ranks-enough (least-spn pgns) Carried (fields-of pgns) spn-ranks (clash-of pgns) refl d

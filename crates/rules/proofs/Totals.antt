@@ -5,36 +5,36 @@ use native.Mathlib.Nat.{mul-le-mul}
 use mathlib.Core.Path.{_≡_}
 use mathlib.Core.List.{List}
 use lib.ListN.{length, getD}
-use Rattle.pack.specs.Value.{Pgn, Pack, pgns-of, noPgn, lookup-at}
+use Rattle.pack.specs.Value.{Pgn, Pack, pgns-of, no-pgn, lookup-at}
 use Rattle.pack.specs.Format.{offsets}
-use Rattle.pack.specs.Meaning.{packOf}
-use Rattle.pack.specs.Ready.{Ready, lookupPlace, treePlace, pgnRecordsBelow}
+use Rattle.pack.specs.Meaning.{pack-of}
+use Rattle.pack.specs.Ready.{Ready, place-of-lookup, place-of-tree, pgn-records-below}
 use Rattle.pack.proofs.Bounds.{records-bound}
 use Rattle.pack.proofs.Values.{tree-place}
 use Rattle.rules.specs.Bound.{most-findings, check-most}
 use Rattle.rules.specs.Check.{check}
 use Rattle.rules.specs.Emit.{Fits}
-use Rattle.rules.specs.Search.{sumBelow}
+use Rattle.rules.specs.Search.{sum-below}
 
-lookups-total : (P : Pack) (n : ℕ) → lookupPlace P n ≡ length (P .fieldtypes) + n + sumBelow (λ l. length (lookup-at (P .lookups) l .entries)) n
+lookups-total : (P : Pack) (n : ℕ) → place-of-lookup P n ≡ length (P .fieldtypes) + n + sum-below (λ l. length (lookup-at (P .lookups) l .entries)) n
 lookups-total P zero = omega arith
 lookups-total P (suc n) = omega (arith, lookups-total P n)
 
-pgns-total : (ps : List Pgn) (n : ℕ) → pgnRecordsBelow ps n ≡ n + sumBelow (λ i. length (getD ps i noPgn .fields)) n
+pgns-total : (ps : List Pgn) (n : ℕ) → pgn-records-below ps n ≡ n + sum-below (λ i. length (getD ps i no-pgn .fields)) n
 pgns-total ps zero = omega arith
 pgns-total ps (suc n) = omega (arith, pgns-total ps n)
 
-all-records : (s w : List ℕ) → Ready s w → treePlace (packOf s) 3 ≤ 1048576
+all-records : (s w : List ℕ) → Ready s w → place-of-tree (pack-of s) 3 ≤ 1048576
 unfolding offsets
 all-records s w r = omega (arith, tree-place s 3 (omega arith), records-bound s w r)
 
 square-few : (n : ℕ) → n ≤ 1048576 → n * (n + 15) ≤ 1099527356416
 square-few n h = let k : n + 15 ≤ 1048591 = omega arith in mul-le-mul h k
 
-pub findings-few : (s w : List ℕ) → Ready s w → Fits 0 (check (packOf s))
+pub findings-few : (s w : List ℕ) → Ready s w → Fits 0 (check (pack-of s))
 unfolding most-findings
 findings-few s w r =
-    let P = packOf s in
+    let P = pack-of s in
     let a = all-records s w r in
     let l = lookups-total P (length (P .lookups)) in
     let p0 = pgns-total (pgns-of P 0) (length (pgns-of P 0)) in

@@ -4,7 +4,7 @@ use mathlib.Core.Bool.{Bool, _&&_, _||_, not}
 use mathlib.Core.List.{List, [], _∷_}
 use mathlib.Core.Option.{Option, none, some}
 use lib.ListN.{length}
-use Rattle.pack.specs.Notation.{_≤ᵇ_, _==_, _≐_, if_then_else_, concatBelow}
+use Rattle.pack.specs.Notation.{_≤ᵇ_, _==_, _≐_, if_then_else_, concat-below}
 use Rattle.pack.specs.Value.{Bytes, Field, Pgn, field-at}
 use Rattle.rules.specs.declared.Finding.{Finding}
 use Rattle.rules.specs.Findings.{pgn-error, report-if}
@@ -32,4 +32,4 @@ bit-length-field-at t i p k (some id) =
     if not (variable-binary (field-at p k)) then pgn-error 15 2 t i k 0 ∷ [] else bit-length-target-at t i p k (target p id)
 
 unfoldable pub check-bit-length-field : (t i : ℕ) → Pgn → List Finding
-check-bit-length-field t i p = concatBelow (λ k. bit-length-field-at t i p k (field-at p k .bit-length-field)) (length (p .fields))
+check-bit-length-field t i p = concat-below (λ k. bit-length-field-at t i p k (field-at p k .bit-length-field)) (length (p .fields))

@@ -6,12 +6,12 @@ use mathlib.Core.List.{List, [], _∷_, _++_}
 use mathlib.Core.Option.{Option, none, some}
 use mathlib.Core.Path.{_≡_}
 use lib.ListN.{length, getD, length-append}
-use Rattle.pack.specs.Notation.{_==_, if_then_else_, concatBelow}
-use Rattle.pack.specs.Value.{Bytes, FieldType, Lookup, Entry, Reference, Repeating, Field, Pgn, Pack, pgns-of, noPgn, noLookup, field-at, lookup-at, entry-at}
+use Rattle.pack.specs.Notation.{_==_, if_then_else_, concat-below}
+use Rattle.pack.specs.Value.{Bytes, FieldType, Lookup, Entry, Reference, Repeating, Field, Pgn, Pack, pgns-of, no-pgn, no-lookup, field-at, lookup-at, entry-at}
 use Rattle.rules.specs.declared.Finding.{Finding}
 use Rattle.rules.specs.Findings.{report-if, lookup-warning}
 use Rattle.rules.specs.Model.{fieldtype-of, lookup-ref, fieldtypes}
-use Rattle.rules.specs.Search.{sumBelow}
+use Rattle.rules.specs.Search.{sum-below}
 use Rattle.rules.specs.Fieldtypes.{check-fieldtypes, fieldtype-at}
 use Rattle.rules.specs.LookupWiring.{check-lookup-wiring, referenced, check-lookup-refs, lookup-ref-at, lookup-found-at, lookup-width-at}
 use Rattle.rules.specs.LookupWiring.{check-nested-refs, fieldtype-entry-at, nested-lookup-at}
@@ -67,9 +67,9 @@ most-two = most-append 1 1
 pub most-three : (xs ys : List Finding) → AtMost 2 xs → AtMost 1 ys → AtMost 3 (xs ++ ys)
 most-three = most-append 2 1
 
-pub most-below : (c : ℕ) (f : ℕ → List Finding) → ((k : ℕ) → AtMost c (f k)) → (n : ℕ) → AtMost (n * c) (concatBelow f n)
+pub most-below : (c : ℕ) (f : ℕ → List Finding) → ((k : ℕ) → AtMost c (f k)) → (n : ℕ) → AtMost (n * c) (concat-below f n)
 most-below c f h zero = record { bound = omega arith }
-most-below c f h (suc n) = record { bound = omega (arith, most-below c f h n .bound, h n .bound, length-append (concatBelow f n) (f n)) }
+most-below c f h (suc n) = record { bound = omega (arith, most-below c f h n .bound, h n .bound, length-append (concat-below f n) (f n)) }
 
 pub most-four : (xs ys : List Finding) → AtMost 3 xs → AtMost 1 ys → AtMost 4 (xs ++ ys)
 most-four = most-append 3 1
@@ -283,23 +283,23 @@ variant-most t pgns number i = search (Most, duplicate-most)
 
 -- ---- of a pack
 
-pub most-sum : (g : ℕ → ℕ) (f : ℕ → List Finding) → ((k : ℕ) → AtMost (g k) (f k)) → (n : ℕ) → AtMost (sumBelow g n) (concatBelow f n)
+pub most-sum : (g : ℕ → ℕ) (f : ℕ → List Finding) → ((k : ℕ) → AtMost (g k) (f k)) → (n : ℕ) → AtMost (sum-below g n) (concat-below f n)
 most-sum g f h zero = record { bound = omega arith }
-most-sum g f h (suc n) = record { bound = omega (arith, most-sum g f h n .bound, h n .bound, length-append (concatBelow f n) (f n)) }
+most-sum g f h (suc n) = record { bound = omega (arith, most-sum g f h n .bound, h n .bound, length-append (concat-below f n) (f n)) }
 
-sum-times : (g : ℕ → ℕ) (c n : ℕ) → sumBelow (λ i. g i * c) n ≡ sumBelow g n * c
+sum-times : (g : ℕ → ℕ) (c n : ℕ) → sum-below (λ i. g i * c) n ≡ sum-below g n * c
 sum-times g c zero = omega arith
 sum-times g c (suc n) = omega (arith, sum-times g c n)
 
-sum-plus : (a : ℕ) (g : ℕ → ℕ) (n : ℕ) → sumBelow (λ i. a + g i) n ≡ n * a + sumBelow g n
+sum-plus : (a : ℕ) (g : ℕ → ℕ) (n : ℕ) → sum-below (λ i. a + g i) n ≡ n * a + sum-below g n
 sum-plus a g zero = omega arith
 sum-plus a g (suc n) = omega (arith, sum-plus a g n)
 
 abbrev pub fields-of : List Pgn → ℕ
-fields-of pgns = sumBelow (λ i. length (getD pgns i noPgn .fields)) (length pgns)
+fields-of pgns = sum-below (λ i. length (getD pgns i no-pgn .fields)) (length pgns)
 
 abbrev pub entries-of : List Lookup → ℕ
-entries-of ls = sumBelow (λ l. length (getD ls l noLookup .entries)) (length ls)
+entries-of ls = sum-below (λ l. length (getD ls l no-lookup .entries)) (length ls)
 
 pgn-most : (P : Pack) (t i : ℕ) (p : Pgn) → AtMost (13 + length (p .fields) * 10) (check-pgn P t i p)
 unfolding check-pgn check-dynamic-length check-special-values check-reserved-ids check-match-values check-field-type-overrides check-bit-length-field check-trailing-zero-is-digit
@@ -379,35 +379,35 @@ unfolding unique-field-ids
 ids-most t i p = search (most-below, most-if)
 
 ids-of-most : (t : ℕ) (pgns : List Pgn)
-    → AtMost (sumBelow (λ i. 1 + length (getD pgns i noPgn .fields) * 1) (length pgns)) (check-unique-ids t pgns)
+    → AtMost (sum-below (λ i. 1 + length (getD pgns i no-pgn .fields) * 1) (length pgns)) (check-unique-ids t pgns)
 unfolding check-unique-ids
 ids-of-most t pgns = search (most-sum, most-append, same-id-most, ids-most)
 
 pub unique-ids-most : (t : ℕ) (pgns : List Pgn) → AtMost (length pgns * 1 + fields-of pgns) (check-unique-ids t pgns)
 unique-ids-most t pgns =
-    let g : ℕ → ℕ = λ i. length (getD pgns i noPgn .fields) in
+    let g : ℕ → ℕ = λ i. length (getD pgns i no-pgn .fields) in
     record { bound = omega (arith, ids-of-most t pgns .bound, sum-plus 1 (λ i. g i * 1) (length pgns), sum-times g 1 (length pgns)) }
 
 -- what each PGN has, summed over a tree
 tree-sum : (c : ℕ) (pgns : List Pgn) (f : ℕ → Pgn → List Finding) → ((i : ℕ) (p : Pgn) → AtMost (length (p .fields) * c) (f i p))
-    → AtMost (fields-of pgns * c) (concatBelow (λ i. f i (getD pgns i noPgn)) (length pgns))
+    → AtMost (fields-of pgns * c) (concat-below (λ i. f i (getD pgns i no-pgn)) (length pgns))
 tree-sum c pgns f h =
-    let g : ℕ → ℕ = λ i. length (getD pgns i noPgn .fields) in
-    let m = most-sum (λ i. g i * c) (λ i. f i (getD pgns i noPgn)) (λ i. h i (getD pgns i noPgn)) (length pgns) in
+    let g : ℕ → ℕ = λ i. length (getD pgns i no-pgn .fields) in
+    let m = most-sum (λ i. g i * c) (λ i. f i (getD pgns i no-pgn)) (λ i. h i (getD pgns i no-pgn)) (length pgns) in
     record { bound = omega (arith, m .bound, sum-times g c (length pgns)) }
 
 lookup-sum : (c : ℕ) (ls : List Lookup) (f : ℕ → Lookup → List Finding) → ((l : ℕ) (lookup : Lookup) → AtMost (length (lookup .entries) * c) (f l lookup))
-    → AtMost (entries-of ls * c) (concatBelow (λ l. f l (getD ls l noLookup)) (length ls))
+    → AtMost (entries-of ls * c) (concat-below (λ l. f l (getD ls l no-lookup)) (length ls))
 lookup-sum c ls f h =
-    let g : ℕ → ℕ = λ l. length (getD ls l noLookup .entries) in
-    let m = most-sum (λ l. g l * c) (λ l. f l (getD ls l noLookup)) (λ l. h l (getD ls l noLookup)) (length ls) in
+    let g : ℕ → ℕ = λ l. length (getD ls l no-lookup .entries) in
+    let m = most-sum (λ l. g l * c) (λ l. f l (getD ls l no-lookup)) (λ l. h l (getD ls l no-lookup)) (length ls) in
     record { bound = omega (arith, m .bound, sum-times g c (length ls)) }
 
 tree-pgns-most : (P : Pack) (t : ℕ) (pgns : List Pgn)
-    → AtMost (length pgns * 13 + fields-of pgns * 10) (concatBelow (λ i. check-pgn P t i (getD pgns i noPgn)) (length pgns))
+    → AtMost (length pgns * 13 + fields-of pgns * 10) (concat-below (λ i. check-pgn P t i (getD pgns i no-pgn)) (length pgns))
 tree-pgns-most P t pgns =
-    let g : ℕ → ℕ = λ i. length (getD pgns i noPgn .fields) in
-    let m = most-sum (λ i. 13 + g i * 10) (λ i. check-pgn P t i (getD pgns i noPgn)) (λ i. pgn-most P t i (getD pgns i noPgn)) (length pgns) in
+    let g : ℕ → ℕ = λ i. length (getD pgns i no-pgn .fields) in
+    let m = most-sum (λ i. 13 + g i * 10) (λ i. check-pgn P t i (getD pgns i no-pgn)) (λ i. pgn-most P t i (getD pgns i no-pgn)) (length pgns) in
     record { bound = omega (arith, m .bound, sum-plus 13 (λ i. g i * 10) (length pgns), sum-times g 10 (length pgns)) }
 
 tree-most : (P : Pack) (t : ℕ)
@@ -419,7 +419,7 @@ tree-most P t =
     record { bound = omega (arith, c .bound) }
 
 wiring-most : (P : Pack)
-    → AtMost (sumBelow (λ t. fields-of (pgns-of P t) * 2) 3 + entries-of (P .lookups) * 2 + length (P .lookups) * 1) (check-lookup-wiring P)
+    → AtMost (sum-below (λ t. fields-of (pgns-of P t) * 2) 3 + entries-of (P .lookups) * 2 + length (P .lookups) * 1) (check-lookup-wiring P)
 unfolding check-lookup-wiring
 wiring-most P =
     most-append _ _ _ _
@@ -428,7 +428,7 @@ wiring-most P =
     (lookup-sum 2 (P .lookups) (check-nested-refs P) (nested-most P)))
     (unreferenced (length (P .lookups)))
   where
-    unreferenced : (n : ℕ) → AtMost (n * 1) (concatBelow (λ l. report-if (not (referenced P (lookup-at (P .lookups) l .name))) (lookup-warning 22 1 l 0 0)) n)
+    unreferenced : (n : ℕ) → AtMost (n * 1) (concat-below (λ l. report-if (not (referenced P (lookup-at (P .lookups) l .name))) (lookup-warning 22 1 l 0 0)) n)
     unreferenced n = search (most-below, most-if)
 
 lookup-names-most : (P : Pack) → AtMost (fields-of (P .pgns-j1939) * 2 + entries-of (P .lookups) * 1) (check-lookup-names P)

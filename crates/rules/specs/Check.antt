@@ -2,7 +2,7 @@
 use Prim.Native.Nat.{ℕ}
 use mathlib.Core.List.{List, _++_}
 use lib.ListN.{length}
-use Rattle.pack.specs.Notation.{concatBelow}
+use Rattle.pack.specs.Notation.{concat-below}
 use Rattle.pack.specs.Value.{Pgn, Pack, pgns-of, pgn-at}
 use Rattle.rules.specs.declared.Finding.{Finding}
 use Rattle.rules.specs.Fieldtypes.{check-fieldtypes}
@@ -46,12 +46,12 @@ check-pgn P t i p =
 -- and those that look at a tree: R20, R21
 unfoldable pub check-tree : Pack → (t : ℕ) → List Finding
 check-tree P t =
-    concatBelow (λ i. check-pgn P t i (pgn-at P t i)) (length (pgns-of P t))
+    concat-below (λ i. check-pgn P t i (pgn-at P t i)) (length (pgns-of P t))
     ++ check-variants t (pgns-of P t)
     ++ check-unique-ids t (pgns-of P t)
 
 unfoldable pub check-tree-continues : Pack → (t : ℕ) → List Finding
-check-tree-continues P t = concatBelow (λ i. check-continues (P .fieldtypes) t i (pgn-at P t i)) (length (pgns-of P t))
+check-tree-continues P t = concat-below (λ i. check-continues (P .fieldtypes) t i (pgn-at P t i)) (length (pgns-of P t))
 
 -- R23; R08, R22; R24; the trees; R42; R43
 unfoldable pub check : Pack → List Finding
@@ -59,6 +59,6 @@ check P =
     check-fieldtypes (P .fieldtypes)
     ++ check-lookup-wiring P
     ++ check-lookup-names P
-    ++ concatBelow (check-tree P) 3
+    ++ concat-below (check-tree P) 3
     ++ check-spns P
-    ++ concatBelow (check-tree-continues P) 3
+    ++ concat-below (check-tree-continues P) 3

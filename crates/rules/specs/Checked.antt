@@ -4,8 +4,8 @@ use mathlib.Core.Path.{_≡_}
 use mathlib.Core.List.{List, [], _∷_, _++_}
 use lib.ListN.{length}
 use Rattle.pack.specs.Notation.{_≤ᵇ_, if_then_else_}
-use Rattle.pack.specs.Load.{Answer, refuses, gives, after, refusal-answer, loaded, load-tells, over, workAfter}
-use Rattle.pack.specs.Meaning.{packOf}
+use Rattle.pack.specs.Load.{Answer, refuses, gives, after, refusal-answer, loaded, load-tells, over, work-after}
+use Rattle.pack.specs.Meaning.{pack-of}
 use Rattle.pack.specs.declared.load.Loaded.{Loaded}
 use Rattle.pack.specs.declared.load.Loaded.the-variants as load
 use Rattle.pack.specs.declared.load.Refusal.the-variants.{Findings}
@@ -27,7 +27,7 @@ after-load (load.Accepted i) fs n = judged fs n
 
 -- `check` of the pack s with a work buffer of m numbers and a findings buffer of n
 unfoldable pub checked : List ℕ → (m n : ℕ) → Checked
-checked s m n = after-load (loaded s m) (check (packOf s)) n
+checked s m n = after-load (loaded s m) (check (pack-of s)) n
 
 -- "Eight numbers" a finding, in order
 abbrev pub all-numbers : List Finding → List ℕ
@@ -35,12 +35,12 @@ all-numbers [] = []
 all-numbers (f ∷ fs) = numbers f ++ all-numbers fs
 
 -- "After 22 and higher numbers no other buffer has changed"; "Success writes only the entries it reports."
-abbrev pub findingsLeft : Checked → List ℕ → List ℕ → List ℕ
-findingsLeft (Refused r) front o = o
-findingsLeft (Reported n e) front o = over front o
+abbrev pub findings-left : Checked → List ℕ → List ℕ → List ℕ
+findings-left (Refused r) front o = o
+findings-left (Reported n e) front o = over front o
 
-unfoldable pub findingsAfter : List ℕ → (m : ℕ) → List ℕ → List ℕ
-findingsAfter s m o = findingsLeft (checked s m (length o)) (all-numbers (check (packOf s))) o
+unfoldable pub findings-after : List ℕ → (m : ℕ) → List ℕ → List ℕ
+findings-after s m o = findings-left (checked s m (length o)) (all-numbers (check (pack-of s))) o
 
 -- ---- the same in 01's numbers
 
@@ -54,11 +54,11 @@ abbrev pub findings-tell : List Finding → ℕ → Answer
 findings-tell fs n = if 8 * length fs ≤ᵇ n then gives (length fs ∷ errors fs ∷ []) else refuses 22 (8 * length fs)
 
 unfoldable pub check-tells : List ℕ → (m n : ℕ) → Answer
-check-tells s m n = after (load-tells s m) (findings-tell (check (packOf s)) n)
+check-tells s m n = after (load-tells s m) (findings-tell (check (pack-of s)) n)
 
 -- What `check` promises: its answer r, and the work and findings buffers, w and o before, w′ and o′ after.
 pub record Checks (s w o w′ o′ : List ℕ) (r : Checked) : Type 0 where
   pub answer : r ≡ checked s (length w) (length o)
   pub told : check-answer r ≡ check-tells s (length w) (length o)
-  pub work : w′ ≡ workAfter s w
-  pub findings : o′ ≡ findingsAfter s (length w) o
+  pub work : w′ ≡ work-after s w
+  pub findings : o′ ≡ findings-after s (length w) o

@@ -6,7 +6,7 @@ use mathlib.Core.Bool.{Bool, true, false, not, _&&_, false≢true}
 use mathlib.Core.List.{List, [], _∷_, _++_}
 use mathlib.Core.Path.{_≡_, refl}
 use lib.ListN.{length}
-use Rattle.pack.specs.Notation.{_==_, if_then_else_, concatBelow}
+use Rattle.pack.specs.Notation.{_==_, if_then_else_, concat-below}
 use Rattle.pack.specs.Value.{Pack, pgns-of, pgn-at, lookup-at}
 use Rattle.rules.specs.declared.Finding.{Finding}
 use Rattle.rules.specs.Check.{check, check-tree, check-tree-continues, check-pgn}
@@ -68,12 +68,12 @@ clean-right (x ∷ xs) ys c = go (not (x .severity == 1)) c (clean-right xs ys)
     go true h rec = rec h
     go false h rec = absurd (false≢true h)
 
-pub clean-below : (f : ℕ → List Finding) (n : ℕ) → Clean (concatBelow f n) → (k : ℕ) → k < n → Clean (f k)
+pub clean-below : (f : ℕ → List Finding) (n : ℕ) → Clean (concat-below f n) → (k : ℕ) → k < n → Clean (f k)
 clean-below f zero c k h = absurd (omega arith)
-clean-below f (suc n) c k h = go (ℕ-discrete k n) (clean-below f n (clean-left (concatBelow f n) (f n) c) k)
+clean-below f (suc n) c k h = go (ℕ-discrete k n) (clean-below f n (clean-left (concat-below f n) (f n) c) k)
   where
     go : Dec (k ≡ n) → (k < n → Clean (f k)) → Clean (f k)
-    go (yes e) rec = rw e (clean-right (concatBelow f n) (f n) c)
+    go (yes e) rec = rw e (clean-right (concat-below f n) (f n) c)
     go (no e) rec = rec (omega arith)
 
 -- lists put together one after the other, and each of them clean
@@ -154,9 +154,9 @@ module _ (P : Pack) (c : Clean (check P)) where
   after-fieldtypes =
       check-lookup-wiring P
       ∷ check-lookup-names P
-      ∷ concatBelow (check-tree P) 3
+      ∷ concat-below (check-tree P) 3
       ∷ check-spns P
-      ∷ concatBelow (check-tree-continues P) 3
+      ∷ concat-below (check-tree-continues P) 3
       ∷ []
 
   parts : AllClean (check-fieldtypes (P .fieldtypes) ∷ after-fieldtypes)
@@ -168,7 +168,7 @@ module _ (P : Pack) (c : Clean (check P)) where
   clean-fieldtypes = parts .0
 
   abbrev refs : ℕ → List Finding
-  refs t = concatBelow (λ i. check-lookup-refs (P .lookups) t i (pgn-at P t i)) (length (pgns-of P t))
+  refs t = concat-below (λ i. check-lookup-refs (P .lookups) t i (pgn-at P t i)) (length (pgns-of P t))
 
   abbrev nested : ℕ → List Finding
   nested l = check-nested-refs P l (lookup-at (P .lookups) l)
@@ -176,11 +176,11 @@ module _ (P : Pack) (c : Clean (check P)) where
   abbrev unreferenced : ℕ → List Finding
   unreferenced l = report-if (not (referenced P (lookup-at (P .lookups) l .name))) (lookup-warning 22 1 l 0 0)
 
-  wiring : AllClean (concatBelow refs 3 ∷ concatBelow nested (length (P .lookups)) ∷ concatBelow unreferenced (length (P .lookups)) ∷ [])
+  wiring : AllClean (concat-below refs 3 ∷ concat-below nested (length (P .lookups)) ∷ concat-below unreferenced (length (P .lookups)) ∷ [])
   unfolding check-lookup-wiring
   wiring =
-      clean-in-turn (concatBelow refs 3)
-      (concatBelow nested (length (P .lookups)) ∷ concatBelow unreferenced (length (P .lookups)) ∷ []) (parts .1 .0)
+      clean-in-turn (concat-below refs 3)
+      (concat-below nested (length (P .lookups)) ∷ concat-below unreferenced (length (P .lookups)) ∷ []) (parts .1 .0)
 
   -- R08, 1 to 5
   pub clean-lookup-refs : (t i : ℕ) → t < 3 → i < length (pgns-of P t) → Clean (check-lookup-refs (P .lookups) t i (pgn-at P t i))
@@ -199,10 +199,10 @@ module _ (P : Pack) (c : Clean (check P)) where
   pgn-rules t i = check-pgn P t i (pgn-at P t i)
 
   tree : (t : ℕ) → t < 3
-      → AllClean (concatBelow (pgn-rules t) (length (pgns-of P t)) ∷ check-variants t (pgns-of P t) ∷ check-unique-ids t (pgns-of P t) ∷ [])
+      → AllClean (concat-below (pgn-rules t) (length (pgns-of P t)) ∷ check-variants t (pgns-of P t) ∷ check-unique-ids t (pgns-of P t) ∷ [])
   unfolding check-tree
   tree t ht =
-      clean-in-turn (concatBelow (pgn-rules t) (length (pgns-of P t))) (check-variants t (pgns-of P t) ∷ check-unique-ids t (pgns-of P t) ∷ [])
+      clean-in-turn (concat-below (pgn-rules t) (length (pgns-of P t))) (check-variants t (pgns-of P t) ∷ check-unique-ids t (pgns-of P t) ∷ [])
       (clean-below (check-tree P) 3 (parts .1 .1 .1 .0) t ht)
 
   -- R02, R04 to R07, R09, R11 to R16, R44

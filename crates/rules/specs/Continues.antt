@@ -4,13 +4,13 @@ use mathlib.Core.Bool.{Bool, false, _&&_, _||_, not}
 use mathlib.Core.List.{List, [], _∷_, _++_}
 use mathlib.Core.Option.{Option, none, some}
 use lib.ListN.{length}
-use Rattle.pack.specs.Notation.{_<ᵇ_, _≤ᵇ_, _==_, _≐_, if_then_else_, concatBelow}
+use Rattle.pack.specs.Notation.{_<ᵇ_, _≤ᵇ_, _==_, _≐_, if_then_else_, concat-below}
 use Rattle.pack.specs.Value.{Bytes, FieldType, Repeating, Field, Pgn, field-at}
 use Rattle.rules.specs.declared.Finding.{Finding}
 use Rattle.rules.specs.Findings.{pgn-error, report-if}
 use Rattle.rules.specs.Floats.{float-eq, ZERO, ONE}
 use Rattle.rules.specs.Model.{given, is-text, fieldtype-of, root-of, value-bits, lookup-ref}
-use Rattle.rules.specs.Search.{firstBelow, countBelow}
+use Rattle.rules.specs.Search.{first-below, count-below}
 use Rattle.rules.specs.Texts.{NUMBER, LOOKUP}
 
 -- the set holds the order; an empty one holds none
@@ -43,7 +43,7 @@ not-raw f =
 
 -- how many fields continue the field with this id
 unfoldable pub continued-by : Pgn → Bytes → ℕ
-continued-by p id = countBelow (λ k. is-text (field-at p k .continues) id) (length (p .fields))
+continued-by p id = count-below (λ k. is-text (field-at p k .continues) id) (length (p .fields))
 
 -- field k, f, continues field j, low, whose id it names
 -- 2 across a repeating-set boundary, 3 a field of no fixed width lies between, 4 more than one field continues it,
@@ -67,7 +67,7 @@ continued-found-at fts t i p k id (some j) = continued-at fts t i p k (field-at 
 -- the first field with that id, sought among the earlier ones only
 unfoldable pub continues-at : List FieldType → (t i : ℕ) → Pgn → (k : ℕ) → Option Bytes → List Finding
 continues-at fts t i p k none = []
-continues-at fts t i p k (some id) = continued-found-at fts t i p k id (firstBelow (λ j. field-at p j .id ≐ id) k)
+continues-at fts t i p k (some id) = continued-found-at fts t i p k id (first-below (λ j. field-at p j .id ≐ id) k)
 
 unfoldable pub check-continues : List FieldType → (t i : ℕ) → Pgn → List Finding
-check-continues fts t i p = concatBelow (λ k. continues-at fts t i p k (field-at p k .continues)) (length (p .fields))
+check-continues fts t i p = concat-below (λ k. continues-at fts t i p k (field-at p k .continues)) (length (p .fields))

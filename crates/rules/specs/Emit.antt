@@ -15,14 +15,14 @@ numbers f = f .rule ∷ f .severity ∷ f .cause ∷ f .place ∷ f .tree ∷ f 
 unfoldable pub stored : List ℕ → ℕ → Finding → List ℕ
 stored o n f = if 8 * n + 8 ≤ᵇ length o then sets o (8 * n) (numbers f) else o
 
-abbrev pub putAll : List ℕ → ℕ → List Finding → List ℕ
-putAll o n [] = o
-putAll o n (f ∷ fs) = putAll (stored o n f) (n + 1) fs
+abbrev pub put-findings : List ℕ → ℕ → List Finding → List ℕ
+put-findings o n [] = o
+put-findings o n (f ∷ fs) = put-findings (stored o n f) (n + 1) fs
 
 -- what every function that reports promises: the buffer with the findings fs put behind n others, and how many there are then
 pub record Emitted (o : List ℕ) (n : ℕ) (fs : List Finding) (o′ : List ℕ) (m : ℕ) : Type 0 where
   pub count : m ≡ n + length fs
-  pub out : o′ ≡ putAll o n fs
+  pub out : o′ ≡ put-findings o n fs
 
 -- what it asks for: the count stays small. A pack has far fewer findings (Bound).
 pub record Fits (n : ℕ) (fs : List Finding) : Type 0 where

@@ -15,7 +15,7 @@ use Rattle.rules.specs.Check.{check}
 use Rattle.rules.specs.Computed.{computed}
 use Rattle.rules.specs.Findings.{pgn-error, group-error}
 use Rattle.rules.specs.Floats.{ONE}
-use Rattle.rules.specs.PlaceCall.{named, textLeft}
+use Rattle.rules.specs.PlaceCall.{named, text-left}
 use Rattle.rules.specs.PlaceText.{place-text}
 use Rattle.rules.specs.Texts.{bytes, NUMBER, DECIMAL}
 
@@ -305,7 +305,7 @@ places = (refl, refl, refl, refl, refl, refl, refl)
 place-ends : (named (place-text reported 1 0 1) 0 ≡ Refused Absent)
     × (named (place-text reported 1 0 0) 17 ≡ Refused (Place 18))
     × (named (place-text reported 1 0 0) 18 ≡ Written 18)
-    × (textLeft (Written 15) (place-text reported 0 0 0) (tab (λ i. i) 17) ≡ bytes "fieldtypes.yaml" ++ (15 ∷ 16 ∷ []))
+    × (text-left (Written 15) (place-text reported 0 0 0) (tab (λ i. i) 17) ≡ bytes "fieldtypes.yaml" ++ (15 ∷ 16 ∷ []))
 unfolding computed
 place-ends = (refl, refl, refl, refl)
 

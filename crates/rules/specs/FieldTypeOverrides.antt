@@ -3,7 +3,7 @@ use Prim.Native.Nat.{ℕ}
 use mathlib.Core.Bool.{_&&_, not}
 use mathlib.Core.List.{List, _++_}
 use lib.ListN.{length}
-use Rattle.pack.specs.Notation.{_==_, concatBelow}
+use Rattle.pack.specs.Notation.{_==_, concat-below}
 use Rattle.pack.specs.Value.{FieldType, Field, Pgn, field-at}
 use Rattle.rules.specs.declared.Finding.{Finding}
 use Rattle.rules.specs.Findings.{pgn-error, report-if}
@@ -17,4 +17,4 @@ overrides-at t i k f ft =
     ++ report-if (given (f .resolution) && not (float-eq (ft .resolution) ZERO)) (pgn-error 14 2 t i k 0)
 
 unfoldable pub check-field-type-overrides : List FieldType → (t i : ℕ) → Pgn → List Finding
-check-field-type-overrides fts t i p = concatBelow (λ k. overrides-at t i k (field-at p k) (fieldtype-of fts (field-at p k))) (length (p .fields))
+check-field-type-overrides fts t i p = concat-below (λ k. overrides-at t i k (field-at p k) (fieldtype-of fts (field-at p k))) (length (p .fields))

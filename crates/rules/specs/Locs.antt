@@ -1,7 +1,7 @@
 -- What a place text is made of, as the code that writes it is told.
 use Prim.Native.Nat.{ℕ}
 use mathlib.Core.List.{List, _++_}
-use Rattle.pack.specs.Items.{bytesOf}
+use Rattle.pack.specs.Items.{bytes-of}
 use Rattle.pack.specs.Value.{Bytes}
 use Rattle.rules.specs.Digits.{six-digits}
 use Rattle.rules.specs.PlaceText.{check-prefix, group-loc, lookup-loc}
@@ -15,6 +15,6 @@ pgn-text t number id = check-prefix t ++ bytes "pgns/" ++ six-digits number ++ b
 
 abbrev pub loc-text : List ℕ → Loc → Bytes
 loc-text s FieldTypes = bytes "fieldtypes.yaml"
-loc-text s (Pgn t number id) = pgn-text t number (bytesOf s id)
-loc-text s (Lookup name) = lookup-loc (bytesOf s name)
+loc-text s (Pgn t number id) = pgn-text t number (bytes-of s id)
+loc-text s (Lookup name) = lookup-loc (bytes-of s name)
 loc-text s (Group t number) = group-loc t number

@@ -4,11 +4,11 @@ use mathlib.Core.Bool.{Bool, _&&_, _||_, not}
 use mathlib.Core.List.{List, [], _∷_, _++_}
 use mathlib.Core.Option.{Option, none, some}
 use lib.ListN.{length}
-use Rattle.pack.specs.Notation.{_==_, _≐_, if_then_else_, concatBelow}
+use Rattle.pack.specs.Notation.{_==_, _≐_, if_then_else_, concat-below}
 use Rattle.pack.specs.Value.{Entry, Lookup, Pack, lookup-at, entry-at}
 use Rattle.rules.specs.declared.Finding.{Finding}
 use Rattle.rules.specs.Findings.{lookup-error}
-use Rattle.rules.specs.Search.{latestBelow}
+use Rattle.rules.specs.Search.{latest-below}
 use Rattle.rules.specs.SpnNames.{check-spn-names}
 use Rattle.rules.specs.Texts.{SPN-LOOKUP}
 
@@ -26,9 +26,9 @@ unfoldable pub lookup-names-of : (l : ℕ) → Lookup → List Finding
 lookup-names-of l lookup =
     if lookup .name ≐ SPN-LOOKUP then []
     else
-    concatBelow
-    (λ e. same-name-as l e (latestBelow (λ d. same-name (lookup .kind) (entry-at (lookup .entries) d) (entry-at (lookup .entries) e)) e))
+    concat-below
+    (λ e. same-name-as l e (latest-below (λ d. same-name (lookup .kind) (entry-at (lookup .entries) d) (entry-at (lookup .entries) e)) e))
     (length (lookup .entries))
 
 unfoldable pub check-lookup-names : Pack → List Finding
-check-lookup-names P = check-spn-names (P .pgns-j1939) ++ concatBelow (λ l. lookup-names-of l (lookup-at (P .lookups) l)) (length (P .lookups))
+check-lookup-names P = check-spn-names (P .pgns-j1939) ++ concat-below (λ l. lookup-names-of l (lookup-at (P .lookups) l)) (length (P .lookups))

@@ -4,12 +4,12 @@ use mathlib.Core.Bool.{Bool, false, _&&_, _||_, not}
 use mathlib.Core.List.{List, [], _∷_, _++_}
 use mathlib.Core.Option.{Option, none, some}
 use lib.ListN.{length, getD}
-use Rattle.pack.specs.Notation.{_<ᵇ_, _≤ᵇ_, _==_, _≐_, if_then_else_, concatBelow}
-use Rattle.pack.specs.Value.{Bytes, FieldType, Entry, Lookup, Reference, Field, Pgn, Pack, pgns-of, noFieldType, pgn-at, field-at, lookup-at, entry-at}
+use Rattle.pack.specs.Notation.{_<ᵇ_, _≤ᵇ_, _==_, _≐_, if_then_else_, concat-below}
+use Rattle.pack.specs.Value.{Bytes, FieldType, Entry, Lookup, Reference, Field, Pgn, Pack, pgns-of, no-field-type, pgn-at, field-at, lookup-at, entry-at}
 use Rattle.rules.specs.declared.Finding.{Finding}
 use Rattle.rules.specs.Findings.{pgn-error, pgn-warning, lookup-error, lookup-warning, report-if}
 use Rattle.rules.specs.Model.{given, is-text, value-bits, lookup-ref, find-lookup, fieldtypes}
-use Rattle.rules.specs.Search.{anyBelow}
+use Rattle.rules.specs.Search.{any-below}
 
 -- A field of this width can't have the value: a bit's position counts from 0, any other value is a number.
 unfoldable pub beyond-width : (kind width value : ℕ) → Bool
@@ -17,7 +17,7 @@ beyond-width kind width value = if kind == 2 then width ≤ᵇ value else (width
 
 -- The Rust asks it of `named_max`, the largest value, which is out of reach exactly if some value is.
 unfoldable pub unreachable : Lookup → (width : ℕ) → Bool
-unreachable l width = anyBelow (λ e. beyond-width (l .kind) width (entry-at (l .entries) e .value)) (length (l .entries))
+unreachable l width = any-below (λ e. beyond-width (l .kind) width (entry-at (l .entries) e .value)) (length (l .entries))
 
 -- 3 an unreachable value, 4 another width, 5 (a warning) a needless allowLookupWidthMismatch: the first of them that is so
 unfoldable pub lookup-width-at : (t i k : ℕ) → Field → (l : ℕ) → Lookup → List Finding
@@ -39,11 +39,11 @@ lookup-ref-at ls t i k f none = []
 lookup-ref-at ls t i k f (some r) = lookup-found-at ls t i k f r (find-lookup ls (r .name))
 
 unfoldable pub check-lookup-refs : List Lookup → (t i : ℕ) → Pgn → List Finding
-check-lookup-refs ls t i p = concatBelow (λ k. lookup-ref-at ls t i k (field-at p k) (lookup-ref (field-at p k))) (length (p .fields))
+check-lookup-refs ls t i p = concat-below (λ k. lookup-ref-at ls t i k (field-at p k) (lookup-ref (field-at p k))) (length (p .fields))
 
 -- `db.fieldtype(name)`
 unfoldable pub is-fieldtype : List FieldType → Bytes → Bool
-is-fieldtype fts name = anyBelow (λ j. getD fts j noFieldType .name ≐ name) (length fts)
+is-fieldtype fts name = any-below (λ j. getD fts j no-field-type .name ≐ name) (length fts)
 
 -- 7 unknown nested lookup, of entry e of lookup l
 unfoldable pub nested-lookup-at : List Lookup → (l e : ℕ) → Option Bytes → List Finding
@@ -58,7 +58,7 @@ fieldtype-entry-at P l e entry =
 
 unfoldable pub check-nested-refs : Pack → (l : ℕ) → Lookup → List Finding
 check-nested-refs P l lookup =
-    concatBelow (λ e. fieldtype-entry-at P l e (entry-at (fieldtypes lookup) e)) (length (fieldtypes lookup))
+    concat-below (λ e. fieldtype-entry-at P l e (entry-at (fieldtypes lookup) e)) (length (fieldtypes lookup))
 
 -- R22. By a field of any tree, whatever the reference's kind, or by an entry of any fieldtype lookup, its own included.
 abbrev pub ref-is : Option Reference → Bytes → Bool
@@ -66,22 +66,22 @@ ref-is none name = false
 ref-is (some r) name = r .name ≐ name
 
 unfoldable pub referenced-by-pgn : Bytes → Pgn → Bool
-referenced-by-pgn name p = anyBelow (λ k. ref-is (lookup-ref (field-at p k)) name) (length (p .fields))
+referenced-by-pgn name p = any-below (λ k. ref-is (lookup-ref (field-at p k)) name) (length (p .fields))
 
 unfoldable pub referenced-by-tree : Pack → Bytes → (t : ℕ) → Bool
-referenced-by-tree P name t = anyBelow (λ i. referenced-by-pgn name (pgn-at P t i)) (length (pgns-of P t))
+referenced-by-tree P name t = any-below (λ i. referenced-by-pgn name (pgn-at P t i)) (length (pgns-of P t))
 
 unfoldable pub referenced-by-lookup : Bytes → Lookup → Bool
-referenced-by-lookup name l = anyBelow (λ e. is-text (entry-at (fieldtypes l) e .nested) name) (length (fieldtypes l))
+referenced-by-lookup name l = any-below (λ e. is-text (entry-at (fieldtypes l) e .nested) name) (length (fieldtypes l))
 
 unfoldable pub referenced : Pack → Bytes → Bool
 referenced P name =
-    anyBelow (λ t. referenced-by-tree P name t) 3
-    || anyBelow (λ l. referenced-by-lookup name (lookup-at (P .lookups) l)) (length (P .lookups))
+    any-below (λ t. referenced-by-tree P name t) 3
+    || any-below (λ l. referenced-by-lookup name (lookup-at (P .lookups) l)) (length (P .lookups))
 
 -- "here lookup names rise": by index, which is the order of the names
 unfoldable pub check-lookup-wiring : Pack → List Finding
 check-lookup-wiring P =
-    concatBelow (λ t. concatBelow (λ i. check-lookup-refs (P .lookups) t i (pgn-at P t i)) (length (pgns-of P t))) 3
-    ++ concatBelow (λ l. check-nested-refs P l (lookup-at (P .lookups) l)) (length (P .lookups))
-    ++ concatBelow (λ l. report-if (not (referenced P (lookup-at (P .lookups) l .name))) (lookup-warning 22 1 l 0 0)) (length (P .lookups))
+    concat-below (λ t. concat-below (λ i. check-lookup-refs (P .lookups) t i (pgn-at P t i)) (length (pgns-of P t))) 3
+    ++ concat-below (λ l. check-nested-refs P l (lookup-at (P .lookups) l)) (length (P .lookups))
+    ++ concat-below (λ l. report-if (not (referenced P (lookup-at (P .lookups) l .name))) (lookup-warning 22 1 l 0 0)) (length (P .lookups))

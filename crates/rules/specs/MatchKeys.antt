@@ -6,7 +6,7 @@ use mathlib.Core.Option.{Option, none, some}
 use lib.ListN.{length, drop}
 use Rattle.pack.specs.Notation.{if_then_else_}
 use Rattle.pack.specs.Value.{Bytes, Pgn, field-at}
-use Rattle.pack.specs.Items.{bytesOf}
+use Rattle.pack.specs.Items.{bytes-of}
 use Rattle.rules.specs.declared.match_keys.MatchKey.{MatchKey}
 use Rattle.rules.specs.Digits.{digits}
 use Rattle.rules.specs.Texts.{bytes}
@@ -23,7 +23,7 @@ pieces-from p k (suc many) = piece k (field-at p k .match) ++ pieces-from p (suc
 
 -- what is still to come: of the head, of the text, of the fields from the next one on
 unfoldable pub to-come : List ℕ → Pgn → MatchKey → Bytes
-to-come s p key = drop (key .at) (key .head) ++ (bytesOf s (key .text) ++ pieces-from p (key .field) (length (p .fields) - key .field))
+to-come s p key = drop (key .at) (key .head) ++ (bytes-of s (key .text) ++ pieces-from p (key .field) (length (p .fields) - key .field))
 
 -- a byte and what comes after it, or the end
 abbrev pub first-and : Bool → (byte : ℕ) → Bytes → Bytes

@@ -4,7 +4,7 @@ use mathlib.Core.Bool.{_&&_}
 use mathlib.Core.List.{List, [], _∷_}
 use mathlib.Core.Option.{Option, none, some}
 use lib.ListN.{length}
-use Rattle.pack.specs.Notation.{_<ᵇ_, if_then_else_, concatBelow}
+use Rattle.pack.specs.Notation.{_<ᵇ_, if_then_else_, concat-below}
 use Rattle.pack.specs.Value.{Lookup, Pgn, field-at}
 use Rattle.rules.specs.declared.Finding.{Finding}
 use Rattle.rules.specs.Findings.{pgn-error, report-if}
@@ -21,4 +21,4 @@ match-value-at ls t i p k =
     if given (f .match) then resolved-at t i k (f .res-bits) (resolve-match ls f) else []
 
 unfoldable pub check-match-values : List Lookup → (t i : ℕ) → Pgn → List Finding
-check-match-values ls t i p = concatBelow (match-value-at ls t i p) (length (p .fields))
+check-match-values ls t i p = concat-below (match-value-at ls t i p) (length (p .fields))

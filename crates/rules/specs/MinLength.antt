@@ -8,11 +8,11 @@ use Rattle.pack.specs.Notation.{_≤ᵇ_, _==_, if_then_else_}
 use Rattle.pack.specs.Value.{Pgn, field-at}
 use Rattle.rules.specs.declared.Finding.{Finding}
 use Rattle.rules.specs.Findings.{pgn-error, report-if}
-use Rattle.rules.specs.Search.{anyBelow, sumBelow}
+use Rattle.rules.specs.Search.{any-below, sum-below}
 
 -- `lands_on_boundary`: the bits up to and with some field are minimum × 8
 unfoldable pub lands-on-boundary : Pgn → ℕ → Bool
-lands-on-boundary p least = anyBelow (λ k. sumBelow (λ j. field-at p j .res-bits) (suc k) == least * 8) (length (p .fields))
+lands-on-boundary p least = any-below (λ k. sum-below (λ j. field-at p j .res-bits) (suc k) == least * 8) (length (p .fields))
 
 -- 1 the PGN is variable, 2 not from 1 to below the full length, 3 not on a field boundary
 unfoldable pub min-length-at : (t i : ℕ) → Pgn → Option ℕ → List Finding

@@ -5,8 +5,8 @@ use mathlib.Core.List.{List, [], _∷_}
 use mathlib.Core.Option.{Option, none, some}
 use lib.ListN.{length, getD}
 use Rattle.pack.specs.Notation.{_<ᵇ_, _≤ᵇ_, _==_, _≐_, if_then_else_, optional}
-use Rattle.pack.specs.Value.{Bytes, FieldType, Entry, Lookup, Reference, Field, Pgn, noFieldType, field-at, lookup-at, entry-at}
-use Rattle.rules.specs.Search.{or-else, firstBelow}
+use Rattle.pack.specs.Value.{Bytes, FieldType, Entry, Lookup, Reference, Field, Pgn, no-field-type, field-at, lookup-at, entry-at}
+use Rattle.rules.specs.Search.{or-else, first-below}
 
 abbrev pub given : {A : Type 0} → Option A → Bool
 given none = false
@@ -18,7 +18,7 @@ is-text (some s) t = s ≐ t
 
 -- the Rust's `db.fieldtypes[f.ft]`, and its root's name
 abbrev pub fieldtype-of : List FieldType → Field → FieldType
-fieldtype-of fts f = getD fts (f .ft) noFieldType
+fieldtype-of fts f = getD fts (f .ft) no-field-type
 
 abbrev pub root-of : List FieldType → Field → Bytes
 root-of fts f = fieldtype-of fts f .root-name
@@ -37,11 +37,11 @@ lookup-ref f = f .reference
 
 -- `db.lookups.get(name)`: "Lookups are keyed by their own name."
 unfoldable pub find-lookup : List Lookup → Bytes → Option ℕ
-find-lookup ls name = firstBelow (λ l. lookup-at ls l .name ≐ name) (length ls)
+find-lookup ls name = first-below (λ l. lookup-at ls l .name ≐ name) (length ls)
 
 -- the first field with an id: "A target is the first field with that id"
 unfoldable pub target : Pgn → Bytes → Option ℕ
-target p id = firstBelow (λ k. field-at p k .id ≐ id) (length (p .fields))
+target p id = first-below (λ k. field-at p k .id ≐ id) (length (p .fields))
 
 -- A lookup's `pairs` and `fieldtypes`. "The Rust's lists of other kinds are empty"; a bit lookup's entries are pairs.
 unfoldable pub pairs : Lookup → List Entry
@@ -77,7 +77,7 @@ value-at es none = none
 value-at es (some e) = some (entry-at es e .value)
 
 unfoldable pub value-named : List Entry → Bytes → Option ℕ
-value-named es name = value-at es (firstBelow (λ e. entry-at es e .name ≐ name) (length es))
+value-named es name = value-at es (first-below (λ e. entry-at es e .name ≐ name) (length es))
 
 -- "then goes by the reference's kind"
 abbrev pub entries-for : Reference → Lookup → List Entry

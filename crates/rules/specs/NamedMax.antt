@@ -9,10 +9,10 @@ use borrow.Author.Tests.{ltb-true, ltb-false, leb-true, le-leb}
 use Rattle.pack.specs.Notation.{_<ᵇ_, _≤ᵇ_, _==_, if_then_else_}
 use Rattle.pack.specs.Value.{Lookup, entry-at}
 use Rattle.rules.specs.LookupWiring.{beyond-width, unreachable}
-use Rattle.rules.specs.Search.{anyBelow, larger, maxBelow}
+use Rattle.rules.specs.Search.{any-below, larger, max-below}
 
 abbrev pub named-max : Lookup → Option ℕ
-named-max l = maxBelow (λ e. some (entry-at (l .entries) e .value)) (length (l .entries))
+named-max l = max-below (λ e. some (entry-at (l .entries) e .value)) (length (l .entries))
 
 -- the Rust's `named_max.is_some_and(..)`
 abbrev pub is-some-and : Option ℕ → (ℕ → Bool) → Bool
@@ -32,11 +32,11 @@ or-largest p r a b = go (a <ᵇ b) refl (p a) refl (p b) refl
     go false q false u true v = absurd (false≢true (sym u ∙ r b a (ltb-false a b q) v))
     go false q false u false v = sym u
 
-any-largest : (p : ℕ → Bool) → Rising p → (v : ℕ → ℕ) (n : ℕ) → anyBelow (λ e. p (v e)) n ≡ is-some-and (maxBelow (λ e. some (v e)) n) p
+any-largest : (p : ℕ → Bool) → Rising p → (v : ℕ → ℕ) (n : ℕ) → any-below (λ e. p (v e)) n ≡ is-some-and (max-below (λ e. some (v e)) n) p
 any-largest p r v zero = refl
-any-largest p r v (suc n) = go (maxBelow (λ e. some (v e)) n) (any-largest p r v n)
+any-largest p r v (suc n) = go (max-below (λ e. some (v e)) n) (any-largest p r v n)
   where
-    go : (m : Option ℕ) → anyBelow (λ e. p (v e)) n ≡ is-some-and m p → (anyBelow (λ e. p (v e)) n || p (v n)) ≡ is-some-and (larger m (some (v n))) p
+    go : (m : Option ℕ) → any-below (λ e. p (v e)) n ≡ is-some-and m p → (any-below (λ e. p (v e)) n || p (v n)) ≡ is-some-and (larger m (some (v n))) p
     go none e = rw e
     go (some a) e = rw e (or-largest p r a (v n))
 

@@ -5,8 +5,8 @@ use mathlib.Core.List.{List, [], _∷_}
 use mathlib.Core.Option.{Option, none, some}
 use lib.ListN.{length}
 use Rattle.pack.specs.Notation.{_≤ᵇ_, if_then_else_}
-use Rattle.pack.specs.Load.{Answer, refuses, gives, after, refusal-answer, loaded, load-tells, over, workAfter}
-use Rattle.pack.specs.Meaning.{packOf}
+use Rattle.pack.specs.Load.{Answer, refuses, gives, after, refusal-answer, loaded, load-tells, over, work-after}
+use Rattle.pack.specs.Meaning.{pack-of}
 use Rattle.pack.specs.Value.{Bytes}
 use Rattle.pack.specs.declared.load.Loaded.{Loaded}
 use Rattle.pack.specs.declared.load.Loaded.the-variants as load
@@ -31,16 +31,16 @@ after-load (load.Accepted i) b n = named b n
 
 -- the text of a finding's place, of the pack s with a work buffer of m numbers and a text buffer of n bytes
 unfoldable pub placed : List ℕ → (m place tree item n : ℕ) → Placed
-placed s m place t item n = after-load (loaded s m) (place-text (packOf s) place t item) n
+placed s m place t item n = after-load (loaded s m) (place-text (pack-of s) place t item) n
 
 -- "After 22 and higher numbers no other buffer has changed"; "Success writes only the entries it reports."
-abbrev pub textLeft : Placed → Option Bytes → List ℕ → List ℕ
-textLeft (Refused r) b o = o
-textLeft (Written n) none o = o
-textLeft (Written n) (some b) o = over b o
+abbrev pub text-left : Placed → Option Bytes → List ℕ → List ℕ
+text-left (Refused r) b o = o
+text-left (Written n) none o = o
+text-left (Written n) (some b) o = over b o
 
-unfoldable pub textAfter : List ℕ → (m place tree item : ℕ) → List ℕ → List ℕ
-textAfter s m place t item o = textLeft (placed s m place t item (length o)) (place-text (packOf s) place t item) o
+unfoldable pub text-after : List ℕ → (m place tree item : ℕ) → List ℕ → List ℕ
+text-after s m place t item o = text-left (placed s m place t item (length o)) (place-text (pack-of s) place t item) o
 
 -- ---- the same in 01's numbers
 
@@ -55,11 +55,11 @@ text-tells none n = refuses 23 0
 text-tells (some b) n = if length b ≤ᵇ n then gives (length b ∷ []) else refuses 24 (length b)
 
 unfoldable pub place-tells : List ℕ → (m place tree item n : ℕ) → Answer
-place-tells s m place t item n = after (load-tells s m) (text-tells (place-text (packOf s) place t item) n)
+place-tells s m place t item n = after (load-tells s m) (text-tells (place-text (pack-of s) place t item) n)
 
 -- What the place text call promises: its answer r, and the work and text buffers, w and o before, w′ and o′ after.
 pub record Places (s : List ℕ) (place t item : ℕ) (w o w′ o′ : List ℕ) (r : Placed) : Type 0 where
   pub answer : r ≡ placed s (length w) place t item (length o)
   pub told : place-answer r ≡ place-tells s (length w) place t item (length o)
-  pub work : w′ ≡ workAfter s w
-  pub text : o′ ≡ textAfter s (length w) place t item o
+  pub work : w′ ≡ work-after s w
+  pub text : o′ ≡ text-after s (length w) place t item o

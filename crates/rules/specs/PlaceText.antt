@@ -7,7 +7,7 @@ use lib.ListN.{length}
 use Rattle.pack.specs.Notation.{_<ᵇ_, _==_, if_then_else_, optional}
 use Rattle.pack.specs.Value.{Bytes, Pgn, Pack, pgns-of, pgn-at, lookup-at}
 use Rattle.rules.specs.Digits.{six-digits}
-use Rattle.rules.specs.Search.{anyBelow}
+use Rattle.rules.specs.Search.{any-below}
 use Rattle.rules.specs.Texts.{bytes}
 
 -- `check_prefix` of a tree
@@ -28,7 +28,7 @@ lookup-loc name = bytes "lookups/" ++ name ++ bytes ".yaml"
 
 -- "for place 3 a PGN of that number in the tree"
 unfoldable pub has-number : Pack → (t number : ℕ) → Bool
-has-number P t number = anyBelow (λ i. pgn-at P t i .pgn == number) (length (pgns-of P t))
+has-number P t number = any-below (λ i. pgn-at P t i .pgn == number) (length (pgns-of P t))
 
 -- "it is in the pack if that record, or for place 3 a PGN of that number in the tree, is there; places 0 and 2 want tree 0"
 unfoldable pub place-text : Pack → (place tree item : ℕ) → Option Bytes

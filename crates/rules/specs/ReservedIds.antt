@@ -3,7 +3,7 @@ use Prim.Native.Nat.{ℕ}
 use mathlib.Core.Bool.{Bool, false, not}
 use mathlib.Core.List.{List, [], _∷_}
 use lib.ListN.{length}
-use Rattle.pack.specs.Notation.{_==_, _≐_, if_then_else_, concatBelow}
+use Rattle.pack.specs.Notation.{_==_, _≐_, if_then_else_, concat-below}
 use Rattle.pack.specs.Value.{Bytes, Field, Pgn, field-at}
 use Rattle.rules.specs.declared.Finding.{Finding}
 use Rattle.rules.specs.Findings.{pgn-error, report-if}
@@ -23,4 +23,4 @@ reserved-id-at t i k f =
     else []
 
 unfoldable pub check-reserved-ids : (t i : ℕ) → Pgn → List Finding
-check-reserved-ids t i p = concatBelow (λ k. reserved-id-at t i k (field-at p k)) (length (p .fields))
+check-reserved-ids t i p = concat-below (λ k. reserved-id-at t i k (field-at p k)) (length (p .fields))

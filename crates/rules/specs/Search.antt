@@ -9,33 +9,33 @@ or-else none y = y
 or-else (some x) y = some x
 
 -- whether some index below n has the property
-abbrev pub anyBelow : (ℕ → Bool) → ℕ → Bool
-anyBelow p zero = false
-anyBelow p (suc n) = anyBelow p n || p n
+abbrev pub any-below : (ℕ → Bool) → ℕ → Bool
+any-below p zero = false
+any-below p (suc n) = any-below p n || p n
 
 -- whether every index below n has it
-abbrev pub everyBelow : (ℕ → Bool) → ℕ → Bool
-everyBelow p zero = true
-everyBelow p (suc n) = everyBelow p n && p n
+abbrev pub every-below : (ℕ → Bool) → ℕ → Bool
+every-below p zero = true
+every-below p (suc n) = every-below p n && p n
 
 -- the first and the latest index below n that has it
-abbrev pub firstBelow : (ℕ → Bool) → ℕ → Option ℕ
-firstBelow p zero = none
-firstBelow p (suc n) = or-else (firstBelow p n) (optional (p n) n)
+abbrev pub first-below : (ℕ → Bool) → ℕ → Option ℕ
+first-below p zero = none
+first-below p (suc n) = or-else (first-below p n) (optional (p n) n)
 
-abbrev pub latestBelow : (ℕ → Bool) → ℕ → Option ℕ
-latestBelow p zero = none
-latestBelow p (suc n) = or-else (optional (p n) n) (latestBelow p n)
+abbrev pub latest-below : (ℕ → Bool) → ℕ → Option ℕ
+latest-below p zero = none
+latest-below p (suc n) = or-else (optional (p n) n) (latest-below p n)
 
 -- how many indexes below n have it
-abbrev pub countBelow : (ℕ → Bool) → ℕ → ℕ
-countBelow p zero = 0
-countBelow p (suc n) = if p n then countBelow p n + 1 else countBelow p n
+abbrev pub count-below : (ℕ → Bool) → ℕ → ℕ
+count-below p zero = 0
+count-below p (suc n) = if p n then count-below p n + 1 else count-below p n
 
 -- f 0 + f 1 + .. + f (n - 1)
-abbrev pub sumBelow : (ℕ → ℕ) → ℕ → ℕ
-sumBelow f zero = 0
-sumBelow f (suc n) = sumBelow f n + f n
+abbrev pub sum-below : (ℕ → ℕ) → ℕ → ℕ
+sum-below f zero = 0
+sum-below f (suc n) = sum-below f n + f n
 
 -- the larger and the smaller of two, and of what f gives below n, where it gives anything
 abbrev pub larger : Option ℕ → Option ℕ → Option ℕ
@@ -48,22 +48,22 @@ smaller none y = y
 smaller (some a) none = some a
 smaller (some a) (some b) = some (if b <ᵇ a then b else a)
 
-abbrev pub maxBelow : (ℕ → Option ℕ) → ℕ → Option ℕ
-maxBelow f zero = none
-maxBelow f (suc n) = larger (maxBelow f n) (f n)
+abbrev pub max-below : (ℕ → Option ℕ) → ℕ → Option ℕ
+max-below f zero = none
+max-below f (suc n) = larger (max-below f n) (f n)
 
-abbrev pub minBelow : (ℕ → Option ℕ) → ℕ → Option ℕ
-minBelow f zero = none
-minBelow f (suc n) = smaller (minBelow f n) (f n)
+abbrev pub min-below : (ℕ → Option ℕ) → ℕ → Option ℕ
+min-below f zero = none
+min-below f (suc n) = smaller (min-below f n) (f n)
 
 -- the index below n that has the property and the least key, the first of equals
 abbrev pub lower-key : (ℕ → ℕ) → Option ℕ → ℕ → ℕ
 lower-key key none n = n
 lower-key key (some m) n = if key n <ᵇ key m then n else m
 
-abbrev pub leastBelow : (ℕ → ℕ) → (ℕ → Bool) → ℕ → Option ℕ
-leastBelow key p zero = none
-leastBelow key p (suc n) = if p n then some (lower-key key (leastBelow key p n) n) else leastBelow key p n
+abbrev pub least-below : (ℕ → ℕ) → (ℕ → Bool) → ℕ → Option ℕ
+least-below key p zero = none
+least-below key p (suc n) = if p n then some (lower-key key (least-below key p n) n) else least-below key p n
 
 -- numbers in rising order, by rank: `least b` is the least of them from b on
 abbrev pub next-rank : (ℕ → Option ℕ) → Option ℕ → Option ℕ

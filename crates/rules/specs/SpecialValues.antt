@@ -4,7 +4,7 @@ use mathlib.Core.Bool.{_||_}
 use mathlib.Core.List.{List, []}
 use mathlib.Core.Option.{Option, none, some}
 use lib.ListN.{length}
-use Rattle.pack.specs.Notation.{_<ᵇ_, _==_, if_then_else_, concatBelow}
+use Rattle.pack.specs.Notation.{_<ᵇ_, _==_, if_then_else_, concat-below}
 use Rattle.pack.specs.Value.{Pgn, field-at}
 use Rattle.rules.specs.declared.Finding.{Finding}
 use Rattle.rules.specs.Findings.{pgn-error, report-if}
@@ -18,4 +18,4 @@ special-values-at t i k bits (some sv) = report-if ((3 <ᵇ sv) || (special-max 
 
 unfoldable pub check-special-values : (t i : ℕ) → Pgn → List Finding
 check-special-values t i p =
-    concatBelow (λ k. special-values-at t i k (field-at p k .res-bits) (field-at p k .special-values)) (length (p .fields))
+    concat-below (λ k. special-values-at t i k (field-at p k .res-bits) (field-at p k .special-values)) (length (p .fields))

@@ -4,14 +4,14 @@ use mathlib.Core.Bool.{Bool, true, _&&_, _||_, not}
 use mathlib.Core.List.{List, [], _∷_}
 use mathlib.Core.Option.{Option, none, some}
 use lib.ListN.{length}
-use Rattle.pack.specs.Notation.{_<ᵇ_, _≤ᵇ_, _==_, _≐_, if_then_else_, concatBelow}
+use Rattle.pack.specs.Notation.{_<ᵇ_, _≤ᵇ_, _==_, _≐_, if_then_else_, concat-below}
 use Rattle.pack.specs.Value.{Bytes, FieldType, Repeating, Field, Pgn, field-at}
 use Rattle.rules.specs.declared.Finding.{Finding}
 use Rattle.rules.specs.Findings.{pgn-error, report-if}
 use Rattle.rules.specs.Floats.{float-eq, ZERO, ONE}
 use Rattle.rules.specs.Model.{fieldtype-of, target}
 use Rattle.rules.specs.Continues.{integer}
-use Rattle.rules.specs.Search.{anyBelow}
+use Rattle.rules.specs.Search.{any-below}
 use Rattle.rules.specs.Texts.{DECIMAL}
 
 -- The set, if any, starts behind the order: an empty set counts here, also one that starts at 0.
@@ -22,7 +22,7 @@ starts-behind (some r) o = o <ᵇ r .start
 -- `fixed`: before field j "no variable-width field, no proprietary field that may be absent, and no repeating set"
 unfoldable pub fixed : Pgn → ℕ → Bool
 fixed p j =
-    not (anyBelow (λ k. (field-at p k .res-bits == 0) || field-at p k .proprietary) j)
+    not (any-below (λ k. (field-at p k .res-bits == 0) || field-at p k .proprietary) j)
     && starts-behind (p .repeating1) (j + 1)
     && starts-behind (p .repeating2) (j + 1)
 
@@ -50,4 +50,4 @@ trailing-zero-at fts t i p k (some id) =
     if not (field-at p k .type ≐ DECIMAL) then pgn-error 44 1 t i k 0 ∷ [] else trailing-zero-target-at fts t i p k (target p id)
 
 unfoldable pub check-trailing-zero-is-digit : List FieldType → (t i : ℕ) → Pgn → List Finding
-check-trailing-zero-is-digit fts t i p = concatBelow (λ k. trailing-zero-at fts t i p k (field-at p k .trailing-zero)) (length (p .fields))
+check-trailing-zero-is-digit fts t i p = concat-below (λ k. trailing-zero-at fts t i p k (field-at p k .trailing-zero)) (length (p .fields))

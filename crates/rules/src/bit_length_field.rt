@@ -4,7 +4,7 @@ ghost use mathlib.Core.Bool.{not, _||_};
 ghost use Prim.Native.Nat.{_<_};
 ghost use lib.ListN.{length};
 ghost use Rattle.pack.specs.Notation.{_==_};
-ghost use Rattle.pack.specs.Meaning.{optNumber, fieldMeaning, packOf};
+ghost use Rattle.pack.specs.Meaning.{optional-number, field-meaning, pack-of};
 ghost use Rattle.pack.specs.Ready.{PgnAt, PgnIs};
 ghost use Rattle.pack.specs.Value.{pgn-at, field-at};
 ghost use Rattle.rules.specs.Emit.{Emitted, Fits};
@@ -23,7 +23,7 @@ use pack::pgn::PgnView;
 use pack::text::text_is;
 
 fn variable_binary(s: &[u8], f: FieldView) -> bool
-    ensures { λ r. ⌜ r ≡ variable-binary (fieldMeaning (now (s .entry)) f) ⌝ }
+    ensures { λ r. ⌜ r ≡ variable-binary (field-meaning (now (s .entry)) f) ⌝ }
 {
     if f.scaling.bits == 0 {
         return text_is(s, f.names.kind, b"BINARY");
@@ -56,8 +56,8 @@ fn bit_length_target_at(
     k: u32,
     j: OptNumber,
 ) -> usize
-    requires { ⌜ Fits n (bit-length-target-at t i (pgn-at (packOf (now s)) t i) k (optNumber j)) × PgnAt (now s) (now work) t i p × (k < length (pgn-at (packOf (now s)) t i .fields)) ⌝ }
-    ensures { λ r. ⌜ Emitted (now (out .entry)) n (bit-length-target-at t i (pgn-at (packOf (now (s .entry))) t i) k (optNumber j)) (now (out .exit)) r ⌝ }
+    requires { ⌜ Fits n (bit-length-target-at t i (pgn-at (pack-of (now s)) t i) k (optional-number j)) × PgnAt (now s) (now work) t i p × (k < length (pgn-at (pack-of (now s)) t i .fields)) ⌝ }
+    ensures { λ r. ⌜ Emitted (now (out .entry)) n (bit-length-target-at t i (pgn-at (pack-of (now (s .entry))) t i) k (optional-number j)) (now (out .exit)) r ⌝ }
 {
     if !j.given {
         return put(out, n, pgn_error(15, 3, t, i, k, 0));
@@ -83,8 +83,8 @@ fn bit_length_field_at(
     k: u32,
     f: FieldView,
 ) -> usize
-    requires { ⌜ Fits n (bit-length-field-at t i (pgn-at (packOf (now s)) t i) k (field-at (pgn-at (packOf (now s)) t i) k .bit-length-field)) × PgnAt (now s) (now work) t i p × (fields ≡ length (pgn-at (packOf (now s)) t i .fields)) × (k < fields) × (fieldMeaning (now s) f ≡ field-at (pgn-at (packOf (now s)) t i) k) ⌝ }
-    ensures { λ r. ⌜ Emitted (now (out .entry)) n (bit-length-field-at t i (pgn-at (packOf (now (s .entry))) t i) k (field-at (pgn-at (packOf (now (s .entry))) t i) k .bit-length-field)) (now (out .exit)) r ⌝ }
+    requires { ⌜ Fits n (bit-length-field-at t i (pgn-at (pack-of (now s)) t i) k (field-at (pgn-at (pack-of (now s)) t i) k .bit-length-field)) × PgnAt (now s) (now work) t i p × (fields ≡ length (pgn-at (pack-of (now s)) t i .fields)) × (k < fields) × (field-meaning (now s) f ≡ field-at (pgn-at (pack-of (now s)) t i) k) ⌝ }
+    ensures { λ r. ⌜ Emitted (now (out .entry)) n (bit-length-field-at t i (pgn-at (pack-of (now (s .entry))) t i) k (field-at (pgn-at (pack-of (now (s .entry))) t i) k .bit-length-field)) (now (out .exit)) r ⌝ }
 {
     let binary = variable_binary(s, f);
     if !f.links.length.given {
@@ -108,8 +108,8 @@ pub fn check_bit_length_field(
     p: usize,
     g: PgnView,
 ) -> usize
-    requires { ⌜ Fits n (check-bit-length-field t i (pgn-at (packOf (now s)) t i)) × PgnAt (now s) (now work) t i p × PgnIs (now s) (pgn-at (packOf (now s)) t i) g ⌝ }
-    ensures { λ r. ⌜ Emitted (now (out .entry)) n (check-bit-length-field t i (pgn-at (packOf (now (s .entry))) t i)) (now (out .exit)) r ⌝ }
+    requires { ⌜ Fits n (check-bit-length-field t i (pgn-at (pack-of (now s)) t i)) × PgnAt (now s) (now work) t i p × PgnIs (now s) (pgn-at (pack-of (now s)) t i) g ⌝ }
+    ensures { λ r. ⌜ Emitted (now (out .entry)) n (check-bit-length-field t i (pgn-at (pack-of (now (s .entry))) t i)) (now (out .exit)) r ⌝ }
 {
     let fields = g.fields;
     let mut m = n;

@@ -4,12 +4,12 @@ ghost use Prim.Native.Nat.{_+_, _*_, _≤_};
 ghost use lib.ListN.{length, getD, take};
 ghost use Rattle.pack.specs.Notation.{_==_, if_then_else_};
 ghost use Rattle.pack.specs.Load.{over};
-ghost use Rattle.pack.specs.Meaning.{packOf};
+ghost use Rattle.pack.specs.Meaning.{pack-of};
 ghost use Rattle.pack.specs.Ready.{Ready, IndexIs};
 ghost use Rattle.rules.specs.Check.{check};
-ghost use Rattle.rules.specs.Checked.{all-numbers, judged, findingsLeft, Checks};
+ghost use Rattle.rules.specs.Checked.{all-numbers, judged, findings-left, Checks};
 ghost use Rattle.rules.specs.Emit.{Emitted, Fits};
-ghost use Rattle.rules.specs.Search.{countBelow};
+ghost use Rattle.rules.specs.Search.{count-below};
 use crate::fieldtypes::check_fieldtypes;
 use crate::lookup_names::check_lookup_names;
 use crate::lookup_wiring::check_lookup_wiring;
@@ -30,8 +30,8 @@ pub enum Checked {
 
 // Every finding, behind n others, in the order in which the Rust reports.
 fn check_all(out: &mut [u32], n: usize, s: &[u8], work: &[u32], index: Index) -> usize
-    requires { ⌜ Fits n (check (packOf (now s))) × Ready (now s) (now work) × IndexIs (packOf (now s)) index ⌝ }
-    ensures { λ r. ⌜ Emitted (now (out .entry)) n (check (packOf (now (s .entry)))) (now (out .exit)) r ⌝ }
+    requires { ⌜ Fits n (check (pack-of (now s))) × Ready (now s) (now work) × IndexIs (pack-of (now s)) index ⌝ }
+    ensures { λ r. ⌜ Emitted (now (out .entry)) n (check (pack-of (now (s .entry)))) (now (out .exit)) r ⌝ }
 {
     let r23 = check_fieldtypes(out, n, s, work, index.types.count);
     let r22 = check_lookup_wiring(out, r23, s, work, index);
@@ -56,7 +56,7 @@ fn one_more(count: usize, error: bool) -> usize
 // How many of the first n findings of the buffer are errors.
 fn count_errors(findings: &[u32], n: usize) -> usize
     requires { ⌜ 8 * n ≤ length (now findings) ⌝ }
-    ensures { λ r. ⌜ r ≡ countBelow (λ i. getD (now (findings .entry)) (8 * i + 1) 0 == 1) n ⌝ }
+    ensures { λ r. ⌜ r ≡ count-below (λ i. getD (now (findings .entry)) (8 * i + 1) 0 == 1) n ⌝ }
 {
     let mut errors = 0;
     let mut i = 0;
@@ -89,8 +89,8 @@ fn deliver(
     short: &[u32],
     count: usize,
 )
-    requires { ⌜ Ready (now pack) (now work) × IndexIs (packOf (now pack)) index × (count ≡ length (check (packOf (now pack)))) × (8 * count ≤ length (now short) → take (8 * count) (now short) ≡ all-numbers (check (packOf (now pack)))) × (8 * count ≤ length (now findings)) ⌝ }
-    ensures { λ r. ⌜ now (findings .exit) ≡ over (all-numbers (check (packOf (now (pack .entry))))) (now (findings .entry)) ⌝ }
+    requires { ⌜ Ready (now pack) (now work) × IndexIs (pack-of (now pack)) index × (count ≡ length (check (pack-of (now pack)))) × (8 * count ≤ length (now short) → take (8 * count) (now short) ≡ all-numbers (check (pack-of (now pack)))) × (8 * count ≤ length (now findings)) ⌝ }
+    ensures { λ r. ⌜ now (findings .exit) ≡ over (all-numbers (check (pack-of (now (pack .entry))))) (now (findings .entry)) ⌝ }
 {
     let numbers = 8 * count;
     if numbers <= short.len() {
@@ -102,9 +102,9 @@ fn deliver(
 
 // Into a short list first, since after 22 the buffer has not changed.
 fn report(pack: &[u8], work: &[u32], findings: &mut [u32], index: Index) -> Checked
-    requires { ⌜ Ready (now pack) (now work) × IndexIs (packOf (now pack)) index ⌝ }
-    ensures { λ r. ⌜ r ≡ judged (check (packOf (now (pack .entry)))) (length (now (findings .entry))) ⌝ }
-    ensures { λ r. ⌜ now (findings .exit) ≡ findingsLeft (judged (check (packOf (now (pack .entry)))) (length (now (findings .entry)))) (all-numbers (check (packOf (now (pack .entry))))) (now (findings .entry)) ⌝ }
+    requires { ⌜ Ready (now pack) (now work) × IndexIs (pack-of (now pack)) index ⌝ }
+    ensures { λ r. ⌜ r ≡ judged (check (pack-of (now (pack .entry)))) (length (now (findings .entry))) ⌝ }
+    ensures { λ r. ⌜ now (findings .exit) ≡ findings-left (judged (check (pack-of (now (pack .entry)))) (length (now (findings .entry)))) (all-numbers (check (pack-of (now (pack .entry))))) (now (findings .entry)) ⌝ }
 {
     let mut short = [0u32; 8192];
     let count = check_all(&mut short, 0, pack, work, index);

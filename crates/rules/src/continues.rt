@@ -5,8 +5,8 @@ ghost use mathlib.Core.List.{[], _∷_};
 ghost use Prim.Native.Nat.{_+_, _<_};
 ghost use lib.ListN.{length};
 ghost use Rattle.pack.specs.Notation.{_==_, _<ᵇ_, _≐_, if_then_else_};
-ghost use Rattle.pack.specs.Items.{bytesOf};
-ghost use Rattle.pack.specs.Meaning.{optFloat, optRepeating, fieldMeaning, packOf};
+ghost use Rattle.pack.specs.Items.{bytes-of};
+ghost use Rattle.pack.specs.Meaning.{optional-float, optional-repeating, field-meaning, pack-of};
 ghost use Rattle.pack.specs.Ready.{Ready, PgnAt, PgnIs};
 ghost use Rattle.pack.specs.Value.{pgn-at, field-at};
 ghost use Rattle.rules.specs.Emit.{Emitted, Fits};
@@ -40,7 +40,7 @@ use pack::text::text_is;
 
 // The set holds the order.
 pub fn holds_order(set: OptRepeating, order: FieldOrder) -> bool
-    ensures { λ r. ⌜ r ≡ holds-order (optRepeating set) (order .0) ⌝ }
+    ensures { λ r. ⌜ r ≡ holds-order (optional-repeating set) (order .0) ⌝ }
 {
     if !set.given {
         return false;
@@ -51,7 +51,7 @@ pub fn holds_order(set: OptRepeating, order: FieldOrder) -> bool
 // The set of field k: 2, 1, or 0 for none.
 fn set_of(g: PgnView, k: u32) -> u32
     requires { ⌜ k < 4294967295 ⌝ }
-    ensures { λ r. ⌜ r ≡ (if holds-order (optRepeating (g .repeating2)) (k + 1) then 2 else if holds-order (optRepeating (g .repeating1)) (k + 1) then 1 else 0) ⌝ }
+    ensures { λ r. ⌜ r ≡ (if holds-order (optional-repeating (g .repeating2)) (k + 1) then 2 else if holds-order (optional-repeating (g .repeating1)) (k + 1) then 1 else 0) ⌝ }
 {
     let order = FieldIndex(k).order();
     if holds_order(g.repeating2, order) {
@@ -65,7 +65,7 @@ fn set_of(g: PgnView, k: u32) -> u32
 
 // Given, and not the float.
 fn differs_from(o: OptFloat, c: u64) -> bool
-    ensures { λ r. ⌜ r ≡ differs-from (optFloat o) c ⌝ }
+    ensures { λ r. ⌜ r ≡ differs-from (optional-float o) c ⌝ }
 {
     if o.given {
         return !float_eq(o.pattern, c);
@@ -75,7 +75,7 @@ fn differs_from(o: OptFloat, c: u64) -> bool
 
 // What a continuing field has of its own beside its bits.
 fn not_raw(s: &[u8], f: FieldView) -> bool
-    ensures { λ r. ⌜ r ≡ not-raw (fieldMeaning (now (s .entry)) f) ⌝ }
+    ensures { λ r. ⌜ r ≡ not-raw (field-meaning (now (s .entry)) f) ⌝ }
 {
     if differs_from(f.authored.resolution, ONE) {
         return true;
@@ -97,8 +97,8 @@ fn not_raw(s: &[u8], f: FieldView) -> bool
 
 // How many of n fields do.
 fn continued_by(s: &[u8], work: &[u32], t: u32, i: u32, p: usize, n: u32, id: Text) -> u32
-    requires { ⌜ PgnAt (now s) (now work) t i p × (n ≡ length (pgn-at (packOf (now s)) t i .fields)) ⌝ }
-    ensures { λ r. ⌜ r ≡ continued-by (pgn-at (packOf (now (s .entry))) t i) (bytesOf (now (s .entry)) id) ⌝ }
+    requires { ⌜ PgnAt (now s) (now work) t i p × (n ≡ length (pgn-at (pack-of (now s)) t i .fields)) ⌝ }
+    ensures { λ r. ⌜ r ≡ continued-by (pgn-at (pack-of (now (s .entry))) t i) (bytes-of (now (s .entry)) id) ⌝ }
 {
     let mut count: u32 = 0;
     let mut k: u32 = 0;
@@ -113,8 +113,8 @@ fn continued_by(s: &[u8], work: &[u32], t: u32, i: u32, p: usize, n: u32, id: Te
 
 // Not integers: the field low and the field f that continues it.
 fn not_integers(s: &[u8], work: &[u32], low: FieldView, f: FieldView) -> bool
-    requires { ⌜ Ready (now s) (now work) × (low .ft < length (packOf (now s) .fieldtypes)) × (f .ft < length (packOf (now s) .fieldtypes)) ⌝ }
-    ensures { λ r. ⌜ r ≡ (not (integer (packOf (now (s .entry)) .fieldtypes) (fieldMeaning (now (s .entry)) low)) || not (root-of (packOf (now (s .entry)) .fieldtypes) (fieldMeaning (now (s .entry)) f) ≐ NUMBER)) ⌝ }
+    requires { ⌜ Ready (now s) (now work) × (low .ft < length (pack-of (now s) .fieldtypes)) × (f .ft < length (pack-of (now s) .fieldtypes)) ⌝ }
+    ensures { λ r. ⌜ r ≡ (not (integer (pack-of (now (s .entry)) .fieldtypes) (field-meaning (now (s .entry)) low)) || not (root-of (pack-of (now (s .entry)) .fieldtypes) (field-meaning (now (s .entry)) f) ≐ NUMBER)) ⌝ }
 {
     let v = type_of(s, work, low.ft);
     if !integer(s, v) {
@@ -126,8 +126,8 @@ fn not_integers(s: &[u8], work: &[u32], low: FieldView, f: FieldView) -> bool
 
 // A sign or an offset.
 fn not_plain(s: &[u8], work: &[u32], low: FieldView) -> bool
-    requires { ⌜ Ready (now s) (now work) × (low .ft < length (packOf (now s) .fieldtypes)) ⌝ }
-    ensures { λ r. ⌜ r ≡ (fieldtype-of (packOf (now (s .entry)) .fieldtypes) (fieldMeaning (now (s .entry)) low) .signed || not (float-eq (low .scaling .offset) ZERO)) ⌝ }
+    requires { ⌜ Ready (now s) (now work) × (low .ft < length (pack-of (now s) .fieldtypes)) ⌝ }
+    ensures { λ r. ⌜ r ≡ (fieldtype-of (pack-of (now (s .entry)) .fieldtypes) (field-meaning (now (s .entry)) low) .signed || not (float-eq (low .scaling .offset) ZERO)) ⌝ }
 {
     let v = type_of(s, work, low.ft);
     if v.signed {
@@ -138,7 +138,7 @@ fn not_plain(s: &[u8], work: &[u32], low: FieldView) -> bool
 
 // Wider than 64 bits with its continuation.
 fn too_wide(s: &[u8], low: FieldView) -> bool
-    ensures { λ r. ⌜ r ≡ (64 <ᵇ value-bits (fieldMeaning (now (s .entry)) low)) ⌝ }
+    ensures { λ r. ⌜ r ≡ (64 <ᵇ value-bits (field-meaning (now (s .entry)) low)) ⌝ }
 {
     64 < value_bits(s, low)
 }
@@ -158,8 +158,8 @@ fn placed_at(
     j: u32,
     continued: bool,
 ) -> usize
-    requires { ⌜ Fits n (if not (set-of (pgn-at (packOf (now s)) t i) j == set-of (pgn-at (packOf (now s)) t i) k) then pgn-error 43 2 t i k j ∷ [] else if not continued then pgn-error 43 3 t i k j ∷ [] else report-if (1 <ᵇ continued-by (pgn-at (packOf (now s)) t i) (bytesOf (now s) id)) (pgn-error 43 4 t i k j)) × PgnAt (now s) (now work) t i p × PgnIs (now s) (pgn-at (packOf (now s)) t i) g × (k < g .fields) × (j < k) ⌝ }
-    ensures { λ r. ⌜ Emitted (now (out .entry)) n (if not (set-of (pgn-at (packOf (now (s .entry))) t i) j == set-of (pgn-at (packOf (now (s .entry))) t i) k) then pgn-error 43 2 t i k j ∷ [] else if not continued then pgn-error 43 3 t i k j ∷ [] else report-if (1 <ᵇ continued-by (pgn-at (packOf (now (s .entry))) t i) (bytesOf (now (s .entry)) id)) (pgn-error 43 4 t i k j)) (now (out .exit)) r ⌝ }
+    requires { ⌜ Fits n (if not (set-of (pgn-at (pack-of (now s)) t i) j == set-of (pgn-at (pack-of (now s)) t i) k) then pgn-error 43 2 t i k j ∷ [] else if not continued then pgn-error 43 3 t i k j ∷ [] else report-if (1 <ᵇ continued-by (pgn-at (pack-of (now s)) t i) (bytes-of (now s) id)) (pgn-error 43 4 t i k j)) × PgnAt (now s) (now work) t i p × PgnIs (now s) (pgn-at (pack-of (now s)) t i) g × (k < g .fields) × (j < k) ⌝ }
+    ensures { λ r. ⌜ Emitted (now (out .entry)) n (if not (set-of (pgn-at (pack-of (now (s .entry))) t i) j == set-of (pgn-at (pack-of (now (s .entry))) t i) k) then pgn-error 43 2 t i k j ∷ [] else if not continued then pgn-error 43 3 t i k j ∷ [] else report-if (1 <ᵇ continued-by (pgn-at (pack-of (now (s .entry))) t i) (bytes-of (now (s .entry)) id)) (pgn-error 43 4 t i k j)) (now (out .exit)) r ⌝ }
 {
     if set_of(g, j) != set_of(g, k) {
         return put(out, n, pgn_error(43, 2, t, i, k, j));
@@ -186,8 +186,8 @@ fn continued_at(
     id: Text,
     j: u32,
 ) -> usize
-    requires { ⌜ Fits n (continued-at (packOf (now s) .fieldtypes) t i (pgn-at (packOf (now s)) t i) k (field-at (pgn-at (packOf (now s)) t i) k) (bytesOf (now s) id) j (field-at (pgn-at (packOf (now s)) t i) j)) × PgnAt (now s) (now work) t i p × PgnIs (now s) (pgn-at (packOf (now s)) t i) g × (k < g .fields) × (j < k) × (fieldMeaning (now s) f ≡ field-at (pgn-at (packOf (now s)) t i) k) ⌝ }
-    ensures { λ r. ⌜ Emitted (now (out .entry)) n (continued-at (packOf (now (s .entry)) .fieldtypes) t i (pgn-at (packOf (now (s .entry))) t i) k (field-at (pgn-at (packOf (now (s .entry))) t i) k) (bytesOf (now (s .entry)) id) j (field-at (pgn-at (packOf (now (s .entry))) t i) j)) (now (out .exit)) r ⌝ }
+    requires { ⌜ Fits n (continued-at (pack-of (now s) .fieldtypes) t i (pgn-at (pack-of (now s)) t i) k (field-at (pgn-at (pack-of (now s)) t i) k) (bytes-of (now s) id) j (field-at (pgn-at (pack-of (now s)) t i) j)) × PgnAt (now s) (now work) t i p × PgnIs (now s) (pgn-at (pack-of (now s)) t i) g × (k < g .fields) × (j < k) × (field-meaning (now s) f ≡ field-at (pgn-at (pack-of (now s)) t i) k) ⌝ }
+    ensures { λ r. ⌜ Emitted (now (out .entry)) n (continued-at (pack-of (now (s .entry)) .fieldtypes) t i (pgn-at (pack-of (now (s .entry))) t i) k (field-at (pgn-at (pack-of (now (s .entry))) t i) k) (bytes-of (now (s .entry)) id) j (field-at (pgn-at (pack-of (now (s .entry))) t i) j)) (now (out .exit)) r ⌝ }
 {
     let low = field_of(s, work, t, i, p, j);
     let words = not_integers(s, work, low, f);
@@ -233,8 +233,8 @@ fn continues_at(
     k: u32,
     f: FieldView,
 ) -> usize
-    requires { ⌜ Fits n (continues-at (packOf (now s) .fieldtypes) t i (pgn-at (packOf (now s)) t i) k (field-at (pgn-at (packOf (now s)) t i) k .continues)) × PgnAt (now s) (now work) t i p × PgnIs (now s) (pgn-at (packOf (now s)) t i) g × (k < g .fields) × (fieldMeaning (now s) f ≡ field-at (pgn-at (packOf (now s)) t i) k) ⌝ }
-    ensures { λ r. ⌜ Emitted (now (out .entry)) n (continues-at (packOf (now (s .entry)) .fieldtypes) t i (pgn-at (packOf (now (s .entry))) t i) k (field-at (pgn-at (packOf (now (s .entry))) t i) k .continues)) (now (out .exit)) r ⌝ }
+    requires { ⌜ Fits n (continues-at (pack-of (now s) .fieldtypes) t i (pgn-at (pack-of (now s)) t i) k (field-at (pgn-at (pack-of (now s)) t i) k .continues)) × PgnAt (now s) (now work) t i p × PgnIs (now s) (pgn-at (pack-of (now s)) t i) g × (k < g .fields) × (field-meaning (now s) f ≡ field-at (pgn-at (pack-of (now s)) t i) k) ⌝ }
+    ensures { λ r. ⌜ Emitted (now (out .entry)) n (continues-at (pack-of (now (s .entry)) .fieldtypes) t i (pgn-at (pack-of (now (s .entry))) t i) k (field-at (pgn-at (pack-of (now (s .entry))) t i) k .continues)) (now (out .exit)) r ⌝ }
 {
     if !f.authored.continues.given {
         return n;
@@ -258,8 +258,8 @@ pub(crate) fn check_continues(
     p: usize,
     g: PgnView,
 ) -> usize
-    requires { ⌜ Fits n (check-continues (packOf (now s) .fieldtypes) t i (pgn-at (packOf (now s)) t i)) × PgnAt (now s) (now work) t i p × PgnIs (now s) (pgn-at (packOf (now s)) t i) g ⌝ }
-    ensures { λ r. ⌜ Emitted (now (out .entry)) n (check-continues (packOf (now (s .entry)) .fieldtypes) t i (pgn-at (packOf (now (s .entry))) t i)) (now (out .exit)) r ⌝ }
+    requires { ⌜ Fits n (check-continues (pack-of (now s) .fieldtypes) t i (pgn-at (pack-of (now s)) t i)) × PgnAt (now s) (now work) t i p × PgnIs (now s) (pgn-at (pack-of (now s)) t i) g ⌝ }
+    ensures { λ r. ⌜ Emitted (now (out .entry)) n (check-continues (pack-of (now (s .entry)) .fieldtypes) t i (pgn-at (pack-of (now (s .entry))) t i)) (now (out .exit)) r ⌝ }
 {
     let fields = g.fields;
     let mut m = n;

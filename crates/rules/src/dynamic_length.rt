@@ -2,8 +2,8 @@
 ghost use mathlib.Core.Path.{_≡_};
 ghost use mathlib.Core.Bool.{_||_};
 ghost use Rattle.pack.specs.Notation.{_≐_};
-ghost use Rattle.pack.specs.Items.{bytesOf};
-ghost use Rattle.pack.specs.Meaning.{fieldMeaning, packOf};
+ghost use Rattle.pack.specs.Items.{bytes-of};
+ghost use Rattle.pack.specs.Meaning.{field-meaning, pack-of};
 ghost use Rattle.pack.specs.Ready.{PgnAt, PgnIs};
 ghost use Rattle.pack.specs.Value.{pgn-at, field-at};
 ghost use Rattle.rules.specs.DynamicLength.{have-length-source, dynamic-length-at, check-dynamic-length};
@@ -22,7 +22,7 @@ use pack::text::text_is;
 
 // Whether a field is a length source: dynamicFieldLength or DYNAMIC_FIELD_KEY.
 pub fn length_source(s: &[u8], dynamic: bool, root: Text) -> bool
-    ensures { λ r. ⌜ r ≡ (dynamic || (bytesOf (now (s .entry)) root ≐ DYNAMIC-FIELD-KEY)) ⌝ }
+    ensures { λ r. ⌜ r ≡ (dynamic || (bytes-of (now (s .entry)) root ≐ DYNAMIC-FIELD-KEY)) ⌝ }
 {
     if dynamic {
         return true;
@@ -32,7 +32,7 @@ pub fn length_source(s: &[u8], dynamic: bool, root: Text) -> bool
 
 // Whether there was one, or the field is one.
 fn have_length_source(s: &[u8], have: bool, dynamic: bool, root: Text) -> bool
-    ensures { λ r. ⌜ r ≡ (have || (dynamic || (bytesOf (now (s .entry)) root ≐ DYNAMIC-FIELD-KEY))) ⌝ }
+    ensures { λ r. ⌜ r ≡ (have || (dynamic || (bytes-of (now (s .entry)) root ≐ DYNAMIC-FIELD-KEY))) ⌝ }
 {
     if have {
         return true;
@@ -52,8 +52,8 @@ fn dynamic_length_at(
     root: Text,
     have: bool,
 ) -> usize
-    requires { ⌜ Fits n (dynamic-length-at (packOf (now s) .fieldtypes) t i (pgn-at (packOf (now s)) t i) k (field-at (pgn-at (packOf (now s)) t i) k)) × (fieldMeaning (now s) f ≡ field-at (pgn-at (packOf (now s)) t i) k) × (bytesOf (now s) root ≡ root-of (packOf (now s) .fieldtypes) (field-at (pgn-at (packOf (now s)) t i) k)) × (have ≡ have-length-source (packOf (now s) .fieldtypes) (pgn-at (packOf (now s)) t i) k) ⌝ }
-    ensures { λ r. ⌜ Emitted (now (out .entry)) n (dynamic-length-at (packOf (now (s .entry)) .fieldtypes) t i (pgn-at (packOf (now (s .entry))) t i) k (field-at (pgn-at (packOf (now (s .entry))) t i) k)) (now (out .exit)) r ⌝ }
+    requires { ⌜ Fits n (dynamic-length-at (pack-of (now s) .fieldtypes) t i (pgn-at (pack-of (now s)) t i) k (field-at (pgn-at (pack-of (now s)) t i) k)) × (field-meaning (now s) f ≡ field-at (pgn-at (pack-of (now s)) t i) k) × (bytes-of (now s) root ≡ root-of (pack-of (now s) .fieldtypes) (field-at (pgn-at (pack-of (now s)) t i) k)) × (have ≡ have-length-source (pack-of (now s) .fieldtypes) (pgn-at (pack-of (now s)) t i) k) ⌝ }
+    ensures { λ r. ⌜ Emitted (now (out .entry)) n (dynamic-length-at (pack-of (now (s .entry)) .fieldtypes) t i (pgn-at (pack-of (now (s .entry))) t i) k (field-at (pgn-at (pack-of (now (s .entry))) t i) k)) (now (out .exit)) r ⌝ }
 {
     let dynamic = f.flags.dynamic;
     let is_length = text_is(s, root, b"DYNAMIC_FIELD_LENGTH");
@@ -78,8 +78,8 @@ pub(crate) fn check_dynamic_length(
     p: usize,
     g: PgnView,
 ) -> usize
-    requires { ⌜ Fits n (check-dynamic-length (packOf (now s) .fieldtypes) t i (pgn-at (packOf (now s)) t i)) × PgnAt (now s) (now work) t i p × PgnIs (now s) (pgn-at (packOf (now s)) t i) g ⌝ }
-    ensures { λ r. ⌜ Emitted (now (out .entry)) n (check-dynamic-length (packOf (now (s .entry)) .fieldtypes) t i (pgn-at (packOf (now (s .entry))) t i)) (now (out .exit)) r ⌝ }
+    requires { ⌜ Fits n (check-dynamic-length (pack-of (now s) .fieldtypes) t i (pgn-at (pack-of (now s)) t i)) × PgnAt (now s) (now work) t i p × PgnIs (now s) (pgn-at (pack-of (now s)) t i) g ⌝ }
+    ensures { λ r. ⌜ Emitted (now (out .entry)) n (check-dynamic-length (pack-of (now (s .entry)) .fieldtypes) t i (pgn-at (pack-of (now (s .entry))) t i)) (now (out .exit)) r ⌝ }
 {
     let mut m = n;
     let mut have = false;

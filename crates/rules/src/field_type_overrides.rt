@@ -2,7 +2,7 @@
 ghost use mathlib.Core.Path.{_≡_};
 ghost use Prim.Native.Nat.{_<_};
 ghost use lib.ListN.{length};
-ghost use Rattle.pack.specs.Meaning.{fieldMeaning, packOf};
+ghost use Rattle.pack.specs.Meaning.{field-meaning, pack-of};
 ghost use Rattle.pack.specs.Ready.{Ready, PgnAt, PgnIs};
 ghost use Rattle.pack.specs.Value.{pgn-at, field-at};
 ghost use Rattle.rules.specs.Emit.{Emitted, Fits};
@@ -28,8 +28,8 @@ fn overrides_at(
     k: u32,
     f: FieldView,
 ) -> usize
-    requires { ⌜ Fits n (overrides-at t i k (field-at (pgn-at (packOf (now s)) t i) k) (fieldtype-of (packOf (now s) .fieldtypes) (field-at (pgn-at (packOf (now s)) t i) k))) × (fieldMeaning (now s) f ≡ field-at (pgn-at (packOf (now s)) t i) k) × Ready (now s) (now work) × (f .ft < length (packOf (now s) .fieldtypes)) ⌝ }
-    ensures { λ r. ⌜ Emitted (now (out .entry)) n (overrides-at t i k (field-at (pgn-at (packOf (now (s .entry))) t i) k) (fieldtype-of (packOf (now (s .entry)) .fieldtypes) (field-at (pgn-at (packOf (now (s .entry))) t i) k))) (now (out .exit)) r ⌝ }
+    requires { ⌜ Fits n (overrides-at t i k (field-at (pgn-at (pack-of (now s)) t i) k) (fieldtype-of (pack-of (now s) .fieldtypes) (field-at (pgn-at (pack-of (now s)) t i) k))) × (field-meaning (now s) f ≡ field-at (pgn-at (pack-of (now s)) t i) k) × Ready (now s) (now work) × (f .ft < length (pack-of (now s) .fieldtypes)) ⌝ }
+    ensures { λ r. ⌜ Emitted (now (out .entry)) n (overrides-at t i k (field-at (pgn-at (pack-of (now (s .entry))) t i) k) (fieldtype-of (pack-of (now (s .entry)) .fieldtypes) (field-at (pgn-at (pack-of (now (s .entry))) t i) k))) (now (out .exit)) r ⌝ }
 {
     let ft = type_of(s, work, f.ft);
     let width = and_not(f.flags.bits, ft.size == 0);
@@ -50,8 +50,8 @@ pub fn check_field_type_overrides(
     p: usize,
     g: PgnView,
 ) -> usize
-    requires { ⌜ Fits n (check-field-type-overrides (packOf (now s) .fieldtypes) t i (pgn-at (packOf (now s)) t i)) × PgnAt (now s) (now work) t i p × PgnIs (now s) (pgn-at (packOf (now s)) t i) g ⌝ }
-    ensures { λ r. ⌜ Emitted (now (out .entry)) n (check-field-type-overrides (packOf (now (s .entry)) .fieldtypes) t i (pgn-at (packOf (now (s .entry))) t i)) (now (out .exit)) r ⌝ }
+    requires { ⌜ Fits n (check-field-type-overrides (pack-of (now s) .fieldtypes) t i (pgn-at (pack-of (now s)) t i)) × PgnAt (now s) (now work) t i p × PgnIs (now s) (pgn-at (pack-of (now s)) t i) g ⌝ }
+    ensures { λ r. ⌜ Emitted (now (out .entry)) n (check-field-type-overrides (pack-of (now (s .entry)) .fieldtypes) t i (pgn-at (pack-of (now (s .entry))) t i)) (now (out .exit)) r ⌝ }
 {
     let mut m = n;
     let mut k = 0;

@@ -2,8 +2,8 @@
 ghost use mathlib.Core.Path.{_≡_};
 ghost use Prim.Native.Nat.{_<_};
 ghost use lib.ListN.{length, getD};
-ghost use Rattle.pack.specs.Value.{noFieldType};
-ghost use Rattle.pack.specs.Meaning.{packOf};
+ghost use Rattle.pack.specs.Value.{no-field-type};
+ghost use Rattle.pack.specs.Meaning.{pack-of};
 ghost use Rattle.pack.specs.Ready.{Ready};
 ghost use Rattle.rules.specs.Emit.{Emitted, Fits};
 ghost use Rattle.rules.specs.Fieldtypes.{fieldtype-at, check-fieldtypes};
@@ -13,8 +13,8 @@ use crate::emit::put_if;
 use pack::of::type_of;
 
 fn fieldtype_at(out: &mut [u32], n: usize, s: &[u8], work: &[u32], i: u32) -> usize
-    requires { ⌜ Fits n (fieldtype-at i (getD (packOf (now s) .fieldtypes) i noFieldType)) × Ready (now s) (now work) × (i < length (packOf (now s) .fieldtypes)) ⌝ }
-    ensures { λ r. ⌜ Emitted (now (out .entry)) n (fieldtype-at i (getD (packOf (now (s .entry)) .fieldtypes) i noFieldType)) (now (out .exit)) r ⌝ }
+    requires { ⌜ Fits n (fieldtype-at i (getD (pack-of (now s) .fieldtypes) i no-field-type)) × Ready (now s) (now work) × (i < length (pack-of (now s) .fieldtypes)) ⌝ }
+    ensures { λ r. ⌜ Emitted (now (out .entry)) n (fieldtype-at i (getD (pack-of (now (s .entry)) .fieldtypes) i no-field-type)) (now (out .exit)) r ⌝ }
 {
     let ft = type_of(s, work, i);
     let report = and_not(!ft.base, ft.print);
@@ -23,8 +23,8 @@ fn fieldtype_at(out: &mut [u32], n: usize, s: &[u8], work: &[u32], i: u32) -> us
 
 // R23: every root field type can print. So many field types are there.
 pub fn check_fieldtypes(out: &mut [u32], n: usize, s: &[u8], work: &[u32], types: u32) -> usize
-    requires { ⌜ Fits n (check-fieldtypes (packOf (now s) .fieldtypes)) × Ready (now s) (now work) × (types ≡ length (packOf (now s) .fieldtypes)) ⌝ }
-    ensures { λ r. ⌜ Emitted (now (out .entry)) n (check-fieldtypes (packOf (now (s .entry)) .fieldtypes)) (now (out .exit)) r ⌝ }
+    requires { ⌜ Fits n (check-fieldtypes (pack-of (now s) .fieldtypes)) × Ready (now s) (now work) × (types ≡ length (pack-of (now s) .fieldtypes)) ⌝ }
+    ensures { λ r. ⌜ Emitted (now (out .entry)) n (check-fieldtypes (pack-of (now (s .entry)) .fieldtypes)) (now (out .exit)) r ⌝ }
 {
     let mut m = n;
     let mut i = 0;

@@ -2,7 +2,7 @@
 ghost use mathlib.Core.Path.{_≡_};
 ghost use mathlib.Core.Bool.{not, _&&_};
 ghost use Rattle.pack.specs.Notation.{_==_, _<ᵇ_};
-ghost use Rattle.pack.specs.Meaning.{packOf};
+ghost use Rattle.pack.specs.Meaning.{pack-of};
 ghost use Rattle.pack.specs.Ready.{PgnIs};
 ghost use Rattle.pack.specs.Value.{pgn-at};
 ghost use Rattle.rules.specs.Emit.{Emitted, Fits};
@@ -36,8 +36,8 @@ fn too_long(variable: bool, length: u32) -> bool
 
 // R04: fixed single-frame PGNs are exactly 8 bytes (ISO Request 59904 excepted); a variable one's fixed part must fit the frame.
 pub fn check_frame_length(out: &mut [u32], n: usize, s: &[u8], t: u32, i: u32, g: PgnView) -> usize
-    requires { ⌜ Fits n (check-frame-length t i (pgn-at (packOf (now s)) t i)) × PgnIs (now s) (pgn-at (packOf (now s)) t i) g ⌝ }
-    ensures { λ r. ⌜ Emitted (now (out .entry)) n (check-frame-length t i (pgn-at (packOf (now (s .entry))) t i)) (now (out .exit)) r ⌝ }
+    requires { ⌜ Fits n (check-frame-length t i (pgn-at (pack-of (now s)) t i)) × PgnIs (now s) (pgn-at (pack-of (now s)) t i) g ⌝ }
+    ensures { λ r. ⌜ Emitted (now (out .entry)) n (check-frame-length t i (pgn-at (pack-of (now (s .entry))) t i)) (now (out .exit)) r ⌝ }
 {
     if g.kind != 0 {
         return n;

@@ -1,6 +1,6 @@
 // Place texts: the Rust's `pgn_loc` and its like.
 ghost use mathlib.Core.List.{_++_};
-ghost use Rattle.pack.specs.Items.{bytesOf};
+ghost use Rattle.pack.specs.Items.{bytes-of};
 ghost use Rattle.pack.specs.Placing.{Stored};
 ghost use Rattle.rules.specs.Digits.{six-digits};
 ghost use Rattle.rules.specs.Locs.{pgn-text, loc-text};
@@ -33,7 +33,7 @@ fn put_number(out: &mut [u8], tree: u32, number: u32) -> usize
 }
 
 fn put_pgn(out: &mut [u8], s: &[u8], tree: u32, number: u32, id: Text) -> usize
-    ensures { λ r. ⌜ Stored (now (out .entry)) 0 (pgn-text tree number (bytesOf (now (s .entry)) id)) (now (out .exit)) r ⌝ }
+    ensures { λ r. ⌜ Stored (now (out .entry)) 0 (pgn-text tree number (bytes-of (now (s .entry)) id)) (now (out .exit)) r ⌝ }
 {
     let a = put_number(out, tree, number);
     let b = put_bytes(out, a, b"-");
@@ -49,7 +49,7 @@ fn put_group(out: &mut [u8], tree: u32, number: u32) -> usize
 }
 
 fn put_lookup(out: &mut [u8], s: &[u8], name: Text) -> usize
-    ensures { λ r. ⌜ Stored (now (out .entry)) 0 (lookup-loc (bytesOf (now (s .entry)) name)) (now (out .exit)) r ⌝ }
+    ensures { λ r. ⌜ Stored (now (out .entry)) 0 (lookup-loc (bytes-of (now (s .entry)) name)) (now (out .exit)) r ⌝ }
 {
     let a = put_bytes(out, 0, b"lookups/");
     let b = put_bytes(out, a, part(s, name));

@@ -5,12 +5,12 @@ ghost use Prim.Native.Nat.{_<_, _≤_};
 ghost use lib.ListN.{length, getD, set};
 ghost use Rattle.pack.specs.Notation.{_≐_};
 ghost use Rattle.pack.specs.Value.{pgns-of, pgn-at, lookup-at};
-ghost use Rattle.pack.specs.Items.{bytesOf};
-ghost use Rattle.pack.specs.Meaning.{optBytes, optReference, packOf};
-ghost use Rattle.pack.specs.Ready.{Ready, LookupAt, LookupIs, PgnAt, lookupPlace, treePlace, IndexIs};
+ghost use Rattle.pack.specs.Items.{bytes-of};
+ghost use Rattle.pack.specs.Meaning.{optional-bytes, optional-reference, pack-of};
+ghost use Rattle.pack.specs.Ready.{Ready, LookupAt, LookupIs, PgnAt, place-of-lookup, place-of-tree, IndexIs};
 ghost use Rattle.rules.specs.Marks.{Marked};
 ghost use Rattle.rules.specs.Model.{is-text};
-ghost use Rattle.rules.specs.Search.{anyBelow};
+ghost use Rattle.rules.specs.Search.{any-below};
 ghost use Rattle.rules.specs.LookupWiring.{ref-is, referenced-by-pgn, referenced-by-tree, referenced-by-lookup, referenced};
 use pack::field::OptReference;
 use pack::load::Index;
@@ -37,8 +37,8 @@ fn mark_if(marks: &mut [bool], l: usize, hit: bool)
 
 // Every lookup of that name: that there is one at most is not used.
 fn mark(marks: &mut [bool], s: &[u8], work: &[u32], lookups: Section, name: Text)
-    requires { ⌜ (length (packOf (now s) .lookups) ≤ length (now marks)) × Ready (now s) (now work) × (lookups .count ≡ length (packOf (now s) .lookups)) × (lookups .place ≡ lookupPlace (packOf (now s)) 0) ⌝ }
-    ensures { λ r. ⌜ Marked (packOf (now (s .entry))) (now (marks .entry)) (λ n. bytesOf (now (s .entry)) name ≐ n) (now (marks .exit)) ⌝ }
+    requires { ⌜ (length (pack-of (now s) .lookups) ≤ length (now marks)) × Ready (now s) (now work) × (lookups .count ≡ length (pack-of (now s) .lookups)) × (lookups .place ≡ place-of-lookup (pack-of (now s)) 0) ⌝ }
+    ensures { λ r. ⌜ Marked (pack-of (now (s .entry))) (now (marks .entry)) (λ n. bytes-of (now (s .entry)) name ≐ n) (now (marks .exit)) ⌝ }
 {
     let count = lookups.count;
     let mut p = lookups.place;
@@ -54,8 +54,8 @@ fn mark(marks: &mut [bool], s: &[u8], work: &[u32], lookups: Section, name: Text
 
 // What a field refers to, if it does.
 fn mark_reference(marks: &mut [bool], s: &[u8], work: &[u32], lookups: Section, r: OptReference)
-    requires { ⌜ (length (packOf (now s) .lookups) ≤ length (now marks)) × Ready (now s) (now work) × (lookups .count ≡ length (packOf (now s) .lookups)) × (lookups .place ≡ lookupPlace (packOf (now s)) 0) ⌝ }
-    ensures { λ u. ⌜ Marked (packOf (now (s .entry))) (now (marks .entry)) (λ n. ref-is (optReference (now (s .entry)) r) n) (now (marks .exit)) ⌝ }
+    requires { ⌜ (length (pack-of (now s) .lookups) ≤ length (now marks)) × Ready (now s) (now work) × (lookups .count ≡ length (pack-of (now s) .lookups)) × (lookups .place ≡ place-of-lookup (pack-of (now s)) 0) ⌝ }
+    ensures { λ u. ⌜ Marked (pack-of (now (s .entry))) (now (marks .entry)) (λ n. ref-is (optional-reference (now (s .entry)) r) n) (now (marks .exit)) ⌝ }
 {
     if r.given {
         mark(marks, s, work, lookups, r.name);
@@ -64,8 +64,8 @@ fn mark_reference(marks: &mut [bool], s: &[u8], work: &[u32], lookups: Section, 
 
 // What an entry nests, if it does.
 fn mark_nested(marks: &mut [bool], s: &[u8], work: &[u32], lookups: Section, o: OptText)
-    requires { ⌜ (length (packOf (now s) .lookups) ≤ length (now marks)) × Ready (now s) (now work) × (lookups .count ≡ length (packOf (now s) .lookups)) × (lookups .place ≡ lookupPlace (packOf (now s)) 0) ⌝ }
-    ensures { λ r. ⌜ Marked (packOf (now (s .entry))) (now (marks .entry)) (λ n. is-text (optBytes (now (s .entry)) o) n) (now (marks .exit)) ⌝ }
+    requires { ⌜ (length (pack-of (now s) .lookups) ≤ length (now marks)) × Ready (now s) (now work) × (lookups .count ≡ length (pack-of (now s) .lookups)) × (lookups .place ≡ place-of-lookup (pack-of (now s)) 0) ⌝ }
+    ensures { λ r. ⌜ Marked (pack-of (now (s .entry))) (now (marks .entry)) (λ n. is-text (optional-bytes (now (s .entry)) o) n) (now (marks .exit)) ⌝ }
 {
     if o.given {
         mark(marks, s, work, lookups, o.text);
@@ -83,8 +83,8 @@ fn mark_by_pgn(
     p: usize,
     fields: u32,
 )
-    requires { ⌜ (length (packOf (now s) .lookups) ≤ length (now marks)) × PgnAt (now s) (now work) t i p × (lookups .count ≡ length (packOf (now s) .lookups)) × (lookups .place ≡ lookupPlace (packOf (now s)) 0) × (fields ≡ length (pgn-at (packOf (now s)) t i .fields)) ⌝ }
-    ensures { λ r. ⌜ Marked (packOf (now (s .entry))) (now (marks .entry)) (λ n. referenced-by-pgn n (pgn-at (packOf (now (s .entry))) t i)) (now (marks .exit)) ⌝ }
+    requires { ⌜ (length (pack-of (now s) .lookups) ≤ length (now marks)) × PgnAt (now s) (now work) t i p × (lookups .count ≡ length (pack-of (now s) .lookups)) × (lookups .place ≡ place-of-lookup (pack-of (now s)) 0) × (fields ≡ length (pgn-at (pack-of (now s)) t i .fields)) ⌝ }
+    ensures { λ r. ⌜ Marked (pack-of (now (s .entry))) (now (marks .entry)) (λ n. referenced-by-pgn n (pgn-at (pack-of (now (s .entry))) t i)) (now (marks .exit)) ⌝ }
 {
     let mut k: u32 = 0;
     while k < fields {
@@ -96,8 +96,8 @@ fn mark_by_pgn(
 
 // By the PGNs of tree t.
 fn mark_by_tree(marks: &mut [bool], s: &[u8], work: &[u32], lookups: Section, t: u32, tree: Section)
-    requires { ⌜ (length (packOf (now s) .lookups) ≤ length (now marks)) × Ready (now s) (now work) × (lookups .count ≡ length (packOf (now s) .lookups)) × (lookups .place ≡ lookupPlace (packOf (now s)) 0) × (t < 3) × (tree .count ≡ length (pgns-of (packOf (now s)) t)) × (tree .place ≡ treePlace (packOf (now s)) t) ⌝ }
-    ensures { λ r. ⌜ Marked (packOf (now (s .entry))) (now (marks .entry)) (λ n. referenced-by-tree (packOf (now (s .entry))) n t) (now (marks .exit)) ⌝ }
+    requires { ⌜ (length (pack-of (now s) .lookups) ≤ length (now marks)) × Ready (now s) (now work) × (lookups .count ≡ length (pack-of (now s) .lookups)) × (lookups .place ≡ place-of-lookup (pack-of (now s)) 0) × (t < 3) × (tree .count ≡ length (pgns-of (pack-of (now s)) t)) × (tree .place ≡ place-of-tree (pack-of (now s)) t) ⌝ }
+    ensures { λ r. ⌜ Marked (pack-of (now (s .entry))) (now (marks .entry)) (λ n. referenced-by-tree (pack-of (now (s .entry))) n t) (now (marks .exit)) ⌝ }
 {
     let count = tree.count;
     let mut p = tree.place;
@@ -112,8 +112,8 @@ fn mark_by_tree(marks: &mut [bool], s: &[u8], work: &[u32], lookups: Section, t:
 
 // By the trees.
 fn mark_by_trees(marks: &mut [bool], s: &[u8], work: &[u32], index: Index)
-    requires { ⌜ (length (packOf (now s) .lookups) ≤ length (now marks)) × Ready (now s) (now work) × IndexIs (packOf (now s)) index ⌝ }
-    ensures { λ r. ⌜ Marked (packOf (now (s .entry))) (now (marks .entry)) (λ n. anyBelow (λ t. referenced-by-tree (packOf (now (s .entry))) n t) 3) (now (marks .exit)) ⌝ }
+    requires { ⌜ (length (pack-of (now s) .lookups) ≤ length (now marks)) × Ready (now s) (now work) × IndexIs (pack-of (now s)) index ⌝ }
+    ensures { λ r. ⌜ Marked (pack-of (now (s .entry))) (now (marks .entry)) (λ n. any-below (λ t. referenced-by-tree (pack-of (now (s .entry))) n t) 3) (now (marks .exit)) ⌝ }
 {
     let mut t: u32 = 0;
     while t < 3 {
@@ -133,8 +133,8 @@ fn mark_by_lookup(
     p: usize,
     v: LookupView,
 )
-    requires { ⌜ (length (packOf (now s) .lookups) ≤ length (now marks)) × LookupAt (now s) (now work) l p × (lookups .count ≡ length (packOf (now s) .lookups)) × (lookups .place ≡ lookupPlace (packOf (now s)) 0) × LookupIs (now s) (lookup-at (packOf (now s) .lookups) l) v ⌝ }
-    ensures { λ r. ⌜ Marked (packOf (now (s .entry))) (now (marks .entry)) (λ n. referenced-by-lookup n (lookup-at (packOf (now (s .entry)) .lookups) l)) (now (marks .exit)) ⌝ }
+    requires { ⌜ (length (pack-of (now s) .lookups) ≤ length (now marks)) × LookupAt (now s) (now work) l p × (lookups .count ≡ length (pack-of (now s) .lookups)) × (lookups .place ≡ place-of-lookup (pack-of (now s)) 0) × LookupIs (now s) (lookup-at (pack-of (now s) .lookups) l) v ⌝ }
+    ensures { λ r. ⌜ Marked (pack-of (now (s .entry))) (now (marks .entry)) (λ n. referenced-by-lookup n (lookup-at (pack-of (now (s .entry)) .lookups) l)) (now (marks .exit)) ⌝ }
 {
     if v.kind != 3 {
         return;
@@ -150,8 +150,8 @@ fn mark_by_lookup(
 
 // By the lookups.
 fn mark_by_lookups(marks: &mut [bool], s: &[u8], work: &[u32], lookups: Section)
-    requires { ⌜ (length (packOf (now s) .lookups) ≤ length (now marks)) × Ready (now s) (now work) × (lookups .count ≡ length (packOf (now s) .lookups)) × (lookups .place ≡ lookupPlace (packOf (now s)) 0) ⌝ }
-    ensures { λ r. ⌜ Marked (packOf (now (s .entry))) (now (marks .entry)) (λ n. anyBelow (λ l. referenced-by-lookup n (lookup-at (packOf (now (s .entry)) .lookups) l)) (length (packOf (now (s .entry)) .lookups))) (now (marks .exit)) ⌝ }
+    requires { ⌜ (length (pack-of (now s) .lookups) ≤ length (now marks)) × Ready (now s) (now work) × (lookups .count ≡ length (pack-of (now s) .lookups)) × (lookups .place ≡ place-of-lookup (pack-of (now s)) 0) ⌝ }
+    ensures { λ r. ⌜ Marked (pack-of (now (s .entry))) (now (marks .entry)) (λ n. any-below (λ l. referenced-by-lookup n (lookup-at (pack-of (now (s .entry)) .lookups) l)) (length (pack-of (now (s .entry)) .lookups))) (now (marks .exit)) ⌝ }
 {
     let count = lookups.count;
     let mut p = lookups.place;
@@ -166,8 +166,8 @@ fn mark_by_lookups(marks: &mut [bool], s: &[u8], work: &[u32], lookups: Section)
 
 // Every lookup that anything references.
 pub fn mark_referenced(marks: &mut [bool], s: &[u8], work: &[u32], index: Index)
-    requires { ⌜ (length (packOf (now s) .lookups) ≤ length (now marks)) × Ready (now s) (now work) × IndexIs (packOf (now s)) index ⌝ }
-    ensures { λ r. ⌜ Marked (packOf (now (s .entry))) (now (marks .entry)) (λ n. referenced (packOf (now (s .entry))) n) (now (marks .exit)) ⌝ }
+    requires { ⌜ (length (pack-of (now s) .lookups) ≤ length (now marks)) × Ready (now s) (now work) × IndexIs (pack-of (now s)) index ⌝ }
+    ensures { λ r. ⌜ Marked (pack-of (now (s .entry))) (now (marks .entry)) (λ n. referenced (pack-of (now (s .entry))) n) (now (marks .exit)) ⌝ }
 {
     mark_by_trees(marks, s, work, index);
     mark_by_lookups(marks, s, work, index.lookups);

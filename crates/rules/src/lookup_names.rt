@@ -2,12 +2,12 @@
 ghost use mathlib.Core.Path.{_≡_};
 ghost use Prim.Native.Nat.{_≤_, _<_};
 ghost use lib.ListN.{length, getD};
-ghost use Rattle.pack.specs.Notation.{concatBelow};
-ghost use Rattle.pack.specs.Value.{noEntry, lookup-at};
-ghost use Rattle.pack.specs.Meaning.{optNumber, entryMeaning, packOf};
-ghost use Rattle.pack.specs.Ready.{Ready, LookupAt, LookupIs, lookupPlace};
+ghost use Rattle.pack.specs.Notation.{concat-below};
+ghost use Rattle.pack.specs.Value.{no-entry, lookup-at};
+ghost use Rattle.pack.specs.Meaning.{optional-number, entry-meaning, pack-of};
+ghost use Rattle.pack.specs.Ready.{Ready, LookupAt, LookupIs, place-of-lookup};
 ghost use Rattle.rules.specs.Emit.{Emitted, Fits};
-ghost use Rattle.rules.specs.Search.{latestBelow};
+ghost use Rattle.rules.specs.Search.{latest-below};
 ghost use Rattle.rules.specs.LookupNames.{same-name, same-name-as, lookup-names-of};
 use crate::emit::lookup_error;
 use crate::emit::put;
@@ -23,7 +23,7 @@ use pack::text::text_is;
 
 // One name, of a triplet under one first value.
 fn same_name(s: &[u8], kind: u32, a: EntryView, b: EntryView) -> bool
-    ensures { λ r. ⌜ r ≡ same-name kind (entryMeaning (now (s .entry)) a) (entryMeaning (now (s .entry)) b) ⌝ }
+    ensures { λ r. ⌜ r ≡ same-name kind (entry-meaning (now (s .entry)) a) (entry-meaning (now (s .entry)) b) ⌝ }
 {
     if !same_text(s, a.name, b.name) {
         return false;
@@ -44,8 +44,8 @@ fn latest_same_name(
     e: u32,
     entry: EntryView,
 ) -> OptNumber
-    requires { ⌜ LookupAt (now s) (now work) l p × (kind ≡ lookup-at (packOf (now s) .lookups) l .kind) × (e < length (lookup-at (packOf (now s) .lookups) l .entries)) × (entryMeaning (now s) entry ≡ getD (lookup-at (packOf (now s) .lookups) l .entries) e noEntry) ⌝ }
-    ensures { λ r. ⌜ optNumber r ≡ latestBelow (λ d. same-name (lookup-at (packOf (now (s .entry)) .lookups) l .kind) (getD (lookup-at (packOf (now (s .entry)) .lookups) l .entries) d noEntry) (getD (lookup-at (packOf (now (s .entry)) .lookups) l .entries) e noEntry)) e ⌝ }
+    requires { ⌜ LookupAt (now s) (now work) l p × (kind ≡ lookup-at (pack-of (now s) .lookups) l .kind) × (e < length (lookup-at (pack-of (now s) .lookups) l .entries)) × (entry-meaning (now s) entry ≡ getD (lookup-at (pack-of (now s) .lookups) l .entries) e no-entry) ⌝ }
+    ensures { λ r. ⌜ optional-number r ≡ latest-below (λ d. same-name (lookup-at (pack-of (now (s .entry)) .lookups) l .kind) (getD (lookup-at (pack-of (now (s .entry)) .lookups) l .entries) d no-entry) (getD (lookup-at (pack-of (now (s .entry)) .lookups) l .entries) e no-entry)) e ⌝ }
 {
     let mut found = OptNumber {
         given: false,
@@ -72,8 +72,8 @@ fn same_name_at(
     kind: u32,
     e: u32,
 ) -> usize
-    requires { ⌜ Fits n (same-name-as l e (latestBelow (λ d. same-name (lookup-at (packOf (now s) .lookups) l .kind) (getD (lookup-at (packOf (now s) .lookups) l .entries) d noEntry) (getD (lookup-at (packOf (now s) .lookups) l .entries) e noEntry)) e)) × LookupAt (now s) (now work) l p × (kind ≡ lookup-at (packOf (now s) .lookups) l .kind) × (e < length (lookup-at (packOf (now s) .lookups) l .entries)) ⌝ }
-    ensures { λ r. ⌜ Emitted (now (out .entry)) n (same-name-as l e (latestBelow (λ d. same-name (lookup-at (packOf (now (s .entry)) .lookups) l .kind) (getD (lookup-at (packOf (now (s .entry)) .lookups) l .entries) d noEntry) (getD (lookup-at (packOf (now (s .entry)) .lookups) l .entries) e noEntry)) e)) (now (out .exit)) r ⌝ }
+    requires { ⌜ Fits n (same-name-as l e (latest-below (λ d. same-name (lookup-at (pack-of (now s) .lookups) l .kind) (getD (lookup-at (pack-of (now s) .lookups) l .entries) d no-entry) (getD (lookup-at (pack-of (now s) .lookups) l .entries) e no-entry)) e)) × LookupAt (now s) (now work) l p × (kind ≡ lookup-at (pack-of (now s) .lookups) l .kind) × (e < length (lookup-at (pack-of (now s) .lookups) l .entries)) ⌝ }
+    ensures { λ r. ⌜ Emitted (now (out .entry)) n (same-name-as l e (latest-below (λ d. same-name (lookup-at (pack-of (now (s .entry)) .lookups) l .kind) (getD (lookup-at (pack-of (now (s .entry)) .lookups) l .entries) d no-entry) (getD (lookup-at (pack-of (now (s .entry)) .lookups) l .entries) e no-entry)) e)) (now (out .exit)) r ⌝ }
 {
     let entry = entry_of(s, work, l, p, kind, e);
     let found = latest_same_name(s, work, l, p, kind, e, entry);
@@ -93,8 +93,8 @@ fn lookup_names_of(
     p: usize,
     v: LookupView,
 ) -> usize
-    requires { ⌜ Fits n (lookup-names-of l (lookup-at (packOf (now s) .lookups) l)) × LookupAt (now s) (now work) l p × LookupIs (now s) (lookup-at (packOf (now s) .lookups) l) v ⌝ }
-    ensures { λ r. ⌜ Emitted (now (out .entry)) n (lookup-names-of l (lookup-at (packOf (now (s .entry)) .lookups) l)) (now (out .exit)) r ⌝ }
+    requires { ⌜ Fits n (lookup-names-of l (lookup-at (pack-of (now s) .lookups) l)) × LookupAt (now s) (now work) l p × LookupIs (now s) (lookup-at (pack-of (now s) .lookups) l) v ⌝ }
+    ensures { λ r. ⌜ Emitted (now (out .entry)) n (lookup-names-of l (lookup-at (pack-of (now (s .entry)) .lookups) l)) (now (out .exit)) r ⌝ }
 {
     if text_is(s, v.name, b"J1939_SPN") {
         return n;
@@ -118,8 +118,8 @@ pub fn check_lookup_names(
     work: &[u32],
     lookups: Section,
 ) -> usize
-    requires { ⌜ Fits n (concatBelow (λ l. lookup-names-of l (lookup-at (packOf (now s) .lookups) l)) (length (packOf (now s) .lookups))) × Ready (now s) (now work) × (lookups .count ≡ length (packOf (now s) .lookups)) × (lookups .place ≡ lookupPlace (packOf (now s)) 0) ⌝ }
-    ensures { λ r. ⌜ Emitted (now (out .entry)) n (concatBelow (λ l. lookup-names-of l (lookup-at (packOf (now (s .entry)) .lookups) l)) (length (packOf (now (s .entry)) .lookups))) (now (out .exit)) r ⌝ }
+    requires { ⌜ Fits n (concat-below (λ l. lookup-names-of l (lookup-at (pack-of (now s) .lookups) l)) (length (pack-of (now s) .lookups))) × Ready (now s) (now work) × (lookups .count ≡ length (pack-of (now s) .lookups)) × (lookups .place ≡ place-of-lookup (pack-of (now s)) 0) ⌝ }
+    ensures { λ r. ⌜ Emitted (now (out .entry)) n (concat-below (λ l. lookup-names-of l (lookup-at (pack-of (now (s .entry)) .lookups) l)) (length (pack-of (now (s .entry)) .lookups))) (now (out .exit)) r ⌝ }
 {
     let count = lookups.count;
     let mut m = n;

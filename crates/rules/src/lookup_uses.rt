@@ -4,15 +4,15 @@ ghost use mathlib.Core.Path.{_≡_};
 ghost use mathlib.Core.Bool.{false, not};
 ghost use Prim.Native.Nat.{_<_, _≤_};
 ghost use lib.ListN.{length, getD};
-ghost use Rattle.pack.specs.Notation.{concatBelow};
+ghost use Rattle.pack.specs.Notation.{concat-below};
 ghost use Rattle.pack.specs.Value.{pgns-of, pgn-at, lookup-at};
-ghost use Rattle.pack.specs.Items.{bytesOf};
-ghost use Rattle.pack.specs.Meaning.{optReference, packOf};
-ghost use Rattle.pack.specs.Ready.{Ready, LookupAt, LookupIs, PgnAt, lookupPlace, treePlace, IndexIs};
+ghost use Rattle.pack.specs.Items.{bytes-of};
+ghost use Rattle.pack.specs.Meaning.{optional-reference, pack-of};
+ghost use Rattle.pack.specs.Ready.{Ready, LookupAt, LookupIs, PgnAt, place-of-lookup, place-of-tree, IndexIs};
 ghost use Rattle.rules.specs.Emit.{Emitted, Fits};
 ghost use Rattle.rules.specs.Findings.{report-if, lookup-warning};
 ghost use Rattle.rules.specs.Marks.{Clear};
-ghost use Rattle.rules.specs.Search.{anyBelow};
+ghost use Rattle.rules.specs.Search.{any-below};
 ghost use Rattle.rules.specs.LookupWiring.{ref-is, referenced-by-pgn, referenced-by-tree, referenced-by-lookup, referenced};
 use crate::emit::lookup_warning;
 use crate::emit::put_if;
@@ -32,7 +32,7 @@ use pack::text::same_text;
 
 // Whether a reference is given and names that.
 fn ref_is(s: &[u8], r: OptReference, name: Text) -> bool
-    ensures { λ b. ⌜ b ≡ ref-is (optReference (now (s .entry)) r) (bytesOf (now (s .entry)) name) ⌝ }
+    ensures { λ b. ⌜ b ≡ ref-is (optional-reference (now (s .entry)) r) (bytes-of (now (s .entry)) name) ⌝ }
 {
     if r.given {
         return same_text(s, r.name, name);
@@ -50,8 +50,8 @@ fn referenced_by_pgn(
     fields: u32,
     name: Text,
 ) -> bool
-    requires { ⌜ PgnAt (now s) (now work) t i p × (fields ≡ length (pgn-at (packOf (now s)) t i .fields)) ⌝ }
-    ensures { λ r. ⌜ r ≡ referenced-by-pgn (bytesOf (now (s .entry)) name) (pgn-at (packOf (now (s .entry))) t i) ⌝ }
+    requires { ⌜ PgnAt (now s) (now work) t i p × (fields ≡ length (pgn-at (pack-of (now s)) t i .fields)) ⌝ }
+    ensures { λ r. ⌜ r ≡ referenced-by-pgn (bytes-of (now (s .entry)) name) (pgn-at (pack-of (now (s .entry))) t i) ⌝ }
 {
     let mut k: u32 = 0;
     while k < fields {
@@ -66,8 +66,8 @@ fn referenced_by_pgn(
 
 // By a PGN of tree t.
 fn referenced_by_tree(s: &[u8], work: &[u32], t: u32, tree: Section, name: Text) -> bool
-    requires { ⌜ Ready (now s) (now work) × (t < 3) × (tree .count ≡ length (pgns-of (packOf (now s)) t)) × (tree .place ≡ treePlace (packOf (now s)) t) ⌝ }
-    ensures { λ r. ⌜ r ≡ referenced-by-tree (packOf (now (s .entry))) (bytesOf (now (s .entry)) name) t ⌝ }
+    requires { ⌜ Ready (now s) (now work) × (t < 3) × (tree .count ≡ length (pgns-of (pack-of (now s)) t)) × (tree .place ≡ place-of-tree (pack-of (now s)) t) ⌝ }
+    ensures { λ r. ⌜ r ≡ referenced-by-tree (pack-of (now (s .entry))) (bytes-of (now (s .entry)) name) t ⌝ }
 {
     let count = tree.count;
     let mut p = tree.place;
@@ -85,8 +85,8 @@ fn referenced_by_tree(s: &[u8], work: &[u32], t: u32, tree: Section, name: Text)
 
 // By a tree.
 fn referenced_by_trees(s: &[u8], work: &[u32], index: Index, name: Text) -> bool
-    requires { ⌜ Ready (now s) (now work) × IndexIs (packOf (now s)) index ⌝ }
-    ensures { λ r. ⌜ r ≡ anyBelow (λ t. referenced-by-tree (packOf (now (s .entry))) (bytesOf (now (s .entry)) name) t) 3 ⌝ }
+    requires { ⌜ Ready (now s) (now work) × IndexIs (pack-of (now s)) index ⌝ }
+    ensures { λ r. ⌜ r ≡ any-below (λ t. referenced-by-tree (pack-of (now (s .entry))) (bytes-of (now (s .entry)) name) t) 3 ⌝ }
 {
     let mut t: u32 = 0;
     while t < 3 {
@@ -101,8 +101,8 @@ fn referenced_by_trees(s: &[u8], work: &[u32], index: Index, name: Text) -> bool
 
 // By an entry of lookup l, which is v.
 fn referenced_by_lookup(s: &[u8], work: &[u32], l: u32, p: usize, v: LookupView, name: Text) -> bool
-    requires { ⌜ LookupAt (now s) (now work) l p × LookupIs (now s) (lookup-at (packOf (now s) .lookups) l) v ⌝ }
-    ensures { λ r. ⌜ r ≡ referenced-by-lookup (bytesOf (now (s .entry)) name) (lookup-at (packOf (now (s .entry)) .lookups) l) ⌝ }
+    requires { ⌜ LookupAt (now s) (now work) l p × LookupIs (now s) (lookup-at (pack-of (now s) .lookups) l) v ⌝ }
+    ensures { λ r. ⌜ r ≡ referenced-by-lookup (bytes-of (now (s .entry)) name) (lookup-at (pack-of (now (s .entry)) .lookups) l) ⌝ }
 {
     if v.kind != 3 {
         return false;
@@ -121,8 +121,8 @@ fn referenced_by_lookup(s: &[u8], work: &[u32], l: u32, p: usize, v: LookupView,
 
 // By a lookup.
 fn referenced_by_lookups(s: &[u8], work: &[u32], lookups: Section, name: Text) -> bool
-    requires { ⌜ Ready (now s) (now work) × (lookups .count ≡ length (packOf (now s) .lookups)) × (lookups .place ≡ lookupPlace (packOf (now s)) 0) ⌝ }
-    ensures { λ r. ⌜ r ≡ anyBelow (λ l. referenced-by-lookup (bytesOf (now (s .entry)) name) (lookup-at (packOf (now (s .entry)) .lookups) l)) (length (packOf (now (s .entry)) .lookups)) ⌝ }
+    requires { ⌜ Ready (now s) (now work) × (lookups .count ≡ length (pack-of (now s) .lookups)) × (lookups .place ≡ place-of-lookup (pack-of (now s)) 0) ⌝ }
+    ensures { λ r. ⌜ r ≡ any-below (λ l. referenced-by-lookup (bytes-of (now (s .entry)) name) (lookup-at (pack-of (now (s .entry)) .lookups) l)) (length (pack-of (now (s .entry)) .lookups)) ⌝ }
 {
     let count = lookups.count;
     let mut p = lookups.place;
@@ -140,8 +140,8 @@ fn referenced_by_lookups(s: &[u8], work: &[u32], lookups: Section, name: Text) -
 
 // By anything.
 fn referenced(s: &[u8], work: &[u32], index: Index, name: Text) -> bool
-    requires { ⌜ Ready (now s) (now work) × IndexIs (packOf (now s)) index ⌝ }
-    ensures { λ r. ⌜ r ≡ referenced (packOf (now (s .entry))) (bytesOf (now (s .entry)) name) ⌝ }
+    requires { ⌜ Ready (now s) (now work) × IndexIs (pack-of (now s)) index ⌝ }
+    ensures { λ r. ⌜ r ≡ referenced (pack-of (now (s .entry))) (bytes-of (now (s .entry)) name) ⌝ }
 {
     if referenced_by_trees(s, work, index, name) {
         return true;
@@ -151,8 +151,8 @@ fn referenced(s: &[u8], work: &[u32], index: Index, name: Text) -> bool
 
 // Each lookup searched for.
 fn check_by_search(out: &mut [u32], n: usize, s: &[u8], work: &[u32], index: Index) -> usize
-    requires { ⌜ Fits n (concatBelow (λ l. report-if (not (referenced (packOf (now s)) (lookup-at (packOf (now s) .lookups) l .name))) (lookup-warning 22 1 l 0 0)) (length (packOf (now s) .lookups))) × Ready (now s) (now work) × IndexIs (packOf (now s)) index ⌝ }
-    ensures { λ r. ⌜ Emitted (now (out .entry)) n (concatBelow (λ l. report-if (not (referenced (packOf (now (s .entry))) (lookup-at (packOf (now (s .entry)) .lookups) l .name))) (lookup-warning 22 1 l 0 0)) (length (packOf (now (s .entry)) .lookups))) (now (out .exit)) r ⌝ }
+    requires { ⌜ Fits n (concat-below (λ l. report-if (not (referenced (pack-of (now s)) (lookup-at (pack-of (now s) .lookups) l .name))) (lookup-warning 22 1 l 0 0)) (length (pack-of (now s) .lookups))) × Ready (now s) (now work) × IndexIs (pack-of (now s)) index ⌝ }
+    ensures { λ r. ⌜ Emitted (now (out .entry)) n (concat-below (λ l. report-if (not (referenced (pack-of (now (s .entry))) (lookup-at (pack-of (now (s .entry)) .lookups) l .name))) (lookup-warning 22 1 l 0 0)) (length (pack-of (now (s .entry)) .lookups))) (now (out .exit)) r ⌝ }
 {
     let count = index.lookups.count;
     let mut m = n;
@@ -170,8 +170,8 @@ fn check_by_search(out: &mut [u32], n: usize, s: &[u8], work: &[u32], index: Ind
 
 // The lookups without a mark.
 fn report_unmarked(out: &mut [u32], n: usize, marks: &[bool], count: u32) -> usize
-    requires { ⌜ Fits n (concatBelow (λ l. report-if (not (getD (now marks) l false)) (lookup-warning 22 1 l 0 0)) count) × (count ≤ length (now marks)) ⌝ }
-    ensures { λ r. ⌜ Emitted (now (out .entry)) n (concatBelow (λ l. report-if (not (getD (now (marks .entry)) l false)) (lookup-warning 22 1 l 0 0)) count) (now (out .exit)) r ⌝ }
+    requires { ⌜ Fits n (concat-below (λ l. report-if (not (getD (now marks) l false)) (lookup-warning 22 1 l 0 0)) count) × (count ≤ length (now marks)) ⌝ }
+    ensures { λ r. ⌜ Emitted (now (out .entry)) n (concat-below (λ l. report-if (not (getD (now (marks .entry)) l false)) (lookup-warning 22 1 l 0 0)) count) (now (out .exit)) r ⌝ }
 {
     let mut m = n;
     let mut l: u32 = 0;
@@ -192,8 +192,8 @@ fn check_by_marks(
     work: &[u32],
     index: Index,
 ) -> usize
-    requires { ⌜ Fits n (concatBelow (λ l. report-if (not (referenced (packOf (now s)) (lookup-at (packOf (now s) .lookups) l .name))) (lookup-warning 22 1 l 0 0)) (length (packOf (now s) .lookups))) × Clear (now marks) × (length (packOf (now s) .lookups) ≤ length (now marks)) × Ready (now s) (now work) × IndexIs (packOf (now s)) index ⌝ }
-    ensures { λ r. ⌜ Emitted (now (out .entry)) n (concatBelow (λ l. report-if (not (referenced (packOf (now (s .entry))) (lookup-at (packOf (now (s .entry)) .lookups) l .name))) (lookup-warning 22 1 l 0 0)) (length (packOf (now (s .entry)) .lookups))) (now (out .exit)) r ⌝ }
+    requires { ⌜ Fits n (concat-below (λ l. report-if (not (referenced (pack-of (now s)) (lookup-at (pack-of (now s) .lookups) l .name))) (lookup-warning 22 1 l 0 0)) (length (pack-of (now s) .lookups))) × Clear (now marks) × (length (pack-of (now s) .lookups) ≤ length (now marks)) × Ready (now s) (now work) × IndexIs (pack-of (now s)) index ⌝ }
+    ensures { λ r. ⌜ Emitted (now (out .entry)) n (concat-below (λ l. report-if (not (referenced (pack-of (now (s .entry))) (lookup-at (pack-of (now (s .entry)) .lookups) l .name))) (lookup-warning 22 1 l 0 0)) (length (pack-of (now (s .entry)) .lookups))) (now (out .exit)) r ⌝ }
 {
     mark_referenced(marks, s, work, index);
     report_unmarked(out, n, marks, index.lookups.count)
@@ -201,8 +201,8 @@ fn check_by_marks(
 
 // R22: every lookup is referenced somewhere. A search for each is slow, so it is left to packs with more lookups than there are marks.
 pub fn check_lookup_uses(out: &mut [u32], n: usize, s: &[u8], work: &[u32], index: Index) -> usize
-    requires { ⌜ Fits n (concatBelow (λ l. report-if (not (referenced (packOf (now s)) (lookup-at (packOf (now s) .lookups) l .name))) (lookup-warning 22 1 l 0 0)) (length (packOf (now s) .lookups))) × Ready (now s) (now work) × IndexIs (packOf (now s)) index ⌝ }
-    ensures { λ r. ⌜ Emitted (now (out .entry)) n (concatBelow (λ l. report-if (not (referenced (packOf (now (s .entry))) (lookup-at (packOf (now (s .entry)) .lookups) l .name))) (lookup-warning 22 1 l 0 0)) (length (packOf (now (s .entry)) .lookups))) (now (out .exit)) r ⌝ }
+    requires { ⌜ Fits n (concat-below (λ l. report-if (not (referenced (pack-of (now s)) (lookup-at (pack-of (now s) .lookups) l .name))) (lookup-warning 22 1 l 0 0)) (length (pack-of (now s) .lookups))) × Ready (now s) (now work) × IndexIs (pack-of (now s)) index ⌝ }
+    ensures { λ r. ⌜ Emitted (now (out .entry)) n (concat-below (λ l. report-if (not (referenced (pack-of (now (s .entry))) (lookup-at (pack-of (now (s .entry)) .lookups) l .name))) (lookup-warning 22 1 l 0 0)) (length (pack-of (now (s .entry)) .lookups))) (now (out .exit)) r ⌝ }
 {
     if 4096 < index.lookups.count {
         return check_by_search(out, n, s, work, index);

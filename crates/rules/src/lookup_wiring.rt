@@ -4,11 +4,11 @@ ghost use mathlib.Core.Bool.{_&&_};
 ghost use mathlib.Core.Option.{some};
 ghost use Prim.Native.Nat.{_<_};
 ghost use lib.ListN.{length};
-ghost use Rattle.pack.specs.Notation.{_==_, concatBelow};
+ghost use Rattle.pack.specs.Notation.{_==_, concat-below};
 ghost use Rattle.pack.specs.Value.{pgns-of, pgn-at, lookup-at};
-ghost use Rattle.pack.specs.Items.{bytesOf};
-ghost use Rattle.pack.specs.Meaning.{optReference, fieldMeaning, packOf};
-ghost use Rattle.pack.specs.Ready.{Ready, LookupAt, LookupIs, PgnAt, lookupPlace, treePlace, IndexIs};
+ghost use Rattle.pack.specs.Items.{bytes-of};
+ghost use Rattle.pack.specs.Meaning.{optional-reference, field-meaning, pack-of};
+ghost use Rattle.pack.specs.Ready.{Ready, LookupAt, LookupIs, PgnAt, place-of-lookup, place-of-tree, IndexIs};
 ghost use Rattle.rules.specs.Emit.{Emitted, Fits};
 ghost use Rattle.rules.specs.LookupWiring.{beyond-width, unreachable, lookup-width-at, lookup-found-at, lookup-ref-at, check-lookup-refs};
 ghost use Rattle.rules.specs.LookupWiring.{check-lookup-wiring};
@@ -47,8 +47,8 @@ fn beyond_width(kind: u32, width: u64, value: u64) -> bool
 
 // Whether some value of lookup l, which is v, is beyond the width.
 fn unreachable(s: &[u8], work: &[u32], l: u32, p: usize, v: LookupView, width: u64) -> bool
-    requires { ⌜ LookupAt (now s) (now work) l p × LookupIs (now s) (lookup-at (packOf (now s) .lookups) l) v ⌝ }
-    ensures { λ r. ⌜ r ≡ unreachable (lookup-at (packOf (now (s .entry)) .lookups) l) width ⌝ }
+    requires { ⌜ LookupAt (now s) (now work) l p × LookupIs (now s) (lookup-at (pack-of (now s) .lookups) l) v ⌝ }
+    ensures { λ r. ⌜ r ≡ unreachable (lookup-at (pack-of (now (s .entry)) .lookups) l) width ⌝ }
 {
     let kind = v.kind;
     let entries = v.entries;
@@ -87,8 +87,8 @@ fn lookup_width_at(
     p: usize,
     v: LookupView,
 ) -> usize
-    requires { ⌜ Fits n (lookup-width-at t i k (fieldMeaning (now s) f) l (lookup-at (packOf (now s) .lookups) l)) × LookupAt (now s) (now work) l p × LookupIs (now s) (lookup-at (packOf (now s) .lookups) l) v ⌝ }
-    ensures { λ r. ⌜ Emitted (now (out .entry)) n (lookup-width-at t i k (fieldMeaning (now (s .entry)) f) l (lookup-at (packOf (now (s .entry)) .lookups) l)) (now (out .exit)) r ⌝ }
+    requires { ⌜ Fits n (lookup-width-at t i k (field-meaning (now s) f) l (lookup-at (pack-of (now s) .lookups) l)) × LookupAt (now s) (now work) l p × LookupIs (now s) (lookup-at (pack-of (now s) .lookups) l) v ⌝ }
+    ensures { λ r. ⌜ Emitted (now (out .entry)) n (lookup-width-at t i k (field-meaning (now (s .entry)) f) l (lookup-at (pack-of (now (s .entry)) .lookups) l)) (now (out .exit)) r ⌝ }
 {
     let width = value_bits(s, f);
     let allowed = f.flags.mismatch;
@@ -116,8 +116,8 @@ fn lookup_found_at(
     l: u32,
     p: usize,
 ) -> usize
-    requires { ⌜ Fits n (lookup-found-at (packOf (now s) .lookups) t i k (fieldMeaning (now s) f) (record { kind = f .links .reference .kind; name = bytesOf (now s) (f .links .reference .name) }) (some l)) × LookupAt (now s) (now work) l p ⌝ }
-    ensures { λ r. ⌜ Emitted (now (out .entry)) n (lookup-found-at (packOf (now (s .entry)) .lookups) t i k (fieldMeaning (now (s .entry)) f) (record { kind = f .links .reference .kind; name = bytesOf (now (s .entry)) (f .links .reference .name) }) (some l)) (now (out .exit)) r ⌝ }
+    requires { ⌜ Fits n (lookup-found-at (pack-of (now s) .lookups) t i k (field-meaning (now s) f) (record { kind = f .links .reference .kind; name = bytes-of (now s) (f .links .reference .name) }) (some l)) × LookupAt (now s) (now work) l p ⌝ }
+    ensures { λ r. ⌜ Emitted (now (out .entry)) n (lookup-found-at (pack-of (now (s .entry)) .lookups) t i k (field-meaning (now (s .entry)) f) (record { kind = f .links .reference .kind; name = bytes-of (now (s .entry)) (f .links .reference .name) }) (some l)) (now (out .exit)) r ⌝ }
 {
     let v = lookup_of(s, work, l, p);
     let other = v.kind != f.links.reference.kind;
@@ -137,8 +137,8 @@ fn lookup_ref_at(
     k: u32,
     f: FieldView,
 ) -> usize
-    requires { ⌜ Fits n (lookup-ref-at (packOf (now s) .lookups) t i k (fieldMeaning (now s) f) (optReference (now s) (f .links .reference))) × Ready (now s) (now work) × (lookups .count ≡ length (packOf (now s) .lookups)) × (lookups .place ≡ lookupPlace (packOf (now s)) 0) ⌝ }
-    ensures { λ r. ⌜ Emitted (now (out .entry)) n (lookup-ref-at (packOf (now (s .entry)) .lookups) t i k (fieldMeaning (now (s .entry)) f) (optReference (now (s .entry)) (f .links .reference))) (now (out .exit)) r ⌝ }
+    requires { ⌜ Fits n (lookup-ref-at (pack-of (now s) .lookups) t i k (field-meaning (now s) f) (optional-reference (now s) (f .links .reference))) × Ready (now s) (now work) × (lookups .count ≡ length (pack-of (now s) .lookups)) × (lookups .place ≡ place-of-lookup (pack-of (now s)) 0) ⌝ }
+    ensures { λ r. ⌜ Emitted (now (out .entry)) n (lookup-ref-at (pack-of (now (s .entry)) .lookups) t i k (field-meaning (now (s .entry)) f) (optional-reference (now (s .entry)) (f .links .reference))) (now (out .exit)) r ⌝ }
 {
     if !f.links.reference.given {
         return n;
@@ -162,8 +162,8 @@ fn check_lookup_refs(
     p: usize,
     fields: u32,
 ) -> usize
-    requires { ⌜ Fits n (check-lookup-refs (packOf (now s) .lookups) t i (pgn-at (packOf (now s)) t i)) × PgnAt (now s) (now work) t i p × (lookups .count ≡ length (packOf (now s) .lookups)) × (lookups .place ≡ lookupPlace (packOf (now s)) 0) × (fields ≡ length (pgn-at (packOf (now s)) t i .fields)) ⌝ }
-    ensures { λ r. ⌜ Emitted (now (out .entry)) n (check-lookup-refs (packOf (now (s .entry)) .lookups) t i (pgn-at (packOf (now (s .entry))) t i)) (now (out .exit)) r ⌝ }
+    requires { ⌜ Fits n (check-lookup-refs (pack-of (now s) .lookups) t i (pgn-at (pack-of (now s)) t i)) × PgnAt (now s) (now work) t i p × (lookups .count ≡ length (pack-of (now s) .lookups)) × (lookups .place ≡ place-of-lookup (pack-of (now s)) 0) × (fields ≡ length (pgn-at (pack-of (now s)) t i .fields)) ⌝ }
+    ensures { λ r. ⌜ Emitted (now (out .entry)) n (check-lookup-refs (pack-of (now (s .entry)) .lookups) t i (pgn-at (pack-of (now (s .entry))) t i)) (now (out .exit)) r ⌝ }
 {
     let mut m = n;
     let mut k: u32 = 0;
@@ -185,8 +185,8 @@ fn check_tree_refs(
     t: u32,
     tree: Section,
 ) -> usize
-    requires { ⌜ Fits n (concatBelow (λ i. check-lookup-refs (packOf (now s) .lookups) t i (pgn-at (packOf (now s)) t i)) (length (pgns-of (packOf (now s)) t))) × Ready (now s) (now work) × (lookups .count ≡ length (packOf (now s) .lookups)) × (lookups .place ≡ lookupPlace (packOf (now s)) 0) × (t < 3) × (tree .count ≡ length (pgns-of (packOf (now s)) t)) × (tree .place ≡ treePlace (packOf (now s)) t) ⌝ }
-    ensures { λ r. ⌜ Emitted (now (out .entry)) n (concatBelow (λ i. check-lookup-refs (packOf (now (s .entry)) .lookups) t i (pgn-at (packOf (now (s .entry))) t i)) (length (pgns-of (packOf (now (s .entry))) t))) (now (out .exit)) r ⌝ }
+    requires { ⌜ Fits n (concat-below (λ i. check-lookup-refs (pack-of (now s) .lookups) t i (pgn-at (pack-of (now s)) t i)) (length (pgns-of (pack-of (now s)) t))) × Ready (now s) (now work) × (lookups .count ≡ length (pack-of (now s) .lookups)) × (lookups .place ≡ place-of-lookup (pack-of (now s)) 0) × (t < 3) × (tree .count ≡ length (pgns-of (pack-of (now s)) t)) × (tree .place ≡ place-of-tree (pack-of (now s)) t) ⌝ }
+    ensures { λ r. ⌜ Emitted (now (out .entry)) n (concat-below (λ i. check-lookup-refs (pack-of (now (s .entry)) .lookups) t i (pgn-at (pack-of (now (s .entry))) t i)) (length (pgns-of (pack-of (now (s .entry))) t))) (now (out .exit)) r ⌝ }
 {
     let count = tree.count;
     let mut m = n;
@@ -203,8 +203,8 @@ fn check_tree_refs(
 
 // The three trees.
 fn check_all_refs(out: &mut [u32], n: usize, s: &[u8], work: &[u32], index: Index) -> usize
-    requires { ⌜ Fits n (concatBelow (λ t. concatBelow (λ i. check-lookup-refs (packOf (now s) .lookups) t i (pgn-at (packOf (now s)) t i)) (length (pgns-of (packOf (now s)) t))) 3) × Ready (now s) (now work) × IndexIs (packOf (now s)) index ⌝ }
-    ensures { λ r. ⌜ Emitted (now (out .entry)) n (concatBelow (λ t. concatBelow (λ i. check-lookup-refs (packOf (now (s .entry)) .lookups) t i (pgn-at (packOf (now (s .entry))) t i)) (length (pgns-of (packOf (now (s .entry))) t))) 3) (now (out .exit)) r ⌝ }
+    requires { ⌜ Fits n (concat-below (λ t. concat-below (λ i. check-lookup-refs (pack-of (now s) .lookups) t i (pgn-at (pack-of (now s)) t i)) (length (pgns-of (pack-of (now s)) t))) 3) × Ready (now s) (now work) × IndexIs (pack-of (now s)) index ⌝ }
+    ensures { λ r. ⌜ Emitted (now (out .entry)) n (concat-below (λ t. concat-below (λ i. check-lookup-refs (pack-of (now (s .entry)) .lookups) t i (pgn-at (pack-of (now (s .entry))) t i)) (length (pgns-of (pack-of (now (s .entry))) t))) 3) (now (out .exit)) r ⌝ }
 {
     let mut m = n;
     let mut t: u32 = 0;
@@ -218,8 +218,8 @@ fn check_all_refs(out: &mut [u32], n: usize, s: &[u8], work: &[u32], index: Inde
 
 // R08, every reference resolves with the right kind and bit width; R22, every lookup is referenced somewhere.
 pub fn check_lookup_wiring(out: &mut [u32], n: usize, s: &[u8], work: &[u32], index: Index) -> usize
-    requires { ⌜ Fits n (check-lookup-wiring (packOf (now s))) × Ready (now s) (now work) × IndexIs (packOf (now s)) index ⌝ }
-    ensures { λ r. ⌜ Emitted (now (out .entry)) n (check-lookup-wiring (packOf (now (s .entry)))) (now (out .exit)) r ⌝ }
+    requires { ⌜ Fits n (check-lookup-wiring (pack-of (now s))) × Ready (now s) (now work) × IndexIs (pack-of (now s)) index ⌝ }
+    ensures { λ r. ⌜ Emitted (now (out .entry)) n (check-lookup-wiring (pack-of (now (s .entry)))) (now (out .exit)) r ⌝ }
 {
     let refs = check_all_refs(out, n, s, work, index);
     let nested = check_all_nested_refs(out, refs, s, work, index);

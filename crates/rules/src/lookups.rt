@@ -3,9 +3,9 @@ ghost use mathlib.Core.Path.{_≡_};
 ghost use mathlib.Core.Bool.{true};
 ghost use lib.ListN.{length};
 ghost use Rattle.pack.specs.Notation.{optional};
-ghost use Rattle.pack.specs.Items.{bytesOf};
-ghost use Rattle.pack.specs.Meaning.{packOf};
-ghost use Rattle.pack.specs.Ready.{Ready, LookupAt, lookupPlace};
+ghost use Rattle.pack.specs.Items.{bytes-of};
+ghost use Rattle.pack.specs.Meaning.{pack-of};
+ghost use Rattle.pack.specs.Ready.{Ready, LookupAt, place-of-lookup};
 ghost use Rattle.rules.specs.Model.{find-lookup};
 use pack::load::Section;
 use pack::of::lookup_of;
@@ -21,8 +21,8 @@ pub struct FoundLookup {
 
 // The lookup of that name.
 pub fn find_lookup(s: &[u8], work: &[u32], lookups: Section, name: Text) -> FoundLookup
-    requires { ⌜ Ready (now s) (now work) × (lookups .count ≡ length (packOf (now s) .lookups)) × (lookups .place ≡ lookupPlace (packOf (now s)) 0) ⌝ }
-    ensures { λ r. ⌜ optional (r .given) (r .index) ≡ find-lookup (packOf (now (s .entry)) .lookups) (bytesOf (now (s .entry)) name) ⌝ }
+    requires { ⌜ Ready (now s) (now work) × (lookups .count ≡ length (pack-of (now s) .lookups)) × (lookups .place ≡ place-of-lookup (pack-of (now s)) 0) ⌝ }
+    ensures { λ r. ⌜ optional (r .given) (r .index) ≡ find-lookup (pack-of (now (s .entry)) .lookups) (bytes-of (now (s .entry)) name) ⌝ }
     ensures { λ r. ⌜ (r .given ≡ true → LookupAt (now (s .entry)) (now (work .entry)) (r .index) (r .place)) ⌝ }
 {
     let n = lookups.count;

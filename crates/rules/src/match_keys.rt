@@ -5,7 +5,7 @@ ghost use mathlib.Core.Bool.{true};
 ghost use Prim.Native.Nat.{_+_, _-_, _≤_, _<_};
 ghost use lib.ListN.{length, drop};
 ghost use Rattle.pack.specs.Notation.{_≐_};
-ghost use Rattle.pack.specs.Meaning.{packOf};
+ghost use Rattle.pack.specs.Meaning.{pack-of};
 ghost use Rattle.pack.specs.Ready.{PgnAt};
 ghost use Rattle.pack.specs.Value.{pgn-at};
 ghost use Rattle.rules.specs.Digits.{digits};
@@ -34,8 +34,8 @@ pub struct KeyByte {
 
 // Whether a field of PGN i of tree t, which is at p, has a match.
 pub fn has_match(s: &[u8], work: &[u32], t: u32, i: u32, p: usize, fields: u32) -> bool
-    requires { ⌜ PgnAt (now s) (now work) t i p × (fields ≡ length (pgn-at (packOf (now s)) t i .fields)) ⌝ }
-    ensures { λ r. ⌜ r ≡ has-match (pgn-at (packOf (now (s .entry))) t i) fields ⌝ }
+    requires { ⌜ PgnAt (now s) (now work) t i p × (fields ≡ length (pgn-at (pack-of (now s)) t i .fields)) ⌝ }
+    ensures { λ r. ⌜ r ≡ has-match (pgn-at (pack-of (now (s .entry))) t i) fields ⌝ }
 {
     let mut k: u32 = 0;
     while k < fields {
@@ -85,8 +85,8 @@ fn before(field: u32) -> MatchKey
 
 // The first byte of what fields from `from` on bring.
 fn next_piece(s: &[u8], work: &[u32], t: u32, i: u32, p: usize, fields: u32, from: u32) -> KeyByte
-    requires { ⌜ PgnAt (now s) (now work) t i p × (fields ≡ length (pgn-at (packOf (now s)) t i .fields)) × (from ≤ fields) ⌝ }
-    ensures { λ r. ⌜ pieces-from (pgn-at (packOf (now (s .entry))) t i) from (fields - from) ≡ first-and (r .given) (r .byte) (to-come (now (s .entry)) (pgn-at (packOf (now (s .entry))) t i) (r .after)) ⌝ }
+    requires { ⌜ PgnAt (now s) (now work) t i p × (fields ≡ length (pgn-at (pack-of (now s)) t i .fields)) × (from ≤ fields) ⌝ }
+    ensures { λ r. ⌜ pieces-from (pgn-at (pack-of (now (s .entry))) t i) from (fields - from) ≡ first-and (r .given) (r .byte) (to-come (now (s .entry)) (pgn-at (pack-of (now (s .entry))) t i) (r .after)) ⌝ }
     ensures { λ r. ⌜ (r .after .field ≤ fields) × (length (r .after .head) ≡ 11) ⌝ }
 {
     let mut k = from;
@@ -115,8 +115,8 @@ fn next_of_text(
     fields: u32,
     key: MatchKey,
 ) -> KeyByte
-    requires { ⌜ PgnAt (now s) (now work) t i p × (fields ≡ length (pgn-at (packOf (now s)) t i .fields)) × (key .field ≤ fields) × (length (key .head) ≡ 11) × (11 ≤ key .at) ⌝ }
-    ensures { λ r. ⌜ to-come (now (s .entry)) (pgn-at (packOf (now (s .entry))) t i) key ≡ first-and (r .given) (r .byte) (to-come (now (s .entry)) (pgn-at (packOf (now (s .entry))) t i) (r .after)) ⌝ }
+    requires { ⌜ PgnAt (now s) (now work) t i p × (fields ≡ length (pgn-at (pack-of (now s)) t i .fields)) × (key .field ≤ fields) × (length (key .head) ≡ 11) × (11 ≤ key .at) ⌝ }
+    ensures { λ r. ⌜ to-come (now (s .entry)) (pgn-at (pack-of (now (s .entry))) t i) key ≡ first-and (r .given) (r .byte) (to-come (now (s .entry)) (pgn-at (pack-of (now (s .entry))) t i) (r .after)) ⌝ }
     ensures { λ r. ⌜ (r .after .field ≤ fields) × (length (r .after .head) ≡ 11) ⌝ }
 {
     let b = part(s, key.text);
@@ -144,8 +144,8 @@ fn next_of_text(
 
 // The next byte of the key.
 fn next(s: &[u8], work: &[u32], t: u32, i: u32, p: usize, fields: u32, key: MatchKey) -> KeyByte
-    requires { ⌜ PgnAt (now s) (now work) t i p × (fields ≡ length (pgn-at (packOf (now s)) t i .fields)) × (key .field ≤ fields) × (length (key .head) ≡ 11) ⌝ }
-    ensures { λ r. ⌜ to-come (now (s .entry)) (pgn-at (packOf (now (s .entry))) t i) key ≡ first-and (r .given) (r .byte) (to-come (now (s .entry)) (pgn-at (packOf (now (s .entry))) t i) (r .after)) ⌝ }
+    requires { ⌜ PgnAt (now s) (now work) t i p × (fields ≡ length (pgn-at (pack-of (now s)) t i .fields)) × (key .field ≤ fields) × (length (key .head) ≡ 11) ⌝ }
+    ensures { λ r. ⌜ to-come (now (s .entry)) (pgn-at (pack-of (now (s .entry))) t i) key ≡ first-and (r .given) (r .byte) (to-come (now (s .entry)) (pgn-at (pack-of (now (s .entry))) t i) (r .after)) ⌝ }
     ensures { λ r. ⌜ (r .after .field ≤ fields) × (length (r .after .head) ≡ 11) ⌝ }
 {
     let at = key.at;
@@ -180,8 +180,8 @@ fn same_key(
     q: usize,
     n: u32,
 ) -> bool
-    requires { ⌜ PgnAt (now s) (now work) t i p × (m ≡ length (pgn-at (packOf (now s)) t i .fields)) × PgnAt (now s) (now work) t j q × (n ≡ length (pgn-at (packOf (now s)) t j .fields)) ⌝ }
-    ensures { λ r. ⌜ r ≡ (pieces-from (pgn-at (packOf (now (s .entry))) t i) 0 m ≐ pieces-from (pgn-at (packOf (now (s .entry))) t j) 0 n) ⌝ }
+    requires { ⌜ PgnAt (now s) (now work) t i p × (m ≡ length (pgn-at (pack-of (now s)) t i .fields)) × PgnAt (now s) (now work) t j q × (n ≡ length (pgn-at (pack-of (now s)) t j .fields)) ⌝ }
+    ensures { λ r. ⌜ r ≡ (pieces-from (pgn-at (pack-of (now (s .entry))) t i) 0 m ≐ pieces-from (pgn-at (pack-of (now (s .entry))) t j) 0 n) ⌝ }
 {
     let mut a = before(0);
     let mut b = before(0);
@@ -214,8 +214,8 @@ pub fn duplicates(
     q: usize,
     n: u32,
 ) -> bool
-    requires { ⌜ PgnAt (now s) (now work) t i p × (m ≡ length (pgn-at (packOf (now s)) t i .fields)) × PgnAt (now s) (now work) t j q × (n ≡ length (pgn-at (packOf (now s)) t j .fields)) ⌝ }
-    ensures { λ r. ⌜ r ≡ duplicates (pgn-at (packOf (now (s .entry))) t i) (pgn-at (packOf (now (s .entry))) t j) ⌝ }
+    requires { ⌜ PgnAt (now s) (now work) t i p × (m ≡ length (pgn-at (pack-of (now s)) t i .fields)) × PgnAt (now s) (now work) t j q × (n ≡ length (pgn-at (pack-of (now s)) t j .fields)) ⌝ }
+    ensures { λ r. ⌜ r ≡ duplicates (pgn-at (pack-of (now (s .entry))) t i) (pgn-at (pack-of (now (s .entry))) t j) ⌝ }
 {
     if !has_match(s, work, t, i, p, m) {
         return false;

@@ -1,8 +1,8 @@
 // R13
 ghost use mathlib.Core.Path.{_≡_};
 ghost use lib.ListN.{length};
-ghost use Rattle.pack.specs.Meaning.{fieldMeaning, packOf};
-ghost use Rattle.pack.specs.Ready.{Ready, PgnAt, PgnIs, lookupPlace};
+ghost use Rattle.pack.specs.Meaning.{field-meaning, pack-of};
+ghost use Rattle.pack.specs.Ready.{Ready, PgnAt, PgnIs, place-of-lookup};
 ghost use Rattle.pack.specs.Value.{pgn-at, field-at};
 ghost use Rattle.rules.specs.Emit.{Emitted, Fits};
 ghost use Rattle.rules.specs.MatchValues.{match-value-at, check-match-values};
@@ -28,8 +28,8 @@ fn match_value_at(
     k: u32,
     f: FieldView,
 ) -> usize
-    requires { ⌜ Fits n (match-value-at (packOf (now s) .lookups) t i (pgn-at (packOf (now s)) t i) k) × Ready (now s) (now work) × (lookups .count ≡ length (packOf (now s) .lookups)) × (lookups .place ≡ lookupPlace (packOf (now s)) 0) × (fieldMeaning (now s) f ≡ field-at (pgn-at (packOf (now s)) t i) k) ⌝ }
-    ensures { λ r. ⌜ Emitted (now (out .entry)) n (match-value-at (packOf (now (s .entry)) .lookups) t i (pgn-at (packOf (now (s .entry))) t i) k) (now (out .exit)) r ⌝ }
+    requires { ⌜ Fits n (match-value-at (pack-of (now s) .lookups) t i (pgn-at (pack-of (now s)) t i) k) × Ready (now s) (now work) × (lookups .count ≡ length (pack-of (now s) .lookups)) × (lookups .place ≡ place-of-lookup (pack-of (now s)) 0) × (field-meaning (now s) f ≡ field-at (pgn-at (pack-of (now s)) t i) k) ⌝ }
+    ensures { λ r. ⌜ Emitted (now (out .entry)) n (match-value-at (pack-of (now (s .entry)) .lookups) t i (pgn-at (pack-of (now (s .entry))) t i) k) (now (out .exit)) r ⌝ }
 {
     if !f.authored.matched.given {
         return n;
@@ -54,8 +54,8 @@ pub fn check_match_values(
     p: usize,
     g: PgnView,
 ) -> usize
-    requires { ⌜ Fits n (check-match-values (packOf (now s) .lookups) t i (pgn-at (packOf (now s)) t i)) × PgnAt (now s) (now work) t i p × (lookups .count ≡ length (packOf (now s) .lookups)) × (lookups .place ≡ lookupPlace (packOf (now s)) 0) × PgnIs (now s) (pgn-at (packOf (now s)) t i) g ⌝ }
-    ensures { λ r. ⌜ Emitted (now (out .entry)) n (check-match-values (packOf (now (s .entry)) .lookups) t i (pgn-at (packOf (now (s .entry))) t i)) (now (out .exit)) r ⌝ }
+    requires { ⌜ Fits n (check-match-values (pack-of (now s) .lookups) t i (pgn-at (pack-of (now s)) t i)) × PgnAt (now s) (now work) t i p × (lookups .count ≡ length (pack-of (now s) .lookups)) × (lookups .place ≡ place-of-lookup (pack-of (now s)) 0) × PgnIs (now s) (pgn-at (pack-of (now s)) t i) g ⌝ }
+    ensures { λ r. ⌜ Emitted (now (out .entry)) n (check-match-values (pack-of (now (s .entry)) .lookups) t i (pgn-at (pack-of (now (s .entry))) t i)) (now (out .exit)) r ⌝ }
 {
     let fields = g.fields;
     let mut m = n;

@@ -3,7 +3,7 @@ ghost use mathlib.Core.Path.{_≡_};
 ghost use mathlib.Core.Bool.{_||_};
 ghost use lib.ListN.{length};
 ghost use Rattle.pack.specs.Notation.{_≤ᵇ_, _==_};
-ghost use Rattle.pack.specs.Meaning.{packOf};
+ghost use Rattle.pack.specs.Meaning.{pack-of};
 ghost use Rattle.pack.specs.Ready.{PgnAt, PgnIs};
 ghost use Rattle.pack.specs.Value.{pgn-at};
 ghost use mathlib.Core.Option.{some};
@@ -35,8 +35,8 @@ fn lands_on_boundary(
     fields: u32,
     least: u32,
 ) -> bool
-    requires { ⌜ PgnAt (now s) (now work) t i p × (fields ≡ length (pgn-at (packOf (now s)) t i .fields)) ⌝ }
-    ensures { λ r. ⌜ r ≡ lands-on-boundary (pgn-at (packOf (now (s .entry))) t i) least ⌝ }
+    requires { ⌜ PgnAt (now s) (now work) t i p × (fields ≡ length (pgn-at (pack-of (now s)) t i .fields)) ⌝ }
+    ensures { λ r. ⌜ r ≡ lands-on-boundary (pgn-at (pack-of (now (s .entry))) t i) least ⌝ }
 {
     let boundary = least as u64 * 8;
     let mut bits: u64 = 0;
@@ -63,8 +63,8 @@ fn min_length_at(
     g: PgnView,
     least: u32,
 ) -> usize
-    requires { ⌜ Fits n (min-length-at t i (pgn-at (packOf (now s)) t i) (some least)) × PgnAt (now s) (now work) t i p × PgnIs (now s) (pgn-at (packOf (now s)) t i) g ⌝ }
-    ensures { λ r. ⌜ Emitted (now (out .entry)) n (min-length-at t i (pgn-at (packOf (now (s .entry))) t i) (some least)) (now (out .exit)) r ⌝ }
+    requires { ⌜ Fits n (min-length-at t i (pgn-at (pack-of (now s)) t i) (some least)) × PgnAt (now s) (now work) t i p × PgnIs (now s) (pgn-at (pack-of (now s)) t i) g ⌝ }
+    ensures { λ r. ⌜ Emitted (now (out .entry)) n (min-length-at t i (pgn-at (pack-of (now (s .entry))) t i) (some least)) (now (out .exit)) r ⌝ }
 {
     if g.flags.variable {
         return put(out, n, pgn_error(16, 1, t, i, 0, 0));
@@ -87,8 +87,8 @@ pub fn check_min_length(
     p: usize,
     g: PgnView,
 ) -> usize
-    requires { ⌜ Fits n (check-min-length t i (pgn-at (packOf (now s)) t i)) × PgnAt (now s) (now work) t i p × PgnIs (now s) (pgn-at (packOf (now s)) t i) g ⌝ }
-    ensures { λ r. ⌜ Emitted (now (out .entry)) n (check-min-length t i (pgn-at (packOf (now (s .entry))) t i)) (now (out .exit)) r ⌝ }
+    requires { ⌜ Fits n (check-min-length t i (pgn-at (pack-of (now s)) t i)) × PgnAt (now s) (now work) t i p × PgnIs (now s) (pgn-at (pack-of (now s)) t i) g ⌝ }
+    ensures { λ r. ⌜ Emitted (now (out .entry)) n (check-min-length t i (pgn-at (pack-of (now (s .entry))) t i)) (now (out .exit)) r ⌝ }
 {
     let minimum = g.minimum;
     if minimum.given {

@@ -1,10 +1,10 @@
 // R08, causes 6 and 7: what the entries of fieldtype lookups name.
 ghost use mathlib.Core.Path.{_≡_};
 ghost use lib.ListN.{length};
-ghost use Rattle.pack.specs.Notation.{concatBelow};
-ghost use Rattle.pack.specs.Items.{bytesOf};
-ghost use Rattle.pack.specs.Meaning.{optBytes, entryMeaning, packOf};
-ghost use Rattle.pack.specs.Ready.{Ready, LookupAt, LookupIs, lookupPlace, IndexIs};
+ghost use Rattle.pack.specs.Notation.{concat-below};
+ghost use Rattle.pack.specs.Items.{bytes-of};
+ghost use Rattle.pack.specs.Meaning.{optional-bytes, entry-meaning, pack-of};
+ghost use Rattle.pack.specs.Ready.{Ready, LookupAt, LookupIs, place-of-lookup, IndexIs};
 ghost use Rattle.pack.specs.Value.{lookup-at};
 ghost use Rattle.rules.specs.Emit.{Emitted, Fits};
 ghost use Rattle.rules.specs.LookupWiring.{is-fieldtype, nested-lookup-at, fieldtype-entry-at, check-nested-refs};
@@ -24,8 +24,8 @@ use pack::text::same_text;
 
 // `db.fieldtype(name)`, of so many field types.
 pub fn is_fieldtype(s: &[u8], work: &[u32], types: u32, name: Text) -> bool
-    requires { ⌜ Ready (now s) (now work) × (types ≡ length (packOf (now s) .fieldtypes)) ⌝ }
-    ensures { λ r. ⌜ r ≡ is-fieldtype (packOf (now (s .entry)) .fieldtypes) (bytesOf (now (s .entry)) name) ⌝ }
+    requires { ⌜ Ready (now s) (now work) × (types ≡ length (pack-of (now s) .fieldtypes)) ⌝ }
+    ensures { λ r. ⌜ r ≡ is-fieldtype (pack-of (now (s .entry)) .fieldtypes) (bytes-of (now (s .entry)) name) ⌝ }
 {
     let mut j: u32 = 0;
     while j < types {
@@ -49,8 +49,8 @@ fn nested_lookup_at(
     e: u32,
     nested: OptText,
 ) -> usize
-    requires { ⌜ Fits n (nested-lookup-at (packOf (now s) .lookups) l e (optBytes (now s) nested)) × Ready (now s) (now work) × (lookups .count ≡ length (packOf (now s) .lookups)) × (lookups .place ≡ lookupPlace (packOf (now s)) 0) ⌝ }
-    ensures { λ r. ⌜ Emitted (now (out .entry)) n (nested-lookup-at (packOf (now (s .entry)) .lookups) l e (optBytes (now (s .entry)) nested)) (now (out .exit)) r ⌝ }
+    requires { ⌜ Fits n (nested-lookup-at (pack-of (now s) .lookups) l e (optional-bytes (now s) nested)) × Ready (now s) (now work) × (lookups .count ≡ length (pack-of (now s) .lookups)) × (lookups .place ≡ place-of-lookup (pack-of (now s)) 0) ⌝ }
+    ensures { λ r. ⌜ Emitted (now (out .entry)) n (nested-lookup-at (pack-of (now (s .entry)) .lookups) l e (optional-bytes (now (s .entry)) nested)) (now (out .exit)) r ⌝ }
 {
     if !nested.given {
         return n;
@@ -70,8 +70,8 @@ fn fieldtype_entry_at(
     e: u32,
     entry: EntryView,
 ) -> usize
-    requires { ⌜ Fits n (fieldtype-entry-at (packOf (now s)) l e (entryMeaning (now s) entry)) × Ready (now s) (now work) × IndexIs (packOf (now s)) index ⌝ }
-    ensures { λ r. ⌜ Emitted (now (out .entry)) n (fieldtype-entry-at (packOf (now (s .entry))) l e (entryMeaning (now (s .entry)) entry)) (now (out .exit)) r ⌝ }
+    requires { ⌜ Fits n (fieldtype-entry-at (pack-of (now s)) l e (entry-meaning (now s) entry)) × Ready (now s) (now work) × IndexIs (pack-of (now s)) index ⌝ }
+    ensures { λ r. ⌜ Emitted (now (out .entry)) n (fieldtype-entry-at (pack-of (now (s .entry))) l e (entry-meaning (now (s .entry)) entry)) (now (out .exit)) r ⌝ }
 {
     let known = is_fieldtype(s, work, index.types.count, entry.fieldtype);
     let m = put_if(out, n, !known, lookup_error(8, 6, l, e, 0));
@@ -89,8 +89,8 @@ fn check_nested_refs(
     p: usize,
     v: LookupView,
 ) -> usize
-    requires { ⌜ Fits n (check-nested-refs (packOf (now s)) l (lookup-at (packOf (now s) .lookups) l)) × LookupAt (now s) (now work) l p × LookupIs (now s) (lookup-at (packOf (now s) .lookups) l) v × IndexIs (packOf (now s)) index ⌝ }
-    ensures { λ r. ⌜ Emitted (now (out .entry)) n (check-nested-refs (packOf (now (s .entry))) l (lookup-at (packOf (now (s .entry)) .lookups) l)) (now (out .exit)) r ⌝ }
+    requires { ⌜ Fits n (check-nested-refs (pack-of (now s)) l (lookup-at (pack-of (now s) .lookups) l)) × LookupAt (now s) (now work) l p × LookupIs (now s) (lookup-at (pack-of (now s) .lookups) l) v × IndexIs (pack-of (now s)) index ⌝ }
+    ensures { λ r. ⌜ Emitted (now (out .entry)) n (check-nested-refs (pack-of (now (s .entry))) l (lookup-at (pack-of (now (s .entry)) .lookups) l)) (now (out .exit)) r ⌝ }
 {
     if v.kind != 3 {
         return n;
@@ -114,8 +114,8 @@ pub(crate) fn check_all_nested_refs(
     work: &[u32],
     index: Index,
 ) -> usize
-    requires { ⌜ Fits n (concatBelow (λ l. check-nested-refs (packOf (now s)) l (lookup-at (packOf (now s) .lookups) l)) (length (packOf (now s) .lookups))) × Ready (now s) (now work) × IndexIs (packOf (now s)) index ⌝ }
-    ensures { λ r. ⌜ Emitted (now (out .entry)) n (concatBelow (λ l. check-nested-refs (packOf (now (s .entry))) l (lookup-at (packOf (now (s .entry)) .lookups) l)) (length (packOf (now (s .entry)) .lookups))) (now (out .exit)) r ⌝ }
+    requires { ⌜ Fits n (concat-below (λ l. check-nested-refs (pack-of (now s)) l (lookup-at (pack-of (now s) .lookups) l)) (length (pack-of (now s) .lookups))) × Ready (now s) (now work) × IndexIs (pack-of (now s)) index ⌝ }
+    ensures { λ r. ⌜ Emitted (now (out .entry)) n (concat-below (λ l. check-nested-refs (pack-of (now (s .entry))) l (lookup-at (pack-of (now (s .entry)) .lookups) l)) (length (pack-of (now (s .entry)) .lookups))) (now (out .exit)) r ⌝ }
 {
     let count = index.lookups.count;
     let mut m = n;

@@ -5,9 +5,9 @@ ghost use mathlib.Core.List.{_∷_};
 ghost use Prim.Native.Nat.{_+_, _%_, _<_};
 ghost use lib.ListN.{length, drop};
 ghost use Rattle.pack.specs.Notation.{_==_, if_then_else_, optional};
-ghost use Rattle.pack.specs.Meaning.{packOf};
+ghost use Rattle.pack.specs.Meaning.{pack-of};
 ghost use Rattle.pack.specs.Ready.{PgnIs};
-ghost use Rattle.pack.specs.Trees.{treeNumber};
+ghost use Rattle.pack.specs.Trees.{tree-number};
 ghost use Rattle.pack.specs.Value.{pgn-at};
 ghost use Rattle.rules.specs.Emit.{Emitted, Fits};
 ghost use Rattle.rules.specs.Pdu1.{pdu1};
@@ -150,7 +150,7 @@ const QUICK_MOST: u32 = 0x7ff;
 
 // How many ranges a tree's table has. Quick goes by none.
 fn range_count(protocol: Protocol) -> usize
-    ensures { λ r. ⌜ r ≡ length (ranges-of (treeNumber protocol)) ⌝ }
+    ensures { λ r. ⌜ r ≡ length (ranges-of (tree-number protocol)) ⌝ }
 {
     match protocol {
         Protocol::J1939 => J1939_COUNT,
@@ -161,8 +161,8 @@ fn range_count(protocol: Protocol) -> usize
 
 // Range j of a tree's table.
 fn range_at(protocol: Protocol, j: usize) -> Range
-    requires { ⌜ j < length (ranges-of (treeNumber protocol)) ⌝ }
-    ensures { λ r. ⌜ drop j (ranges-of (treeNumber protocol)) ≡ range (r .start) (r .end) (if pdu1 (r .start) then 256 else 1) (r .kind) ∷ drop (j + 1) (ranges-of (treeNumber protocol)) ⌝ }
+    requires { ⌜ j < length (ranges-of (tree-number protocol)) ⌝ }
+    ensures { λ r. ⌜ drop j (ranges-of (tree-number protocol)) ≡ range (r .start) (r .end) (if pdu1 (r .start) then 256 else 1) (r .kind) ∷ drop (j + 1) (ranges-of (tree-number protocol)) ⌝ }
 {
     match protocol {
         Protocol::J1939 => J1939_PGN_RANGES[j],
@@ -173,7 +173,7 @@ fn range_at(protocol: Protocol, j: usize) -> Range
 
 // The first range that does not end below the number.
 fn find_range(protocol: Protocol, pgn: u32) -> OptRange
-    ensures { λ r. ⌜ find-range (ranges-of (treeNumber protocol)) pgn ≡ optional (r .given) (range (r .range .start) (r .range .end) (if pdu1 (r .range .start) then 256 else 1) (r .range .kind)) ⌝ }
+    ensures { λ r. ⌜ find-range (ranges-of (tree-number protocol)) pgn ≡ optional (r .given) (range (r .range .start) (r .range .end) (if pdu1 (r .range .start) then 256 else 1) (r .range .kind)) ⌝ }
 {
     let count = range_count(protocol);
     let mut j = 0;
@@ -219,8 +219,8 @@ fn disagrees(range: u32, kind: u32) -> bool
 
 // Quick's "PGN" is an 11-bit CAN identifier, and one frame is the whole message.
 fn quick_range(out: &mut [u32], n: usize, s: &[u8], t: u32, i: u32, g: PgnView) -> usize
-    requires { ⌜ Fits n (quick-range t i (pgn-at (packOf (now s)) t i)) × PgnIs (now s) (pgn-at (packOf (now s)) t i) g ⌝ }
-    ensures { λ r. ⌜ Emitted (now (out .entry)) n (quick-range t i (pgn-at (packOf (now (s .entry))) t i)) (now (out .exit)) r ⌝ }
+    requires { ⌜ Fits n (quick-range t i (pgn-at (pack-of (now s)) t i)) × PgnIs (now s) (pgn-at (pack-of (now s)) t i) g ⌝ }
+    ensures { λ r. ⌜ Emitted (now (out .entry)) n (quick-range t i (pgn-at (pack-of (now (s .entry))) t i)) (now (out .exit)) r ⌝ }
 {
     let m = put_if(out, n, QUICK_MOST < g.pgn, pgn_error(2, 1, t, i, 0, 0));
     put_if(out, m, g.kind != SINGLE, pgn_error(2, 2, t, i, 0, 0))
@@ -236,8 +236,8 @@ fn found_range(
     g: PgnView,
     found: OptRange,
 ) -> usize
-    requires { ⌜ Fits n (found-range t i (pgn-at (packOf (now s)) t i) (find-range (ranges-of t) (g .pgn))) × PgnIs (now s) (pgn-at (packOf (now s)) t i) g × (find-range (ranges-of t) (g .pgn) ≡ optional (found .given) (range (found .range .start) (found .range .end) (if pdu1 (found .range .start) then 256 else 1) (found .range .kind))) ⌝ }
-    ensures { λ r. ⌜ Emitted (now (out .entry)) n (found-range t i (pgn-at (packOf (now (s .entry))) t i) (find-range (ranges-of t) (g .pgn))) (now (out .exit)) r ⌝ }
+    requires { ⌜ Fits n (found-range t i (pgn-at (pack-of (now s)) t i) (find-range (ranges-of t) (g .pgn))) × PgnIs (now s) (pgn-at (pack-of (now s)) t i) g × (find-range (ranges-of t) (g .pgn) ≡ optional (found .given) (range (found .range .start) (found .range .end) (if pdu1 (found .range .start) then 256 else 1) (found .range .kind))) ⌝ }
+    ensures { λ r. ⌜ Emitted (now (out .entry)) n (found-range t i (pgn-at (pack-of (now (s .entry))) t i) (find-range (ranges-of t) (g .pgn))) (now (out .exit)) r ⌝ }
 {
     if found.given {
         if g.pgn < found.range.start {
@@ -253,8 +253,8 @@ fn found_range(
 
 // R02: the number in a valid range; PDU1 PGNs end in 0x00; the packet type agrees with the range.
 pub fn check_pgn_range(out: &mut [u32], n: usize, s: &[u8], t: u32, i: u32, g: PgnView) -> usize
-    requires { ⌜ Fits n (check-pgn-range t i (pgn-at (packOf (now s)) t i)) × PgnIs (now s) (pgn-at (packOf (now s)) t i) g × (t < 3) ⌝ }
-    ensures { λ r. ⌜ Emitted (now (out .entry)) n (check-pgn-range t i (pgn-at (packOf (now (s .entry))) t i)) (now (out .exit)) r ⌝ }
+    requires { ⌜ Fits n (check-pgn-range t i (pgn-at (pack-of (now s)) t i)) × PgnIs (now s) (pgn-at (pack-of (now s)) t i) g × (t < 3) ⌝ }
+    ensures { λ r. ⌜ Emitted (now (out .entry)) n (check-pgn-range t i (pgn-at (pack-of (now (s .entry))) t i)) (now (out .exit)) r ⌝ }
 {
     if ACTISENSE_BEM <= g.pgn {
         return n;

@@ -1,9 +1,9 @@
 // The place text call.
 ghost use mathlib.Core.Path.{_≡_};
 ghost use lib.ListN.{length};
-ghost use Rattle.pack.specs.Meaning.{packOf};
+ghost use Rattle.pack.specs.Meaning.{pack-of};
 ghost use Rattle.pack.specs.Ready.{Ready, IndexIs};
-ghost use Rattle.rules.specs.PlaceCall.{named, textLeft, Places};
+ghost use Rattle.rules.specs.PlaceCall.{named, text-left, Places};
 ghost use Rattle.rules.specs.PlaceText.{place-text};
 use crate::locs::put_loc;
 use crate::places::find_loc;
@@ -28,9 +28,9 @@ fn write_named(
     item: u32,
     text: &mut [u8],
 ) -> Placed
-    requires { ⌜ Ready (now pack) (now work) × IndexIs (packOf (now pack)) index ⌝ }
-    ensures { λ r. ⌜ r ≡ named (place-text (packOf (now (pack .entry))) place tree item) (length (now (text .entry))) ⌝ }
-    ensures { λ r. ⌜ now (text .exit) ≡ textLeft (named (place-text (packOf (now (pack .entry))) place tree item) (length (now (text .entry)))) (place-text (packOf (now (pack .entry))) place tree item) (now (text .entry)) ⌝ }
+    requires { ⌜ Ready (now pack) (now work) × IndexIs (pack-of (now pack)) index ⌝ }
+    ensures { λ r. ⌜ r ≡ named (place-text (pack-of (now (pack .entry))) place tree item) (length (now (text .entry))) ⌝ }
+    ensures { λ r. ⌜ now (text .exit) ≡ text-left (named (place-text (pack-of (now (pack .entry))) place tree item) (length (now (text .entry)))) (place-text (pack-of (now (pack .entry))) place tree item) (now (text .entry)) ⌝ }
 {
     let found = find_loc(pack, work, index, place, tree, item);
     if !found.given {

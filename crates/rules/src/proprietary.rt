@@ -4,7 +4,7 @@ ghost use mathlib.Core.Bool.{not, _&&_, _||_};
 ghost use Prim.Native.Nat.{_<_};
 ghost use lib.ListN.{length};
 ghost use Rattle.pack.specs.Notation.{_==_, _≐_};
-ghost use Rattle.pack.specs.Meaning.{optReference, fieldMeaning, packOf};
+ghost use Rattle.pack.specs.Meaning.{optional-reference, field-meaning, pack-of};
 ghost use Rattle.pack.specs.Ready.{Ready, PgnAt, PgnIs};
 ghost use Rattle.pack.specs.Value.{pgn-at};
 ghost use Rattle.rules.specs.Emit.{Emitted, Fits};
@@ -22,7 +22,7 @@ use pack::text::text_is;
 
 // A field of so many bits with a reference of kind pair to the lookup of that name.
 fn is_pair(s: &[u8], f: FieldView, name: &[u8], bits: u32) -> bool
-    ensures { λ r. ⌜ r ≡ (pair-is (optReference (now (s .entry)) (f .links .reference)) (now (name .entry)) && (f .scaling .bits == bits)) ⌝ }
+    ensures { λ r. ⌜ r ≡ (pair-is (optional-reference (now (s .entry)) (f .links .reference)) (now (name .entry)) && (f .scaling .bits == bits)) ⌝ }
 {
     let reference = f.links.reference;
     let lookup = reference.name;
@@ -40,8 +40,8 @@ fn is_pair(s: &[u8], f: FieldView, name: &[u8], bits: u32) -> bool
 
 // A RESERVED field of so many bits.
 fn is_reserved(s: &[u8], work: &[u32], f: FieldView, bits: u32) -> bool
-    requires { ⌜ Ready (now s) (now work) × (f .ft < length (packOf (now s) .fieldtypes)) ⌝ }
-    ensures { λ r. ⌜ r ≡ ((root-of (packOf (now (s .entry)) .fieldtypes) (fieldMeaning (now (s .entry)) f) ≐ RESERVED) && (f .scaling .bits == bits)) ⌝ }
+    requires { ⌜ Ready (now s) (now work) × (f .ft < length (pack-of (now s) .fieldtypes)) ⌝ }
+    ensures { λ r. ⌜ r ≡ ((root-of (pack-of (now (s .entry)) .fieldtypes) (field-meaning (now (s .entry)) f) ≐ RESERVED) && (f .scaling .bits == bits)) ⌝ }
 {
     let root = root_of(s, work, f.ft);
     if text_is(s, root, b"RESERVED") {
@@ -52,8 +52,8 @@ fn is_reserved(s: &[u8], work: &[u32], f: FieldView, bits: u32) -> bool
 
 // Whether a PGN of so many fields opens with Manufacturer Code, Reserved, Industry Code.
 fn company_fields(s: &[u8], work: &[u32], t: u32, i: u32, p: usize, fields: u32) -> bool
-    requires { ⌜ PgnAt (now s) (now work) t i p × (fields ≡ length (pgn-at (packOf (now s)) t i .fields)) ⌝ }
-    ensures { λ r. ⌜ r ≡ company-fields (packOf (now (s .entry)) .fieldtypes) (pgn-at (packOf (now (s .entry))) t i) ⌝ }
+    requires { ⌜ PgnAt (now s) (now work) t i p × (fields ≡ length (pgn-at (pack-of (now s)) t i .fields)) ⌝ }
+    ensures { λ r. ⌜ r ≡ company-fields (pack-of (now (s .entry)) .fieldtypes) (pgn-at (pack-of (now (s .entry))) t i) ⌝ }
 {
     if fields < 3 {
         return false;
@@ -91,8 +91,8 @@ pub fn check_proprietary(
     p: usize,
     g: PgnView,
 ) -> usize
-    requires { ⌜ Fits n (check-proprietary (packOf (now s) .fieldtypes) t i (pgn-at (packOf (now s)) t i)) × PgnAt (now s) (now work) t i p × PgnIs (now s) (pgn-at (packOf (now s)) t i) g ⌝ }
-    ensures { λ r. ⌜ Emitted (now (out .entry)) n (check-proprietary (packOf (now (s .entry)) .fieldtypes) t i (pgn-at (packOf (now (s .entry))) t i)) (now (out .exit)) r ⌝ }
+    requires { ⌜ Fits n (check-proprietary (pack-of (now s) .fieldtypes) t i (pgn-at (pack-of (now s)) t i)) × PgnAt (now s) (now work) t i p × PgnIs (now s) (pgn-at (pack-of (now s)) t i) g ⌝ }
+    ensures { λ r. ⌜ Emitted (now (out .entry)) n (check-proprietary (pack-of (now (s .entry)) .fieldtypes) t i (pgn-at (pack-of (now (s .entry))) t i)) (now (out .exit)) r ⌝ }
 {
     if is_exempt(g.pgn, g.flags.fallback) {
         return n;

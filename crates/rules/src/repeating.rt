@@ -3,7 +3,7 @@ ghost use mathlib.Core.Path.{_≡_};
 ghost use mathlib.Core.Bool.{not, _&&_, _||_};
 ghost use Prim.Native.Nat.{_+_};
 ghost use Rattle.pack.specs.Notation.{_<ᵇ_, _≤ᵇ_, _==_};
-ghost use Rattle.pack.specs.Meaning.{optNumber, repeatingMeaning, optRepeating, packOf};
+ghost use Rattle.pack.specs.Meaning.{optional-number, repeating-meaning, optional-repeating, pack-of};
 ghost use Rattle.pack.specs.Ready.{PgnIs};
 ghost use Rattle.pack.specs.Value.{pgn-at};
 ghost use Rattle.rules.specs.Emit.{Emitted, Fits};
@@ -30,7 +30,7 @@ fn misplaced(counter: FieldOrder, start: FieldOrder) -> bool
 
 // No countField, or one before the order.
 fn none_or_below(counter: OptNumber, order: FieldOrder) -> bool
-    ensures { λ r. ⌜ r ≡ none-or-below (optNumber counter) (order .0) ⌝ }
+    ensures { λ r. ⌜ r ≡ none-or-below (optional-number counter) (order .0) ⌝ }
 {
     if counter.given {
         return precedes(FieldOrder(counter.value), order);
@@ -78,8 +78,8 @@ fn set_bounds(
     fields: u32,
     set: RepeatingView,
 ) -> usize
-    requires { ⌜ Fits n (set-bounds t i part fields (repeatingMeaning set)) ⌝ }
-    ensures { λ r. ⌜ Emitted (now (out .entry)) n (set-bounds t i part fields (repeatingMeaning set)) (now (out .exit)) r ⌝ }
+    requires { ⌜ Fits n (set-bounds t i part fields (repeating-meaning set)) ⌝ }
+    ensures { λ r. ⌜ Emitted (now (out .entry)) n (set-bounds t i part fields (repeating-meaning set)) (now (out .exit)) r ⌝ }
 {
     if set.start == 0 {
         return put(out, n, pgn_error(5, 1, t, i, part, 0));
@@ -102,8 +102,8 @@ fn set_count_field(
     start: FieldOrder,
     counter: OptNumber,
 ) -> usize
-    requires { ⌜ Fits n (set-count-field t i part (start .0) (optNumber counter)) ⌝ }
-    ensures { λ r. ⌜ Emitted (now (out .entry)) n (set-count-field t i part (start .0) (optNumber counter)) (now (out .exit)) r ⌝ }
+    requires { ⌜ Fits n (set-count-field t i part (start .0) (optional-number counter)) ⌝ }
+    ensures { λ r. ⌜ Emitted (now (out .entry)) n (set-count-field t i part (start .0) (optional-number counter)) (now (out .exit)) r ⌝ }
 {
     if counter.given {
         let report = misplaced(FieldOrder(counter.value), start);
@@ -121,8 +121,8 @@ fn set_nesting(
     outer: OptRepeating,
     set: RepeatingView,
 ) -> usize
-    requires { ⌜ Fits n (set-nesting t i part (optRepeating outer) (repeatingMeaning set)) ⌝ }
-    ensures { λ r. ⌜ Emitted (now (out .entry)) n (set-nesting t i part (optRepeating outer) (repeatingMeaning set)) (now (out .exit)) r ⌝ }
+    requires { ⌜ Fits n (set-nesting t i part (optional-repeating outer) (repeating-meaning set)) ⌝ }
+    ensures { λ r. ⌜ Emitted (now (out .entry)) n (set-nesting t i part (optional-repeating outer) (repeating-meaning set)) (now (out .exit)) r ⌝ }
 {
     if lies_inside(set, outer) {
         let counter = set.counter;
@@ -143,8 +143,8 @@ fn check_set(
     outer: OptRepeating,
     set: OptRepeating,
 ) -> usize
-    requires { ⌜ Fits n (check-set t i part fields (optRepeating outer) (optRepeating set)) ⌝ }
-    ensures { λ r. ⌜ Emitted (now (out .entry)) n (check-set t i part fields (optRepeating outer) (optRepeating set)) (now (out .exit)) r ⌝ }
+    requires { ⌜ Fits n (check-set t i part fields (optional-repeating outer) (optional-repeating set)) ⌝ }
+    ensures { λ r. ⌜ Emitted (now (out .entry)) n (check-set t i part fields (optional-repeating outer) (optional-repeating set)) (now (out .exit)) r ⌝ }
 {
     if is_nonempty(set) {
         let r = set.set;
@@ -161,8 +161,8 @@ fn check_set(
 
 // R05: repeating sets are self-consistent, and a nested set lies wholly inside the one that encloses it. Nothing encloses set 1.
 pub fn check_repeating(out: &mut [u32], n: usize, s: &[u8], t: u32, i: u32, g: PgnView) -> usize
-    requires { ⌜ Fits n (check-repeating t i (pgn-at (packOf (now s)) t i)) × PgnIs (now s) (pgn-at (packOf (now s)) t i) g ⌝ }
-    ensures { λ r. ⌜ Emitted (now (out .entry)) n (check-repeating t i (pgn-at (packOf (now (s .entry))) t i)) (now (out .exit)) r ⌝ }
+    requires { ⌜ Fits n (check-repeating t i (pgn-at (pack-of (now s)) t i)) × PgnIs (now s) (pgn-at (pack-of (now s)) t i) g ⌝ }
+    ensures { λ r. ⌜ Emitted (now (out .entry)) n (check-repeating t i (pgn-at (pack-of (now (s .entry))) t i)) (now (out .exit)) r ⌝ }
 {
     let first = g.repeating1;
     let second = g.repeating2;

@@ -3,8 +3,8 @@ ghost use mathlib.Core.Path.{_≡_};
 ghost use mathlib.Core.Bool.{false, not};
 ghost use lib.ListN.{drop};
 ghost use Rattle.pack.specs.Notation.{_≐_, if_then_else_};
-ghost use Rattle.pack.specs.Items.{bytesOf};
-ghost use Rattle.pack.specs.Meaning.{fieldMeaning, packOf};
+ghost use Rattle.pack.specs.Items.{bytes-of};
+ghost use Rattle.pack.specs.Meaning.{field-meaning, pack-of};
 ghost use Rattle.pack.specs.Ready.{PgnAt, PgnIs};
 ghost use Rattle.pack.specs.Value.{pgn-at, field-at};
 ghost use Rattle.rules.specs.Emit.{Emitted, Fits};
@@ -61,7 +61,7 @@ fn numbered(want: &[u8], id: &[u8]) -> bool
 
 // Whether a Reserved or Spare field has another id.
 fn misnamed(s: &[u8], f: FieldView) -> bool
-    ensures { λ r. ⌜ r ≡ (if bytesOf (now (s .entry)) (f .names .name) ≐ bytes "Reserved" then not (numbered (bytes "reserved") (bytesOf (now (s .entry)) (f .names .id))) else if bytesOf (now (s .entry)) (f .names .name) ≐ bytes "Spare" then not (numbered (bytes "spare") (bytesOf (now (s .entry)) (f .names .id))) else false) ⌝ }
+    ensures { λ r. ⌜ r ≡ (if bytes-of (now (s .entry)) (f .names .name) ≐ bytes "Reserved" then not (numbered (bytes "reserved") (bytes-of (now (s .entry)) (f .names .id))) else if bytes-of (now (s .entry)) (f .names .name) ≐ bytes "Spare" then not (numbered (bytes "spare") (bytes-of (now (s .entry)) (f .names .id))) else false) ⌝ }
 {
     let name = f.names.name;
     let id = f.names.id;
@@ -83,8 +83,8 @@ fn reserved_id_at(
     k: u32,
     f: FieldView,
 ) -> usize
-    requires { ⌜ Fits n (reserved-id-at t i k (field-at (pgn-at (packOf (now s)) t i) k)) × (fieldMeaning (now s) f ≡ field-at (pgn-at (packOf (now s)) t i) k) ⌝ }
-    ensures { λ r. ⌜ Emitted (now (out .entry)) n (reserved-id-at t i k (field-at (pgn-at (packOf (now (s .entry))) t i) k)) (now (out .exit)) r ⌝ }
+    requires { ⌜ Fits n (reserved-id-at t i k (field-at (pgn-at (pack-of (now s)) t i) k)) × (field-meaning (now s) f ≡ field-at (pgn-at (pack-of (now s)) t i) k) ⌝ }
+    ensures { λ r. ⌜ Emitted (now (out .entry)) n (reserved-id-at t i k (field-at (pgn-at (pack-of (now (s .entry))) t i) k)) (now (out .exit)) r ⌝ }
 {
     let report = misnamed(s, f);
     put_if(out, n, report, pgn_error(12, 1, t, i, k, 0))
@@ -101,8 +101,8 @@ pub fn check_reserved_ids(
     p: usize,
     g: PgnView,
 ) -> usize
-    requires { ⌜ Fits n (check-reserved-ids t i (pgn-at (packOf (now s)) t i)) × PgnAt (now s) (now work) t i p × PgnIs (now s) (pgn-at (packOf (now s)) t i) g ⌝ }
-    ensures { λ r. ⌜ Emitted (now (out .entry)) n (check-reserved-ids t i (pgn-at (packOf (now (s .entry))) t i)) (now (out .exit)) r ⌝ }
+    requires { ⌜ Fits n (check-reserved-ids t i (pgn-at (pack-of (now s)) t i)) × PgnAt (now s) (now work) t i p × PgnIs (now s) (pgn-at (pack-of (now s)) t i) g ⌝ }
+    ensures { λ r. ⌜ Emitted (now (out .entry)) n (check-reserved-ids t i (pgn-at (pack-of (now (s .entry))) t i)) (now (out .exit)) r ⌝ }
 {
     let mut m = n;
     let mut k = 0;

@@ -2,7 +2,7 @@
 ghost use mathlib.Core.Path.{_≡_};
 ghost use Prim.Native.Nat.{_+_, _<_};
 ghost use Rattle.pack.specs.Notation.{if_then_else_, optional};
-ghost use Rattle.pack.specs.Meaning.{optNumber};
+ghost use Rattle.pack.specs.Meaning.{optional-number};
 ghost use Rattle.rules.specs.Search.{or-else, larger, smaller};
 use pack::optional::OptNumber;
 
@@ -19,7 +19,7 @@ pub fn counted(count: u32, hit: bool) -> u32
 
 // The latest hit, when index j is tried.
 pub fn latest(hit: bool, j: u32, earlier: OptNumber) -> OptNumber
-    ensures { λ r. ⌜ optNumber r ≡ or-else (optional hit j) (optNumber earlier) ⌝ }
+    ensures { λ r. ⌜ optional-number r ≡ or-else (optional hit j) (optional-number earlier) ⌝ }
 {
     if hit {
         return OptNumber {
@@ -32,7 +32,7 @@ pub fn latest(hit: bool, j: u32, earlier: OptNumber) -> OptNumber
 
 // The largest so far, when v is tried.
 pub fn larger(found: OptNumber, hit: bool, v: u32) -> OptNumber
-    ensures { λ r. ⌜ optNumber r ≡ larger (optNumber found) (optional hit v) ⌝ }
+    ensures { λ r. ⌜ optional-number r ≡ larger (optional-number found) (optional hit v) ⌝ }
 {
     if !hit {
         return found;
@@ -54,7 +54,7 @@ pub fn larger(found: OptNumber, hit: bool, v: u32) -> OptNumber
 
 // The smallest so far, when v is tried.
 pub fn smaller(found: OptNumber, hit: bool, v: u32) -> OptNumber
-    ensures { λ r. ⌜ optNumber r ≡ smaller (optNumber found) (optional hit v) ⌝ }
+    ensures { λ r. ⌜ optional-number r ≡ smaller (optional-number found) (optional hit v) ⌝ }
 {
     if !hit {
         return found;

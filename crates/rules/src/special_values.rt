@@ -3,7 +3,7 @@ ghost use mathlib.Core.Path.{_≡_};
 ghost use mathlib.Core.Bool.{_||_};
 ghost use Prim.Native.Nat.{_<_};
 ghost use Rattle.pack.specs.Notation.{_<ᵇ_};
-ghost use Rattle.pack.specs.Meaning.{fieldMeaning, packOf};
+ghost use Rattle.pack.specs.Meaning.{field-meaning, pack-of};
 ghost use Rattle.pack.specs.Ready.{PgnAt, PgnIs};
 ghost use Rattle.pack.specs.Value.{pgn-at, field-at};
 ghost use Rattle.rules.specs.Emit.{Emitted, Fits};
@@ -46,8 +46,8 @@ fn special_values_at(
     k: u32,
     f: FieldView,
 ) -> usize
-    requires { ⌜ Fits n (special-values-at t i k (field-at (pgn-at (packOf (now s)) t i) k .res-bits) (field-at (pgn-at (packOf (now s)) t i) k .special-values)) × (fieldMeaning (now s) f ≡ field-at (pgn-at (packOf (now s)) t i) k) ⌝ }
-    ensures { λ r. ⌜ Emitted (now (out .entry)) n (special-values-at t i k (field-at (pgn-at (packOf (now (s .entry))) t i) k .res-bits) (field-at (pgn-at (packOf (now (s .entry))) t i) k .special-values)) (now (out .exit)) r ⌝ }
+    requires { ⌜ Fits n (special-values-at t i k (field-at (pgn-at (pack-of (now s)) t i) k .res-bits) (field-at (pgn-at (pack-of (now s)) t i) k .special-values)) × (field-meaning (now s) f ≡ field-at (pgn-at (pack-of (now s)) t i) k) ⌝ }
+    ensures { λ r. ⌜ Emitted (now (out .entry)) n (special-values-at t i k (field-at (pgn-at (pack-of (now (s .entry))) t i) k .res-bits) (field-at (pgn-at (pack-of (now (s .entry))) t i) k .special-values)) (now (out .exit)) r ⌝ }
 {
     let special = f.links.special;
     if special.given {
@@ -68,8 +68,8 @@ pub fn check_special_values(
     p: usize,
     g: PgnView,
 ) -> usize
-    requires { ⌜ Fits n (check-special-values t i (pgn-at (packOf (now s)) t i)) × PgnAt (now s) (now work) t i p × PgnIs (now s) (pgn-at (packOf (now s)) t i) g ⌝ }
-    ensures { λ r. ⌜ Emitted (now (out .entry)) n (check-special-values t i (pgn-at (packOf (now (s .entry))) t i)) (now (out .exit)) r ⌝ }
+    requires { ⌜ Fits n (check-special-values t i (pgn-at (pack-of (now s)) t i)) × PgnAt (now s) (now work) t i p × PgnIs (now s) (pgn-at (pack-of (now s)) t i) g ⌝ }
+    ensures { λ r. ⌜ Emitted (now (out .entry)) n (check-special-values t i (pgn-at (pack-of (now (s .entry))) t i)) (now (out .exit)) r ⌝ }
 {
     let mut m = n;
     let mut k = 0;

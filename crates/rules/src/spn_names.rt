@@ -6,14 +6,14 @@ ghost use mathlib.Core.Option.{some};
 ghost use Prim.Native.Nat.{_+_};
 ghost use lib.ListN.{length, getD};
 ghost use Rattle.pack.specs.Notation.{_<ᵇ_, _≤ᵇ_, _≐_};
-ghost use Rattle.pack.specs.Value.{noPgn, pgn-at};
-ghost use Rattle.pack.specs.Items.{bytesOf};
-ghost use Rattle.pack.specs.Meaning.{optNumber, pgnMeaning, packOf};
-ghost use Rattle.pack.specs.Ready.{Ready, PgnAt, PgnIs, treePlace};
+ghost use Rattle.pack.specs.Value.{no-pgn, pgn-at};
+ghost use Rattle.pack.specs.Items.{bytes-of};
+ghost use Rattle.pack.specs.Meaning.{optional-number, pgn-meaning, pack-of};
+ghost use Rattle.pack.specs.Ready.{Ready, PgnAt, PgnIs, place-of-tree};
 ghost use Rattle.rules.specs.Emit.{Emitted, Fits};
 ghost use Rattle.rules.specs.Model.{given};
 ghost use Rattle.rules.specs.PlaceText.{pgn-loc};
-ghost use Rattle.rules.specs.Search.{sumBelow};
+ghost use Rattle.rules.specs.Search.{sum-below};
 ghost use Rattle.rules.specs.SpnNames.{is-number, spn-field, spn-pgn, spn-name, earlier-spn, clash-at, clash-of, least-spn-in, least-spn};
 ghost use Rattle.rules.specs.SpnNames.{check-spn-names};
 ghost use Rattle.rules.specs.Namers.{NamesAmong, candidate-in, candidate};
@@ -42,7 +42,7 @@ pub struct Namer {
 
 // Whether a number is given, and is v.
 pub fn is_number(n: OptNumber, v: u32) -> bool
-    ensures { λ r. ⌜ r ≡ is-number (optNumber n) v ⌝ }
+    ensures { λ r. ⌜ r ≡ is-number (optional-number n) v ⌝ }
 {
     if n.given {
         return n.value == v;
@@ -52,8 +52,8 @@ pub fn is_number(n: OptNumber, v: u32) -> bool
 
 // The first field of PGN j, which is at p, that carries the SPN.
 fn spn_field(s: &[u8], work: &[u32], j: u32, p: usize, fields: u32, spn: u32) -> OptNumber
-    requires { ⌜ PgnAt (now s) (now work) 1 j p × (fields ≡ length (pgn-at (packOf (now s)) 1 j .fields)) ⌝ }
-    ensures { λ r. ⌜ optNumber r ≡ spn-field (pgn-at (packOf (now (s .entry))) 1 j) spn ⌝ }
+    requires { ⌜ PgnAt (now s) (now work) 1 j p × (fields ≡ length (pgn-at (pack-of (now s)) 1 j .fields)) ⌝ }
+    ensures { λ r. ⌜ optional-number r ≡ spn-field (pgn-at (pack-of (now (s .entry))) 1 j) spn ⌝ }
 {
     let mut k: u32 = 0;
     while k < fields {
@@ -84,7 +84,7 @@ fn comes_after(best: Namer, number: u32) -> bool
 
 // The best so far, when PGN j is tried, which is g, at p.
 fn better(s: &[u8], work: &[u32], spn: u32, best: Namer, j: u32, p: usize, g: PgnView) -> Namer
-    requires { ⌜ NamesAmong (now s) (now work) spn j best × PgnAt (now s) (now work) 1 j p × PgnIs (now s) (pgn-at (packOf (now s)) 1 j) g ⌝ }
+    requires { ⌜ NamesAmong (now s) (now work) spn j best × PgnAt (now s) (now work) 1 j p × PgnIs (now s) (pgn-at (pack-of (now s)) 1 j) g ⌝ }
     ensures { λ r. ⌜ NamesAmong (now (s .entry)) (now (work .entry)) spn (j + 1) r ⌝ }
 {
     if comes_after(best, g.pgn) {
@@ -105,8 +105,8 @@ fn better(s: &[u8], work: &[u32], spn: u32, best: Namer, j: u32, p: usize, g: Pg
 
 // The PGN that names the SPN: of those that carry it the one of the least number, the first of equals.
 fn spn_pgn(s: &[u8], work: &[u32], tree: Section, spn: u32) -> Namer
-    requires { ⌜ Ready (now s) (now work) × (tree .count ≡ length (packOf (now s) .pgns-j1939)) × (tree .place ≡ treePlace (packOf (now s)) 1) ⌝ }
-    ensures { λ r. ⌜ NamesAmong (now (s .entry)) (now (work .entry)) spn (length (packOf (now (s .entry)) .pgns-j1939)) r ⌝ }
+    requires { ⌜ Ready (now s) (now work) × (tree .count ≡ length (pack-of (now s) .pgns-j1939)) × (tree .place ≡ place-of-tree (pack-of (now s)) 1) ⌝ }
+    ensures { λ r. ⌜ NamesAmong (now (s .entry)) (now (work .entry)) spn (length (pack-of (now (s .entry)) .pgns-j1939)) r ⌝ }
 {
     let count = tree.count;
     let mut best = Namer {
@@ -129,8 +129,8 @@ fn spn_pgn(s: &[u8], work: &[u32], tree: Section, spn: u32) -> Namer
 
 // The SPN's name.
 fn spn_name(s: &[u8], work: &[u32], spn: u32, namer: Namer) -> Text
-    requires { ⌜ NamesAmong (now s) (now work) spn (length (packOf (now s) .pgns-j1939)) namer × (namer .given ≡ true) ⌝ }
-    ensures { λ r. ⌜ bytesOf (now (s .entry)) r ≡ spn-name (packOf (now (s .entry)) .pgns-j1939) spn ⌝ }
+    requires { ⌜ NamesAmong (now s) (now work) spn (length (pack-of (now s) .pgns-j1939)) namer × (namer .given ≡ true) ⌝ }
+    ensures { λ r. ⌜ bytes-of (now (s .entry)) r ≡ spn-name (pack-of (now (s .entry)) .pgns-j1939) spn ⌝ }
 {
     let f = field_of(s, work, 1, namer.pgn, namer.place, namer.field);
     f.names.name
@@ -138,8 +138,8 @@ fn spn_name(s: &[u8], work: &[u32], spn: u32, namer: Namer) -> Text
 
 // Whether an SPN that a field carries has that name.
 fn has_name(s: &[u8], work: &[u32], tree: Section, spn: u32, name: Text) -> bool
-    requires { ⌜ Ready (now s) (now work) × (tree .count ≡ length (packOf (now s) .pgns-j1939)) × (tree .place ≡ treePlace (packOf (now s)) 1) × (given (spn-pgn (packOf (now s) .pgns-j1939) spn) ≡ true) ⌝ }
-    ensures { λ r. ⌜ r ≡ (spn-name (packOf (now (s .entry)) .pgns-j1939) spn ≐ bytesOf (now (s .entry)) name) ⌝ }
+    requires { ⌜ Ready (now s) (now work) × (tree .count ≡ length (pack-of (now s) .pgns-j1939)) × (tree .place ≡ place-of-tree (pack-of (now s)) 1) × (given (spn-pgn (pack-of (now s) .pgns-j1939) spn) ≡ true) ⌝ }
+    ensures { λ r. ⌜ r ≡ (spn-name (pack-of (now (s .entry)) .pgns-j1939) spn ≐ bytes-of (now (s .entry)) name) ⌝ }
 {
     let namer = spn_pgn(s, work, tree, spn);
     let own = spn_name(s, work, spn, namer);
@@ -148,7 +148,7 @@ fn has_name(s: &[u8], work: &[u32], tree: Section, spn: u32, name: Text) -> bool
 
 // Whether f carries an SPN below b, under that name.
 fn is_candidate(s: &[u8], b: u32, name: Text, f: FieldView) -> bool
-    ensures { λ r. ⌜ r ≡ (f .authored .spn .given && (f .authored .spn .value <ᵇ b) && (bytesOf (now (s .entry)) (f .names .name) ≐ bytesOf (now (s .entry)) name)) ⌝ }
+    ensures { λ r. ⌜ r ≡ (f .authored .spn .given && (f .authored .spn .value <ᵇ b) && (bytes-of (now (s .entry)) (f .names .name) ≐ bytes-of (now (s .entry)) name)) ⌝ }
 {
     let spn = f.authored.spn;
     if !spn.given {
@@ -170,8 +170,8 @@ fn candidate_in(
     p: usize,
     fields: u32,
 ) -> OptNumber
-    requires { ⌜ PgnAt (now s) (now work) 1 i p × (fields ≡ length (pgn-at (packOf (now s)) 1 i .fields)) ⌝ }
-    ensures { λ r. ⌜ optNumber r ≡ candidate-in (packOf (now (s .entry)) .pgns-j1939) (bytesOf (now (s .entry)) name) b i ⌝ }
+    requires { ⌜ PgnAt (now s) (now work) 1 i p × (fields ≡ length (pgn-at (pack-of (now s)) 1 i .fields)) ⌝ }
+    ensures { λ r. ⌜ optional-number r ≡ candidate-in (pack-of (now (s .entry)) .pgns-j1939) (bytes-of (now (s .entry)) name) b i ⌝ }
 {
     let mut found = OptNumber {
         given: false,
@@ -189,8 +189,8 @@ fn candidate_in(
 
 // The largest SPN below b that a field carries under that name.
 fn candidate(s: &[u8], work: &[u32], tree: Section, b: u32, name: Text) -> OptNumber
-    requires { ⌜ Ready (now s) (now work) × (tree .count ≡ length (packOf (now s) .pgns-j1939)) × (tree .place ≡ treePlace (packOf (now s)) 1) ⌝ }
-    ensures { λ r. ⌜ optNumber r ≡ candidate (packOf (now (s .entry)) .pgns-j1939) (bytesOf (now (s .entry)) name) b ⌝ }
+    requires { ⌜ Ready (now s) (now work) × (tree .count ≡ length (pack-of (now s) .pgns-j1939)) × (tree .place ≡ place-of-tree (pack-of (now s)) 1) ⌝ }
+    ensures { λ r. ⌜ optional-number r ≡ candidate (pack-of (now (s .entry)) .pgns-j1939) (bytes-of (now (s .entry)) name) b ⌝ }
 {
     let count = tree.count;
     let mut found = OptNumber {
@@ -211,8 +211,8 @@ fn candidate(s: &[u8], work: &[u32], tree: Section, b: u32, name: Text) -> OptNu
 
 // The largest SPN below this one of its name. Another field may name a candidate: then one below it is looked for.
 fn earlier_spn(s: &[u8], work: &[u32], tree: Section, spn: u32, name: Text) -> OptNumber
-    requires { ⌜ Ready (now s) (now work) × (tree .count ≡ length (packOf (now s) .pgns-j1939)) × (tree .place ≡ treePlace (packOf (now s)) 1) × (bytesOf (now s) name ≡ spn-name (packOf (now s) .pgns-j1939) spn) ⌝ }
-    ensures { λ r. ⌜ optNumber r ≡ earlier-spn (packOf (now (s .entry)) .pgns-j1939) spn ⌝ }
+    requires { ⌜ Ready (now s) (now work) × (tree .count ≡ length (pack-of (now s) .pgns-j1939)) × (tree .place ≡ place-of-tree (pack-of (now s)) 1) × (bytes-of (now s) name ≡ spn-name (pack-of (now s) .pgns-j1939) spn) ⌝ }
+    ensures { λ r. ⌜ optional-number r ≡ earlier-spn (pack-of (now (s .entry)) .pgns-j1939) spn ⌝ }
 {
     let mut b = spn;
     loop {
@@ -229,7 +229,7 @@ fn earlier_spn(s: &[u8], work: &[u32], tree: Section, spn: u32, name: Text) -> O
 
 // Whether two PGNs have one place text: exactly if they have one number and one id.
 fn same_place(s: &[u8], a: PgnView, b: PgnView) -> bool
-    ensures { λ r. ⌜ r ≡ (pgn-loc 1 (pgnMeaning (now (s .entry)) a []) ≐ pgn-loc 1 (pgnMeaning (now (s .entry)) b [])) ⌝ }
+    ensures { λ r. ⌜ r ≡ (pgn-loc 1 (pgn-meaning (now (s .entry)) a []) ≐ pgn-loc 1 (pgn-meaning (now (s .entry)) b [])) ⌝ }
 {
     if a.pgn == b.pgn {
         return same_text(s, a.id, b.id);
@@ -250,8 +250,8 @@ fn clash_at(
     j: u32,
     q: usize,
 ) -> usize
-    requires { ⌜ Fits n (clash-at (packOf (now s) .pgns-j1939) earlier spn i j) × PgnAt (now s) (now work) 1 i p × PgnAt (now s) (now work) 1 j q ⌝ }
-    ensures { λ r. ⌜ Emitted (now (out .entry)) n (clash-at (packOf (now (s .entry)) .pgns-j1939) earlier spn i j) (now (out .exit)) r ⌝ }
+    requires { ⌜ Fits n (clash-at (pack-of (now s) .pgns-j1939) earlier spn i j) × PgnAt (now s) (now work) 1 i p × PgnAt (now s) (now work) 1 j q ⌝ }
+    ensures { λ r. ⌜ Emitted (now (out .entry)) n (clash-at (pack-of (now (s .entry)) .pgns-j1939) earlier spn i j) (now (out .exit)) r ⌝ }
 {
     let a = pgn_of(s, work, 1, i, p);
     let b = pgn_of(s, work, 1, j, q);
@@ -264,8 +264,8 @@ fn clash_at(
 
 // An SPN that a field carries, and the one before it of its name.
 fn clash_of(out: &mut [u32], n: usize, s: &[u8], work: &[u32], tree: Section, spn: u32) -> usize
-    requires { ⌜ Fits n (clash-of (packOf (now s) .pgns-j1939) (some spn)) × Ready (now s) (now work) × (tree .count ≡ length (packOf (now s) .pgns-j1939)) × (tree .place ≡ treePlace (packOf (now s)) 1) × (given (spn-pgn (packOf (now s) .pgns-j1939) spn) ≡ true) ⌝ }
-    ensures { λ r. ⌜ Emitted (now (out .entry)) n (clash-of (packOf (now (s .entry)) .pgns-j1939) (some spn)) (now (out .exit)) r ⌝ }
+    requires { ⌜ Fits n (clash-of (pack-of (now s) .pgns-j1939) (some spn)) × Ready (now s) (now work) × (tree .count ≡ length (pack-of (now s) .pgns-j1939)) × (tree .place ≡ place-of-tree (pack-of (now s)) 1) × (given (spn-pgn (pack-of (now s) .pgns-j1939) spn) ≡ true) ⌝ }
+    ensures { λ r. ⌜ Emitted (now (out .entry)) n (clash-of (pack-of (now (s .entry)) .pgns-j1939) (some spn)) (now (out .exit)) r ⌝ }
 {
     let namer = spn_pgn(s, work, tree, spn);
     let name = spn_name(s, work, spn, namer);
@@ -300,8 +300,8 @@ fn is_from(b: u64, spn: OptNumber) -> bool
 
 // The least SPN from b on that a field of PGN i carries, which is at p.
 fn least_spn_in(s: &[u8], work: &[u32], b: u64, i: u32, p: usize, fields: u32) -> OptNumber
-    requires { ⌜ PgnAt (now s) (now work) 1 i p × (fields ≡ length (pgn-at (packOf (now s)) 1 i .fields)) ⌝ }
-    ensures { λ r. ⌜ optNumber r ≡ least-spn-in (packOf (now (s .entry)) .pgns-j1939) b i ⌝ }
+    requires { ⌜ PgnAt (now s) (now work) 1 i p × (fields ≡ length (pgn-at (pack-of (now s)) 1 i .fields)) ⌝ }
+    ensures { λ r. ⌜ optional-number r ≡ least-spn-in (pack-of (now (s .entry)) .pgns-j1939) b i ⌝ }
 {
     let mut found = OptNumber {
         given: false,
@@ -319,8 +319,8 @@ fn least_spn_in(s: &[u8], work: &[u32], b: u64, i: u32, p: usize, fields: u32) -
 
 // The least SPN from b on. b is wide, since it is one above an SPN.
 fn least_spn(s: &[u8], work: &[u32], tree: Section, b: u64) -> OptNumber
-    requires { ⌜ Ready (now s) (now work) × (tree .count ≡ length (packOf (now s) .pgns-j1939)) × (tree .place ≡ treePlace (packOf (now s)) 1) ⌝ }
-    ensures { λ r. ⌜ optNumber r ≡ least-spn (packOf (now (s .entry)) .pgns-j1939) b ⌝ }
+    requires { ⌜ Ready (now s) (now work) × (tree .count ≡ length (pack-of (now s) .pgns-j1939)) × (tree .place ≡ place-of-tree (pack-of (now s)) 1) ⌝ }
+    ensures { λ r. ⌜ optional-number r ≡ least-spn (pack-of (now (s .entry)) .pgns-j1939) b ⌝ }
 {
     let count = tree.count;
     let mut found = OptNumber {
@@ -341,8 +341,8 @@ fn least_spn(s: &[u8], work: &[u32], tree: Section, b: u64) -> OptNumber
 
 // The number of fields of the tree: there are no more SPNs.
 fn field_total(s: &[u8], work: &[u32], tree: Section) -> u32
-    requires { ⌜ Ready (now s) (now work) × (tree .count ≡ length (packOf (now s) .pgns-j1939)) × (tree .place ≡ treePlace (packOf (now s)) 1) ⌝ }
-    ensures { λ r. ⌜ r ≡ sumBelow (λ i. length (getD (packOf (now (s .entry)) .pgns-j1939) i noPgn .fields)) (length (packOf (now (s .entry)) .pgns-j1939)) ⌝ }
+    requires { ⌜ Ready (now s) (now work) × (tree .count ≡ length (pack-of (now s) .pgns-j1939)) × (tree .place ≡ place-of-tree (pack-of (now s)) 1) ⌝ }
+    ensures { λ r. ⌜ r ≡ sum-below (λ i. length (getD (pack-of (now (s .entry)) .pgns-j1939) i no-pgn .fields)) (length (pack-of (now (s .entry)) .pgns-j1939)) ⌝ }
 {
     let count = tree.count;
     let mut total: u32 = 0;
@@ -359,8 +359,8 @@ fn field_total(s: &[u8], work: &[u32], tree: Section) -> u32
 
 // The findings of the SPNs in rising order, until there is none.
 fn spn_clashes(out: &mut [u32], n: usize, s: &[u8], work: &[u32], j1939: Section) -> usize
-    requires { ⌜ Fits n (check-spn-names (packOf (now s) .pgns-j1939)) × Ready (now s) (now work) × (j1939 .count ≡ length (packOf (now s) .pgns-j1939)) × (j1939 .place ≡ treePlace (packOf (now s)) 1) ⌝ }
-    ensures { λ r. ⌜ Emitted (now (out .entry)) n (check-spn-names (packOf (now (s .entry)) .pgns-j1939)) (now (out .exit)) r ⌝ }
+    requires { ⌜ Fits n (check-spn-names (pack-of (now s) .pgns-j1939)) × Ready (now s) (now work) × (j1939 .count ≡ length (pack-of (now s) .pgns-j1939)) × (j1939 .place ≡ place-of-tree (pack-of (now s)) 1) ⌝ }
+    ensures { λ r. ⌜ Emitted (now (out .entry)) n (check-spn-names (pack-of (now (s .entry)) .pgns-j1939)) (now (out .exit)) r ⌝ }
 {
     let total = field_total(s, work, j1939);
     let mut m = n;
@@ -380,8 +380,8 @@ fn spn_clashes(out: &mut [u32], n: usize, s: &[u8], work: &[u32], j1939: Section
 
 // R24, cause 2: no two SPNs have one name. The test before it spares the search for each SPN where there is nothing to find.
 pub fn check_spn_names(out: &mut [u32], n: usize, s: &[u8], work: &[u32], j1939: Section) -> usize
-    requires { ⌜ Fits n (check-spn-names (packOf (now s) .pgns-j1939)) × Ready (now s) (now work) × (j1939 .count ≡ length (packOf (now s) .pgns-j1939)) × (j1939 .place ≡ treePlace (packOf (now s)) 1) ⌝ }
-    ensures { λ r. ⌜ Emitted (now (out .entry)) n (check-spn-names (packOf (now (s .entry)) .pgns-j1939)) (now (out .exit)) r ⌝ }
+    requires { ⌜ Fits n (check-spn-names (pack-of (now s) .pgns-j1939)) × Ready (now s) (now work) × (j1939 .count ≡ length (pack-of (now s) .pgns-j1939)) × (j1939 .place ≡ place-of-tree (pack-of (now s)) 1) ⌝ }
+    ensures { λ r. ⌜ Emitted (now (out .entry)) n (check-spn-names (pack-of (now (s .entry)) .pgns-j1939)) (now (out .exit)) r ⌝ }
 {
     if may_clash(s, work, j1939) {
         return spn_clashes(out, n, s, work, j1939);

@@ -5,10 +5,10 @@ ghost use mathlib.Core.Option.{some};
 ghost use Prim.Native.Nat.{_<_};
 ghost use lib.ListN.{length};
 ghost use lib.Ieee.{ofBits, binary64};
-ghost use Rattle.pack.specs.Notation.{_==_, concatBelow};
+ghost use Rattle.pack.specs.Notation.{_==_, concat-below};
 ghost use Rattle.pack.specs.Value.{pgns-of, pgn-at, field-at};
-ghost use Rattle.pack.specs.Meaning.{optBytes, fieldMeaning, packOf};
-ghost use Rattle.pack.specs.Ready.{Ready, PgnAt, PgnIs, treePlace, IndexIs};
+ghost use Rattle.pack.specs.Meaning.{optional-bytes, field-meaning, pack-of};
+ghost use Rattle.pack.specs.Ready.{Ready, PgnAt, PgnIs, place-of-tree, IndexIs};
 ghost use Rattle.rules.specs.Emit.{Emitted, Fits};
 ghost use Rattle.rules.specs.Floats.{float-eq};
 ghost use Rattle.rules.specs.SpnNames.{spn-field};
@@ -65,7 +65,7 @@ fn scaling_of(v: ScalingView) -> Scaling
 
 // One unit, or none for both.
 fn same_unit(s: &[u8], a: OptText, b: OptText) -> bool
-    ensures { λ r. ⌜ r ≡ same-unit (optBytes (now (s .entry)) a) (optBytes (now (s .entry)) b) ⌝ }
+    ensures { λ r. ⌜ r ≡ same-unit (optional-bytes (now (s .entry)) a) (optional-bytes (now (s .entry)) b) ⌝ }
 {
     if a.given {
         if b.given {
@@ -78,7 +78,7 @@ fn same_unit(s: &[u8], a: OptText, b: OptText) -> bool
 
 // `==` of the Rust's tuple: a NaN differs from itself.
 fn same_scaling(s: &[u8], v: ScalingView, w: ScalingView) -> bool
-    ensures { λ r. ⌜ r ≡ ((v .bits == w .bits) && float-eq (v .resolution) (w .resolution) && float-eq (v .offset) (w .offset) && same-unit (optBytes (now (s .entry)) (v .unit)) (optBytes (now (s .entry)) (w .unit))) ⌝ }
+    ensures { λ r. ⌜ r ≡ ((v .bits == w .bits) && float-eq (v .resolution) (w .resolution) && float-eq (v .offset) (w .offset) && same-unit (optional-bytes (now (s .entry)) (v .unit)) (optional-bytes (now (s .entry)) (w .unit))) ⌝ }
 {
     let a = scaling_of(v);
     let b = scaling_of(w);
@@ -96,8 +96,8 @@ fn same_scaling(s: &[u8], v: ScalingView, w: ScalingView) -> bool
 
 // The field that carries the SPN first, of the J1939 tree, which begins at `first`: at or before field k of PGN i, which carries it.
 fn first_seen(s: &[u8], work: &[u32], first: usize, i: u32, k: u32, spn: u32) -> Carrier
-    requires { ⌜ Ready (now s) (now work) × (first ≡ treePlace (packOf (now s)) 1) × (i < length (pgns-of (packOf (now s)) 1)) × (k < length (pgn-at (packOf (now s)) 1 i .fields)) × (field-at (pgn-at (packOf (now s)) 1 i) k .spn ≡ some spn) ⌝ }
-    ensures { λ r. ⌜ (first-seen (pgns-of (packOf (now (s .entry))) 1) spn ≡ some (r .pgn)) × (spn-field (pgn-at (packOf (now (s .entry))) 1 (r .pgn)) spn ≡ some (r .field)) × PgnAt (now (s .entry)) (now (work .entry)) 1 (r .pgn) (r .place) ⌝ }
+    requires { ⌜ Ready (now s) (now work) × (first ≡ place-of-tree (pack-of (now s)) 1) × (i < length (pgns-of (pack-of (now s)) 1)) × (k < length (pgn-at (pack-of (now s)) 1 i .fields)) × (field-at (pgn-at (pack-of (now s)) 1 i) k .spn ≡ some spn) ⌝ }
+    ensures { λ r. ⌜ (first-seen (pgns-of (pack-of (now (s .entry))) 1) spn ≡ some (r .pgn)) × (spn-field (pgn-at (pack-of (now (s .entry))) 1 (r .pgn)) spn ≡ some (r .field)) × PgnAt (now (s .entry)) (now (work .entry)) 1 (r .pgn) (r .place) ⌝ }
 {
     let mut pgn: u32 = 0;
     let mut place = first;
@@ -139,8 +139,8 @@ fn unlike_first(
     k: u32,
     f: FieldView,
 ) -> usize
-    requires { ⌜ Fits n (unlike-first (pgns-of (packOf (now s)) 1) i k (f .authored .spn .value) (first-seen (pgns-of (packOf (now s)) 1) (f .authored .spn .value))) × Ready (now s) (now work) × (first ≡ treePlace (packOf (now s)) 1) × (i < length (pgns-of (packOf (now s)) 1)) × (k < length (pgn-at (packOf (now s)) 1 i .fields)) × (fieldMeaning (now s) f ≡ field-at (pgn-at (packOf (now s)) 1 i) k) × (f .authored .spn .given ≡ true) ⌝ }
-    ensures { λ r. ⌜ Emitted (now (out .entry)) n (unlike-first (pgns-of (packOf (now (s .entry))) 1) i k (f .authored .spn .value) (first-seen (pgns-of (packOf (now (s .entry))) 1) (f .authored .spn .value))) (now (out .exit)) r ⌝ }
+    requires { ⌜ Fits n (unlike-first (pgns-of (pack-of (now s)) 1) i k (f .authored .spn .value) (first-seen (pgns-of (pack-of (now s)) 1) (f .authored .spn .value))) × Ready (now s) (now work) × (first ≡ place-of-tree (pack-of (now s)) 1) × (i < length (pgns-of (pack-of (now s)) 1)) × (k < length (pgn-at (pack-of (now s)) 1 i .fields)) × (field-meaning (now s) f ≡ field-at (pgn-at (pack-of (now s)) 1 i) k) × (f .authored .spn .given ≡ true) ⌝ }
+    ensures { λ r. ⌜ Emitted (now (out .entry)) n (unlike-first (pgns-of (pack-of (now (s .entry))) 1) i k (f .authored .spn .value) (first-seen (pgns-of (pack-of (now (s .entry))) 1) (f .authored .spn .value))) (now (out .exit)) r ⌝ }
 {
     let seen = first_seen(s, work, first, i, k, f.authored.spn.value);
     if is_at(seen, i, k) {
@@ -162,8 +162,8 @@ fn spn_at(
     k: u32,
     f: FieldView,
 ) -> usize
-    requires { ⌜ Fits n (spn-at (pgns-of (packOf (now s)) 1) i k (field-at (pgn-at (packOf (now s)) 1 i) k .spn)) × Ready (now s) (now work) × (first ≡ treePlace (packOf (now s)) 1) × (i < length (pgns-of (packOf (now s)) 1)) × (k < length (pgn-at (packOf (now s)) 1 i .fields)) × (fieldMeaning (now s) f ≡ field-at (pgn-at (packOf (now s)) 1 i) k) ⌝ }
-    ensures { λ r. ⌜ Emitted (now (out .entry)) n (spn-at (pgns-of (packOf (now (s .entry))) 1) i k (field-at (pgn-at (packOf (now (s .entry))) 1 i) k .spn)) (now (out .exit)) r ⌝ }
+    requires { ⌜ Fits n (spn-at (pgns-of (pack-of (now s)) 1) i k (field-at (pgn-at (pack-of (now s)) 1 i) k .spn)) × Ready (now s) (now work) × (first ≡ place-of-tree (pack-of (now s)) 1) × (i < length (pgns-of (pack-of (now s)) 1)) × (k < length (pgn-at (pack-of (now s)) 1 i .fields)) × (field-meaning (now s) f ≡ field-at (pgn-at (pack-of (now s)) 1 i) k) ⌝ }
+    ensures { λ r. ⌜ Emitted (now (out .entry)) n (spn-at (pgns-of (pack-of (now (s .entry))) 1) i k (field-at (pgn-at (pack-of (now (s .entry))) 1 i) k .spn)) (now (out .exit)) r ⌝ }
 {
     let spn = f.authored.spn;
     if spn.given {
@@ -186,8 +186,8 @@ fn check_scalings(
     p: usize,
     g: PgnView,
 ) -> usize
-    requires { ⌜ Fits n (check-scalings (pgns-of (packOf (now s)) 1) i (pgn-at (packOf (now s)) 1 i)) × PgnAt (now s) (now work) 1 i p × (first ≡ treePlace (packOf (now s)) 1) × PgnIs (now s) (pgn-at (packOf (now s)) 1 i) g ⌝ }
-    ensures { λ r. ⌜ Emitted (now (out .entry)) n (check-scalings (pgns-of (packOf (now (s .entry))) 1) i (pgn-at (packOf (now (s .entry))) 1 i)) (now (out .exit)) r ⌝ }
+    requires { ⌜ Fits n (check-scalings (pgns-of (pack-of (now s)) 1) i (pgn-at (pack-of (now s)) 1 i)) × PgnAt (now s) (now work) 1 i p × (first ≡ place-of-tree (pack-of (now s)) 1) × PgnIs (now s) (pgn-at (pack-of (now s)) 1 i) g ⌝ }
+    ensures { λ r. ⌜ Emitted (now (out .entry)) n (check-scalings (pgns-of (pack-of (now (s .entry))) 1) i (pgn-at (pack-of (now (s .entry))) 1 i)) (now (out .exit)) r ⌝ }
 {
     let mut m = n;
     let mut k: u32 = 0;
@@ -201,8 +201,8 @@ fn check_scalings(
 
 // The J1939 tree.
 fn scalings(out: &mut [u32], n: usize, s: &[u8], work: &[u32], tree: Section) -> usize
-    requires { ⌜ Fits n (concatBelow (λ i. check-scalings (pgns-of (packOf (now s)) 1) i (pgn-at (packOf (now s)) 1 i)) (length (pgns-of (packOf (now s)) 1))) × Ready (now s) (now work) × (tree .count ≡ length (pgns-of (packOf (now s)) 1)) × (tree .place ≡ treePlace (packOf (now s)) 1) ⌝ }
-    ensures { λ r. ⌜ Emitted (now (out .entry)) n (concatBelow (λ i. check-scalings (pgns-of (packOf (now (s .entry))) 1) i (pgn-at (packOf (now (s .entry))) 1 i)) (length (pgns-of (packOf (now (s .entry))) 1))) (now (out .exit)) r ⌝ }
+    requires { ⌜ Fits n (concat-below (λ i. check-scalings (pgns-of (pack-of (now s)) 1) i (pgn-at (pack-of (now s)) 1 i)) (length (pgns-of (pack-of (now s)) 1))) × Ready (now s) (now work) × (tree .count ≡ length (pgns-of (pack-of (now s)) 1)) × (tree .place ≡ place-of-tree (pack-of (now s)) 1) ⌝ }
+    ensures { λ r. ⌜ Emitted (now (out .entry)) n (concat-below (λ i. check-scalings (pgns-of (pack-of (now (s .entry))) 1) i (pgn-at (pack-of (now (s .entry))) 1 i)) (length (pgns-of (pack-of (now (s .entry))) 1))) (now (out .exit)) r ⌝ }
 {
     let count = tree.count;
     let first = tree.place;
@@ -229,8 +229,8 @@ fn spns_elsewhere(
     p: usize,
     g: PgnView,
 ) -> usize
-    requires { ⌜ Fits n (spns-elsewhere t i (pgn-at (packOf (now s)) t i)) × PgnAt (now s) (now work) t i p × PgnIs (now s) (pgn-at (packOf (now s)) t i) g ⌝ }
-    ensures { λ r. ⌜ Emitted (now (out .entry)) n (spns-elsewhere t i (pgn-at (packOf (now (s .entry))) t i)) (now (out .exit)) r ⌝ }
+    requires { ⌜ Fits n (spns-elsewhere t i (pgn-at (pack-of (now s)) t i)) × PgnAt (now s) (now work) t i p × PgnIs (now s) (pgn-at (pack-of (now s)) t i) g ⌝ }
+    ensures { λ r. ⌜ Emitted (now (out .entry)) n (spns-elsewhere t i (pgn-at (pack-of (now (s .entry))) t i)) (now (out .exit)) r ⌝ }
 {
     let mut m = n;
     let mut k: u32 = 0;
@@ -244,8 +244,8 @@ fn spns_elsewhere(
 
 // Another tree.
 fn elsewhere(out: &mut [u32], n: usize, s: &[u8], work: &[u32], t: u32, tree: Section) -> usize
-    requires { ⌜ Fits n (concatBelow (λ i. spns-elsewhere t i (pgn-at (packOf (now s)) t i)) (length (pgns-of (packOf (now s)) t))) × Ready (now s) (now work) × (t < 3) × (tree .count ≡ length (pgns-of (packOf (now s)) t)) × (tree .place ≡ treePlace (packOf (now s)) t) ⌝ }
-    ensures { λ r. ⌜ Emitted (now (out .entry)) n (concatBelow (λ i. spns-elsewhere t i (pgn-at (packOf (now (s .entry))) t i)) (length (pgns-of (packOf (now (s .entry))) t))) (now (out .exit)) r ⌝ }
+    requires { ⌜ Fits n (concat-below (λ i. spns-elsewhere t i (pgn-at (pack-of (now s)) t i)) (length (pgns-of (pack-of (now s)) t))) × Ready (now s) (now work) × (t < 3) × (tree .count ≡ length (pgns-of (pack-of (now s)) t)) × (tree .place ≡ place-of-tree (pack-of (now s)) t) ⌝ }
+    ensures { λ r. ⌜ Emitted (now (out .entry)) n (concat-below (λ i. spns-elsewhere t i (pgn-at (pack-of (now (s .entry))) t i)) (length (pgns-of (pack-of (now (s .entry))) t))) (now (out .exit)) r ⌝ }
 {
     let count = tree.count;
     let mut m = n;
@@ -262,8 +262,8 @@ fn elsewhere(out: &mut [u32], n: usize, s: &[u8], work: &[u32], t: u32, tree: Se
 
 // R42: spn only on J1939 fields, within 19 bits, and decoded alike by every field that carries the same SPN.
 pub fn check_spns(out: &mut [u32], n: usize, s: &[u8], work: &[u32], index: Index) -> usize
-    requires { ⌜ Fits n (check-spns (packOf (now s))) × Ready (now s) (now work) × IndexIs (packOf (now s)) index ⌝ }
-    ensures { λ r. ⌜ Emitted (now (out .entry)) n (check-spns (packOf (now (s .entry)))) (now (out .exit)) r ⌝ }
+    requires { ⌜ Fits n (check-spns (pack-of (now s))) × Ready (now s) (now work) × IndexIs (pack-of (now s)) index ⌝ }
+    ensures { λ r. ⌜ Emitted (now (out .entry)) n (check-spns (pack-of (now (s .entry)))) (now (out .exit)) r ⌝ }
 {
     let nmea2000 = elsewhere(out, n, s, work, 0, Protocol::Nmea2000.section(index));
     let quick = elsewhere(out, nmea2000, s, work, 2, Protocol::Quick.section(index));

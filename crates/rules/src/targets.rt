@@ -4,11 +4,11 @@ ghost use mathlib.Core.Bool.{_||_};
 ghost use Prim.Native.Nat.{_≤_};
 ghost use lib.ListN.{length};
 ghost use Rattle.pack.specs.Notation.{_≐_};
-ghost use Rattle.pack.specs.Items.{bytesOf};
-ghost use Rattle.pack.specs.Meaning.{optNumber, packOf};
+ghost use Rattle.pack.specs.Items.{bytes-of};
+ghost use Rattle.pack.specs.Meaning.{optional-number, pack-of};
 ghost use Rattle.pack.specs.Ready.{PgnAt};
 ghost use Rattle.pack.specs.Value.{pgn-at, field-at};
-ghost use Rattle.rules.specs.Search.{firstBelow};
+ghost use Rattle.rules.specs.Search.{first-below};
 ghost use Rattle.rules.specs.Model.{target};
 ghost use Rattle.rules.specs.Texts.{NUMBER, LOOKUP};
 use pack::field_type::FieldTypeView;
@@ -28,8 +28,8 @@ pub(crate) fn first_with_id(
     n: u32,
     id: Text,
 ) -> OptNumber
-    requires { ⌜ PgnAt (now s) (now work) t i p × (n ≤ length (pgn-at (packOf (now s)) t i .fields)) ⌝ }
-    ensures { λ r. ⌜ optNumber r ≡ firstBelow (λ j. field-at (pgn-at (packOf (now (s .entry))) t i) j .id ≐ bytesOf (now (s .entry)) id) n ⌝ }
+    requires { ⌜ PgnAt (now s) (now work) t i p × (n ≤ length (pgn-at (pack-of (now s)) t i .fields)) ⌝ }
+    ensures { λ r. ⌜ optional-number r ≡ first-below (λ j. field-at (pgn-at (pack-of (now (s .entry))) t i) j .id ≐ bytes-of (now (s .entry)) id) n ⌝ }
 {
     let mut j: u32 = 0;
     while j < n {
@@ -50,15 +50,15 @@ pub(crate) fn first_with_id(
 
 // "A target is the first field with that id", of n fields.
 pub fn target(s: &[u8], work: &[u32], t: u32, i: u32, p: usize, n: u32, id: Text) -> OptNumber
-    requires { ⌜ PgnAt (now s) (now work) t i p × (n ≡ length (pgn-at (packOf (now s)) t i .fields)) ⌝ }
-    ensures { λ r. ⌜ optNumber r ≡ target (pgn-at (packOf (now (s .entry))) t i) (bytesOf (now (s .entry)) id) ⌝ }
+    requires { ⌜ PgnAt (now s) (now work) t i p × (n ≡ length (pgn-at (pack-of (now s)) t i .fields)) ⌝ }
+    ensures { λ r. ⌜ optional-number r ≡ target (pgn-at (pack-of (now (s .entry))) t i) (bytes-of (now (s .entry)) id) ⌝ }
 {
     first_with_id(s, work, t, i, p, n, id)
 }
 
 // `integer`: NUMBER or LOOKUP, by the root's name of a field type.
 pub(crate) fn integer(s: &[u8], v: FieldTypeView) -> bool
-    ensures { λ r. ⌜ r ≡ ((bytesOf (now (s .entry)) (v .root) ≐ NUMBER) || (bytesOf (now (s .entry)) (v .root) ≐ LOOKUP)) ⌝ }
+    ensures { λ r. ⌜ r ≡ ((bytes-of (now (s .entry)) (v .root) ≐ NUMBER) || (bytes-of (now (s .entry)) (v .root) ≐ LOOKUP)) ⌝ }
 {
     if text_is(s, v.root, b"NUMBER") {
         return true;

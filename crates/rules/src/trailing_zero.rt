@@ -4,11 +4,11 @@ ghost use mathlib.Core.Bool.{not, _||_};
 ghost use Prim.Native.Nat.{_≤_, _<_};
 ghost use lib.ListN.{length};
 ghost use Rattle.pack.specs.Notation.{_==_};
-ghost use Rattle.pack.specs.Meaning.{optNumber, optRepeating, fieldMeaning, packOf};
+ghost use Rattle.pack.specs.Meaning.{optional-number, optional-repeating, field-meaning, pack-of};
 ghost use Rattle.pack.specs.Ready.{Ready, PgnAt, PgnIs};
 ghost use Rattle.pack.specs.Value.{pgn-at, field-at};
 ghost use Rattle.rules.specs.Emit.{Emitted, Fits};
-ghost use Rattle.rules.specs.Search.{anyBelow};
+ghost use Rattle.rules.specs.Search.{any-below};
 ghost use Rattle.rules.specs.TrailingZero.{starts-behind, fixed, unsigned-integer, trailing-zero-target-at, trailing-zero-at};
 ghost use Rattle.rules.specs.TrailingZero.{check-trailing-zero-is-digit};
 use crate::emit::pgn_error;
@@ -39,7 +39,7 @@ fn counts(set: OptRepeating) -> bool
 
 // The set, if any, starts behind the order.
 fn starts_behind(set: OptRepeating, order: FieldOrder) -> bool
-    ensures { λ r. ⌜ r ≡ starts-behind (optRepeating set) (order .0) ⌝ }
+    ensures { λ r. ⌜ r ≡ starts-behind (optional-repeating set) (order .0) ⌝ }
 {
     if counts(set) {
         return precedes(order, FieldOrder(set.set.start));
@@ -59,8 +59,8 @@ fn moves(f: FieldView) -> bool
 
 // Whether such a field is among the first n.
 fn any_moves(s: &[u8], work: &[u32], t: u32, i: u32, p: usize, n: u32) -> bool
-    requires { ⌜ PgnAt (now s) (now work) t i p × (n ≤ length (pgn-at (packOf (now s)) t i .fields)) ⌝ }
-    ensures { λ r. ⌜ r ≡ anyBelow (λ k. (field-at (pgn-at (packOf (now (s .entry))) t i) k .res-bits == 0) || field-at (pgn-at (packOf (now (s .entry))) t i) k .proprietary) n ⌝ }
+    requires { ⌜ PgnAt (now s) (now work) t i p × (n ≤ length (pgn-at (pack-of (now s)) t i .fields)) ⌝ }
+    ensures { λ r. ⌜ r ≡ any-below (λ k. (field-at (pgn-at (pack-of (now (s .entry))) t i) k .res-bits == 0) || field-at (pgn-at (pack-of (now (s .entry))) t i) k .proprietary) n ⌝ }
 {
     let mut k: u32 = 0;
     while k < n {
@@ -75,8 +75,8 @@ fn any_moves(s: &[u8], work: &[u32], t: u32, i: u32, p: usize, n: u32) -> bool
 
 // Whether field j has a fixed position.
 fn fixed(s: &[u8], work: &[u32], t: u32, i: u32, p: usize, g: PgnView, j: u32) -> bool
-    requires { ⌜ PgnAt (now s) (now work) t i p × PgnIs (now s) (pgn-at (packOf (now s)) t i) g × (j < length (pgn-at (packOf (now s)) t i .fields)) ⌝ }
-    ensures { λ r. ⌜ r ≡ fixed (pgn-at (packOf (now (s .entry))) t i) j ⌝ }
+    requires { ⌜ PgnAt (now s) (now work) t i p × PgnIs (now s) (pgn-at (pack-of (now s)) t i) g × (j < length (pgn-at (pack-of (now s)) t i .fields)) ⌝ }
+    ensures { λ r. ⌜ r ≡ fixed (pgn-at (pack-of (now (s .entry))) t i) j ⌝ }
 {
     if any_moves(s, work, t, i, p, j) {
         return false;
@@ -90,8 +90,8 @@ fn fixed(s: &[u8], work: &[u32], t: u32, i: u32, p: usize, g: PgnView, j: u32) -
 
 // "an unsigned, unscaled NUMBER or LOOKUP without an offset", of 1 to 63 bits
 fn unsigned_integer(s: &[u8], work: &[u32], f: FieldView) -> bool
-    requires { ⌜ Ready (now s) (now work) × (f .ft < length (packOf (now s) .fieldtypes)) ⌝ }
-    ensures { λ r. ⌜ r ≡ unsigned-integer (packOf (now (s .entry)) .fieldtypes) (fieldMeaning (now (s .entry)) f) ⌝ }
+    requires { ⌜ Ready (now s) (now work) × (f .ft < length (pack-of (now s) .fieldtypes)) ⌝ }
+    ensures { λ r. ⌜ r ≡ unsigned-integer (pack-of (now (s .entry)) .fieldtypes) (field-meaning (now (s .entry)) f) ⌝ }
 {
     let v = type_of(s, work, f.ft);
     if !integer(s, v) {
@@ -125,8 +125,8 @@ fn trailing_zero_target_at(
     k: u32,
     j: OptNumber,
 ) -> usize
-    requires { ⌜ Fits n (trailing-zero-target-at (packOf (now s) .fieldtypes) t i (pgn-at (packOf (now s)) t i) k (optNumber j)) × PgnAt (now s) (now work) t i p × PgnIs (now s) (pgn-at (packOf (now s)) t i) g × (k < g .fields) ⌝ }
-    ensures { λ r. ⌜ Emitted (now (out .entry)) n (trailing-zero-target-at (packOf (now (s .entry)) .fieldtypes) t i (pgn-at (packOf (now (s .entry))) t i) k (optNumber j)) (now (out .exit)) r ⌝ }
+    requires { ⌜ Fits n (trailing-zero-target-at (pack-of (now s) .fieldtypes) t i (pgn-at (pack-of (now s)) t i) k (optional-number j)) × PgnAt (now s) (now work) t i p × PgnIs (now s) (pgn-at (pack-of (now s)) t i) g × (k < g .fields) ⌝ }
+    ensures { λ r. ⌜ Emitted (now (out .entry)) n (trailing-zero-target-at (pack-of (now (s .entry)) .fieldtypes) t i (pgn-at (pack-of (now (s .entry))) t i) k (optional-number j)) (now (out .exit)) r ⌝ }
 {
     if !j.given {
         return put(out, n, pgn_error(44, 2, t, i, k, 0));
@@ -155,8 +155,8 @@ fn trailing_zero_at(
     k: u32,
     f: FieldView,
 ) -> usize
-    requires { ⌜ Fits n (trailing-zero-at (packOf (now s) .fieldtypes) t i (pgn-at (packOf (now s)) t i) k (field-at (pgn-at (packOf (now s)) t i) k .trailing-zero)) × PgnAt (now s) (now work) t i p × PgnIs (now s) (pgn-at (packOf (now s)) t i) g × (k < g .fields) × (fieldMeaning (now s) f ≡ field-at (pgn-at (packOf (now s)) t i) k) ⌝ }
-    ensures { λ r. ⌜ Emitted (now (out .entry)) n (trailing-zero-at (packOf (now (s .entry)) .fieldtypes) t i (pgn-at (packOf (now (s .entry))) t i) k (field-at (pgn-at (packOf (now (s .entry))) t i) k .trailing-zero)) (now (out .exit)) r ⌝ }
+    requires { ⌜ Fits n (trailing-zero-at (pack-of (now s) .fieldtypes) t i (pgn-at (pack-of (now s)) t i) k (field-at (pgn-at (pack-of (now s)) t i) k .trailing-zero)) × PgnAt (now s) (now work) t i p × PgnIs (now s) (pgn-at (pack-of (now s)) t i) g × (k < g .fields) × (field-meaning (now s) f ≡ field-at (pgn-at (pack-of (now s)) t i) k) ⌝ }
+    ensures { λ r. ⌜ Emitted (now (out .entry)) n (trailing-zero-at (pack-of (now (s .entry)) .fieldtypes) t i (pgn-at (pack-of (now (s .entry))) t i) k (field-at (pgn-at (pack-of (now (s .entry))) t i) k .trailing-zero)) (now (out .exit)) r ⌝ }
 {
     if !f.links.trailing.given {
         return n;
@@ -179,8 +179,8 @@ pub fn check_trailing_zero_is_digit(
     p: usize,
     g: PgnView,
 ) -> usize
-    requires { ⌜ Fits n (check-trailing-zero-is-digit (packOf (now s) .fieldtypes) t i (pgn-at (packOf (now s)) t i)) × PgnAt (now s) (now work) t i p × PgnIs (now s) (pgn-at (packOf (now s)) t i) g ⌝ }
-    ensures { λ r. ⌜ Emitted (now (out .entry)) n (check-trailing-zero-is-digit (packOf (now (s .entry)) .fieldtypes) t i (pgn-at (packOf (now (s .entry))) t i)) (now (out .exit)) r ⌝ }
+    requires { ⌜ Fits n (check-trailing-zero-is-digit (pack-of (now s) .fieldtypes) t i (pgn-at (pack-of (now s)) t i)) × PgnAt (now s) (now work) t i p × PgnIs (now s) (pgn-at (pack-of (now s)) t i) g ⌝ }
+    ensures { λ r. ⌜ Emitted (now (out .entry)) n (check-trailing-zero-is-digit (pack-of (now (s .entry)) .fieldtypes) t i (pgn-at (pack-of (now (s .entry))) t i)) (now (out .exit)) r ⌝ }
 {
     let fields = g.fields;
     let mut m = n;

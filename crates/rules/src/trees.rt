@@ -2,10 +2,10 @@
 ghost use mathlib.Core.Path.{_≡_};
 ghost use Prim.Native.Nat.{_<_};
 ghost use lib.ListN.{length};
-ghost use Rattle.pack.specs.Notation.{concatBelow};
-ghost use Rattle.pack.specs.Meaning.{packOf};
+ghost use Rattle.pack.specs.Notation.{concat-below};
+ghost use Rattle.pack.specs.Meaning.{pack-of};
 ghost use Rattle.pack.specs.Value.{pgns-of, pgn-at};
-ghost use Rattle.pack.specs.Ready.{Ready, PgnAt, PgnIs, lookupPlace, treePlace, IndexIs};
+ghost use Rattle.pack.specs.Ready.{Ready, PgnAt, PgnIs, place-of-lookup, place-of-tree, IndexIs};
 ghost use Rattle.rules.specs.Check.{check-pgn, check-tree, check-tree-continues};
 ghost use Rattle.rules.specs.Emit.{Emitted, Fits};
 use crate::bit_length_field::check_bit_length_field;
@@ -42,8 +42,8 @@ fn check_pgn(
     p: usize,
     g: PgnView,
 ) -> usize
-    requires { ⌜ Fits n (check-pgn (packOf (now s)) t i (pgn-at (packOf (now s)) t i)) × PgnAt (now s) (now work) t i p × PgnIs (now s) (pgn-at (packOf (now s)) t i) g × (lookups .count ≡ length (packOf (now s) .lookups)) × (lookups .place ≡ lookupPlace (packOf (now s)) 0) ⌝ }
-    ensures { λ r. ⌜ Emitted (now (out .entry)) n (check-pgn (packOf (now (s .entry))) t i (pgn-at (packOf (now (s .entry))) t i)) (now (out .exit)) r ⌝ }
+    requires { ⌜ Fits n (check-pgn (pack-of (now s)) t i (pgn-at (pack-of (now s)) t i)) × PgnAt (now s) (now work) t i p × PgnIs (now s) (pgn-at (pack-of (now s)) t i) g × (lookups .count ≡ length (pack-of (now s) .lookups)) × (lookups .place ≡ place-of-lookup (pack-of (now s)) 0) ⌝ }
+    ensures { λ r. ⌜ Emitted (now (out .entry)) n (check-pgn (pack-of (now (s .entry))) t i (pgn-at (pack-of (now (s .entry))) t i)) (now (out .exit)) r ⌝ }
 {
     let r02 = check_pgn_range(out, n, s, t, i, g);
     let r04 = check_frame_length(out, r02, s, t, i, g);
@@ -70,8 +70,8 @@ fn check_pgns(
     t: u32,
     tree: Section,
 ) -> usize
-    requires { ⌜ Fits n (concatBelow (λ i. check-pgn (packOf (now s)) t i (pgn-at (packOf (now s)) t i)) (length (pgns-of (packOf (now s)) t))) × Ready (now s) (now work) × (t < 3) × (tree .count ≡ length (pgns-of (packOf (now s)) t)) × (tree .place ≡ treePlace (packOf (now s)) t) × (lookups .count ≡ length (packOf (now s) .lookups)) × (lookups .place ≡ lookupPlace (packOf (now s)) 0) ⌝ }
-    ensures { λ r. ⌜ Emitted (now (out .entry)) n (concatBelow (λ i. check-pgn (packOf (now (s .entry))) t i (pgn-at (packOf (now (s .entry))) t i)) (length (pgns-of (packOf (now (s .entry))) t))) (now (out .exit)) r ⌝ }
+    requires { ⌜ Fits n (concat-below (λ i. check-pgn (pack-of (now s)) t i (pgn-at (pack-of (now s)) t i)) (length (pgns-of (pack-of (now s)) t))) × Ready (now s) (now work) × (t < 3) × (tree .count ≡ length (pgns-of (pack-of (now s)) t)) × (tree .place ≡ place-of-tree (pack-of (now s)) t) × (lookups .count ≡ length (pack-of (now s) .lookups)) × (lookups .place ≡ place-of-lookup (pack-of (now s)) 0) ⌝ }
+    ensures { λ r. ⌜ Emitted (now (out .entry)) n (concat-below (λ i. check-pgn (pack-of (now (s .entry))) t i (pgn-at (pack-of (now (s .entry))) t i)) (length (pgns-of (pack-of (now (s .entry))) t))) (now (out .exit)) r ⌝ }
 {
     let count = tree.count;
     let mut m = n;
@@ -88,8 +88,8 @@ fn check_pgns(
 
 // Tree t.
 fn check_tree(out: &mut [u32], n: usize, s: &[u8], work: &[u32], index: Index, t: u32) -> usize
-    requires { ⌜ Fits n (check-tree (packOf (now s)) t) × Ready (now s) (now work) × IndexIs (packOf (now s)) index × (t < 3) ⌝ }
-    ensures { λ r. ⌜ Emitted (now (out .entry)) n (check-tree (packOf (now (s .entry))) t) (now (out .exit)) r ⌝ }
+    requires { ⌜ Fits n (check-tree (pack-of (now s)) t) × Ready (now s) (now work) × IndexIs (pack-of (now s)) index × (t < 3) ⌝ }
+    ensures { λ r. ⌜ Emitted (now (out .entry)) n (check-tree (pack-of (now (s .entry))) t) (now (out .exit)) r ⌝ }
 {
     let protocol = Protocol::of_tree(t);
     let tree = protocol.section(index);
@@ -99,8 +99,8 @@ fn check_tree(out: &mut [u32], n: usize, s: &[u8], work: &[u32], index: Index, t
 }
 
 pub fn check_trees(out: &mut [u32], n: usize, s: &[u8], work: &[u32], index: Index) -> usize
-    requires { ⌜ Fits n (concatBelow (check-tree (packOf (now s))) 3) × Ready (now s) (now work) × IndexIs (packOf (now s)) index ⌝ }
-    ensures { λ r. ⌜ Emitted (now (out .entry)) n (concatBelow (check-tree (packOf (now (s .entry)))) 3) (now (out .exit)) r ⌝ }
+    requires { ⌜ Fits n (concat-below (check-tree (pack-of (now s))) 3) × Ready (now s) (now work) × IndexIs (pack-of (now s)) index ⌝ }
+    ensures { λ r. ⌜ Emitted (now (out .entry)) n (concat-below (check-tree (pack-of (now (s .entry)))) 3) (now (out .exit)) r ⌝ }
 {
     let nmea2000 = check_tree(out, n, s, work, index, 0);
     let j1939 = check_tree(out, nmea2000, s, work, index, 1);
@@ -116,8 +116,8 @@ fn check_tree_continues(
     t: u32,
     tree: Section,
 ) -> usize
-    requires { ⌜ Fits n (check-tree-continues (packOf (now s)) t) × Ready (now s) (now work) × (t < 3) × (tree .count ≡ length (pgns-of (packOf (now s)) t)) × (tree .place ≡ treePlace (packOf (now s)) t) ⌝ }
-    ensures { λ r. ⌜ Emitted (now (out .entry)) n (check-tree-continues (packOf (now (s .entry))) t) (now (out .exit)) r ⌝ }
+    requires { ⌜ Fits n (check-tree-continues (pack-of (now s)) t) × Ready (now s) (now work) × (t < 3) × (tree .count ≡ length (pgns-of (pack-of (now s)) t)) × (tree .place ≡ place-of-tree (pack-of (now s)) t) ⌝ }
+    ensures { λ r. ⌜ Emitted (now (out .entry)) n (check-tree-continues (pack-of (now (s .entry))) t) (now (out .exit)) r ⌝ }
 {
     let count = tree.count;
     let mut m = n;
@@ -139,8 +139,8 @@ pub fn check_trees_continues(
     work: &[u32],
     index: Index,
 ) -> usize
-    requires { ⌜ Fits n (concatBelow (check-tree-continues (packOf (now s))) 3) × Ready (now s) (now work) × IndexIs (packOf (now s)) index ⌝ }
-    ensures { λ r. ⌜ Emitted (now (out .entry)) n (concatBelow (check-tree-continues (packOf (now (s .entry)))) 3) (now (out .exit)) r ⌝ }
+    requires { ⌜ Fits n (concat-below (check-tree-continues (pack-of (now s))) 3) × Ready (now s) (now work) × IndexIs (pack-of (now s)) index ⌝ }
+    ensures { λ r. ⌜ Emitted (now (out .entry)) n (concat-below (check-tree-continues (pack-of (now (s .entry)))) 3) (now (out .exit)) r ⌝ }
 {
     let nmea2000 = check_tree_continues(out, n, s, work, 0, index.nmea2000);
     let j1939 = check_tree_continues(out, nmea2000, s, work, 1, index.j1939);

@@ -4,12 +4,12 @@ ghost use Prim.Native.Nat.{_≤_, _<_};
 ghost use lib.ListN.{length, getD};
 ghost use mathlib.Core.List.{_++_};
 ghost use Rattle.pack.specs.Notation.{_≐_};
-ghost use Rattle.pack.specs.Value.{pgns-of, noPgn, pgn-at};
-ghost use Rattle.pack.specs.Items.{bytesOf};
-ghost use Rattle.pack.specs.Meaning.{optNumber, packOf};
-ghost use Rattle.pack.specs.Ready.{Ready, PgnAt, PgnIs, treePlace};
+ghost use Rattle.pack.specs.Value.{pgns-of, no-pgn, pgn-at};
+ghost use Rattle.pack.specs.Items.{bytes-of};
+ghost use Rattle.pack.specs.Meaning.{optional-number, pack-of};
+ghost use Rattle.pack.specs.Ready.{Ready, PgnAt, PgnIs, place-of-tree};
 ghost use Rattle.rules.specs.Emit.{Emitted, Fits};
-ghost use Rattle.rules.specs.Search.{latestBelow};
+ghost use Rattle.rules.specs.Search.{latest-below};
 ghost use Rattle.rules.specs.UniqueIds.{same-id-as, unique-field-ids, check-unique-ids};
 use crate::emit::pgn_error;
 use crate::emit::put;
@@ -26,8 +26,8 @@ use pack::text::same_text;
 
 // The latest of the first n PGNs of tree t, which begins at `first`, with that id.
 fn latest_holder(s: &[u8], work: &[u32], t: u32, first: usize, n: u32, id: Text) -> OptNumber
-    requires { ⌜ Ready (now s) (now work) × (t < 3) × (first ≡ treePlace (packOf (now s)) t) × (n ≤ length (pgns-of (packOf (now s)) t)) ⌝ }
-    ensures { λ r. ⌜ optNumber r ≡ latestBelow (λ j. pgn-at (packOf (now (s .entry))) t j .id ≐ bytesOf (now (s .entry)) id) n ⌝ }
+    requires { ⌜ Ready (now s) (now work) × (t < 3) × (first ≡ place-of-tree (pack-of (now s)) t) × (n ≤ length (pgns-of (pack-of (now s)) t)) ⌝ }
+    ensures { λ r. ⌜ optional-number r ≡ latest-below (λ j. pgn-at (pack-of (now (s .entry))) t j .id ≐ bytes-of (now (s .entry)) id) n ⌝ }
 {
     let mut found = OptNumber {
         given: false,
@@ -56,8 +56,8 @@ fn same_id(
     i: u32,
     g: PgnView,
 ) -> usize
-    requires { ⌜ Fits n (same-id-as t i (latestBelow (λ j. pgn-at (packOf (now s)) t j .id ≐ pgn-at (packOf (now s)) t i .id) i)) × Ready (now s) (now work) × (t < 3) × (first ≡ treePlace (packOf (now s)) t) × (i ≤ length (pgns-of (packOf (now s)) t)) × PgnIs (now s) (pgn-at (packOf (now s)) t i) g ⌝ }
-    ensures { λ r. ⌜ Emitted (now (out .entry)) n (same-id-as t i (latestBelow (λ j. pgn-at (packOf (now (s .entry))) t j .id ≐ pgn-at (packOf (now (s .entry))) t i .id) i)) (now (out .exit)) r ⌝ }
+    requires { ⌜ Fits n (same-id-as t i (latest-below (λ j. pgn-at (pack-of (now s)) t j .id ≐ pgn-at (pack-of (now s)) t i .id) i)) × Ready (now s) (now work) × (t < 3) × (first ≡ place-of-tree (pack-of (now s)) t) × (i ≤ length (pgns-of (pack-of (now s)) t)) × PgnIs (now s) (pgn-at (pack-of (now s)) t i) g ⌝ }
+    ensures { λ r. ⌜ Emitted (now (out .entry)) n (same-id-as t i (latest-below (λ j. pgn-at (pack-of (now (s .entry))) t j .id ≐ pgn-at (pack-of (now (s .entry))) t i .id) i)) (now (out .exit)) r ⌝ }
 {
     let found = latest_holder(s, work, t, first, i, g.id);
     if !found.given {
@@ -76,8 +76,8 @@ fn unique_field_ids(
     p: usize,
     fields: u32,
 ) -> usize
-    requires { ⌜ Fits n (unique-field-ids t i (pgn-at (packOf (now s)) t i)) × PgnAt (now s) (now work) t i p × (fields ≡ length (pgn-at (packOf (now s)) t i .fields)) ⌝ }
-    ensures { λ r. ⌜ Emitted (now (out .entry)) n (unique-field-ids t i (pgn-at (packOf (now (s .entry))) t i)) (now (out .exit)) r ⌝ }
+    requires { ⌜ Fits n (unique-field-ids t i (pgn-at (pack-of (now s)) t i)) × PgnAt (now s) (now work) t i p × (fields ≡ length (pgn-at (pack-of (now s)) t i .fields)) ⌝ }
+    ensures { λ r. ⌜ Emitted (now (out .entry)) n (unique-field-ids t i (pgn-at (pack-of (now (s .entry))) t i)) (now (out .exit)) r ⌝ }
 {
     let mut m = n;
     let mut k: u32 = 0;
@@ -102,8 +102,8 @@ fn unique_ids_at(
     p: usize,
     g: PgnView,
 ) -> usize
-    requires { ⌜ Fits n (same-id-as t i (latestBelow (λ j. pgn-at (packOf (now s)) t j .id ≐ pgn-at (packOf (now s)) t i .id) i) ++ unique-field-ids t i (pgn-at (packOf (now s)) t i)) × PgnAt (now s) (now work) t i p × (first ≡ treePlace (packOf (now s)) t) × PgnIs (now s) (pgn-at (packOf (now s)) t i) g ⌝ }
-    ensures { λ r. ⌜ Emitted (now (out .entry)) n (same-id-as t i (latestBelow (λ j. pgn-at (packOf (now (s .entry))) t j .id ≐ pgn-at (packOf (now (s .entry))) t i .id) i) ++ unique-field-ids t i (pgn-at (packOf (now (s .entry))) t i)) (now (out .exit)) r ⌝ }
+    requires { ⌜ Fits n (same-id-as t i (latest-below (λ j. pgn-at (pack-of (now s)) t j .id ≐ pgn-at (pack-of (now s)) t i .id) i) ++ unique-field-ids t i (pgn-at (pack-of (now s)) t i)) × PgnAt (now s) (now work) t i p × (first ≡ place-of-tree (pack-of (now s)) t) × PgnIs (now s) (pgn-at (pack-of (now s)) t i) g ⌝ }
+    ensures { λ r. ⌜ Emitted (now (out .entry)) n (same-id-as t i (latest-below (λ j. pgn-at (pack-of (now (s .entry))) t j .id ≐ pgn-at (pack-of (now (s .entry))) t i .id) i) ++ unique-field-ids t i (pgn-at (pack-of (now (s .entry))) t i)) (now (out .exit)) r ⌝ }
 {
     let m = same_id(out, n, s, work, t, first, i, g);
     unique_field_ids(out, m, s, work, t, i, p, g.fields)
@@ -118,8 +118,8 @@ pub fn check_unique_ids(
     t: u32,
     tree: Section,
 ) -> usize
-    requires { ⌜ Fits n (check-unique-ids t (pgns-of (packOf (now s)) t)) × Ready (now s) (now work) × (t < 3) × (tree .count ≡ length (pgns-of (packOf (now s)) t)) × (tree .place ≡ treePlace (packOf (now s)) t) ⌝ }
-    ensures { λ r. ⌜ Emitted (now (out .entry)) n (check-unique-ids t (pgns-of (packOf (now (s .entry))) t)) (now (out .exit)) r ⌝ }
+    requires { ⌜ Fits n (check-unique-ids t (pgns-of (pack-of (now s)) t)) × Ready (now s) (now work) × (t < 3) × (tree .count ≡ length (pgns-of (pack-of (now s)) t)) × (tree .place ≡ place-of-tree (pack-of (now s)) t) ⌝ }
+    ensures { λ r. ⌜ Emitted (now (out .entry)) n (check-unique-ids t (pgns-of (pack-of (now (s .entry))) t)) (now (out .exit)) r ⌝ }
 {
     let count = tree.count;
     let first = tree.place;

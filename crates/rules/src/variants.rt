@@ -5,10 +5,10 @@ ghost use Prim.Native.Nat.{_≤_, _<_};
 ghost use lib.ListN.{length};
 ghost use Rattle.pack.specs.Notation.{_==_, _≤ᵇ_};
 ghost use Rattle.pack.specs.Value.{pgns-of, pgn-at};
-ghost use Rattle.pack.specs.Meaning.{optNumber, packOf};
-ghost use Rattle.pack.specs.Ready.{Ready, PgnAt, PgnIs, treePlace};
+ghost use Rattle.pack.specs.Meaning.{optional-number, pack-of};
+ghost use Rattle.pack.specs.Ready.{Ready, PgnAt, PgnIs, place-of-tree};
 ghost use Rattle.rules.specs.Emit.{Emitted, Fits};
-ghost use Rattle.rules.specs.Search.{latestBelow};
+ghost use Rattle.rules.specs.Search.{latest-below};
 ghost use Rattle.rules.specs.Variants.{has-match, duplicates, in-group, variant-at, group-findings, least-group, check-variants};
 ghost use mathlib.Core.Option.{some};
 use crate::emit::group_error;
@@ -47,8 +47,8 @@ fn from_number(g: PgnView, b: u64) -> bool
 
 // The least number from b on that has a group.
 fn least_group(s: &[u8], work: &[u32], t: u32, tree: Section, b: u64) -> OptNumber
-    requires { ⌜ Ready (now s) (now work) × (t < 3) × (tree .count ≡ length (pgns-of (packOf (now s)) t)) × (tree .place ≡ treePlace (packOf (now s)) t) ⌝ }
-    ensures { λ r. ⌜ optNumber r ≡ least-group t (pgns-of (packOf (now (s .entry))) t) b ⌝ }
+    requires { ⌜ Ready (now s) (now work) × (t < 3) × (tree .count ≡ length (pgns-of (pack-of (now s)) t)) × (tree .place ≡ place-of-tree (pack-of (now s)) t) ⌝ }
+    ensures { λ r. ⌜ optional-number r ≡ least-group t (pgns-of (pack-of (now (s .entry))) t) b ⌝ }
 {
     let count = tree.count;
     let mut found = OptNumber {
@@ -80,8 +80,8 @@ fn duplicate_at(
     p: usize,
     n: u32,
 ) -> bool
-    requires { ⌜ PgnAt (now s) (now work) t j q × PgnIs (now s) (pgn-at (packOf (now s)) t j) g × PgnAt (now s) (now work) t i p × (n ≡ length (pgn-at (packOf (now s)) t i .fields)) ⌝ }
-    ensures { λ r. ⌜ r ≡ (in-group t (pgns-of (packOf (now (s .entry))) t) number j && duplicates (pgn-at (packOf (now (s .entry))) t j) (pgn-at (packOf (now (s .entry))) t i)) ⌝ }
+    requires { ⌜ PgnAt (now s) (now work) t j q × PgnIs (now s) (pgn-at (pack-of (now s)) t j) g × PgnAt (now s) (now work) t i p × (n ≡ length (pgn-at (pack-of (now s)) t i .fields)) ⌝ }
+    ensures { λ r. ⌜ r ≡ (in-group t (pgns-of (pack-of (now (s .entry))) t) number j && duplicates (pgn-at (pack-of (now (s .entry))) t j) (pgn-at (pack-of (now (s .entry))) t i)) ⌝ }
 {
     if !in_group(g, number) {
         return false;
@@ -100,8 +100,8 @@ fn latest_duplicate(
     p: usize,
     n: u32,
 ) -> OptNumber
-    requires { ⌜ PgnAt (now s) (now work) t i p × (n ≡ length (pgn-at (packOf (now s)) t i .fields)) × (first ≡ treePlace (packOf (now s)) t) ⌝ }
-    ensures { λ r. ⌜ optNumber r ≡ latestBelow (λ j. in-group t (pgns-of (packOf (now (s .entry))) t) number j && duplicates (pgn-at (packOf (now (s .entry))) t j) (pgn-at (packOf (now (s .entry))) t i)) i ⌝ }
+    requires { ⌜ PgnAt (now s) (now work) t i p × (n ≡ length (pgn-at (pack-of (now s)) t i .fields)) × (first ≡ place-of-tree (pack-of (now s)) t) ⌝ }
+    ensures { λ r. ⌜ optional-number r ≡ latest-below (λ j. in-group t (pgns-of (pack-of (now (s .entry))) t) number j && duplicates (pgn-at (pack-of (now (s .entry))) t j) (pgn-at (pack-of (now (s .entry))) t i)) i ⌝ }
 {
     let mut found = OptNumber {
         given: false,
@@ -132,8 +132,8 @@ fn variant_at(
     p: usize,
     g: PgnView,
 ) -> usize
-    requires { ⌜ Fits n (variant-at t (pgns-of (packOf (now s)) t) number i) × PgnAt (now s) (now work) t i p × PgnIs (now s) (pgn-at (packOf (now s)) t i) g × (first ≡ treePlace (packOf (now s)) t) ⌝ }
-    ensures { λ r. ⌜ Emitted (now (out .entry)) n (variant-at t (pgns-of (packOf (now (s .entry))) t) number i) (now (out .exit)) r ⌝ }
+    requires { ⌜ Fits n (variant-at t (pgns-of (pack-of (now s)) t) number i) × PgnAt (now s) (now work) t i p × PgnIs (now s) (pgn-at (pack-of (now s)) t i) g × (first ≡ place-of-tree (pack-of (now s)) t) ⌝ }
+    ensures { λ r. ⌜ Emitted (now (out .entry)) n (variant-at t (pgns-of (pack-of (now (s .entry))) t) number i) (now (out .exit)) r ⌝ }
 {
     if !in_group(g, number) {
         return n;
@@ -150,8 +150,8 @@ fn variant_at(
 
 // PGN i, which is g, is of the group and has no match.
 fn matchless_at(s: &[u8], work: &[u32], t: u32, number: u32, i: u32, p: usize, g: PgnView) -> bool
-    requires { ⌜ PgnAt (now s) (now work) t i p × PgnIs (now s) (pgn-at (packOf (now s)) t i) g ⌝ }
-    ensures { λ r. ⌜ r ≡ (in-group t (pgns-of (packOf (now (s .entry))) t) number i && not (has-match (pgn-at (packOf (now (s .entry))) t i) (length (pgn-at (packOf (now (s .entry))) t i .fields)))) ⌝ }
+    requires { ⌜ PgnAt (now s) (now work) t i p × PgnIs (now s) (pgn-at (pack-of (now s)) t i) g ⌝ }
+    ensures { λ r. ⌜ r ≡ (in-group t (pgns-of (pack-of (now (s .entry))) t) number i && not (has-match (pgn-at (pack-of (now (s .entry))) t i) (length (pgn-at (pack-of (now (s .entry))) t i .fields)))) ⌝ }
 {
     if !in_group(g, number) {
         return false;
@@ -169,8 +169,8 @@ fn group_findings(
     tree: Section,
     number: u32,
 ) -> usize
-    requires { ⌜ Fits n (group-findings t (pgns-of (packOf (now s)) t) (some number)) × Ready (now s) (now work) × (t < 3) × (tree .count ≡ length (pgns-of (packOf (now s)) t)) × (tree .place ≡ treePlace (packOf (now s)) t) ⌝ }
-    ensures { λ r. ⌜ Emitted (now (out .entry)) n (group-findings t (pgns-of (packOf (now (s .entry))) t) (some number)) (now (out .exit)) r ⌝ }
+    requires { ⌜ Fits n (group-findings t (pgns-of (pack-of (now s)) t) (some number)) × Ready (now s) (now work) × (t < 3) × (tree .count ≡ length (pgns-of (pack-of (now s)) t)) × (tree .place ≡ place-of-tree (pack-of (now s)) t) ⌝ }
+    ensures { λ r. ⌜ Emitted (now (out .entry)) n (group-findings t (pgns-of (pack-of (now (s .entry))) t) (some number)) (now (out .exit)) r ⌝ }
 {
     let count = tree.count;
     let first = tree.place;
@@ -198,8 +198,8 @@ pub fn check_variants(
     t: u32,
     tree: Section,
 ) -> usize
-    requires { ⌜ Fits n (check-variants t (pgns-of (packOf (now s)) t)) × Ready (now s) (now work) × (t < 3) × (tree .count ≡ length (pgns-of (packOf (now s)) t)) × (tree .place ≡ treePlace (packOf (now s)) t) ⌝ }
-    ensures { λ r. ⌜ Emitted (now (out .entry)) n (check-variants t (pgns-of (packOf (now (s .entry))) t)) (now (out .exit)) r ⌝ }
+    requires { ⌜ Fits n (check-variants t (pgns-of (pack-of (now s)) t)) × Ready (now s) (now work) × (t < 3) × (tree .count ≡ length (pgns-of (pack-of (now s)) t)) × (tree .place ≡ place-of-tree (pack-of (now s)) t) ⌝ }
+    ensures { λ r. ⌜ Emitted (now (out .entry)) n (check-variants t (pgns-of (pack-of (now (s .entry))) t)) (now (out .exit)) r ⌝ }
 {
     let count = tree.count;
     let mut m = n;

@@ -12,7 +12,7 @@ use borrow.Author.Tests.{ltb-true, leb-true, leb-false, eqb-true, not-false, lt-
 use Rattle.pack.specs.Notation.{if_then_else_, _==_, _≐_}
 use Rattle.pack.specs.Value.{Bytes, Entry, Reference, Field, Repeating, Pgn, Pack, field-at, lookup-at, entry-at}
 use Rattle.rules.specs.SearchLaws.{first-is}
-use Rattle.rules.specs.Search.{anyBelow, firstBelow}
+use Rattle.rules.specs.Search.{any-below, first-below}
 use Rattle.rules.specs.Findings.{pgn-error, lookup-error, report-if}
 use Rattle.rules.specs.Model.{given, lookup-ref, find-lookup, target, fieldtypes}
 use Rattle.rules.specs.LookupWiring.{is-fieldtype, lookup-found-at, lookup-ref-at, nested-lookup-at, fieldtype-entry-at, check-nested-refs}
@@ -31,11 +31,11 @@ use Rattle.walk.proofs.Clean.{clean-then, clean-else}
 use Rattle.walk.proofs.SetFacts.{Holds, short, placed-i, Good}
 
 -- a first index stays the first where more are looked at
-first-more : (f : ℕ → Bool) (k n j : ℕ) → firstBelow f k ≡ some j → k ≤ n → firstBelow f n ≡ some j
+first-more : (f : ℕ → Bool) (k n j : ℕ) → first-below f k ≡ some j → k ≤ n → first-below f n ≡ some j
 first-more f k zero j e l = let z : k ≡ 0 = omega arith in rw z at e
 first-more f k (suc n) j e l = go (ℕ-discrete k (suc n)) (first-more f k n j e)
   where
-    go : Dec (k ≡ suc n) → (k ≤ n → firstBelow f n ≡ some j) → firstBelow f (suc n) ≡ some j
+    go : Dec (k ≡ suc n) → (k ≤ n → first-below f n ≡ some j) → first-below f (suc n) ≡ some j
     go (yes q) r = rw q at e
     go (no q) r = rw (r (omega arith))
 
@@ -176,9 +176,9 @@ module _ (p : Pgn) (G : Good (layout p)) where
   pub no-stop-7 : (P : Pack) (t i k : ℕ) → k < length (p .fields) → (x : Option Bytes) → Clean (continues-at (P .fieldtypes) t i p k x) → lacks p (placed (layout p) (suc k)) x ≡ false
   unfolding continues-at continued-found-at continued-at lacks target
   no-stop-7 P t i k l none e = refl
-  no-stop-7 P t i k l (some id) e = go (firstBelow (λ j. field-at p j .id ≐ id) k) refl
+  no-stop-7 P t i k l (some id) e = go (first-below (λ j. field-at p j .id ≐ id) k) refl
     where
-      go : (x : Option ℕ) → firstBelow (λ j. field-at p j .id ≐ id) k ≡ x → lacks p (placed (layout p) (suc k)) (some id) ≡ false
+      go : (x : Option ℕ) → first-below (λ j. field-at p j .id ≐ id) k ≡ x → lacks p (placed (layout p) (suc k)) (some id) ≡ false
       go none q = absurd (false≢true (rw (q, continues-at) at e))
       go (some j) q =
           let c : Clean (continued-at (P .fieldtypes) t i p k (field-at p k) id j (field-at p j)) = rw (q, continues-at) at e in
@@ -199,7 +199,7 @@ module _ (p : Pgn) where
   in-no-set j e n h = go n h
     where
       narrow : Bool
-      narrow = not (anyBelow (λ k. (field-at p k .res-bits == 0) || field-at p k .proprietary) j)
+      narrow = not (any-below (λ k. (field-at p k .res-bits == 0) || field-at p k .proprietary) j)
 
       go : (n : ℕ) → Holds (layout p) n (suc j) → ⊥
       go zero h = behind (p .repeating1) (j + 1) (and-r narrow _ (and-l (narrow && starts-behind (p .repeating1) (j + 1)) _ e)) (omega arith)

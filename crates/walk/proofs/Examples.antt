@@ -15,7 +15,7 @@ use Rattle.rules.specs.Computed.{computed}
 use Rattle.rules.specs.Findings.{pgn-error, without-error}
 use Rattle.rules.specs.Floats.{ONE}
 use Rattle.rules.specs.Texts.{bytes, BINARY, NUMBER, DYNAMIC-FIELD-KEY, DYNAMIC-FIELD-VALUE}
-use Rattle.rules.specs.Search.{everyBelow}
+use Rattle.rules.specs.Search.{every-below}
 use Rattle.walk.specs.Layout.{Layout, sets-hold, share, nested-in, inside-previous, misplaced, clash, stop-1, layout}
 use Rattle.walk.specs.Stops.{is-missing, lookup-missing, unfit, match-unfit, names-missing, entries-name-missing, lookup-names-missing}
 use Rattle.walk.specs.Stops.{reference-names-missing, lacks, lacks-length, stop-at}
@@ -314,8 +314,8 @@ unfolding held shares-held clash share nested-in count-fields-held count-field-h
 conditions p =
     shares-held (layout p)
     ∷ count-fields-held (layout p)
-    ∷ everyBelow (λ i. bit-length-held p i) (length (p .fields))
-    ∷ everyBelow (λ i. dynamic-value-held (alone p) p i) (length (p .fields))
+    ∷ every-below (λ i. bit-length-held p i) (length (p .fields))
+    ∷ every-below (λ i. dynamic-value-held (alone p) p i) (length (p .fields))
     ∷ []
 
 unfoldable walk-alone : Pgn → List ℕ → Answer

@@ -13,7 +13,7 @@ use Rattle.walk.specs.HeldReadings.{field-in, may-hold, count-field-wide
 use Rattle.walk.proofs.Tests.{and-i, or-i, and-not, imp-e, every-e, none-below}
 use Rattle.walk.proofs.SetFacts.{Holds, holds-i, short, placed-i, nested-e}
 use Rattle.walk.proofs.Never.{Count-placed}
-use Rattle.rules.specs.Search.{everyBelow}
+use Rattle.rules.specs.Search.{every-below}
 
 -- what R05 gives of set k, which holds some order
 pub record Fits (L : Layout) (k : ℕ) : Type 0 where
@@ -25,7 +25,7 @@ pub record Fits (L : Layout) (k : ℕ) : Type 0 where
 module _ (L : Layout) (fit : (k o : ℕ) → Holds L k o → Fits L k) (shares : shares-held L ≡ true) where
   apart : (j k : ℕ) → j < k → k < length (L .sets) → clash L j k ≡ false
   unfolding shares-held
-  apart j k l m = not-true (clash L j k) (every-e (λ j. not (clash L j k)) k (every-e (λ k. everyBelow (λ j. not (clash L j k)) k) (length (L .sets)) shares k m) j l)
+  apart j k l m = not-true (clash L j k) (every-e (λ j. not (clash L j k)) k (every-e (λ k. every-below (λ j. not (clash L j k)) k) (length (L .sets)) shares k m) j l)
 
   in-place : (k : ℕ) → misplaced L k ≡ false
   unfolding misplaced

@@ -8,7 +8,7 @@ use lib.ListN.{length}
 use lib.Dec.{ltb, leb, eqb}
 use Rattle.pack.specs.Value.{Pgn, Pack}
 use Rattle.rules.specs.SearchLaws.{any-hit}
-use Rattle.rules.specs.Search.{anyBelow}
+use Rattle.rules.specs.Search.{any-below}
 use Rattle.walk.specs.Layout.{Layout, layout, set-at, nonempty, holds, nested-in}
 use Rattle.walk.specs.Held.{shares-held, count-field-held, count-fields-held, held-by, held}
 use Rattle.walk.specs.HeldReadings.{of-every-set, of-nonempty-sets, in-no-set, field-in, may-hold}
@@ -66,9 +66,9 @@ module _ (p : Pgn) where
       (λ j l. imp-i (field-in (layout p) j c) (may-hold (layout p) j k) (λ lies. may j l (and-r (ltb 0 c && leb c (length (p .fields))) _ lies)))
     where
       may : (j : ℕ) → j < 2 → holds (layout p) j c ≡ true → may-hold (layout p) j k ≡ true
-      may j l lies = go (anyBelow (λ j. holds (layout p) j c) 2) refl e
+      may j l lies = go (any-below (λ j. holds (layout p) j c) 2) refl e
         where
-          go : (b : Bool) → anyBelow (λ j. holds (layout p) j c) 2 ≡ b → (not b || set-at (layout p) 1 .nested && holds (layout p) 0 c) ≡ true
+          go : (b : Bool) → any-below (λ j. holds (layout p) j c) 2 ≡ b → (not b || set-at (layout p) 1 .nested && holds (layout p) 0 c) ≡ true
               → may-hold (layout p) j k ≡ true
           go true q h = nested-may (and-l (set-at (layout p) 1 .nested) _ h) j k l m
           go false q h = absurd (false≢true (sym q ∙ any-hit (λ j. holds (layout p) j c) 2 j l lies))

@@ -6,7 +6,7 @@ use mathlib.Core.List.{List, [], _∷_}
 use mathlib.Core.Option.{Option, none, some}
 use mathlib.Core.Bool.{Bool, true, false}
 use lib.ListN.{length, getD}
-use Rattle.pack.specs.Value.{noField}
+use Rattle.pack.specs.Value.{no-field}
 use Rattle.walk.specs.Layout.{Layout, set-at, start, stop-1}
 use Rattle.walk.specs.Passes.{passes, Place}
 use Rattle.walk.specs.Visits.{Visits}
@@ -72,7 +72,7 @@ module _ (L : Layout) (stops : Stops) (S : Sound L stops) where
   unfolding arrive
   answers p g k none e f = let z : _≡_ {A = ℕ} 0 1 = cc in omega arith
   answers p g k (some zero) e f = e
-  answers p g k (some (suc t)) e f = go (passes (getD (L .fields) t noField) (g k)) (rw e at f)
+  answers p g k (some (suc t)) e f = go (passes (getD (L .fields) t no-field) (g k)) (rw e at f)
     where
       go : (n : ℕ) → counted true n ≡ not-current → ⊥
       go zero f = let z : _≡_ {A = ℕ} 0 1 = cc in omega arith

@@ -9,7 +9,7 @@ use lib.ListN.{length}
 use borrow.Author.Tests.{lt-ltb}
 use Rattle.pack.specs.Value.{Bytes, Pgn, Pack, pgns-of, pgn-at, field-at}
 use Rattle.rules.specs.SearchLaws.{any-hit}
-use Rattle.rules.specs.Search.{anyBelow, everyBelow}
+use Rattle.rules.specs.Search.{any-below, every-below}
 use Rattle.rules.specs.Model.{lookup-ref, target}
 use Rattle.rules.specs.DynamicLength.{length-source}
 use Rattle.rules.specs.LookupWiring.{check-lookup-refs}
@@ -50,7 +50,7 @@ quiet P t i l m e =
 
 module _ (P : Pack) (t i : ℕ) (p : Pgn) (q : Quiet P t i p) (h : held-widest P p ≡ true) where
   held-4 : (shares-held (layout p) ≡ true) × (widest-count-fields-held (layout p) ≡ true)
-      × (everyBelow (λ k. bit-length-held p k) (length (p .fields)) ≡ true) × (everyBelow (λ k. dynamic-value-held P p k) (length (p .fields)) ≡ true)
+      × (every-below (λ k. bit-length-held p k) (length (p .fields)) ≡ true) × (every-below (λ k. dynamic-value-held P p k) (length (p .fields)) ≡ true)
   unfolding held-widest
   held-4 = and-4 (shares-held (layout p)) (widest-count-fields-held (layout p)) _ _ h
 
@@ -68,7 +68,7 @@ module _ (P : Pack) (t i : ℕ) (p : Pgn) (q : Quiet P t i p) (h : held-widest P
   -- STOP 8, by what is held
   no-stop-8 : (k : ℕ) → k < length (p .fields) → lacks-length P p (placed (layout p) (suc k)) k ≡ false
   unfolding lacks-length dynamic-value-held placed
-  no-stop-8 k l = and-not (is-dynamic-value P (field-at p k)) (anyBelow current-source k) (λ v.
+  no-stop-8 k l = and-not (is-dynamic-value P (field-at p k)) (any-below current-source k) (λ v.
       let s = any-e _ k (imp-e (is-dynamic-value P (field-at p k)) _ (every-e (λ k. dynamic-value-held P p k) (length (p .fields)) (held-4 .3) k l) v) in
       let source = length-source (P .fieldtypes) (field-at p (s .at)) in
       any-hit current-source k (s .at) (s .low) (and-i source _ (and-l source _ (s .has)) (and-i _ _ (lt-ltb (suc (s .at)) (suc k) (omega (arith, s .low))) (and-r source _ (s .has)))))

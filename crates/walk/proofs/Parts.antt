@@ -12,8 +12,8 @@ use lib.Pow.{pow-pos}
 use borrow.Author.Tests.{ltb-true, ltb-false, lt-ltb, le-ltb, le-leb, lt-leb}
 use Rattle.pack.specs.Notation.{if_then_else_, optional, _<ᵇ_, _≤ᵇ_, _≐_}
 use Rattle.pack.specs.Value.{Bytes, Reference, Field, Pgn, Pack, field-at, lookup-at}
-use Rattle.pack.specs.Meaning.{packOf}
-use Rattle.rules.specs.Search.{or-else, anyBelow}
+use Rattle.pack.specs.Meaning.{pack-of}
+use Rattle.rules.specs.Search.{or-else, any-below}
 use Rattle.rules.specs.SearchLaws.{first-is}
 use Rattle.rules.specs.Model.{root-of, lookup-ref, find-lookup, target, resolve-match}
 use Rattle.rules.specs.DynamicLength.{length-source}
@@ -58,12 +58,12 @@ module _ (P : Pack) (p : Pgn) (current : ℕ → Bool) (i reading : ℕ) where
 
 -- 5, by the fieldtype lookup that the reference names
 pub named-reading : {s w : List ℕ} {r : Option Reference} {v : FieldtypeLookup} → Named s w r v → (reading : ℕ) (b : Bool)
-    → b ≡ (v .given && entries-name-missing (packOf s) (lookup-at (packOf s .lookups) (v .index) .entries) reading) → b ≡ reference-names-missing (packOf s) r reading
+    → b ≡ (v .given && entries-name-missing (pack-of s) (lookup-at (pack-of s .lookups) (v .index) .entries) reading) → b ≡ reference-names-missing (pack-of s) r reading
 named-reading {s} {w} {r} {v} N reading b e = go (v .given) refl
   where
-    go : (g : Bool) → v .given ≡ g → b ≡ reference-names-missing (packOf s) r reading
-    go true g = e ∙ ap (λ (x : Bool). x && entries-name-missing (packOf s) (lookup-at (packOf s .lookups) (v .index) .entries) reading) g ∙ sym (N .decide g reading)
-    go false g = e ∙ ap (λ (x : Bool). x && entries-name-missing (packOf s) (lookup-at (packOf s .lookups) (v .index) .entries) reading) g ∙ sym (N .none g reading)
+    go : (g : Bool) → v .given ≡ g → b ≡ reference-names-missing (pack-of s) r reading
+    go true g = e ∙ ap (λ (x : Bool). x && entries-name-missing (pack-of s) (lookup-at (pack-of s .lookups) (v .index) .entries) reading) g ∙ sym (N .decide g reading)
+    go false g = e ∙ ap (λ (x : Bool). x && entries-name-missing (pack-of s) (lookup-at (pack-of s .lookups) (v .index) .entries) reading) g ∙ sym (N .none g reading)
 
 -- harmless: no stop, and no fieldtype lookup
 pub and-not-parts : (a b : Bool) → (a && not b) ≡ true → (a ≡ true) × (b ≡ false)
@@ -110,7 +110,7 @@ module _ (p : Pgn) (current : ℕ → Bool) (id : Bytes) (t : ℕ) (g : Bool) (e
 
 -- ---- 8
 
-any-same : (f g : ℕ → Bool) (n : ℕ) → ((k : ℕ) → k < n → f k ≡ g k) → anyBelow f n ≡ anyBelow g n
+any-same : (f g : ℕ → Bool) (n : ℕ) → ((k : ℕ) → k < n → f k ≡ g k) → any-below f n ≡ any-below g n
 any-same f g zero h = refl
 any-same f g (suc n) h = rw (any-same f g n (λ k l. h k (omega arith)), h n (omega arith))
 
@@ -123,7 +123,7 @@ module _ (P : Pack) (p : Pgn) (L : Layout) (k : ℕ) where
   unfolding placed
   before-place j h = rw (lt-ltb (suc j) (suc k) (omega arith))
 
-  pub given-length : anyBelow (λ j. length-source (P .fieldtypes) (field-at p j) && placed L (suc k) j) k ≡ anyBelow (gives P p L k) k
+  pub given-length : any-below (λ j. length-source (P .fieldtypes) (field-at p j) && placed L (suc k) j) k ≡ any-below (gives P p L k) k
   given-length = any-same _ _ k (λ j h. ap (λ (b : Bool). length-source (P .fieldtypes) (field-at p j) && b) (before-place j h))
 
   module _ (F : Field) (is : F ≡ field-at p k) (root : Bytes) (r : root ≡ root-of (P .fieldtypes) F) (b : Bool) (e : b ≡ (root ≐ DYNAMIC-FIELD-VALUE)) where
@@ -134,7 +134,7 @@ module _ (P : Pack) (p : Pgn) (L : Layout) (k : ℕ) where
     unfolding lacks-length
     no-value h = rw (dynamic, h)
 
-    pub a-value : b ≡ true → (g : Bool) → g ≡ anyBelow (gives P p L k) k → lacks-length P p (placed L (suc k)) k ≡ not g
+    pub a-value : b ≡ true → (g : Bool) → g ≡ any-below (gives P p L k) k → lacks-length P p (placed L (suc k)) k ≡ not g
     unfolding lacks-length
     a-value h g y = rw (dynamic, h, given-length, ← y)
 
@@ -144,9 +144,9 @@ de-morgan true false = refl
 de-morgan false b = refl
 
 -- that it is held says that it has one that is current
-pub value-held : (P : Pack) (p : Pgn) (L : Layout) (k : ℕ) → (not (is-dynamic-value P (field-at p k)) || anyBelow (gives P p L k) k) ≡ not (lacks-length P p (placed L (suc k)) k)
+pub value-held : (P : Pack) (p : Pgn) (L : Layout) (k : ℕ) → (not (is-dynamic-value P (field-at p k)) || any-below (gives P p L k) k) ≡ not (lacks-length P p (placed L (suc k)) k)
 unfolding lacks-length
-value-held P p L k = rw (given-length P p L k) (de-morgan (is-dynamic-value P (field-at p k)) (anyBelow (gives P p L k) k))
+value-held P p L k = rw (given-length P p L k) (de-morgan (is-dynamic-value P (field-at p k)) (any-below (gives P p L k) k))
 
 -- ---- 6 to 9: at the order `own`, which is field k's
 

@@ -8,7 +8,7 @@ use lib.Dec.{ltb, leb, eqb}
 use borrow.Author.Tests.{ltb-true, ltb-false, leb-true, eqb-true, eqb-false, not-false, lt-ltb, le-leb}
 use Rattle.pack.specs.Value.{Repeating}
 use Rattle.rules.specs.SearchLaws.{any-missed}
-use Rattle.rules.specs.Search.{anyBelow, everyBelow}
+use Rattle.rules.specs.Search.{any-below, every-below}
 use Rattle.walk.specs.Layout.{Layout, no-set, set-at, start, end, nonempty, holds, sets-hold, share, nested-in, inside-previous, misplaced, clash, stop-1}
 use Rattle.walk.specs.ByPlace.{placed}
 use Rattle.walk.proofs.Tests.{and-l, and-r, and-i, or-l, or-r, imp-e, imp-i, and-false, every-e, every-i}
@@ -33,10 +33,10 @@ short L k o h = go (ltb k (length (L .sets))) refl
         absurd (omega (arith, ap (λ (s : Repeating). s .start) q, ap (λ (s : Repeating). s .count) q))
 
 -- a test of every set, as a fact of the sets that hold o
-pub each-e : (L : Layout) (o : ℕ) (f : ℕ → Bool) → everyBelow (λ k. not (holds L k o) || f k) (length (L .sets)) ≡ true → (k : ℕ) → Holds L k o → f k ≡ true
+pub each-e : (L : Layout) (o : ℕ) (f : ℕ → Bool) → every-below (λ k. not (holds L k o) || f k) (length (L .sets)) ≡ true → (k : ℕ) → Holds L k o → f k ≡ true
 each-e L o f e k h = imp-e (holds L k o) (f k) (every-e _ (length (L .sets)) e k (short L k o h)) (holds-i L k o h)
 
-pub each-i : (L : Layout) (o : ℕ) (f : ℕ → Bool) → ((k : ℕ) → Holds L k o → f k ≡ true) → everyBelow (λ k. not (holds L k o) || f k) (length (L .sets)) ≡ true
+pub each-i : (L : Layout) (o : ℕ) (f : ℕ → Bool) → ((k : ℕ) → Holds L k o → f k ≡ true) → every-below (λ k. not (holds L k o) || f k) (length (L .sets)) ≡ true
 each-i L o f h = every-i _ (length (L .sets)) (λ k l. imp-i (holds L k o) (f k) (λ e. h k (holds-e L k o e)))
 
 -- `placed` in words
@@ -61,7 +61,7 @@ pub record Good (L : Layout) : Type 0 where
   pub inside : (j k o : ℕ) → j < k → Holds L j o → Holds L k o → (start L j < start L k) × (end L k ≤ end L j)
 
 module _ (L : Layout) (laid : stop-1 L ≡ false) where
-  each : (k : ℕ) → k < length (L .sets) → (misplaced L k || anyBelow (λ j. clash L j k) k) ≡ false
+  each : (k : ℕ) → k < length (L .sets) → (misplaced L k || any-below (λ j. clash L j k) k) ≡ false
   unfolding stop-1
   each = any-missed _ (length (L .sets)) laid
 

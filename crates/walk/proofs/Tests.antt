@@ -7,7 +7,7 @@ use mathlib.Core.Path.{_≡_, refl, sym, _∙_}
 use mathlib.Core.Bool.{Bool, true, false, not, _&&_, _||_, false≢true}
 use lib.Dec.{ltb, leb}
 use borrow.Author.Tests.{ltb-true, ltb-false, le-leb, lt-leb, eq-eqb, ne-eqb}
-use Rattle.rules.specs.Search.{anyBelow, everyBelow}
+use Rattle.rules.specs.Search.{any-below, every-below}
 use Rattle.walk.specs.Passes.{put}
 
 pub and-l : (a b : Bool) → (a && b) ≡ true → a ≡ true
@@ -76,31 +76,31 @@ leb-not a b = go (ltb b a) refl
     go false e = le-leb a b (ltb-false b a e)
 
 -- for all, and for some, below a number
-pub every-e : (f : ℕ → Bool) (n : ℕ) → everyBelow f n ≡ true → (k : ℕ) → k < n → f k ≡ true
+pub every-e : (f : ℕ → Bool) (n : ℕ) → every-below f n ≡ true → (k : ℕ) → k < n → f k ≡ true
 every-e f zero e k h = absurd (omega arith)
 every-e f (suc n) e k h = go (ℕ-discrete k n) (every-e f n (and-l _ _ e) k)
   where
     go : Dec (k ≡ n) → (k < n → f k ≡ true) → f k ≡ true
-    go (yes q) r = rw q (and-r (everyBelow f n) _ e)
+    go (yes q) r = rw q (and-r (every-below f n) _ e)
     go (no q) r = r (omega arith)
 
-pub every-i : (f : ℕ → Bool) (n : ℕ) → ((k : ℕ) → k < n → f k ≡ true) → everyBelow f n ≡ true
+pub every-i : (f : ℕ → Bool) (n : ℕ) → ((k : ℕ) → k < n → f k ≡ true) → every-below f n ≡ true
 every-i f zero h = refl
-every-i f (suc n) h = and-i (everyBelow f n) _ (every-i f n (λ k l. h k (omega arith))) (h n (omega arith))
+every-i f (suc n) h = and-i (every-below f n) _ (every-i f n (λ k l. h k (omega arith))) (h n (omega arith))
 
-pub every-turn : (f : ℕ → Bool) (k : ℕ) → everyBelow f (k + 1) ≡ (everyBelow f k && f k)
+pub every-turn : (f : ℕ → Bool) (k : ℕ) → every-below f (k + 1) ≡ (every-below f k && f k)
 every-turn f k = rw (add-one k)
 
-pub every-missed : (f : ℕ → Bool) (n k : ℕ) → k < n → f k ≡ false → everyBelow f n ≡ false
-every-missed f n k h e = go (everyBelow f n) refl
+pub every-missed : (f : ℕ → Bool) (n k : ℕ) → k < n → f k ≡ false → every-below f n ≡ false
+every-missed f n k h e = go (every-below f n) refl
   where
-    go : (b : Bool) → everyBelow f n ≡ b → b ≡ false
+    go : (b : Bool) → every-below f n ≡ b → b ≡ false
     go true q = absurd (false≢true (sym e ∙ every-e f n q k h))
     go false q = refl
 
-pub none-below : (f : ℕ → Bool) (n : ℕ) → ((k : ℕ) → k < n → f k ≡ false) → anyBelow f n ≡ false
+pub none-below : (f : ℕ → Bool) (n : ℕ) → ((k : ℕ) → k < n → f k ≡ false) → any-below f n ≡ false
 none-below f zero h = refl
-none-below f (suc n) h = or-i (anyBelow f n) _ (none-below f n (λ k l. h k (omega arith))) (h n (omega arith))
+none-below f (suc n) h = or-i (any-below f n) _ (none-below f n (λ k l. h k (omega arith))) (h n (omega arith))
 
 -- which one, where there is one
 pub record Some (f : ℕ → Bool) (n : ℕ) : Type 0 where
@@ -108,11 +108,11 @@ pub record Some (f : ℕ → Bool) (n : ℕ) : Type 0 where
   pub low : at < n
   pub has : f at ≡ true
 
-pub any-e : (f : ℕ → Bool) (n : ℕ) → anyBelow f n ≡ true → Some f n
+pub any-e : (f : ℕ → Bool) (n : ℕ) → any-below f n ≡ true → Some f n
 any-e f zero e = absurd (false≢true e)
-any-e f (suc n) e = go (anyBelow f n) refl (any-e f n)
+any-e f (suc n) e = go (any-below f n) refl (any-e f n)
   where
-    go : (b : Bool) → anyBelow f n ≡ b → (anyBelow f n ≡ true → Some f n) → Some f (suc n)
+    go : (b : Bool) → any-below f n ≡ b → (any-below f n ≡ true → Some f n) → Some f (suc n)
     go true q r = let s = r q in record { at = s .at; low = omega (arith, s .low); has = s .has }
     go false q r = record { at = n; low = omega arith; has = rw q at e }
 

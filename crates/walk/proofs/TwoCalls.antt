@@ -6,8 +6,8 @@ use mathlib.Core.List.{List}
 use lib.ListN.{length}
 use lib.Dec.{ltb, leb}
 use borrow.Author.Tests.{ltb-true, leb-false, eqb-true}
-use Rattle.pack.specs.Load.{Verdict, refused, accepted, verdict, indexOf, loaded}
-use Rattle.pack.specs.Meaning.{packOf}
+use Rattle.pack.specs.Load.{Verdict, refused, accepted, verdict, load-index, loaded}
+use Rattle.pack.specs.Meaning.{pack-of}
 use Rattle.pack.specs.Value.{Pgn, Pack, pgns-of, pgn-at}
 use Rattle.rules.specs.Check.{check}
 use Rattle.rules.specs.Clean.{errors-clean}
@@ -18,7 +18,7 @@ use Rattle.walk.specs.Demand3.{clean, Kept, work-short, visits-short, wa
 use Rattle.walk.specs.Guarantee.{Unstopped, ends-whole, ends-used-up}
 use Rattle.walk.specs.Held.{held}
 use Rattle.walk.specs.HeldReadings.{held-widest}
-use Rattle.walk.specs.WalkCall.{in-pack, walk-of, walked, visitsAfter}
+use Rattle.walk.specs.WalkCall.{in-pack, walk-of, walked, visits-after}
 use Rattle.walk.specs.declared.walk.Walked.{Walked}
 use Rattle.walk.proofs.Tests.{and-l, and-r}
 use Rattle.walk.proofs.HeldWidest.{held-implies-widest}
@@ -27,26 +27,26 @@ use Rattle.walk.proofs.NoStop.{guarantee-widest}
 -- a clean check was made of an accepted pack
 pub record Clean (s : List ℕ) : Type 0 where
   pub taken : verdict s ≡ accepted
-  pub quiet : without-error (check (packOf s)) ≡ true
+  pub quiet : without-error (check (pack-of s)) ≡ true
 
 clean-means : (s : List ℕ) (m n : ℕ) → clean (checked s m n) ≡ true → Clean s
 unfolding checked loaded
-clean-means s m n h = go (verdict s) refl (leb (indexOf s .records) m) refl (leb (8 * length (check (packOf s))) n) refl
+clean-means s m n h = go (verdict s) refl (leb (load-index s .records) m) refl (leb (8 * length (check (pack-of s))) n) refl
   where
-    go : (v : Verdict) → verdict s ≡ v → (a : Bool) → leb (indexOf s .records) m ≡ a → (b : Bool) → leb (8 * length (check (packOf s))) n ≡ b → Clean s
+    go : (v : Verdict) → verdict s ≡ v → (a : Bool) → leb (load-index s .records) m ≡ a → (b : Bool) → leb (8 * length (check (pack-of s))) n ≡ b → Clean s
     go (refused r) ev a ea b eb = absurd (false≢true (rw (checked, loaded, ev) at h))
     go accepted ev false ea b eb = absurd (false≢true (rw (checked, loaded, ev, ea) at h))
     go accepted ev true ea false eb = absurd (false≢true (rw (checked, loaded, ev, ea, eb) at h))
-    go accepted ev true ea true eb = record { taken = ev; quiet = errors-clean (check (packOf s)) (eqb-true (errors (check (packOf s))) 0 (rw (checked, loaded, ev, ea, eb) at h)) }
+    go accepted ev true ea true eb = record { taken = ev; quiet = errors-clean (check (pack-of s)) (eqb-true (errors (check (pack-of s))) 0 (rw (checked, loaded, ev, ea, eb) at h)) }
 
-kept : (s : List ℕ) (m t i : ℕ) (readings w : List ℕ) → verdict s ≡ accepted → in-pack (packOf s) t i ≡ true → Unstopped (walk-of s t i readings) (length readings)
-    → Kept (walk-of s t i readings) (length readings) m w (visitsAfter s m t i readings w) (walked s m t i readings (length w))
-unfolding walked visitsAfter loaded
-kept s m t i readings w ev there u = go (leb (indexOf s .records) m) refl (leb (length readings) (length w)) refl u
+kept : (s : List ℕ) (m t i : ℕ) (readings w : List ℕ) → verdict s ≡ accepted → in-pack (pack-of s) t i ≡ true → Unstopped (walk-of s t i readings) (length readings)
+    → Kept (walk-of s t i readings) (length readings) m w (visits-after s m t i readings w) (walked s m t i readings (length w))
+unfolding walked visits-after loaded
+kept s m t i readings w ev there u = go (leb (load-index s .records) m) refl (leb (length readings) (length w)) refl u
   where
-    go : (a : Bool) → leb (indexOf s .records) m ≡ a → (b : Bool) → leb (length readings) (length w) ≡ b → Unstopped (walk-of s t i readings) (length readings)
-        → Kept (walk-of s t i readings) (length readings) m w (visitsAfter s m t i readings w) (walked s m t i readings (length w))
-    go false ea b eb u = work-short (indexOf s .records) (leb-false _ _ ea) (rw (ev, ea)) (rw (ev, ea))
+    go : (a : Bool) → leb (load-index s .records) m ≡ a → (b : Bool) → leb (length readings) (length w) ≡ b → Unstopped (walk-of s t i readings) (length readings)
+        → Kept (walk-of s t i readings) (length readings) m w (visits-after s m t i readings w) (walked s m t i readings (length w))
+    go false ea b eb u = work-short (load-index s .records) (leb-false _ _ ea) (rw (ev, ea)) (rw (ev, ea))
     go true ea false eb u = visits-short (leb-false _ _ eb) (rw (ev, ea, there, eb)) (rw (ev, ea, there, eb))
     go true ea true eb (ends-whole q l) = walked-whole (rw (ev, ea, there, eb, q)) q l (rw (ev, ea, there, eb))
     go true ea true eb (ends-used-up q l) = walked-used-up (rw (ev, ea, there, eb, q)) q l (rw (ev, ea, there, eb))
@@ -54,9 +54,9 @@ kept s m t i readings w ev there u = go (leb (indexOf s .records) m) refl (leb (
 -- the two calls' answers, by their contracts, where being held is enough for `held-widest`
 module _ (is-held : Pack → Pgn → Bool) (enough : (P : Pack) (p : Pgn) → is-held P p ≡ true → held-widest P p ≡ true) where
   pub demand-3-by : (s : List ℕ) (t i : ℕ) (readings w : List ℕ) (k m n : ℕ) (c : Checked) (r : Walked) (w′ : List ℕ)
-      → c ≡ checked s k n → r ≡ walked s m t i readings (length w) → w′ ≡ visitsAfter s m t i readings w → Demand3 is-held s t i readings m w w′ c r
+      → c ≡ checked s k n → r ≡ walked s m t i readings (length w) → w′ ≡ visits-after s m t i readings w → Demand3 is-held s t i readings m w w′ c r
   demand-3-by s t i readings w k m n c r w′ ec er ew h there is =
-      let P = packOf s in
+      let P = pack-of s in
       let a = clean-means s k n (rw ec at h) in
       let tree = ltb-true _ _ (and-l (ltb t 3) (ltb i (length (pgns-of P t))) there) in
       let pgn = ltb-true _ _ (and-r (ltb t 3) (ltb i (length (pgns-of P t))) there) in
@@ -64,7 +64,7 @@ module _ (is-held : Pack → Pgn → Bool) (enough : (P : Pack) (p : Pgn) → is
 
 -- under the widest reading, and so under `held`'s
 pub demand-3 : (s : List ℕ) (t i : ℕ) (readings w : List ℕ) (k m n : ℕ) (c : Checked) (r : Walked) (w′ : List ℕ)
-    → c ≡ checked s k n → r ≡ walked s m t i readings (length w) → w′ ≡ visitsAfter s m t i readings w
+    → c ≡ checked s k n → r ≡ walked s m t i readings (length w) → w′ ≡ visits-after s m t i readings w
     → Demand3 held s t i readings m w w′ c r × Demand3 held-widest s t i readings m w w′ c r
 demand-3 s t i readings w k m n c r w′ ec er ew = (
   demand-3-by held held-implies-widest s t i readings w k m n c r w′ ec er ew,

@@ -7,10 +7,10 @@ use mathlib.Core.List.{List}
 use mathlib.Core.Option.{Option, none, some}
 use lib.ListN.{length}
 use borrow.Author.Tests.{le-leb, lt-leb}
-use Rattle.pack.specs.Load.{Answer as Numbers, loaded, workAfter}
+use Rattle.pack.specs.Load.{Answer as Numbers, loaded, work-after}
 use Rattle.pack.specs.Notation.{_≤ᵇ_}
 use Rattle.pack.proofs.Told.{after-refused, after-accepted}
-use Rattle.pack.specs.Meaning.{packOf}
+use Rattle.pack.specs.Meaning.{pack-of}
 use Rattle.pack.specs.declared.load.Index.{Index}
 use Rattle.pack.specs.declared.load.Loaded.{Loaded}
 use Rattle.pack.specs.declared.load.Loaded.the-variants as load
@@ -20,7 +20,7 @@ use Rattle.pack.specs.Value.{pgn-at}
 use Rattle.walk.specs.Held.{held}
 use Rattle.walk.specs.Naming.{absence, naming-refusal, refusal-of, IsFound, NamedIs}
 use Rattle.walk.specs.Walk.{End, whole, used-up, stop, Answer}
-use Rattle.walk.specs.WalkCall.{in-pack, ending, judged, walk-of, walked, visitsLeft, visitsAfter, end-number, ending-number, walk-answer, visits-tell}
+use Rattle.walk.specs.WalkCall.{in-pack, ending, judged, walk-of, walked, visits-left, visits-after, end-number, ending-number, walk-answer, visits-tell}
 use Rattle.walk.specs.WalkCall.{walk-tells, Walks}
 use Rattle.walk.specs.WalkCall.{held-judged, held-told, held-answer, held-tell, held-tells, TellsHeld}
 use Rattle.walk.specs.declared.named.FoundPgn.{FoundPgn}
@@ -35,7 +35,7 @@ use Rattle.walk.proofs.Walks.{Told}
 -- of a walk A over n readings, of a PGN that is in the pack
 pub record Judges (n : ℕ) (A : Answer) (w : List ℕ) (r : Walked) (w′ : List ℕ) : Type 0 where
   pub answer : r ≡ judged true n (length w) A
-  pub out : w′ ≡ visitsLeft (judged true n (length w) A) (A .visits) w
+  pub out : w′ ≡ visits-left (judged true n (length w) A) (A .visits) w
 
 module _ (n : ℕ) (A : Answer) (w : List ℕ) where
   pub too-short : length w < n → Judges n A w (Refused (Visits n)) w
@@ -76,7 +76,7 @@ module _ (s : List ℕ) (m t i : ℕ) where
   refused-by-load r e = rw (naming-refusal, e)
 
   pub named-loaded : (w : List ℕ) (x : Index) → loaded s m ≡ load.Accepted x → (r : NamedPgn)
-      → NamedIs s w t i (absence (in-pack (packOf s) t i)) r → NamedIs s w t i (naming-refusal s m t i) r
+      → NamedIs s w t i (absence (in-pack (pack-of s) t i)) r → NamedIs s w t i (naming-refusal s m t i) r
   unfolding naming-refusal
   named-loaded w x e r n = rw (naming-refusal, e) n
 
@@ -92,26 +92,26 @@ held-after-naming (some r) h = held-case.Refused r
 
 pub record Answers (s : List ℕ) (m t i : ℕ) (readings w : List ℕ) (r : Walked) (w′ : List ℕ) : Type 0 where
   pub answer : r ≡ walked s m t i readings (length w)
-  pub out : w′ ≡ visitsAfter s m t i readings w
+  pub out : w′ ≡ visits-after s m t i readings w
 
 module _ (s : List ℕ) (m t i : ℕ) where
   walk-named : (readings : List ℕ) (n : ℕ)
       → walked s m t i readings n ≡ after-naming (naming-refusal s m t i) (judged true (length readings) n (walk-of s t i readings))
   unfolding walked naming-refusal
-  walk-named readings n = go (loaded s m) refl (in-pack (packOf s) t i) refl
+  walk-named readings n = go (loaded s m) refl (in-pack (pack-of s) t i) refl
     where
-      go : (l : Loaded) → loaded s m ≡ l → (b : Bool) → in-pack (packOf s) t i ≡ b
+      go : (l : Loaded) → loaded s m ≡ l → (b : Bool) → in-pack (pack-of s) t i ≡ b
           → walked s m t i readings n ≡ after-naming (naming-refusal s m t i) (judged true (length readings) n (walk-of s t i readings))
       go (load.Refused r) e b q = rw (e, walked, naming-refusal)
       go (load.Accepted x) e true q = rw (e, q, walked, naming-refusal)
       go (load.Accepted x) e false q = rw (e, q, walked, naming-refusal)
 
-  held-named : held-told s m t i ≡ held-after-naming (naming-refusal s m t i) (held (packOf s) (pgn-at (packOf s) t i))
+  held-named : held-told s m t i ≡ held-after-naming (naming-refusal s m t i) (held (pack-of s) (pgn-at (pack-of s) t i))
   unfolding held-told naming-refusal
-  held-named = go (loaded s m) refl (in-pack (packOf s) t i) refl
+  held-named = go (loaded s m) refl (in-pack (pack-of s) t i) refl
     where
-      go : (l : Loaded) → loaded s m ≡ l → (b : Bool) → in-pack (packOf s) t i ≡ b
-          → held-told s m t i ≡ held-after-naming (naming-refusal s m t i) (held (packOf s) (pgn-at (packOf s) t i))
+      go : (l : Loaded) → loaded s m ≡ l → (b : Bool) → in-pack (pack-of s) t i ≡ b
+          → held-told s m t i ≡ held-after-naming (naming-refusal s m t i) (held (pack-of s) (pgn-at (pack-of s) t i))
       go (load.Refused r) e b q = rw (e, held-told, naming-refusal)
       go (load.Accepted x) e true q = rw (e, q, held-told, naming-refusal)
       go (load.Accepted x) e false q = rw (e, q, held-told, naming-refusal)
@@ -125,12 +125,12 @@ module _ (s : List ℕ) (m t i : ℕ) where
     is-found f e = sym (named .refusal) ∙ ap refusal-of e
 
     pub walk-refused : (r : Refusal) → n ≡ naming.Refused r → (readings w : List ℕ) → Answers s m t i readings w (Refused r) w
-    unfolding visitsAfter
+    unfolding visits-after
     walk-refused r e readings w = record { answer = rw (walk-named, refused r e); out = rw (walk-named, refused r e) }
 
     pub walk-answers : (f : FoundPgn) → n ≡ naming.Found f → (readings w : List ℕ) (r : Walked) (w′ : List ℕ)
         → Judges (length readings) (walk-of s (f .tree) (f .pgn) readings) w r w′ → Answers s m t i readings w r w′
-    unfolding visitsAfter
+    unfolding visits-after
     walk-answers f e readings w r w′ j =
         let tree = named .tree f e in
         let pgn = named .pgn f e in
@@ -140,7 +140,7 @@ module _ (s : List ℕ) (m t i : ℕ) where
     pub held-refused : (r : Refusal) → n ≡ naming.Refused r → held-case.Refused r ≡ held-told s m t i
     held-refused r e = rw (held-named, refused r e)
 
-    pub held-answers : (f : FoundPgn) → n ≡ naming.Found f → (h : Bool) → h ≡ held (packOf s) (pgn-at (packOf s) (f .tree) (f .pgn))
+    pub held-answers : (f : FoundPgn) → n ≡ naming.Found f → (h : Bool) → h ≡ held (pack-of s) (pgn-at (pack-of s) (f .tree) (f .pgn))
         → held-case.Held h ≡ held-told s m t i
     held-answers f e h q =
         let tree = named .tree f e in
@@ -172,7 +172,7 @@ module _ (s : List ℕ) (m t i : ℕ) where
   walk-told readings n = go (loaded s m) refl
     where
       there : Bool
-      there = in-pack (packOf s) t i
+      there = in-pack (pack-of s) t i
 
       rest : Numbers
       rest = visits-tell there (length readings) n (walk-of s t i readings)
@@ -186,17 +186,17 @@ module _ (s : List ℕ) (m t i : ℕ) where
   held-numbers = go (loaded s m) refl
     where
       there : Bool
-      there = in-pack (packOf s) t i
+      there = in-pack (pack-of s) t i
 
       h : Bool
-      h = held (packOf s) (pgn-at (packOf s) t i)
+      h = held (pack-of s) (pgn-at (pack-of s) t i)
 
       go : (l : Loaded) → loaded s m ≡ l → held-answer (held-told s m t i) ≡ held-tells s m t i
       go (load.Refused r) e = rw e (after-refused s m r e (held-tell there h))
       go (load.Accepted x) e = rw e (held-judged-told there h ∙ after-accepted s m x e (held-tell there h))
 
 pub walk-promised : (s : List ℕ) (t i : ℕ) (readings w o w′ o′ : List ℕ) (r : Walked) → Answers s (length w) t i readings o r o′
-    → w′ ≡ workAfter s w → Walks s t i readings w o w′ o′ r
+    → w′ ≡ work-after s w → Walks s t i readings w o w′ o′ r
 walk-promised s t i readings w o w′ o′ r a e =
     record {
       answer = a .answer;
@@ -205,5 +205,5 @@ walk-promised s t i readings w o w′ o′ r a e =
       visits = a .out;
     }
 
-pub held-promised : (s : List ℕ) (t i : ℕ) (w w′ : List ℕ) (r : HeldAnswer) → r ≡ held-told s (length w) t i → w′ ≡ workAfter s w → TellsHeld s t i w w′ r
+pub held-promised : (s : List ℕ) (t i : ℕ) (w w′ : List ℕ) (r : HeldAnswer) → r ≡ held-told s (length w) t i → w′ ≡ work-after s w → TellsHeld s t i w w′ r
 held-promised s t i w w′ r a e = record { answer = a; told = ap held-answer a ∙ held-numbers s (length w) t i; work = e }

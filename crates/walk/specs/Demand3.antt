@@ -6,7 +6,7 @@ use mathlib.Core.List.{List}
 use lib.ListN.{length}
 use Rattle.pack.specs.Notation.{_==_}
 use Rattle.pack.specs.Load.{over}
-use Rattle.pack.specs.Meaning.{packOf}
+use Rattle.pack.specs.Meaning.{pack-of}
 use Rattle.pack.specs.Value.{Pgn, Pack, pgn-at}
 use Rattle.pack.specs.declared.load.Refusal.the-variants.{Work, Visits}
 use Rattle.rules.specs.declared.check.Checked.{Checked}
@@ -39,4 +39,4 @@ pub data Kept (A : Answer) (n m : ℕ) (w w′ : List ℕ) (r : Walked) : Type 0
 -- implies it (proofs/HeldWidest.antt: held-, nonempty-, letter-, letter-nonempty-, where-nested-implies-widest).
 abbrev pub Demand3 : (Pack → Pgn → Bool) → (s : List ℕ) (t i : ℕ) (readings : List ℕ) (m : ℕ) (w w′ : List ℕ) → Checked → Walked → Type 0
 Demand3 is-held s t i readings m w w′ c r =
-    clean c ≡ true → in-pack (packOf s) t i ≡ true → is-held (packOf s) (pgn-at (packOf s) t i) ≡ true → Kept (walk-of s t i readings) (length readings) m w w′ r
+    clean c ≡ true → in-pack (pack-of s) t i ≡ true → is-held (pack-of s) (pgn-at (pack-of s) t i) ≡ true → Kept (walk-of s t i readings) (length readings) m w w′ r

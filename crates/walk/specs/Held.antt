@@ -4,7 +4,7 @@ use mathlib.Core.Bool.{Bool, true, not, _&&_, _||_}
 use mathlib.Core.Option.{Option, none, some}
 use lib.ListN.{length}
 use Rattle.pack.specs.Value.{Pgn, Pack, field-at}
-use Rattle.rules.specs.Search.{anyBelow, everyBelow}
+use Rattle.rules.specs.Search.{any-below, every-below}
 use Rattle.rules.specs.Model.{target}
 use Rattle.rules.specs.DynamicLength.{length-source}
 use Rattle.walk.specs.Layout.{Layout, layout, set-at, holds, sets-hold, nested-in, clash}
@@ -12,16 +12,16 @@ use Rattle.walk.specs.Stops.{is-dynamic-value}
 
 -- "nonempty sets share no order unless set 2 is nested"
 unfoldable pub shares-held : Layout → Bool
-shares-held L = everyBelow (λ k. everyBelow (λ j. not (clash L j k)) k) (length (L .sets))
+shares-held L = every-below (λ k. every-below (λ j. not (clash L j k)) k) (length (L .sets))
 
 -- "a countField lies in no nonempty set, or in set 1 for a nested set 2", and then in set 1 only: the countField of set k, empty or not.
 -- Other readings: HeldReadings.antt.
 unfoldable pub count-field-held : Layout → ℕ → Option ℕ → Bool
 count-field-held L k none = true
-count-field-held L k (some c) = everyBelow (λ j. not (holds L j c) || nested-in L j k) (length (L .sets))
+count-field-held L k (some c) = every-below (λ j. not (holds L j c) || nested-in L j k) (length (L .sets))
 
 unfoldable pub count-fields-held : Layout → Bool
-count-fields-held L = everyBelow (λ k. count-field-held L k (set-at L k .count-field)) (length (L .sets))
+count-fields-held L = every-below (λ k. count-field-held L k (set-at L k .count-field)) (length (L .sets))
 
 -- "a bitLengthField target's nonempty sets hold its user": the field i
 abbrev pub target-held : Layout → Option ℕ → ℕ → Bool
@@ -35,15 +35,15 @@ bit-length-held p i = elim (field-at p i .bit-length-field) [ none ↦ true | so
 unfoldable pub dynamic-value-held : Pack → Pgn → ℕ → Bool
 dynamic-value-held P p i =
     not (is-dynamic-value P (field-at p i))
-    || anyBelow (λ j. length-source (P .fieldtypes) (field-at p j) && sets-hold (layout p) (suc j) (suc i)) i
+    || any-below (λ j. length-source (P .fieldtypes) (field-at p j) && sets-hold (layout p) (suc j) (suc i)) i
 
 -- the four conditions, the second as it is given
 abbrev pub held-by : (Layout → Bool) → Pack → Pgn → Bool
 held-by counts P p =
     shares-held (layout p)
     && counts (layout p)
-    && everyBelow (λ i. bit-length-held p i) (length (p .fields))
-    && everyBelow (λ i. dynamic-value-held P p i) (length (p .fields))
+    && every-below (λ i. bit-length-held p i) (length (p .fields))
+    && every-below (λ i. dynamic-value-held P p i) (length (p .fields))
 
 unfoldable pub held : Pack → Pgn → Bool
 held P p = held-by count-fields-held P p

@@ -6,20 +6,20 @@ use mathlib.Core.Option.{Option, none, some}
 use lib.ListN.{length}
 use Rattle.pack.specs.Notation.{_<ᵇ_, _≤ᵇ_, _==_}
 use Rattle.pack.specs.Value.{Pgn, Pack}
-use Rattle.rules.specs.Search.{anyBelow, everyBelow}
+use Rattle.rules.specs.Search.{any-below, every-below}
 use Rattle.walk.specs.Layout.{Layout, set-at, nonempty, holds, nested-in}
 use Rattle.walk.specs.Held.{count-field-held, held-by}
 
 -- "a countField": of every set, empty or not; or of nonempty sets only. What is asked of the one of set k is given.
 abbrev pub of-every-set : (Layout → ℕ → Option ℕ → Bool) → Layout → Bool
-of-every-set lies L = everyBelow (λ k. lies L k (set-at L k .count-field)) (length (L .sets))
+of-every-set lies L = every-below (λ k. lies L k (set-at L k .count-field)) (length (L .sets))
 
 abbrev pub of-nonempty-sets : (Layout → ℕ → Option ℕ → Bool) → Layout → Bool
-of-nonempty-sets lies L = everyBelow (λ k. not (nonempty L k) || lies L k (set-at L k .count-field)) (length (L .sets))
+of-nonempty-sets lies L = every-below (λ k. not (nonempty L k) || lies L k (set-at L k .count-field)) (length (L .sets))
 
 -- "lies in no nonempty set"
 abbrev pub in-no-set : Layout → ℕ → Bool
-in-no-set L c = not (anyBelow (λ j. holds L j c) (length (L .sets)))
+in-no-set L c = not (any-below (λ j. holds L j c) (length (L .sets)))
 
 -- by the letter: "or in set 1 for a nested set 2", whatever else it lies in
 abbrev pub count-field-letter : Layout → ℕ → Option ℕ → Bool
@@ -40,7 +40,7 @@ may-hold L j k = (j == k) || nested-in L j k || nested-in L k j
 
 unfoldable pub count-field-widest : Layout → ℕ → Option ℕ → Bool
 count-field-widest L k none = true
-count-field-widest L k (some c) = everyBelow (λ j. not (field-in L j c) || may-hold L j k) (length (L .sets))
+count-field-widest L k (some c) = every-below (λ j. not (field-in L j c) || may-hold L j k) (length (L .sets))
 
 unfoldable pub widest-count-fields-held : Layout → Bool
 widest-count-fields-held L = of-nonempty-sets count-field-widest L

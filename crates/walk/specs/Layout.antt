@@ -7,7 +7,7 @@ use mathlib.Core.Option.{Option, none, some}
 use lib.ListN.{length, getD}
 use Rattle.pack.specs.Notation.{_<ᵇ_, _≤ᵇ_, _==_}
 use Rattle.pack.specs.Value.{Field, Repeating, Pgn}
-use Rattle.rules.specs.Search.{anyBelow, everyBelow}
+use Rattle.rules.specs.Search.{any-below, every-below}
 
 pub record Layout : Type 0 where
   pub fields : List Field
@@ -44,7 +44,7 @@ holds L k o = (start L k ≤ᵇ o) && (o <ᵇ end L k)
 
 -- every set that holds the order a holds the order b
 unfoldable pub sets-hold : Layout → ℕ → ℕ → Bool
-sets-hold L a b = everyBelow (λ k. not (holds L k a) || holds L k b) (length (L .sets))
+sets-hold L a b = every-below (λ k. not (holds L k a) || holds L k b) (length (L .sets))
 
 -- two nonempty sets share an order
 unfoldable pub share : Layout → ℕ → ℕ → Bool
@@ -71,4 +71,4 @@ unfoldable pub clash : Layout → ℕ → ℕ → Bool
 clash L j k = share L j k && not (nested-in L j k)
 
 unfoldable pub stop-1 : Layout → Bool
-stop-1 L = anyBelow (λ k. misplaced L k || anyBelow (λ j. clash L j k) k) (length (L .sets))
+stop-1 L = any-below (λ k. misplaced L k || any-below (λ j. clash L j k) k) (length (L .sets))

@@ -7,7 +7,7 @@ use mathlib.Core.Option.{Option, none, some}
 use lib.ListN.{length}
 use Rattle.pack.specs.Notation.{if_then_else_}
 use Rattle.pack.specs.Load.{loaded}
-use Rattle.pack.specs.Meaning.{packOf}
+use Rattle.pack.specs.Meaning.{pack-of}
 use Rattle.pack.specs.Ready.{PgnAt, IndexIs}
 use Rattle.pack.specs.Value.{Pgn, pgn-at}
 use Rattle.pack.specs.declared.load.Loaded.{Loaded}
@@ -33,18 +33,18 @@ refusal-after (load.Accepted i) there = absence there
 
 -- "Input refusals come before these; then 21, 23": of PGN i of tree t of the pack s, with a work buffer of m numbers
 unfoldable pub naming-refusal : List ℕ → (m t i : ℕ) → Option Refusal
-naming-refusal s m t i = refusal-after (loaded s m) (in-pack (packOf s) t i)
+naming-refusal s m t i = refusal-after (loaded s m) (in-pack (pack-of s) t i)
 
 abbrev pub refusal-of : NamedPgn → Option Refusal
 refusal-of (Refused r) = some r
 refusal-of (Found f) = none
 
 abbrev pub found-pgn : List ℕ → FoundPgn → Pgn
-found-pgn s f = pgn-at (packOf s) (f .tree) (f .pgn)
+found-pgn s f = pgn-at (pack-of s) (f .tree) (f .pgn)
 
 -- f is a PGN of the pack s, whose records the work buffer w finds
 pub record IsFound (s w : List ℕ) (f : FoundPgn) : Type 0 where
-  pub index : IndexIs (packOf s) (f .index)
+  pub index : IndexIs (pack-of s) (f .index)
   pub place : PgnAt s w (f .tree) (f .pgn) (f .place)
   pub sets : SetsAre (layout (found-pgn s f)) (f .sets)
 

@@ -8,7 +8,7 @@ use mathlib.Core.Option.{Option, none, some}
 use lib.ListN.{length, getD}
 use Rattle.pack.specs.Notation.{if_then_else_}
 use Rattle.pack.specs.Value.{Reference, Field, Pgn, Pack, field-at, lookup-at}
-use Rattle.pack.specs.Meaning.{packOf}
+use Rattle.pack.specs.Meaning.{pack-of}
 use Rattle.pack.specs.Ready.{LookupAt}
 use Rattle.walk.specs.ByPlace.{placed}
 use Rattle.walk.specs.Layout.{layout}
@@ -27,10 +27,10 @@ field-stop P f = if lookup-missing P f then some 3 else if match-unfit P f then 
 -- 5: the fieldtype lookup that a reference names is v, whose entries decide; where there is none no reading stops
 pub record Named (s w : List ℕ) (r : Option Reference) (v : FieldtypeLookup) : Type 0 where
   pub place : v .given ≡ true → LookupAt s w (v .index) (v .place)
-  pub kind : v .given ≡ true → 3 ≡ lookup-at (packOf s .lookups) (v .index) .kind
-  pub entries : v .given ≡ true → v .entries ≡ length (lookup-at (packOf s .lookups) (v .index) .entries)
-  pub decide : v .given ≡ true → (reading : ℕ) → reference-names-missing (packOf s) r reading ≡ entries-name-missing (packOf s) (lookup-at (packOf s .lookups) (v .index) .entries) reading
-  pub none : v .given ≡ false → (reading : ℕ) → reference-names-missing (packOf s) r reading ≡ false
+  pub kind : v .given ≡ true → 3 ≡ lookup-at (pack-of s .lookups) (v .index) .kind
+  pub entries : v .given ≡ true → v .entries ≡ length (lookup-at (pack-of s .lookups) (v .index) .entries)
+  pub decide : v .given ≡ true → (reading : ℕ) → reference-names-missing (pack-of s) r reading ≡ entries-name-missing (pack-of s) (lookup-at (pack-of s .lookups) (v .index) .entries) reading
+  pub none : v .given ≡ false → (reading : ℕ) → reference-names-missing (pack-of s) r reading ≡ false
 
 -- 6 to 9
 unfoldable pub need-stop : Pack → Pgn → (ℕ → Bool) → ℕ → Option ℕ

@@ -6,7 +6,7 @@ use mathlib.Core.Option.{Option, none, some}
 use lib.ListN.{length}
 use Rattle.pack.specs.Notation.{if_then_else_, _<ᵇ_, _==_, _≐_}
 use Rattle.pack.specs.Value.{Bytes, Entry, Reference, Field, Pgn, Pack, field-at, lookup-at, entry-at}
-use Rattle.rules.specs.Search.{anyBelow}
+use Rattle.rules.specs.Search.{any-below}
 use Rattle.rules.specs.Model.{given, root-of, lookup-ref, find-lookup, target, fieldtypes, resolve-match}
 use Rattle.rules.specs.DynamicLength.{length-source}
 use Rattle.rules.specs.LookupWiring.{is-fieldtype}
@@ -38,7 +38,7 @@ unfoldable pub names-missing : Pack → Entry → Bool
 names-missing P e = not (is-fieldtype (P .fieldtypes) (e .fieldtype)) || is-missing P (e .nested)
 
 unfoldable pub entries-name-missing : Pack → List Entry → (reading : ℕ) → Bool
-entries-name-missing P es reading = anyBelow (λ e. (entry-at es e .value == reading) && names-missing P (entry-at es e)) (length es)
+entries-name-missing P es reading = any-below (λ e. (entry-at es e .value == reading) && names-missing P (entry-at es e)) (length es)
 
 -- The entries of the lookup that is named: only those of a fieldtype lookup name anything.
 unfoldable pub lookup-names-missing : Pack → Option ℕ → (reading : ℕ) → Bool
@@ -64,7 +64,7 @@ abbrev pub is-dynamic-value : Pack → Field → Bool
 is-dynamic-value P f = root-of (P .fieldtypes) f ≐ DYNAMIC-FIELD-VALUE
 
 unfoldable pub lacks-length : Pack → Pgn → (ℕ → Bool) → ℕ → Bool
-lacks-length P p current i = is-dynamic-value P (field-at p i) && not (anyBelow (λ j. length-source (P .fieldtypes) (field-at p j) && current j) i)
+lacks-length P p current i = is-dynamic-value P (field-at p i) && not (any-below (λ j. length-source (P .fieldtypes) (field-at p j) && current j) i)
 
 -- "At a field, in this order": the field i, with this reading
 unfoldable pub stop-at : Pack → Pgn → (ℕ → Bool) → (i reading : ℕ) → Option ℕ

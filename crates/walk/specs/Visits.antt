@@ -6,7 +6,7 @@ use lib.ListN.{length}
 use Rattle.pack.specs.Notation.{if_then_else_, _≤ᵇ_, _==_}
 use Rattle.walk.specs.Layout.{Layout, holds}
 use Rattle.walk.specs.Passes.{Place, present}
-use Rattle.rules.specs.Search.{everyBelow}
+use Rattle.rules.specs.Search.{every-below}
 
 pub record Visit : Type 0 where
   pub field : ℕ
@@ -28,4 +28,4 @@ latest (v ∷ vs) t = if v .field == t then v .reading else latest vs t
 -- "A needed field is current if visited and, where it lies in a nonempty set, visited in that set's present pass"
 unfoldable pub is-current : Layout → Place → Visits → ℕ → Bool
 is-current L p h t = visited 0 (h .made) t
-    && everyBelow (λ k. not (holds L k (suc t)) || present (p .left k) && visited (h .begun k) (h .made) t) (length (L .sets))
+    && every-below (λ k. not (holds L k (suc t)) || present (p .left k) && visited (h .begun k) (h .made) t) (length (L .sets))

@@ -4,7 +4,7 @@ use mathlib.Core.Bool.{Bool, true, false}
 use mathlib.Core.List.{List, [], _∷_}
 use mathlib.Core.Option.{Option, none, some}
 use lib.ListN.{length, getD}
-use Rattle.pack.specs.Value.{noField, Pgn, Pack}
+use Rattle.pack.specs.Value.{no-field, Pgn, Pack}
 use Rattle.walk.specs.Layout.{Layout, layout, set-at, end, stop-1}
 use Rattle.walk.specs.Stops.{stop-at}
 use Rattle.walk.specs.Passes.{passes, Rest, endless, more, Place, first, put, goto, goto-with, Stand, again, arrived, ready, beyond, stand}
@@ -62,7 +62,7 @@ module _ (L : Layout) {M : Type 0} (m : Memory M) where
   unfoldable pub arrive : Place → M → ℕ → Option ℕ → Arrival
   arrive p h k none = enter endless
   arrive p h k (some zero) = not-current
-  arrive p h k (some (suc t)) = counted (m .current p h t) (passes (getD (L .fields) t noField) (m .reading h k t))
+  arrive p h k (some (suc t)) = counted (m .current p h t) (passes (getD (L .fields) t no-field) (m .reading h k t))
 
   -- Until a field is due. Each set that is passed over takes the order up, so that 1 + fields rounds are enough (`enough`).
   unfoldable pub settle : ℕ → Stand → M → Settled M

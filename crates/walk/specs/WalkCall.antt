@@ -5,8 +5,8 @@ use mathlib.Core.Bool.{Bool, _&&_}
 use mathlib.Core.List.{List, [], _∷_}
 use lib.ListN.{length}
 use Rattle.pack.specs.Notation.{_<ᵇ_, _≤ᵇ_, if_then_else_}
-use Rattle.pack.specs.Load.{Answer as Numbers, refuses, gives, after, refusal-answer, loaded, load-tells, over, workAfter}
-use Rattle.pack.specs.Meaning.{packOf}
+use Rattle.pack.specs.Load.{Answer as Numbers, refuses, gives, after, refusal-answer, loaded, load-tells, over, work-after}
+use Rattle.pack.specs.Meaning.{pack-of}
 use Rattle.pack.specs.Value.{Pack, pgns-of, pgn-at}
 use Rattle.pack.specs.declared.load.Loaded.{Loaded}
 use Rattle.pack.specs.declared.load.Loaded.the-variants as load
@@ -44,19 +44,19 @@ after-load (load.Refused r) a = Refused r
 after-load (load.Accepted i) a = a
 
 abbrev pub walk-of : List ℕ → (tree pgn : ℕ) → List ℕ → Answer
-walk-of s t i readings = walk (packOf s) (pgn-at (packOf s) t i) readings
+walk-of s t i readings = walk (pack-of s) (pgn-at (pack-of s) t i) readings
 
 -- `walk` of PGN i of tree t of the pack s, with a work buffer of m numbers and a visit buffer of n
 unfoldable pub walked : List ℕ → (m t i : ℕ) → List ℕ → (n : ℕ) → Walked
-walked s m t i readings n = after-load (loaded s m) (judged (in-pack (packOf s) t i) (length readings) n (walk-of s t i readings))
+walked s m t i readings n = after-load (loaded s m) (judged (in-pack (pack-of s) t i) (length readings) n (walk-of s t i readings))
 
 -- "After 22 and higher numbers no other buffer has changed"; "each visit .. writes the index"; "Success writes only the entries it reports."
-abbrev pub visitsLeft : Walked → List ℕ → List ℕ → List ℕ
-visitsLeft (Refused r) front o = o
-visitsLeft (Ended e n) front o = over front o
+abbrev pub visits-left : Walked → List ℕ → List ℕ → List ℕ
+visits-left (Refused r) front o = o
+visits-left (Ended e n) front o = over front o
 
-unfoldable pub visitsAfter : List ℕ → (m t i : ℕ) → List ℕ → List ℕ → List ℕ
-visitsAfter s m t i readings o = visitsLeft (walked s m t i readings (length o)) (walk-of s t i readings .visits) o
+unfoldable pub visits-after : List ℕ → (m t i : ℕ) → List ℕ → List ℕ → List ℕ
+visits-after s m t i readings o = visits-left (walked s m t i readings (length o)) (walk-of s t i readings .visits) o
 
 -- ---- the same in 01's numbers
 
@@ -84,14 +84,14 @@ visits-tell there readings room a =
     else refuses 23 0
 
 unfoldable pub walk-tells : List ℕ → (m t i : ℕ) → List ℕ → (n : ℕ) → Numbers
-walk-tells s m t i readings n = after (load-tells s m) (visits-tell (in-pack (packOf s) t i) (length readings) n (walk-of s t i readings))
+walk-tells s m t i readings n = after (load-tells s m) (visits-tell (in-pack (pack-of s) t i) (length readings) n (walk-of s t i readings))
 
 -- What `walk` promises: its answer r, and the work and visit buffers, w and o before, w′ and o′ after.
 pub record Walks (s : List ℕ) (t i : ℕ) (readings w o w′ o′ : List ℕ) (r : Walked) : Type 0 where
   pub answer : r ≡ walked s (length w) t i readings (length o)
   pub told : walk-answer r ≡ walk-tells s (length w) t i readings (length o)
-  pub work : w′ ≡ workAfter s w
-  pub visits : o′ ≡ visitsAfter s (length w) t i readings o
+  pub work : w′ ≡ work-after s w
+  pub visits : o′ ≡ visits-after s (length w) t i readings o
 
 -- ---- held
 
@@ -103,7 +103,7 @@ held-after (load.Refused r) a = held-case.Refused r
 held-after (load.Accepted i) a = a
 
 unfoldable pub held-told : List ℕ → (m t i : ℕ) → HeldAnswer
-held-told s m t i = held-after (loaded s m) (held-judged (in-pack (packOf s) t i) (held (packOf s) (pgn-at (packOf s) t i)))
+held-told s m t i = held-after (loaded s m) (held-judged (in-pack (pack-of s) t i) (held (pack-of s) (pgn-at (pack-of s) t i)))
 
 -- in 01's numbers: 1 where the PGN is held, 0 where it is not
 abbrev pub yes-number : Bool → ℕ
@@ -117,10 +117,10 @@ abbrev pub held-tell : Bool → Bool → Numbers
 held-tell there h = if there then gives (yes-number h ∷ []) else refuses 23 0
 
 unfoldable pub held-tells : List ℕ → (m t i : ℕ) → Numbers
-held-tells s m t i = after (load-tells s m) (held-tell (in-pack (packOf s) t i) (held (packOf s) (pgn-at (packOf s) t i)))
+held-tells s m t i = after (load-tells s m) (held-tell (in-pack (pack-of s) t i) (held (pack-of s) (pgn-at (pack-of s) t i)))
 
 -- What `held` promises: its answer r, and the work buffer, w before and w′ after.
 pub record TellsHeld (s : List ℕ) (t i : ℕ) (w w′ : List ℕ) (r : HeldAnswer) : Type 0 where
   pub answer : r ≡ held-told s (length w) t i
   pub told : held-answer r ≡ held-tells s (length w) t i
-  pub work : w′ ≡ workAfter s w
+  pub work : w′ ≡ work-after s w

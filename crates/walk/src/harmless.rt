@@ -4,7 +4,7 @@ ghost use mathlib.Core.Path.{_≡_};
 ghost use mathlib.Core.Bool.{false, true};
 ghost use Prim.Native.Nat.{suc, _<_};
 ghost use lib.ListN.{length, getD, set};
-ghost use Rattle.pack.specs.Meaning.{packOf};
+ghost use Rattle.pack.specs.Meaning.{pack-of};
 ghost use Rattle.pack.specs.Notation.{if_then_else_};
 ghost use Rattle.walk.specs.ByPlace.{placed};
 ghost use Rattle.walk.specs.Layout.{layout};
@@ -53,11 +53,11 @@ pub fn stop_at(
     k: u32,
     reading: u64,
 ) -> u32
-    requires { ⌜ IsFound (now s) (now work) found × Harmless (packOf (now s)) (found-pgn (now s) found) (now harmless)
+    requires { ⌜ IsFound (now s) (now work) found × Harmless (pack-of (now s)) (found-pgn (now s) found) (now harmless)
         × (k < length (found-pgn (now s) found .fields)) ⌝ }
-    ensures { λ r. ⌜ stop-number r ≡ stop-at (packOf (now (s .entry))) (found-pgn (now (s .entry)) found)
+    ensures { λ r. ⌜ stop-number r ≡ stop-at (pack-of (now (s .entry))) (found-pgn (now (s .entry)) found)
         (placed (layout (found-pgn (now (s .entry)) found)) (suc k)) k reading ⌝ }
-    ensures { λ r. ⌜ Harmless (packOf (now (s .entry))) (found-pgn (now (s .entry)) found) (now (harmless .exit)) ⌝ }
+    ensures { λ r. ⌜ Harmless (pack-of (now (s .entry))) (found-pgn (now (s .entry)) found) (now (harmless .exit)) ⌝ }
 {
     if is_marked(harmless, k) {
         return 0;

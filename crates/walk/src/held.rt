@@ -2,13 +2,13 @@
 ghost use mathlib.Core.Path.{_≡_};
 ghost use Prim.Native.Nat.{_<_};
 ghost use lib.ListN.{length};
-ghost use Rattle.pack.specs.Meaning.{fieldMeaning, packOf};
+ghost use Rattle.pack.specs.Meaning.{field-meaning, pack-of};
 ghost use Rattle.pack.specs.Ready.{PgnAt};
 ghost use Rattle.pack.specs.Value.{pgn-at, field-at};
 ghost use Rattle.walk.specs.Held.{count-fields-held, bit-length-held, dynamic-value-held, held};
 ghost use Rattle.walk.specs.Layout.{Layout, layout};
 ghost use Rattle.walk.specs.SetsOf.{SetsAre, opt-order, counter-held};
-ghost use Rattle.rules.specs.Search.{everyBelow};
+ghost use Rattle.rules.specs.Search.{every-below};
 use crate::sets::OptOrder;
 use crate::sets::Sets;
 use crate::sets::clash;
@@ -58,8 +58,8 @@ fn bit_length_held(
     k: u32,
     f: FieldView,
 ) -> bool
-    requires { ⌜ PgnAt (now s) (now work) t i p × SetsAre (layout (pgn-at (packOf (now s)) t i)) sets × (k < length (pgn-at (packOf (now s)) t i .fields)) × (fieldMeaning (now s) f ≡ field-at (pgn-at (packOf (now s)) t i) k) ⌝ }
-    ensures { λ r. ⌜ r ≡ bit-length-held (pgn-at (packOf (now (s .entry))) t i) k ⌝ }
+    requires { ⌜ PgnAt (now s) (now work) t i p × SetsAre (layout (pgn-at (pack-of (now s)) t i)) sets × (k < length (pgn-at (pack-of (now s)) t i .fields)) × (field-meaning (now s) f ≡ field-at (pgn-at (pack-of (now s)) t i) k) ⌝ }
+    ensures { λ r. ⌜ r ≡ bit-length-held (pgn-at (pack-of (now (s .entry))) t i) k ⌝ }
 {
     let id = f.links.length;
     if !id.given {
@@ -75,8 +75,8 @@ fn bit_length_held(
 
 // "a bitLengthField target's nonempty sets hold its user"
 fn bit_lengths_held(s: &[u8], work: &[u32], t: u32, i: u32, p: usize, sets: Sets) -> bool
-    requires { ⌜ PgnAt (now s) (now work) t i p × SetsAre (layout (pgn-at (packOf (now s)) t i)) sets ⌝ }
-    ensures { λ r. ⌜ r ≡ everyBelow (λ k. bit-length-held (pgn-at (packOf (now (s .entry))) t i) k) (length (pgn-at (packOf (now (s .entry))) t i .fields)) ⌝ }
+    requires { ⌜ PgnAt (now s) (now work) t i p × SetsAre (layout (pgn-at (pack-of (now s)) t i)) sets ⌝ }
+    ensures { λ r. ⌜ r ≡ every-below (λ k. bit-length-held (pgn-at (pack-of (now (s .entry))) t i) k) (length (pgn-at (pack-of (now (s .entry))) t i .fields)) ⌝ }
 {
     let fields = sets.fields;
     let mut k: u32 = 0;
@@ -93,8 +93,8 @@ fn bit_lengths_held(s: &[u8], work: &[u32], t: u32, i: u32, p: usize, sets: Sets
 // "each DYNAMIC_FIELD_VALUE has a lower-order dynamicFieldLength or DYNAMIC_FIELD_KEY field whose nonempty sets hold it": then it is never
 // without one that is current.
 fn dynamic_values_held(s: &[u8], work: &[u32], t: u32, i: u32, p: usize, sets: Sets) -> bool
-    requires { ⌜ PgnAt (now s) (now work) t i p × SetsAre (layout (pgn-at (packOf (now s)) t i)) sets ⌝ }
-    ensures { λ r. ⌜ r ≡ everyBelow (λ k. dynamic-value-held (packOf (now (s .entry))) (pgn-at (packOf (now (s .entry))) t i) k) (length (pgn-at (packOf (now (s .entry))) t i .fields)) ⌝ }
+    requires { ⌜ PgnAt (now s) (now work) t i p × SetsAre (layout (pgn-at (pack-of (now s)) t i)) sets ⌝ }
+    ensures { λ r. ⌜ r ≡ every-below (λ k. dynamic-value-held (pack-of (now (s .entry))) (pgn-at (pack-of (now (s .entry))) t i) k) (length (pgn-at (pack-of (now (s .entry))) t i .fields)) ⌝ }
 {
     let fields = sets.fields;
     let mut k: u32 = 0;
@@ -110,8 +110,8 @@ fn dynamic_values_held(s: &[u8], work: &[u32], t: u32, i: u32, p: usize, sets: S
 
 // Whether PGN i of tree t, which is at p and has these sets, is held.
 pub fn held_at(s: &[u8], work: &[u32], t: u32, i: u32, p: usize, sets: Sets) -> bool
-    requires { ⌜ PgnAt (now s) (now work) t i p × SetsAre (layout (pgn-at (packOf (now s)) t i)) sets ⌝ }
-    ensures { λ r. ⌜ r ≡ held (packOf (now (s .entry))) (pgn-at (packOf (now (s .entry))) t i) ⌝ }
+    requires { ⌜ PgnAt (now s) (now work) t i p × SetsAre (layout (pgn-at (pack-of (now s)) t i)) sets ⌝ }
+    ensures { λ r. ⌜ r ≡ held (pack-of (now (s .entry))) (pgn-at (pack-of (now (s .entry))) t i) ⌝ }
 {
     if clash(sets) {
         return false;

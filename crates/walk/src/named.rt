@@ -1,8 +1,8 @@
 // The PGN that a call names.
 ghost use mathlib.Core.Path.{_≡_};
 ghost use lib.ListN.{length};
-ghost use Rattle.pack.specs.Load.{workAfter};
-ghost use Rattle.pack.specs.Meaning.{packOf};
+ghost use Rattle.pack.specs.Load.{work-after};
+ghost use Rattle.pack.specs.Meaning.{pack-of};
 ghost use Rattle.pack.specs.Ready.{Ready, IndexIs};
 ghost use Rattle.walk.specs.Naming.{NamedIs, absence, naming-refusal};
 ghost use Rattle.walk.specs.WalkCall.{in-pack};
@@ -33,8 +33,8 @@ pub enum NamedPgn {
 
 // The PGN that is named, if it is in the pack: 23.
 fn find_pgn(s: &[u8], work: &[u32], index: Index, tree: u32, pgn: u32) -> NamedPgn
-    requires { ⌜ Ready (now s) (now work) × IndexIs (packOf (now s)) index ⌝ }
-    ensures { λ r. ⌜ NamedIs (now (s .entry)) (now (work .entry)) tree pgn (absence (in-pack (packOf (now (s .entry))) tree pgn)) r ⌝ }
+    requires { ⌜ Ready (now s) (now work) × IndexIs (pack-of (now s)) index ⌝ }
+    ensures { λ r. ⌜ NamedIs (now (s .entry)) (now (work .entry)) tree pgn (absence (in-pack (pack-of (now (s .entry))) tree pgn)) r ⌝ }
 {
     if Protocol::COUNT <= tree as usize {
         return NamedPgn::Refused(Refusal::Absent);
@@ -59,7 +59,7 @@ fn find_pgn(s: &[u8], work: &[u32], index: Index, tree: u32, pgn: u32) -> NamedP
 // The pack is loaded, and the PGN found: "Input refusals come before these; then 21, 23"
 pub fn named_pgn(pack: &[u8], work: &mut [u32], tree: u32, pgn: u32) -> NamedPgn
     ensures { λ r. ⌜ NamedIs (now (pack .entry)) (now (work .exit)) tree pgn (naming-refusal (now (pack .entry)) (length (now (work .entry))) tree pgn) r ⌝ }
-    ensures { λ r. ⌜ now (work .exit) ≡ workAfter (now (pack .entry)) (now (work .entry)) ⌝ }
+    ensures { λ r. ⌜ now (work .exit) ≡ work-after (now (pack .entry)) (now (work .entry)) ⌝ }
 {
     match load(pack, work) {
         Loaded::Refused(refusal) => NamedPgn::Refused(refusal),

@@ -2,7 +2,7 @@
 ghost use mathlib.Core.Path.{_≡_};
 ghost use mathlib.Core.Bool.{true, _&&_, _||_};
 ghost use Prim.Native.Nat.{suc, _+_, _<_};
-ghost use Rattle.pack.specs.Meaning.{optRepeating, packOf};
+ghost use Rattle.pack.specs.Meaning.{optional-repeating, pack-of};
 ghost use Rattle.pack.specs.Notation.{_<ᵇ_, _==_};
 ghost use Rattle.pack.specs.Ready.{PgnAt, PgnIs};
 ghost use Rattle.pack.specs.Value.{pgn-at};
@@ -56,7 +56,7 @@ fn no_set() -> Set
 // An absent set is empty.
 fn set_of(o: OptRepeating) -> Set
     requires { ⌜ (o .given ≡ true → o .set .start + o .set .count < 4294967296) ⌝ }
-    ensures { λ r. ⌜ SetIs (set-or-empty (optRepeating o)) r ⌝ }
+    ensures { λ r. ⌜ SetIs (set-or-empty (optional-repeating o)) r ⌝ }
 {
     if o.given {
         let set = o.set;
@@ -76,8 +76,8 @@ fn set_of(o: OptRepeating) -> Set
 
 // The sets of PGN i of tree t, which is at p and which is g.
 pub fn sets_of(s: &[u8], work: &[u32], t: u32, i: u32, p: usize, g: PgnView) -> Sets
-    requires { ⌜ PgnAt (now s) (now work) t i p × PgnIs (now s) (pgn-at (packOf (now s)) t i) g ⌝ }
-    ensures { λ r. ⌜ SetsAre (layout (pgn-at (packOf (now (s .entry))) t i)) r ⌝ }
+    requires { ⌜ PgnAt (now s) (now work) t i p × PgnIs (now s) (pgn-at (pack-of (now s)) t i) g ⌝ }
+    ensures { λ r. ⌜ SetsAre (layout (pgn-at (pack-of (now (s .entry))) t i)) r ⌝ }
 {
     Sets {
         fields: g.fields,

@@ -4,7 +4,7 @@ ghost use mathlib.Core.Bool.{true, false};
 ghost use mathlib.Core.Option.{none};
 ghost use Prim.Native.Nat.{ℕ, suc, _≤_, _<_};
 ghost use lib.ListN.{length, getD};
-ghost use Rattle.pack.specs.Meaning.{packOf};
+ghost use Rattle.pack.specs.Meaning.{pack-of};
 ghost use Rattle.pack.specs.Notation.{if_then_else_};
 ghost use Rattle.walk.specs.ByPlace.{by-place, placed};
 ghost use Rattle.walk.specs.Layout.{Layout, layout};
@@ -108,11 +108,11 @@ fn step_at(
     spot: Spot,
     reading: u64,
 ) -> Stepping
-    requires { ⌜ IsFound (now s) (now work) found × Harmless (packOf (now s)) (found-pgn (now s) found) (now harmless) × (1 ≤ spot .order .0)
+    requires { ⌜ IsFound (now s) (now work) found × Harmless (pack-of (now s)) (found-pgn (now s) found) (now harmless) × (1 ≤ spot .order .0)
         × (spot .order .0 ≤ length (found-pgn (now s) found .fields)) ⌝ }
-    ensures { λ r. ⌜ step-of r ≡ one-step (layout (found-pgn (now (s .entry)) found)) (stop-at (packOf (now (s .entry))) (found-pgn (now (s .entry)) found))
+    ensures { λ r. ⌜ step-of r ≡ one-step (layout (found-pgn (now (s .entry)) found)) (stop-at (pack-of (now (s .entry))) (found-pgn (now (s .entry)) found))
         (due (place-of spot) (memory-of counts)) reading ⌝ }
-    ensures { λ r. ⌜ Harmless (packOf (now (s .entry))) (found-pgn (now (s .entry)) found) (now (harmless .exit)) ⌝ }
+    ensures { λ r. ⌜ Harmless (pack-of (now (s .entry))) (found-pgn (now (s .entry)) found) (now (harmless .exit)) ⌝ }
 {
     let field = index_of(spot.order);
     let stop = stop_at(s, work, found, harmless, field.0, reading);
@@ -132,11 +132,11 @@ pub fn step(
     state: State,
     reading: u64,
 ) -> Stepping
-    requires { ⌜ IsFound (now s) (now work) found × Harmless (packOf (now s)) (found-pgn (now s) found) (now harmless)
+    requires { ⌜ IsFound (now s) (now work) found × Harmless (pack-of (now s)) (found-pgn (now s) found) (now harmless)
         × Within (layout (found-pgn (now s) found)) (state-of state) ⌝ }
-    ensures { λ r. ⌜ step-of r ≡ one-step (layout (found-pgn (now (s .entry)) found)) (stop-at (packOf (now (s .entry))) (found-pgn (now (s .entry)) found))
+    ensures { λ r. ⌜ step-of r ≡ one-step (layout (found-pgn (now (s .entry)) found)) (stop-at (pack-of (now (s .entry))) (found-pgn (now (s .entry)) found))
         (state-of state) reading ⌝ }
-    ensures { λ r. ⌜ Harmless (packOf (now (s .entry))) (found-pgn (now (s .entry)) found) (now (harmless .exit)) ⌝ }
+    ensures { λ r. ⌜ Harmless (pack-of (now (s .entry))) (found-pgn (now (s .entry)) found) (now (harmless .exit)) ⌝ }
 {
     let settling = state.settling;
     if settling.due {

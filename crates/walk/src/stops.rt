@@ -5,10 +5,10 @@ ghost use mathlib.Core.Option.{none};
 ghost use Prim.Native.Nat.{ℕ, suc, _+_, _<_};
 ghost use lib.ListN.{length};
 ghost use Rattle.pack.specs.Notation.{_==_};
-ghost use Rattle.pack.specs.Meaning.{optBytes, optReference, entryMeaning, fieldMeaning, packOf};
+ghost use Rattle.pack.specs.Meaning.{optional-bytes, optional-reference, entry-meaning, field-meaning, pack-of};
 ghost use Rattle.pack.specs.Ready.{Ready, LookupAt, PgnAt, IndexIs};
 ghost use Rattle.pack.specs.Value.{pgn-at, field-at, lookup-at};
-ghost use Rattle.rules.specs.Search.{anyBelow};
+ghost use Rattle.rules.specs.Search.{any-below};
 ghost use Rattle.rules.specs.DynamicLength.{length-source};
 ghost use Rattle.walk.specs.ByPlace.{placed};
 ghost use Rattle.walk.specs.Layout.{layout, sets-hold};
@@ -42,8 +42,8 @@ use rules::widths::exceeds;
 
 // Whether a lookup is named, and the pack has none of that name.
 fn is_missing(s: &[u8], work: &[u32], index: Index, name: OptText) -> bool
-    requires { ⌜ Ready (now s) (now work) × IndexIs (packOf (now s)) index ⌝ }
-    ensures { λ r. ⌜ r ≡ is-missing (packOf (now (s .entry))) (optBytes (now (s .entry)) name) ⌝ }
+    requires { ⌜ Ready (now s) (now work) × IndexIs (pack-of (now s)) index ⌝ }
+    ensures { λ r. ⌜ r ≡ is-missing (pack-of (now (s .entry))) (optional-bytes (now (s .entry)) name) ⌝ }
 {
     if !name.given {
         return false;
@@ -54,8 +54,8 @@ fn is_missing(s: &[u8], work: &[u32], index: Index, name: OptText) -> bool
 
 // "3 lookup missing"
 fn lookup_missing(s: &[u8], work: &[u32], index: Index, f: FieldView) -> bool
-    requires { ⌜ Ready (now s) (now work) × IndexIs (packOf (now s)) index ⌝ }
-    ensures { λ r. ⌜ r ≡ lookup-missing (packOf (now (s .entry))) (fieldMeaning (now (s .entry)) f) ⌝ }
+    requires { ⌜ Ready (now s) (now work) × IndexIs (pack-of (now s)) index ⌝ }
+    ensures { λ r. ⌜ r ≡ lookup-missing (pack-of (now (s .entry))) (field-meaning (now (s .entry)) f) ⌝ }
 {
     let reference = f.links.reference;
     let text = reference.name;
@@ -72,8 +72,8 @@ fn lookup_missing(s: &[u8], work: &[u32], index: Index, f: FieldView) -> bool
 
 // "4 match unresolved or, below 64 bits, above 2^bits − 1"
 fn match_unfit(s: &[u8], work: &[u32], index: Index, f: FieldView) -> bool
-    requires { ⌜ Ready (now s) (now work) × IndexIs (packOf (now s)) index ⌝ }
-    ensures { λ r. ⌜ r ≡ match-unfit (packOf (now (s .entry))) (fieldMeaning (now (s .entry)) f) ⌝ }
+    requires { ⌜ Ready (now s) (now work) × IndexIs (pack-of (now s)) index ⌝ }
+    ensures { λ r. ⌜ r ≡ match-unfit (pack-of (now (s .entry))) (field-meaning (now (s .entry)) f) ⌝ }
 {
     if !f.authored.matched.given {
         return false;
@@ -87,8 +87,8 @@ fn match_unfit(s: &[u8], work: &[u32], index: Index, f: FieldView) -> bool
 
 // The stops that go by the field alone: 3, 4, or 0.
 fn field_stop(s: &[u8], work: &[u32], index: Index, f: FieldView) -> u32
-    requires { ⌜ Ready (now s) (now work) × IndexIs (packOf (now s)) index ⌝ }
-    ensures { λ r. ⌜ stop-number r ≡ field-stop (packOf (now (s .entry))) (fieldMeaning (now (s .entry)) f) ⌝ }
+    requires { ⌜ Ready (now s) (now work) × IndexIs (pack-of (now s)) index ⌝ }
+    ensures { λ r. ⌜ stop-number r ≡ field-stop (pack-of (now (s .entry))) (field-meaning (now (s .entry)) f) ⌝ }
 {
     if lookup_missing(s, work, index, f) {
         return 3;
@@ -101,8 +101,8 @@ fn field_stop(s: &[u8], work: &[u32], index: Index, f: FieldView) -> u32
 
 // Whether an entry of a fieldtype lookup names a missing field type or nested lookup.
 fn names_missing(s: &[u8], work: &[u32], index: Index, e: EntryView) -> bool
-    requires { ⌜ Ready (now s) (now work) × IndexIs (packOf (now s)) index ⌝ }
-    ensures { λ r. ⌜ r ≡ names-missing (packOf (now (s .entry))) (entryMeaning (now (s .entry)) e) ⌝ }
+    requires { ⌜ Ready (now s) (now work) × IndexIs (pack-of (now s)) index ⌝ }
+    ensures { λ r. ⌜ r ≡ names-missing (pack-of (now (s .entry))) (entry-meaning (now (s .entry)) e) ⌝ }
 {
     if !is_fieldtype(s, work, index.types.count, e.fieldtype) {
         return true;
@@ -112,8 +112,8 @@ fn names_missing(s: &[u8], work: &[u32], index: Index, e: EntryView) -> bool
 
 // Whether an entry is for the reading and names something missing.
 fn entry_names_missing(s: &[u8], work: &[u32], index: Index, e: EntryView, reading: u64) -> bool
-    requires { ⌜ Ready (now s) (now work) × IndexIs (packOf (now s)) index ⌝ }
-    ensures { λ r. ⌜ r ≡ ((e .value == reading) && names-missing (packOf (now (s .entry))) (entryMeaning (now (s .entry)) e)) ⌝ }
+    requires { ⌜ Ready (now s) (now work) × IndexIs (pack-of (now s)) index ⌝ }
+    ensures { λ r. ⌜ r ≡ ((e .value == reading) && names-missing (pack-of (now (s .entry))) (entry-meaning (now (s .entry)) e)) ⌝ }
 {
     if e.value != reading {
         return false;
@@ -131,8 +131,8 @@ fn entries_name_missing(
     entries: u32,
     reading: u64,
 ) -> bool
-    requires { ⌜ LookupAt (now s) (now work) l p × (3 ≡ lookup-at (packOf (now s) .lookups) l .kind) × (entries ≡ length (lookup-at (packOf (now s) .lookups) l .entries)) × IndexIs (packOf (now s)) index ⌝ }
-    ensures { λ r. ⌜ r ≡ entries-name-missing (packOf (now (s .entry))) (lookup-at (packOf (now (s .entry)) .lookups) l .entries) reading ⌝ }
+    requires { ⌜ LookupAt (now s) (now work) l p × (3 ≡ lookup-at (pack-of (now s) .lookups) l .kind) × (entries ≡ length (lookup-at (pack-of (now s) .lookups) l .entries)) × IndexIs (pack-of (now s)) index ⌝ }
+    ensures { λ r. ⌜ r ≡ entries-name-missing (pack-of (now (s .entry))) (lookup-at (pack-of (now (s .entry)) .lookups) l .entries) reading ⌝ }
 {
     let mut e: u32 = 0;
     while e < entries {
@@ -155,8 +155,8 @@ pub struct FieldtypeLookup {
 
 // The fieldtype lookup that a reference names: only the entries of such a one name anything.
 fn fieldtype_lookup(s: &[u8], work: &[u32], index: Index, r: OptReference) -> FieldtypeLookup
-    requires { ⌜ Ready (now s) (now work) × IndexIs (packOf (now s)) index ⌝ }
-    ensures { λ v. ⌜ Named (now (s .entry)) (now (work .entry)) (optReference (now (s .entry)) r) v ⌝ }
+    requires { ⌜ Ready (now s) (now work) × IndexIs (pack-of (now s)) index ⌝ }
+    ensures { λ v. ⌜ Named (now (s .entry)) (now (work .entry)) (optional-reference (now (s .entry)) r) v ⌝ }
 {
     let no_lookup = FieldtypeLookup {
         given: false,
@@ -191,8 +191,8 @@ fn lookup_names_missing(
     l: FieldtypeLookup,
     reading: u64,
 ) -> bool
-    requires { ⌜ IndexIs (packOf (now s)) index × (l .given ≡ true → LookupAt (now s) (now work) (l .index) (l .place)) × (l .given ≡ true → 3 ≡ lookup-at (packOf (now s) .lookups) (l .index) .kind) × (l .given ≡ true → l .entries ≡ length (lookup-at (packOf (now s) .lookups) (l .index) .entries)) ⌝ }
-    ensures { λ b. ⌜ b ≡ (l .given && entries-name-missing (packOf (now (s .entry))) (lookup-at (packOf (now (s .entry)) .lookups) (l .index) .entries) reading) ⌝ }
+    requires { ⌜ IndexIs (pack-of (now s)) index × (l .given ≡ true → LookupAt (now s) (now work) (l .index) (l .place)) × (l .given ≡ true → 3 ≡ lookup-at (pack-of (now s) .lookups) (l .index) .kind) × (l .given ≡ true → l .entries ≡ length (lookup-at (pack-of (now s) .lookups) (l .index) .entries)) ⌝ }
+    ensures { λ b. ⌜ b ≡ (l .given && entries-name-missing (pack-of (now (s .entry))) (lookup-at (pack-of (now (s .entry)) .lookups) (l .index) .entries) reading) ⌝ }
 {
     if !l.given {
         return false;
@@ -212,8 +212,8 @@ fn lacks(
     o: FieldOrder,
     id: OptText,
 ) -> bool
-    requires { ⌜ PgnAt (now s) (now work) t i p × SetsAre (layout (pgn-at (packOf (now s)) t i)) sets ⌝ }
-    ensures { λ r. ⌜ r ≡ lacks (pgn-at (packOf (now (s .entry))) t i) (placed (layout (pgn-at (packOf (now (s .entry))) t i)) (o .0)) (optBytes (now (s .entry)) id) ⌝ }
+    requires { ⌜ PgnAt (now s) (now work) t i p × SetsAre (layout (pgn-at (pack-of (now s)) t i)) sets ⌝ }
+    ensures { λ r. ⌜ r ≡ lacks (pgn-at (pack-of (now (s .entry))) t i) (placed (layout (pgn-at (pack-of (now (s .entry))) t i)) (o .0)) (optional-bytes (now (s .entry)) id) ⌝ }
 {
     if !id.given {
         return false;
@@ -227,8 +227,8 @@ fn lacks(
 
 // Whether field j is a length source.
 fn length_source_at(s: &[u8], work: &[u32], t: u32, i: u32, p: usize, j: u32) -> bool
-    requires { ⌜ PgnAt (now s) (now work) t i p × (j < length (pgn-at (packOf (now s)) t i .fields)) ⌝ }
-    ensures { λ r. ⌜ r ≡ length-source (packOf (now (s .entry)) .fieldtypes) (field-at (pgn-at (packOf (now (s .entry))) t i) j) ⌝ }
+    requires { ⌜ PgnAt (now s) (now work) t i p × (j < length (pgn-at (pack-of (now s)) t i .fields)) ⌝ }
+    ensures { λ r. ⌜ r ≡ length-source (pack-of (now (s .entry)) .fieldtypes) (field-at (pgn-at (pack-of (now (s .entry))) t i) j) ⌝ }
 {
     let f = field_of(s, work, t, i, p, j);
     let root = root_of(s, work, f.ft);
@@ -246,8 +246,8 @@ fn gives_length(
     o: FieldOrder,
     j: u32,
 ) -> bool
-    requires { ⌜ PgnAt (now s) (now work) t i p × SetsAre (layout (pgn-at (packOf (now s)) t i)) sets × (j < length (pgn-at (packOf (now s)) t i .fields)) ⌝ }
-    ensures { λ r. ⌜ r ≡ (length-source (packOf (now (s .entry)) .fieldtypes) (field-at (pgn-at (packOf (now (s .entry))) t i) j) && sets-hold (layout (pgn-at (packOf (now (s .entry))) t i)) (suc j) (o .0)) ⌝ }
+    requires { ⌜ PgnAt (now s) (now work) t i p × SetsAre (layout (pgn-at (pack-of (now s)) t i)) sets × (j < length (pgn-at (pack-of (now s)) t i .fields)) ⌝ }
+    ensures { λ r. ⌜ r ≡ (length-source (pack-of (now (s .entry)) .fieldtypes) (field-at (pgn-at (pack-of (now (s .entry))) t i) j) && sets-hold (layout (pgn-at (pack-of (now (s .entry))) t i)) (suc j) (o .0)) ⌝ }
 {
     if sets_hold(sets, FieldIndex(j).order(), o) {
         return length_source_at(s, work, t, i, p, j);
@@ -257,8 +257,8 @@ fn gives_length(
 
 // Whether a field before field k gives it a length.
 fn has_length(s: &[u8], work: &[u32], t: u32, i: u32, p: usize, sets: Sets, k: u32) -> bool
-    requires { ⌜ PgnAt (now s) (now work) t i p × SetsAre (layout (pgn-at (packOf (now s)) t i)) sets × (k < length (pgn-at (packOf (now s)) t i .fields)) ⌝ }
-    ensures { λ r. ⌜ r ≡ anyBelow (λ j. length-source (packOf (now (s .entry)) .fieldtypes) (field-at (pgn-at (packOf (now (s .entry))) t i) j) && sets-hold (layout (pgn-at (packOf (now (s .entry))) t i)) (suc j) (suc k)) k ⌝ }
+    requires { ⌜ PgnAt (now s) (now work) t i p × SetsAre (layout (pgn-at (pack-of (now s)) t i)) sets × (k < length (pgn-at (pack-of (now s)) t i .fields)) ⌝ }
+    ensures { λ r. ⌜ r ≡ any-below (λ j. length-source (pack-of (now (s .entry)) .fieldtypes) (field-at (pgn-at (pack-of (now (s .entry))) t i) j) && sets-hold (layout (pgn-at (pack-of (now (s .entry))) t i)) (suc j) (suc k)) k ⌝ }
 {
     let own = FieldIndex(k).order();
     let mut j: u32 = 0;
@@ -282,8 +282,8 @@ pub fn lacks_length(
     k: u32,
     f: FieldView,
 ) -> bool
-    requires { ⌜ PgnAt (now s) (now work) t i p × SetsAre (layout (pgn-at (packOf (now s)) t i)) sets × (k < length (pgn-at (packOf (now s)) t i .fields)) × (fieldMeaning (now s) f ≡ field-at (pgn-at (packOf (now s)) t i) k) ⌝ }
-    ensures { λ r. ⌜ r ≡ lacks-length (packOf (now (s .entry))) (pgn-at (packOf (now (s .entry))) t i) (placed (layout (pgn-at (packOf (now (s .entry))) t i)) (suc k)) k ⌝ }
+    requires { ⌜ PgnAt (now s) (now work) t i p × SetsAre (layout (pgn-at (pack-of (now s)) t i)) sets × (k < length (pgn-at (pack-of (now s)) t i .fields)) × (field-meaning (now s) f ≡ field-at (pgn-at (pack-of (now s)) t i) k) ⌝ }
+    ensures { λ r. ⌜ r ≡ lacks-length (pack-of (now (s .entry))) (pgn-at (pack-of (now (s .entry))) t i) (placed (layout (pgn-at (pack-of (now (s .entry))) t i)) (suc k)) k ⌝ }
 {
     let root = root_of(s, work, f.ft);
     if text_is(s, root, b"DYNAMIC_FIELD_VALUE") {
@@ -303,8 +303,8 @@ fn need_stop(
     k: u32,
     f: FieldView,
 ) -> u32
-    requires { ⌜ PgnAt (now s) (now work) t i p × SetsAre (layout (pgn-at (packOf (now s)) t i)) sets × (k < length (pgn-at (packOf (now s)) t i .fields)) × (fieldMeaning (now s) f ≡ field-at (pgn-at (packOf (now s)) t i) k) ⌝ }
-    ensures { λ r. ⌜ stop-number r ≡ need-stop (packOf (now (s .entry))) (pgn-at (packOf (now (s .entry))) t i) (placed (layout (pgn-at (packOf (now (s .entry))) t i)) (suc k)) k ⌝ }
+    requires { ⌜ PgnAt (now s) (now work) t i p × SetsAre (layout (pgn-at (pack-of (now s)) t i)) sets × (k < length (pgn-at (pack-of (now s)) t i .fields)) × (field-meaning (now s) f ≡ field-at (pgn-at (pack-of (now s)) t i) k) ⌝ }
+    ensures { λ r. ⌜ stop-number r ≡ need-stop (pack-of (now (s .entry))) (pgn-at (pack-of (now (s .entry))) t i) (placed (layout (pgn-at (pack-of (now (s .entry))) t i)) (suc k)) k ⌝ }
 {
     let own = FieldIndex(k).order();
     if lacks(s, work, t, i, p, sets, own, f.links.length) {
@@ -331,9 +331,9 @@ pub struct Judged {
 // Field k of a PGN.
 pub fn judge(s: &[u8], work: &[u32], found: FoundPgn, k: u32, reading: u64) -> Judged
     requires { ⌜ IsFound (now s) (now work) found × (k < length (found-pgn (now s) found .fields)) ⌝ }
-    ensures { λ r. ⌜ stop-number (r .stop) ≡ stop-at (packOf (now (s .entry))) (found-pgn (now (s .entry)) found)
+    ensures { λ r. ⌜ stop-number (r .stop) ≡ stop-at (pack-of (now (s .entry))) (found-pgn (now (s .entry)) found)
         (placed (layout (found-pgn (now (s .entry)) found)) (suc k)) k reading ⌝ }
-    ensures { λ r. ⌜ (r .harmless ≡ true → (other : ℕ) → stop-at (packOf (now (s .entry))) (found-pgn (now (s .entry)) found)
+    ensures { λ r. ⌜ (r .harmless ≡ true → (other : ℕ) → stop-at (pack-of (now (s .entry))) (found-pgn (now (s .entry)) found)
         (placed (layout (found-pgn (now (s .entry)) found)) (suc k)) k other ≡ none) ⌝ }
 {
     let f = field_of(s, work, found.tree, found.pgn, found.place, k);

@@ -4,12 +4,12 @@ ghost use mathlib.Core.Bool.{false};
 ghost use Prim.Native.Nat.{_≤_};
 ghost use lib.ListN.{length};
 ghost use Rattle.pack.specs.Load.{over};
-ghost use Rattle.pack.specs.Meaning.{packOf};
+ghost use Rattle.pack.specs.Meaning.{pack-of};
 ghost use Rattle.walk.specs.Layout.{layout, stop-1};
 ghost use Rattle.walk.specs.Naming.{IsFound, found-pgn, found-walk, found-judged};
 ghost use Rattle.walk.specs.StopParts.{Harmless};
 ghost use Rattle.walk.specs.Walk.{walk};
-ghost use Rattle.walk.specs.WalkCall.{told, visitsLeft, Walks, TellsHeld};
+ghost use Rattle.walk.specs.WalkCall.{told, visits-left, Walks, TellsHeld};
 use crate::held::held_at;
 use crate::named::FoundPgn;
 use crate::named::NamedPgn;
@@ -49,11 +49,11 @@ fn walk_on(
     readings: &[u64],
     visits: &mut [u32],
 ) -> Walked
-    requires { ⌜ IsFound (now s) (now work) found × Harmless (packOf (now s)) (found-pgn (now s) found) (now harmless)
+    requires { ⌜ IsFound (now s) (now work) found × Harmless (pack-of (now s)) (found-pgn (now s) found) (now harmless)
         × (stop-1 (layout (found-pgn (now s) found)) ≡ false) × (length (now readings) ≤ length (now visits)) ⌝ }
-    ensures { λ r. ⌜ r ≡ told (walk (packOf (now (s .entry))) (found-pgn (now (s .entry)) found) (now (readings .entry))) ⌝ }
+    ensures { λ r. ⌜ r ≡ told (walk (pack-of (now (s .entry))) (found-pgn (now (s .entry)) found) (now (readings .entry))) ⌝ }
     ensures { λ r. ⌜ now (visits .exit)
-        ≡ over (walk (packOf (now (s .entry))) (found-pgn (now (s .entry)) found) (now (readings .entry)) .visits) (now (visits .entry)) ⌝ }
+        ≡ over (walk (pack-of (now (s .entry))) (found-pgn (now (s .entry)) found) (now (readings .entry)) .visits) (now (visits .entry)) ⌝ }
 {
     let sets = found.sets;
     let mut state = begin(sets);
@@ -76,9 +76,9 @@ fn walk_on(
 // The walk over a PGN that is found.
 fn walk_at(s: &[u8], work: &[u32], found: FoundPgn, readings: &[u64], visits: &mut [u32]) -> Walked
     requires { ⌜ IsFound (now s) (now work) found × (length (now readings) ≤ length (now visits)) ⌝ }
-    ensures { λ r. ⌜ r ≡ told (walk (packOf (now (s .entry))) (found-pgn (now (s .entry)) found) (now (readings .entry))) ⌝ }
+    ensures { λ r. ⌜ r ≡ told (walk (pack-of (now (s .entry))) (found-pgn (now (s .entry)) found) (now (readings .entry))) ⌝ }
     ensures { λ r. ⌜ now (visits .exit)
-        ≡ over (walk (packOf (now (s .entry))) (found-pgn (now (s .entry)) found) (now (readings .entry)) .visits) (now (visits .entry)) ⌝ }
+        ≡ over (walk (pack-of (now (s .entry))) (found-pgn (now (s .entry)) found) (now (readings .entry)) .visits) (now (visits .entry)) ⌝ }
 {
     if stop_1(found.sets) {
         return Walked::Ended {
@@ -101,7 +101,7 @@ fn walk_found(
     requires { ⌜ IsFound (now pack) (now work) found ⌝ }
     ensures { λ r. ⌜ r ≡ found-judged (now (pack .entry)) found (now (readings .entry)) (length (now (visits .entry))) ⌝ }
     ensures { λ r. ⌜ now (visits .exit)
-        ≡ visitsLeft (found-judged (now (pack .entry)) found (now (readings .entry)) (length (now (visits .entry))))
+        ≡ visits-left (found-judged (now (pack .entry)) found (now (readings .entry)) (length (now (visits .entry))))
         (found-walk (now (pack .entry)) found (now (readings .entry)) .visits) (now (visits .entry)) ⌝ }
 {
     let needed = readings.len();

@@ -3,8 +3,8 @@ use Rattle.pack.proofs.Loading.{too-long, input-refused, work-short, lo
 use Rattle.pack.specs.declared.load.Index.{Index}
 use Rattle.pack.specs.declared.load.Loaded.the-variants.{Refused}
 use Rattle.pack.specs.declared.load.Refusal.the-variants.{Work}
-use Rattle.pack.specs.Load.{indexOf}
-use Rattle.pack.specs.Format.{packEnd, offsets}
+use Rattle.pack.specs.Load.{load-index}
+use Rattle.pack.specs.Format.{pack-end, offsets}
 use Prim.Native.Nat.{ℕ}
 use native.Mathlib.Omega.{arith}
 use mathlib.Core.Path.{_≡_, refl, ap, _∙_}
@@ -51,7 +51,7 @@ same-length-2 : tie.Need-same-length-2
 same-length-2 c = search needs
 
 returns-3 : tie.Need-returns-3
-unfolding indexOf
+unfolding load-index
 returns-3 c =
     let back12 = c .before .before .before .before .before .before .before .before .before .before .before .before in
     let start = back12 .before in
@@ -59,7 +59,7 @@ returns-3 c =
     let if2 = c .before .before .before .if2 in
     let w = now (start .args .work) in let s = now (start .args .pack) in
     let x : place-all .last .1 .0 ++ w ≡ w = rw (none (place-all .last .1 .0) (place-all .kept .1 .0)) in
-    let z : packEnd s .refused ≡ 0 = rw (← place-all .ensures .end) (if2 .left) in
+    let z : pack-end s .refused ≡ 0 = rw (← place-all .ensures .end) (if2 .left) in
     let n : place-all .result .index .records ≡ length (offsets s) = ap (λ (i : Index). i .records) (place-all .ensures .index z) in
     let a = work-short s w (omega (arith, c)) z (rw (x, n) at (c .if3 .taken)) in
     promised _ _ _ _ (ap (λ (k : ℕ). Refused (Work k)) n ∙ a .answer) (x ∙ a .work)
@@ -71,7 +71,7 @@ same-length-3 : tie.Need-same-length-3
 same-length-3 c = search needs
 
 returns-4 : tie.Need-returns-4
-unfolding indexOf
+unfolding load-index
 returns-4 c =
     let back12 = c .before .before .before .before .before .before .before .before .before .before .before .before in
     let start = back12 .before .before .before .before .before in
@@ -81,7 +81,7 @@ returns-4 c =
     let if3 = c .before .before .before .before .if3 in
     let w = now (start .args .work) in let s = now (start .args .pack) in
     let x : place-all .last .1 .0 ++ w ≡ w = rw (none (place-all .last .1 .0) (place-all .kept .1 .0)) in
-    let z : packEnd s .refused ≡ 0 = rw (← place-all .ensures .end) (if2 .left) in
+    let z : pack-end s .refused ≡ 0 = rw (← place-all .ensures .end) (if2 .left) in
     let n : place-all .result .index .records ≡ length (offsets s) = ap (λ (i : Index). i .records) (place-all .ensures .index z) in
     let a = loads s w (if1 .left) z (rw (x, n) at (if3 .left)) in
     promised _ _ _ _ (rw (place-all .ensures .index z) (a .answer)) ((rw x at (c .before .before .place-all2 .ensures .work z)) ∙ a .work)

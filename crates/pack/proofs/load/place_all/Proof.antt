@@ -4,7 +4,7 @@ use Rattle.pack.proofs.Whole.{whole, tree-reader}
 use Rattle.pack.proofs.Places.{room-read, room-after}
 use Rattle.pack.proofs.Reading.{version-reader, number-reader, types-reader, lookups-reader}
 use Rattle.pack.specs.Placing.{Room}
-use Rattle.pack.specs.Items.{fresh, versionAt, numberAt}
+use Rattle.pack.specs.Items.{fresh, read-version, read-number}
 use Prim.Native.Nat.{ℕ, _<_}
 use native.Mathlib.Omega.{arith}
 use mathlib.Core.Path.{_≡_, _∙_}
@@ -16,13 +16,13 @@ use Rattle.pack.proofs.load.place_all.Statement.{statement}
 use Rattle.pack.proofs.load.place_all.Tie as tie
 
 -- room for the first section
-room-first : (s : List ℕ) (v n : NumberItem) → length s < 4294967296 → v ≡ versionAt s (fresh 0) → n ≡ numberAt s (v .next) → Room s (n .next) 0
+room-first : (s : List ℕ) (v n : NumberItem) → length s < 4294967296 → v ≡ read-version s (fresh 0) → n ≡ read-number s (v .next) → Room s (n .next) 0
 room-first s v n h ev en =
     let a : Room s (fresh 0) 0 = record { short = h; inside = omega arith; few = omega arith } in
     rw (en, ev) (room-read (number-reader s) _ 0 (room-read (version-reader s) (fresh 0) 0 a))
 
 -- room behind a number
-room-number : (s : List ℕ) (c : Cursor) (p : ℕ) (n : NumberItem) → Room s c p → n ≡ numberAt s c → Room s (n .next) p
+room-number : (s : List ℕ) (c : Cursor) (p : ℕ) (n : NumberItem) → Room s c p → n ≡ read-number s c → Room s (n .next) p
 room-number s c p n r e = rw e (room-read (number-reader s) c p r)
 
 version-requires : tie.Need-version-requires

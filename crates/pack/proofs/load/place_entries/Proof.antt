@@ -1,7 +1,7 @@
-use Rattle.pack.proofs.Places.{placed-none, placed-one, placed-append, placed-refused, room-after, entries-turn, entryOffsets-turn, entries-stay}
+use Rattle.pack.proofs.Places.{placed-none, placed-one, placed-append, placed-refused, room-after, entries-turn, entry-offsets-turn, entries-stay}
 use Rattle.pack.proofs.Reading.{entry-reader, entry-moves}
 use Rattle.pack.specs.Placing.{Room, PlacedTo}
-use Rattle.pack.specs.Format.{entries, entryOffsets}
+use Rattle.pack.specs.Format.{entries, entry-offsets}
 use Prim.Native.Nat.{_-_, _≤_}
 use native.Mathlib.Omega.{arith}
 use mathlib.Core.Path.{_≡_, refl, ap, _∙_, sym}
@@ -13,13 +13,13 @@ use Rattle.pack.proofs.load.place_entries.Tie as tie
 
 abbrev Inv-loop : tie.InvT-loop
 Inv-loop s work₀ kind n p c₀ p₀ i₀ work c p' i =
-    (i ≤ n) × (length work ≡ length work₀) × PlacedTo (entries kind s c₀ i) work₀ p₀ (entryOffsets kind s c₀ i) work c p' × Room s c p'
+    (i ≤ n) × (length work ≡ length work₀) × PlacedTo (entries kind s c₀ i) work₀ p₀ (entry-offsets kind s c₀ i) work c p' × Room s c p'
 
 abbrev μ-loop : tie.MeasureT-loop
 μ-loop s work₀ kind n p c₀ p₀ i₀ work c p' i = n - i
 
 loop-holds : tie.Need-loop-holds Inv-loop μ-loop
-unfolding entries entryOffsets
+unfolding entries entry-offsets
 loop-holds c =
     let start = c .before .before in
     (omega (arith, c), refl, placed-none (now (start .args .s)) _ _ _ (start .pre), start .pre)
@@ -73,7 +73,7 @@ loop-again c =
     let all = placed-append a (if1 .left) one in (
       omega (arith, c),
       put .kept .0 ∙ loop .inv .1,
-      (rw (entries-turn s (start .args .c) kind i, entryOffsets-turn s (start .args .c) kind i, ← a .next) all),
+      (rw (entries-turn s (start .args .c) kind i, entry-offsets-turn s (start .args .c) kind i, ← a .next) all),
       room-after (entry-reader s kind) (loop .c) (loop .p) (loop .inv .3) one,
     )
 

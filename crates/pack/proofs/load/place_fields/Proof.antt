@@ -1,7 +1,7 @@
-use Rattle.pack.proofs.Places.{placed-none, placed-one, placed-append, placed-refused, room-after, fields-turn, fieldOffsets-turn, fields-stay}
+use Rattle.pack.proofs.Places.{placed-none, placed-one, placed-append, placed-refused, room-after, fields-turn, field-offsets-turn, fields-stay}
 use Rattle.pack.proofs.Reading.{field-reader, field-moves}
 use Rattle.pack.specs.Placing.{Room, PlacedTo}
-use Rattle.pack.specs.Format.{fields, fieldOffsets, fieldNext}
+use Rattle.pack.specs.Format.{fields, field-offsets, field-next}
 use Prim.Native.Nat.{_+_, _-_, _≤_}
 use native.Mathlib.Omega.{arith}
 use mathlib.Core.Path.{_≡_, refl, ap, _∙_, sym}
@@ -15,7 +15,7 @@ abbrev Inv-loop : tie.InvT-loop
 Inv-loop s work₀ types n p c₀ total₀ p₀ i₀ work c total p' i =
     (i ≤ n)
     × (length work ≡ length work₀)
-    × PlacedTo (fields types s c₀ i .next) work₀ p₀ (fieldOffsets types s c₀ i) work c p'
+    × PlacedTo (fields types s c₀ i .next) work₀ p₀ (field-offsets types s c₀ i) work c p'
     × Room s c p'
     × (total ≡ fields types s c₀ i .total)
 
@@ -23,7 +23,7 @@ abbrev μ-loop : tie.MeasureT-loop
 μ-loop s work₀ types n p c₀ total₀ p₀ i₀ work c total p' i = n - i
 
 loop-holds : tie.Need-loop-holds Inv-loop μ-loop
-unfolding fields fieldOffsets
+unfolding fields field-offsets
 loop-holds c =
     let start = c .before .before in
     (omega (arith, c), refl, placed-none (now (start .args .s)) _ _ _ (start .pre), start .pre, refl)
@@ -72,7 +72,7 @@ loop-less c =
     omega (arith, loop-test .taken)
 
 loop-again : tie.Need-loop-again Inv-loop μ-loop
-unfolding fieldNext
+unfolding field-next
 loop-again c =
     let back12 = c .before .before .before .before .before .before .before .before .before .before .before .before in
     let start = back12 .before .before in
@@ -89,7 +89,7 @@ loop-again c =
     let all = placed-append a (if1 .left) one in (
       omega (arith, loop-test .taken),
       put .kept .0 ∙ loop .inv .1,
-      (rw (fields-turn s (start .args .c) types i, fieldOffsets-turn s (start .args .c) types i, ← a .next, ← loop .inv .4) all),
+      (rw (fields-turn s (start .args .c) types i, field-offsets-turn s (start .args .c) types i, ← a .next, ← loop .inv .4) all),
       room-after (field-reader s types (loop .total)) (loop .c) (loop .p) (loop .inv .3) one,
       (rw (fields-turn s (start .args .c) types i, ← a .next, ← loop .inv .4) (ap (λ r. loop .total + r .value .scaling .bits) (field .ensures .0))),
     )

@@ -1,8 +1,8 @@
 use Rattle.pack.proofs.Places.{placed-refused, placed-parts, room-head}
 use Rattle.pack.proofs.Reading.{lookup-reader, lookup-moves, entries-reader}
 use Rattle.pack.specs.declared.lookup.LookupItem.{LookupItem}
-use Rattle.pack.specs.Format.{entries, lookupNext, lookupRecords}
-use Rattle.pack.specs.Records.{lookupAt}
+use Rattle.pack.specs.Format.{entries, lookup-next, lookup-records}
+use Rattle.pack.specs.Records.{read-lookup}
 use native.Mathlib.Omega.{arith}
 use mathlib.Core.Path.{_≡_, ap, _∙_, sym}
 use borrow.Author.Needs.{needs}
@@ -22,12 +22,12 @@ same-length : tie.Need-same-length
 same-length c = search needs
 
 returns : tie.Need-returns
-unfolding lookupNext
+unfolding lookup-next
 returns c =
     let start = c .before .before .before .before .before .before .before .before .before .before .before in
     let lookup = c .before .before .before .before .lookup in
     let s = now (start .args .s) in
-    let l = lookupAt (start .args .before) s (start .args .c) in
+    let l = read-lookup (start .args .before) s (start .args .c) in
     let e : lookup .result .next ≡ l .next = ap (λ (r : LookupItem). r .next) (lookup .ensures) in
     let k : lookup .result .next .at ≡ l .next .at = ap (λ (r : LookupItem). r .next .at) (lookup .ensures) in
     record {
@@ -46,14 +46,14 @@ place-entries-requires c κs =
     let start = c .before .before .before .before .before .before .before .before .before .before .before .before in
     let lookup = c .before .before .before .before .before .lookup in
     let before = start .args .before in let s = now (start .args .s) in
-    let e : lookup .result .next ≡ lookupAt before s (start .args .c) .next = ap (λ (r : LookupItem). r .next) (lookup .ensures) in
+    let e : lookup .result .next ≡ read-lookup before s (start .args .c) .next = ap (λ (r : LookupItem). r .next) (lookup .ensures) in
     rw e (room-head (lookup-reader s before) (lookup-moves s before) (start .args .c) (start .args .p) (start .pre) (rw (← e) (c .before .if1 .left)))
 
 same-length-2 : tie.Need-same-length-2
 same-length-2 c = search needs
 
 returns-2 : tie.Need-returns-2
-unfolding lookupNext lookupRecords
+unfolding lookup-next lookup-records
 returns-2 c =
     let put = c .before .before .before .before .before .before .before .before .before .before .before .before .put in
     let lookup = c .before .before .before .before .before .before .before .before .before .lookup in

@@ -1,7 +1,7 @@
-use Rattle.pack.proofs.Places.{placed-none, placed-append, placed-refused, room-after, lookups-turn, lookupOffsets-turn, lookups-stay}
+use Rattle.pack.proofs.Places.{placed-none, placed-append, placed-refused, room-after, lookups-turn, lookup-offsets-turn, lookups-stay}
 use Rattle.pack.proofs.Reading.{lookup-next-reader}
 use Rattle.pack.specs.Placing.{Room, PlacedTo}
-use Rattle.pack.specs.Format.{LookupState, lookups, lookupOffsets}
+use Rattle.pack.specs.Format.{LookupState, lookups, lookup-offsets}
 use Prim.Native.Nat.{_-_, _≤_}
 use native.Mathlib.Omega.{arith}
 use mathlib.Core.Path.{_≡_, refl, _∙_, sym}
@@ -15,7 +15,7 @@ abbrev Inv-loop : tie.InvT-loop
 Inv-loop s work₀ n p c₀ before₀ p₀ i₀ work c before p' i =
     (i ≤ n)
     × (length work ≡ length work₀)
-    × PlacedTo (lookups s c₀ i .next) work₀ p₀ (lookupOffsets s c₀ i) work c p'
+    × PlacedTo (lookups s c₀ i .next) work₀ p₀ (lookup-offsets s c₀ i) work c p'
     × Room s c p'
     × (before ≡ lookups s c₀ i .before)
 
@@ -23,7 +23,7 @@ abbrev μ-loop : tie.MeasureT-loop
 μ-loop s work₀ n p c₀ before₀ p₀ i₀ work c before p' i = n - i
 
 loop-holds : tie.Need-loop-holds Inv-loop μ-loop
-unfolding lookups lookupOffsets
+unfolding lookups lookup-offsets
 loop-holds c =
     let start = c .before .before in
     (omega (arith, c), refl, placed-none (now (start .args .s)) _ _ _ (start .pre), start .pre, refl)
@@ -68,7 +68,7 @@ loop-again c =
     λ j. record { next = sym (a .next) j; before = sym (loop .inv .4) j } in (
       omega (arith, c),
       place-lookup .kept .1 .0 ∙ loop .inv .1,
-      (rw (lookups-turn s (start .args .c) i, lookupOffsets-turn s (start .args .c) i, st) all),
+      (rw (lookups-turn s (start .args .c) i, lookup-offsets-turn s (start .args .c) i, st) all),
       room-after (lookup-next-reader s (loop .before)) (loop .c) (loop .p) (loop .inv .3) (b .placed),
       (rw (lookups-turn s (start .args .c) i, st) (b .before)),
     )

@@ -1,10 +1,10 @@
 use Rattle.pack.specs.declared.cursor.Cursor.{Cursor}
-use Rattle.pack.specs.Format.{fieldOffsets, fields, pgnNext, pgnRecords}
+use Rattle.pack.specs.Format.{field-offsets, fields, pgn-next, pgn-records}
 use Rattle.pack.proofs.Places.{placed-refused, placed-parts, room-head}
 use Rattle.pack.proofs.Reading.{pgn-reader, pgn-moves, fields-reader}
 use Rattle.pack.specs.declared.pgn.PgnItem.{PgnItem}
 use Rattle.pack.specs.Placing.{PlacedTo}
-use Rattle.pack.specs.Records.{pgnAt}
+use Rattle.pack.specs.Records.{read-pgn}
 use Prim.Native.Nat.{ℕ, _+_}
 use native.Mathlib.Omega.{arith}
 use mathlib.Core.Path.{_≡_, ap, _∙_, sym}
@@ -16,10 +16,10 @@ use Rattle.pack.proofs.load.place_pgn.Statement.{statement}
 use Rattle.pack.proofs.load.place_pgn.Tie as tie
 
 -- the head and the fields behind it
-whole : (k : ℕ) (s : List ℕ) (c : Cursor) (g : PgnItem) (w : List ℕ) (p : ℕ) (w′ : List ℕ) (d : Cursor) (q : ℕ) → g ≡ pgnAt s c
-    → PlacedTo (fields k s (g .next) (g .value .fields) .next) (set w p (c .at)) (p + 1) (fieldOffsets k s (g .next) (g .value .fields)) w′ d q
-    → PlacedTo (pgnNext k s c) w p (pgnRecords k s c) w′ d q
-unfolding pgnNext pgnRecords
+whole : (k : ℕ) (s : List ℕ) (c : Cursor) (g : PgnItem) (w : List ℕ) (p : ℕ) (w′ : List ℕ) (d : Cursor) (q : ℕ) → g ≡ read-pgn s c
+    → PlacedTo (fields k s (g .next) (g .value .fields) .next) (set w p (c .at)) (p + 1) (field-offsets k s (g .next) (g .value .fields)) w′ d q
+    → PlacedTo (pgn-next k s c) w p (pgn-records k s c) w′ d q
+unfolding pgn-next pgn-records
 whole k s c g w p w′ d q e a = placed-parts (rw e at a)
 
 put-requires : tie.Need-put-requires
@@ -34,15 +34,15 @@ same-length : tie.Need-same-length
 same-length c = search needs
 
 returns : tie.Need-returns
-unfolding pgnNext
+unfolding pgn-next
 returns c =
     let start = c .before .before .before .before .before .before .before .before .before .before in
     let pgn = c .before .before .before .pgn in
     let s = now (start .args .s) in
-    let e : pgn .result .next ≡ pgnAt s (start .args .c) .next = ap (λ (r : PgnItem). r .next) (pgn .ensures) in
-    let l : pgn .result .next .at ≡ pgnAt s (start .args .c) .next .at = ap (λ (r : PgnItem). r .next .at) (pgn .ensures) in
+    let e : pgn .result .next ≡ read-pgn s (start .args .c) .next = ap (λ (r : PgnItem). r .next) (pgn .ensures) in
+    let l : pgn .result .next .at ≡ read-pgn s (start .args .c) .next .at = ap (λ (r : PgnItem). r .next .at) (pgn .ensures) in
     placed-refused _ _ _ (e
-    ∙ sym (fields-reader s (start .args .types) (pgnAt s (start .args .c) .value .fields) .sticky (pgnAt s (start .args .c) .next) (rw (← e) (c .if1 .taken))))
+    ∙ sym (fields-reader s (start .args .types) (read-pgn s (start .args .c) .value .fields) .sticky (read-pgn s (start .args .c) .next) (rw (← e) (c .if1 .taken))))
     (c .if1 .taken) (omega (arith, l, pgn-reader s .grows (start .args .c), start .pre .few))
 
 add-place-fields : tie.Need-add-place-fields
@@ -55,7 +55,7 @@ place-fields-requires c κs =
     let start = c .before .before .before .before .before .before .before .before .before .before .before in
     let pgn = c .before .before .before .before .pgn in
     let s = now (start .args .s) in
-    let e : pgn .result .next ≡ pgnAt s (start .args .c) .next = ap (λ (r : PgnItem). r .next) (pgn .ensures) in
+    let e : pgn .result .next ≡ read-pgn s (start .args .c) .next = ap (λ (r : PgnItem). r .next) (pgn .ensures) in
     rw e (room-head (pgn-reader s) (pgn-moves s) (start .args .c) (start .args .p) (start .pre) (rw (← e) (c .before .if1 .left)))
 
 same-length-2 : tie.Need-same-length-2

@@ -1,7 +1,7 @@
-use Rattle.pack.proofs.Places.{placed-none, placed-append, placed-refused, room-after, pgns-turn, pgnOffsets-turn, pgns-stay}
+use Rattle.pack.proofs.Places.{placed-none, placed-append, placed-refused, room-after, pgns-turn, pgn-offsets-turn, pgns-stay}
 use Rattle.pack.proofs.Reading.{pgn-next-reader}
 use Rattle.pack.specs.Placing.{Room, PlacedTo}
-use Rattle.pack.specs.Format.{pgns, pgnOffsets}
+use Rattle.pack.specs.Format.{pgns, pgn-offsets}
 use Prim.Native.Nat.{_-_, _≤_}
 use native.Mathlib.Omega.{arith}
 use mathlib.Core.Path.{_≡_, refl, _∙_, sym}
@@ -13,13 +13,13 @@ use Rattle.pack.proofs.load.place_pgns.Tie as tie
 
 abbrev Inv-loop : tie.InvT-loop
 Inv-loop s work₀ types n p c₀ p₀ i₀ work c p' i =
-    (i ≤ n) × (length work ≡ length work₀) × PlacedTo (pgns types s c₀ i) work₀ p₀ (pgnOffsets types s c₀ i) work c p' × Room s c p'
+    (i ≤ n) × (length work ≡ length work₀) × PlacedTo (pgns types s c₀ i) work₀ p₀ (pgn-offsets types s c₀ i) work c p' × Room s c p'
 
 abbrev μ-loop : tie.MeasureT-loop
 μ-loop s work₀ types n p c₀ p₀ i₀ work c p' i = n - i
 
 loop-holds : tie.Need-loop-holds Inv-loop μ-loop
-unfolding pgns pgnOffsets
+unfolding pgns pgn-offsets
 loop-holds c =
     let start = c .before .before in
     (omega (arith, c), refl, placed-none (now (start .args .s)) _ _ _ (start .pre), start .pre)
@@ -62,7 +62,7 @@ loop-again c =
     let all = placed-append a (if1 .left) (place-pgn .ensures) in (
       omega (arith, c),
       place-pgn .kept .1 .0 ∙ loop .inv .1,
-      (rw (pgns-turn s (start .args .c) types i, pgnOffsets-turn s (start .args .c) types i, ← a .next) all),
+      (rw (pgns-turn s (start .args .c) types i, pgn-offsets-turn s (start .args .c) types i, ← a .next) all),
       room-after (pgn-next-reader s types) (loop .c) (loop .p) (loop .inv .3) (place-pgn .ensures),
     )
 

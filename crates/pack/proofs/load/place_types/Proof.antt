@@ -1,7 +1,7 @@
-use Rattle.pack.proofs.Places.{placed-none, placed-one, placed-append, placed-refused, room-after, types-turn, typeOffsets-turn, types-stay}
+use Rattle.pack.proofs.Places.{placed-none, placed-one, placed-append, placed-refused, room-after, types-turn, type-offsets-turn, types-stay}
 use Rattle.pack.proofs.Reading.{type-reader, type-moves}
 use Rattle.pack.specs.Placing.{Room, PlacedTo}
-use Rattle.pack.specs.Format.{types, typeOffsets}
+use Rattle.pack.specs.Format.{types, type-offsets}
 use lib.ListN.{length}
 use Prim.Native.Nat.{_-_, _≤_}
 use native.Mathlib.Omega.{arith}
@@ -13,13 +13,13 @@ use Rattle.pack.proofs.load.place_types.Tie as tie
 
 abbrev Inv-loop : tie.InvT-loop
 Inv-loop s work₀ n p c₀ p₀ i₀ work c p' i =
-    (i ≤ n) × (length work ≡ length work₀) × PlacedTo (types s c₀ i) work₀ p₀ (typeOffsets s c₀ i) work c p' × Room s c p'
+    (i ≤ n) × (length work ≡ length work₀) × PlacedTo (types s c₀ i) work₀ p₀ (type-offsets s c₀ i) work c p' × Room s c p'
 
 abbrev μ-loop : tie.MeasureT-loop
 μ-loop s work₀ n p c₀ p₀ i₀ work c p' i = n - i
 
 loop-holds : tie.Need-loop-holds Inv-loop μ-loop
-unfolding types typeOffsets
+unfolding types type-offsets
 loop-holds c =
     let start = c .before .before in
     (omega (arith, c), refl, placed-none (now (start .args .s)) _ _ _ (start .pre), start .pre)
@@ -72,7 +72,7 @@ loop-again c =
     let all = placed-append a (if1 .left) one in (
       omega (arith, c),
       put .kept .0 ∙ loop .inv .1,
-      (rw (types-turn s (start .args .c) i, typeOffsets-turn s (start .args .c) i, ← a .next) all),
+      (rw (types-turn s (start .args .c) i, type-offsets-turn s (start .args .c) i, ← a .next) all),
       room-after (type-reader s) (loop .c) (loop .p) (loop .inv .3) one,
     )
 

@@ -3,8 +3,8 @@ use Rattle.rules.specs.Model.{target, given}
 use Rattle.rules.specs.Findings.{report-if, pgn-error}
 use Rattle.rules.specs.declared.Finding.{Finding}
 use Rattle.pack.specs.declared.field.FieldView.{FieldView}
-use Rattle.pack.specs.Meaning.{optNumber, fieldMeaning, packOf}
-use Rattle.pack.specs.Items.{bytesOf}
+use Rattle.pack.specs.Meaning.{optional-number, field-meaning, pack-of}
+use Rattle.pack.specs.Items.{bytes-of}
 use Rattle.pack.specs.Value.{Pgn, pgn-at, field-at}
 use mathlib.Core.Option.{Option}
 use mathlib.Core.Bool.{Bool, true, false}
@@ -19,7 +19,7 @@ use lib.ListN.{length}
 use Rattle.rules.proofs.bit_length_field.bit_length_field_at.Statement.{statement}
 use Rattle.rules.proofs.bit_length_field.bit_length_field_at.Tie as tie
 
-module _ (s : List ℕ) (t i k : ℕ) (p : Pgn) (f : FieldView) (is : fieldMeaning s f ≡ field-at p k) (b : Bool) (z : b ≡ variable-binary (fieldMeaning s f)) where
+module _ (s : List ℕ) (t i k : ℕ) (p : Pgn) (f : FieldView) (is : field-meaning s f ≡ field-at p k) (b : Bool) (z : b ≡ variable-binary (field-meaning s f)) where
   without : f .links .length .given ≡ false → (F : Finding) → F ≡ pgn-error 15 1 t i k 0
       → bit-length-field-at t i p k (field-at p k .bit-length-field) ≡ report-if b F
   unfolding bit-length-field-at
@@ -30,7 +30,7 @@ module _ (s : List ℕ) (t i k : ℕ) (p : Pgn) (f : FieldView) (is : fieldMeani
   unfolding bit-length-field-at
   needless h x F y = rw (← is, h, ← is, ← z, x, y)
 
-  with-target : f .links .length .given ≡ true → b ≡ true → (o : Option ℕ) → o ≡ target p (bytesOf s (f .links .length .text))
+  with-target : f .links .length .given ≡ true → b ≡ true → (o : Option ℕ) → o ≡ target p (bytes-of s (f .links .length .text))
       → bit-length-field-at t i p k (field-at p k .bit-length-field) ≡ bit-length-target-at t i p k o
   unfolding bit-length-field-at
   with-target h x o y = rw (← is, h, ← is, ← z, x, y)
@@ -46,7 +46,7 @@ put-if-requires c κs =
     let start = c .before .before .before .before .before .before .before .before in
     let variable-binary-call = c .before .before .before .before .variable-binary in
     let s = now (start .args .s) in let t = start .args .t in let i = start .args .i in
-    rw (without s t i (start .args .k) (pgn-at (packOf s) t i) (start .args .f) (start .pre .4) (variable-binary-call .result) (variable-binary-call .ensures)
+    rw (without s t i (start .args .k) (pgn-at (pack-of s) t i) (start .args .f) (start .pre .4) (variable-binary-call .result) (variable-binary-call .ensures)
     (not-true (start .args .f .links .length .given) (c .before .before .if1 .taken)) (c .pgn-error .result) (c .pgn-error .ensures)) at (start .pre .0)
 
 same-length : tie.Need-same-length
@@ -59,7 +59,7 @@ returns c =
     let if1 = c .before .before .before .before .before .if1 in
     let pgn-error-call = c .before .before .before .pgn-error in
     let s = now (start .args .s) in let t = start .args .t in let i = start .args .i in
-    rw (without s t i (start .args .k) (pgn-at (packOf s) t i) (start .args .f) (start .pre .4) (variable-binary-call .result) (variable-binary-call .ensures)
+    rw (without s t i (start .args .k) (pgn-at (pack-of s) t i) (start .args .f) (start .pre .4) (variable-binary-call .result) (variable-binary-call .ensures)
     (not-true (start .args .f .links .length .given) (if1 .taken)) (pgn-error-call .result) (pgn-error-call .ensures)) (c .before .before .put-if .ensures)
 
 pgn-error-requires-2 : tie.Need-pgn-error-requires-2
@@ -71,7 +71,7 @@ put-requires c κs =
     let variable-binary-call = c .before .before .before .before .before .variable-binary in
     let if1 = c .before .before .before .if1 in
     let s = now (start .args .s) in let t = start .args .t in let i = start .args .i in
-    rw (needless s t i (start .args .k) (pgn-at (packOf s) t i) (start .args .f) (start .pre .4) (variable-binary-call .result) (variable-binary-call .ensures)
+    rw (needless s t i (start .args .k) (pgn-at (pack-of s) t i) (start .args .f) (start .pre .4) (variable-binary-call .result) (variable-binary-call .ensures)
     (not-false (start .args .f .links .length .given) (if1 .left)) (not-true (variable-binary-call .result) (c .before .before .if2 .taken))
     (c .pgn-error2 .result) (c .pgn-error2 .ensures)) at (start .pre .0)
 
@@ -86,7 +86,7 @@ returns-2 c =
     let if2 = c .before .before .before .before .before .if2 in
     let pgn-error2 = c .before .before .before .pgn-error2 in
     let s = now (start .args .s) in let t = start .args .t in let i = start .args .i in
-    rw (needless s t i (start .args .k) (pgn-at (packOf s) t i) (start .args .f) (start .pre .4) (variable-binary-call .result) (variable-binary-call .ensures)
+    rw (needless s t i (start .args .k) (pgn-at (pack-of s) t i) (start .args .f) (start .pre .4) (variable-binary-call .result) (variable-binary-call .ensures)
     (not-false (start .args .f .links .length .given) (if1 .left)) (not-true (variable-binary-call .result) (if2 .taken)) (pgn-error2 .result)
     (pgn-error2 .ensures)) (c .before .before .put .ensures)
 
@@ -101,9 +101,9 @@ bit-length-target-at-requires c κs =
     let variable-binary-call = c .before .before .before .before .before .variable-binary in
     let if1 = c .before .before .before .if1 in
     let s = now (start .args .s) in let t = start .args .t in let i = start .args .i in (
-      (rw (with-target s t i (start .args .k) (pgn-at (packOf s) t i) (start .args .f) (start .pre .4) (variable-binary-call .result)
+      (rw (with-target s t i (start .args .k) (pgn-at (pack-of s) t i) (start .args .f) (start .pre .4) (variable-binary-call .result)
           (variable-binary-call .ensures) (not-false (start .args .f .links .length .given) (if1 .left))
-          (not-false (variable-binary-call .result) (c .before .before .if2 .left)) (optNumber (c .before .target .result)) (c .before .target .ensures)) at
+          (not-false (variable-binary-call .result) (c .before .before .if2 .left)) (optional-number (c .before .target .result)) (c .before .target .ensures)) at
           (start .pre .0)),
       start .pre .1,
       omega (arith, start .pre .2, start .pre .3),
@@ -120,9 +120,9 @@ returns-3 c =
     let if2 = c .before .before .before .before .before .if2 in
     let target-call = c .before .before .before .before .target in
     let s = now (start .args .s) in let t = start .args .t in let i = start .args .i in
-    rw (with-target s t i (start .args .k) (pgn-at (packOf s) t i) (start .args .f) (start .pre .4) (variable-binary-call .result)
+    rw (with-target s t i (start .args .k) (pgn-at (pack-of s) t i) (start .args .f) (start .pre .4) (variable-binary-call .result)
     (variable-binary-call .ensures) (not-false (start .args .f .links .length .given) (if1 .left)) (not-false (variable-binary-call .result) (if2 .left))
-    (optNumber (target-call .result)) (target-call .ensures)) (c .before .before .bit-length-target-at .ensures)
+    (optional-number (target-call .result)) (target-call .ensures)) (c .before .before .bit-length-target-at .ensures)
 
 pub bit-length-field-at-spec : {M : Type 1} → statement M
 bit-length-field-at-spec =

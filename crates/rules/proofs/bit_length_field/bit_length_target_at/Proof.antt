@@ -5,7 +5,7 @@ use Rattle.rules.specs.Model.{given}
 use Rattle.rules.specs.Findings.{report-if, pgn-error}
 use Rattle.rules.specs.declared.Finding.{Finding}
 use Rattle.pack.specs.declared.field.FieldView.{FieldView}
-use Rattle.pack.specs.Meaning.{optNumber, fieldMeaning, packOf}
+use Rattle.pack.specs.Meaning.{optional-number, field-meaning, pack-of}
 use Rattle.pack.specs.Value.{Pgn, pgn-at, field-at}
 use Rattle.pack.specs.Notation.{_==_, optional}
 use mathlib.Core.Bool.{not, _||_, Bool, true, false}
@@ -20,11 +20,11 @@ use Rattle.rules.proofs.bit_length_field.bit_length_target_at.Statement
 use Rattle.rules.proofs.bit_length_field.bit_length_target_at.Tie as tie
 
 module _ (s : List ℕ) (t i k : ℕ) (p : Pgn) (j : OptNumber) where
-  absent : j .given ≡ false → (F : Finding) → F ≡ pgn-error 15 3 t i k 0 → bit-length-target-at t i p k (optNumber j) ≡ F ∷ []
+  absent : j .given ≡ false → (F : Finding) → F ≡ pgn-error 15 3 t i k 0 → bit-length-target-at t i p k (optional-number j) ≡ F ∷ []
   unfolding bit-length-target-at
   absent h F y = rw (h, y)
 
-  later : j .given ≡ true → k ≤ j .value → (F : Finding) → F ≡ pgn-error 15 4 t i k (j .value) → bit-length-target-at t i p k (optNumber j) ≡ F ∷ []
+  later : j .given ≡ true → k ≤ j .value → (F : Finding) → F ≡ pgn-error 15 4 t i k (j .value) → bit-length-target-at t i p k (optional-number j) ≡ F ∷ []
   unfolding bit-length-target-at
   later h l F y = rw (h, le-leb k (j .value) l, y)
 
@@ -32,9 +32,9 @@ module _ (s : List ℕ) (t i k : ℕ) (p : Pgn) (j : OptNumber) where
   given-is true a = refl
   given-is false a = refl
 
-  earlier : j .given ≡ true → j .value < k → (f : FieldView) → fieldMeaning s f ≡ field-at p (j .value)
+  earlier : j .given ≡ true → j .value < k → (f : FieldView) → field-meaning s f ≡ field-at p (j .value)
       → (b : Bool) → b ≡ (f .links .reference .given || not (float-eq (f .scaling .resolution) ONE) || (f .scaling .bits == 0))
-      → (F : Finding) → F ≡ pgn-error 15 5 t i k (j .value) → bit-length-target-at t i p k (optNumber j) ≡ report-if b F
+      → (F : Finding) → F ≡ pgn-error 15 5 t i k (j .value) → bit-length-target-at t i p k (optional-number j) ≡ report-if b F
   unfolding bit-length-target-at not-bit-count
   earlier h l f is b z F y = rw (h, lt-leb k (j .value) l, ← is, given-is (f .links .reference .given), z, y)
 
@@ -45,7 +45,7 @@ put-requires : tie.Need-put-requires
 put-requires c κs =
     let start = c .before .before .before .before .before .before .before in
     let s = now (start .args .s) in let t = start .args .t in let i = start .args .i in
-    rw (absent s t i (start .args .k) (pgn-at (packOf s) t i) (start .args .j) (not-true (start .args .j .given) (c .before .before .if1 .taken))
+    rw (absent s t i (start .args .k) (pgn-at (pack-of s) t i) (start .args .j) (not-true (start .args .j .given) (c .before .before .if1 .taken))
     (c .pgn-error .result) (c .pgn-error .ensures)) at (start .pre .0)
 
 same-length : tie.Need-same-length
@@ -57,7 +57,7 @@ returns c =
     let if1 = c .before .before .before .before .before .if1 in
     let pgn-error-call = c .before .before .before .pgn-error in
     let s = now (start .args .s) in let t = start .args .t in let i = start .args .i in
-    rw (absent s t i (start .args .k) (pgn-at (packOf s) t i) (start .args .j) (not-true (start .args .j .given) (if1 .taken)) (pgn-error-call .result)
+    rw (absent s t i (start .args .k) (pgn-at (pack-of s) t i) (start .args .j) (not-true (start .args .j .given) (if1 .taken)) (pgn-error-call .result)
     (pgn-error-call .ensures)) (c .before .before .put .ensures)
 
 pgn-error-requires-2 : tie.Need-pgn-error-requires-2
@@ -68,7 +68,7 @@ put-requires-2 c κs =
     let start = c .before .before .before .before .before .before .before .before .before in
     let if1 = c .before .before .before .before .if1 in
     let s = now (start .args .s) in let t = start .args .t in let i = start .args .i in
-    rw (later s t i (start .args .k) (pgn-at (packOf s) t i) (start .args .j) (not-false (start .args .j .given) (if1 .left)) (c .before .before .if2 .taken)
+    rw (later s t i (start .args .k) (pgn-at (pack-of s) t i) (start .args .j) (not-false (start .args .j .given) (if1 .left)) (c .before .before .if2 .taken)
     (c .pgn-error2 .result) (c .pgn-error2 .ensures)) at (start .pre .0)
 
 same-length-2 : tie.Need-same-length-2
@@ -81,7 +81,7 @@ returns-2 c =
     let if2 = c .before .before .before .before .before .if2 in
     let pgn-error2 = c .before .before .before .pgn-error2 in
     let s = now (start .args .s) in let t = start .args .t in let i = start .args .i in
-    rw (later s t i (start .args .k) (pgn-at (packOf s) t i) (start .args .j) (not-false (start .args .j .given) (if1 .left)) (if2 .taken) (pgn-error2 .result)
+    rw (later s t i (start .args .k) (pgn-at (pack-of s) t i) (start .args .j) (not-false (start .args .j .given) (if1 .left)) (if2 .taken) (pgn-error2 .result)
     (pgn-error2 .ensures)) (c .before .before .put2 .ensures)
 
 field-of-requires : tie.Need-field-of-requires
@@ -103,7 +103,7 @@ put-if-requires c κs =
     let field-of = c .before .before .before .field-of in
     let not-bit-count-call = c .before .before .not-bit-count in
     let s = now (start .args .s) in let t = start .args .t in let i = start .args .i in
-    rw (earlier s t i (start .args .k) (pgn-at (packOf s) t i) (start .args .j) (not-false (start .args .j .given) (if1 .left)) (if2 .left) (field-of .result)
+    rw (earlier s t i (start .args .k) (pgn-at (pack-of s) t i) (start .args .j) (not-false (start .args .j .given) (if1 .left)) (if2 .left) (field-of .result)
     (field-of .ensures) (not-bit-count-call .result) (not-bit-count-call .ensures) (c .pgn-error3 .result) (c .pgn-error3 .ensures)) at (start .pre .0)
 
 same-length-3 : tie.Need-same-length-3
@@ -119,7 +119,7 @@ returns-3 c =
     let not-bit-count-call = c .before .before .before .before .before .not-bit-count in
     let pgn-error3 = c .before .before .before .pgn-error3 in
     let s = now (start .args .s) in let t = start .args .t in let i = start .args .i in
-    rw (earlier s t i (start .args .k) (pgn-at (packOf s) t i) (start .args .j) (not-false (start .args .j .given) (if1 .left)) (if2 .left) (field-of .result)
+    rw (earlier s t i (start .args .k) (pgn-at (pack-of s) t i) (start .args .j) (not-false (start .args .j .given) (if1 .left)) (if2 .left) (field-of .result)
     (field-of .ensures) (not-bit-count-call .result) (not-bit-count-call .ensures) (pgn-error3 .result) (pgn-error3 .ensures))
     (c .before .before .put-if .ensures)
 

@@ -12,8 +12,8 @@ use Prim.Native.Nat.{_+_}
 use mathlib.Core.Path.{_≡_, _∙_}
 use mathlib.Core.List.{_++_}
 use denote.Ref.{now}
-use Rattle.pack.specs.Notation.{concatBelow}
-use Rattle.pack.specs.Meaning.{packOf}
+use Rattle.pack.specs.Notation.{concat-below}
+use Rattle.pack.specs.Meaning.{pack-of}
 use Rattle.rules.proofs.Emits.{emitted-append}
 use Rattle.rules.proofs.check.check_all.Statement.{statement}
 use Rattle.rules.proofs.check.check_all.Tie as tie
@@ -23,31 +23,31 @@ parts : (P : Pack)
     ≡ length (check-fieldtypes (P .fieldtypes))
     + length (check-lookup-wiring P)
     + length (check-spn-names (P .pgns-j1939))
-    + length (concatBelow (λ l. lookup-names-of l (lookup-at (P .lookups) l)) (length (P .lookups)))
-    + length (concatBelow (check-tree P) 3)
+    + length (concat-below (λ l. lookup-names-of l (lookup-at (P .lookups) l)) (length (P .lookups)))
+    + length (concat-below (check-tree P) 3)
     + length (check-spns P)
-    + length (concatBelow (check-tree-continues P) 3)
+    + length (concat-below (check-tree-continues P) 3)
 unfolding check check-lookup-names
 parts P =
-    let names = length-append (check-spn-names (P .pgns-j1939)) (concatBelow (λ l. lookup-names-of l (lookup-at (P .lookups) l)) (length (P .lookups))) in
+    let names = length-append (check-spn-names (P .pgns-j1939)) (concat-below (λ l. lookup-names-of l (lookup-at (P .lookups) l)) (length (P .lookups))) in
     let a = length-append (check-fieldtypes (P .fieldtypes)) (check-lookup-wiring P) in
     let b = length-append (check-fieldtypes (P .fieldtypes) ++ check-lookup-wiring P) (check-lookup-names P) in
-    let c = length-append (check-fieldtypes (P .fieldtypes) ++ check-lookup-wiring P ++ check-lookup-names P) (concatBelow (check-tree P) 3) in
-    let d = length-append (check-fieldtypes (P .fieldtypes) ++ check-lookup-wiring P ++ check-lookup-names P ++ concatBelow (check-tree P) 3) (check-spns P) in
-    let e = length-append (check-fieldtypes (P .fieldtypes) ++ check-lookup-wiring P ++ check-lookup-names P ++ concatBelow (check-tree P) 3 ++ check-spns P)
-    (concatBelow (check-tree-continues P) 3) in
+    let c = length-append (check-fieldtypes (P .fieldtypes) ++ check-lookup-wiring P ++ check-lookup-names P) (concat-below (check-tree P) 3) in
+    let d = length-append (check-fieldtypes (P .fieldtypes) ++ check-lookup-wiring P ++ check-lookup-names P ++ concat-below (check-tree P) 3) (check-spns P) in
+    let e = length-append (check-fieldtypes (P .fieldtypes) ++ check-lookup-wiring P ++ check-lookup-names P ++ concat-below (check-tree P) 3 ++ check-spns P)
+    (concat-below (check-tree-continues P) 3) in
     omega arith
 
 check-fieldtypes-requires : tie.Need-check-fieldtypes-requires
 check-fieldtypes-requires c κs =
     let start = c .before .before .before .before in
-    (record { small = omega (arith, start .pre .0 .small, parts (packOf (now (start .args .s)))) }, start .pre .1, start .pre .2 .types)
+    (record { small = omega (arith, start .pre .0 .small, parts (pack-of (now (start .args .s)))) }, start .pre .1, start .pre .2 .types)
 
 check-lookup-wiring-requires : tie.Need-check-lookup-wiring-requires
 check-lookup-wiring-requires c κs =
     let start = c .before .before .before .before .before .before .before .before in
     let check-fieldtypes-call = c .before .before .before .check-fieldtypes in (
-      record { small = omega (arith, start .pre .0 .small, parts (packOf (now (start .args .s))), check-fieldtypes-call .ensures .count) },
+      record { small = omega (arith, start .pre .0 .small, parts (pack-of (now (start .args .s))), check-fieldtypes-call .ensures .count) },
       start .pre .1,
       start .pre .2,
     )
@@ -61,7 +61,7 @@ check-spn-names-requires c κs =
         small = omega (
           arith,
           start .pre .0 .small,
-          parts (packOf (now (start .args .s))),
+          parts (pack-of (now (start .args .s))),
           check-fieldtypes-call .ensures .count,
           check-lookup-wiring-call .ensures .count,
         );
@@ -82,7 +82,7 @@ check-lookup-names-requires c κs =
         small = omega (
           arith,
           start .pre .0 .small,
-          parts (packOf (now (start .args .s))),
+          parts (pack-of (now (start .args .s))),
           check-fieldtypes-call .ensures .count,
           check-lookup-wiring-call .ensures .count,
           check-spn-names-call .ensures .count,
@@ -105,7 +105,7 @@ check-trees-requires c κs =
         small = omega (
           arith,
           start .pre .0 .small,
-          parts (packOf (now (start .args .s))),
+          parts (pack-of (now (start .args .s))),
           check-fieldtypes-call .ensures .count,
           check-lookup-wiring-call .ensures .count,
           check-spn-names-call .ensures .count,
@@ -129,7 +129,7 @@ check-spns-requires c κs =
         small = omega (
           arith,
           start .pre .0 .small,
-          parts (packOf (now (start .args .s))),
+          parts (pack-of (now (start .args .s))),
           check-fieldtypes-call .ensures .count,
           check-lookup-wiring-call .ensures .count,
           check-spn-names-call .ensures .count,
@@ -156,7 +156,7 @@ check-trees-continues-requires c κs =
         small = omega (
           arith,
           start .pre .0 .small,
-          parts (packOf (now (start .args .s))),
+          parts (pack-of (now (start .args .s))),
           check-fieldtypes-call .ensures .count,
           check-lookup-wiring-call .ensures .count,
           check-spn-names-call .ensures .count,

@@ -1,6 +1,6 @@
 -- finding i has severity 1
 use Rattle.rules.specs.SearchLaws.{count-turn}
-use Rattle.rules.specs.Search.{countBelow}
+use Rattle.rules.specs.Search.{count-below}
 use borrow.Author.Needs.{needs}
 use native.Mathlib.Omega.{arith}
 use Prim.Native.Nat.{ℕ, _+_, _-_, _*_, _≤_}
@@ -21,7 +21,7 @@ more-by true e h = omega (arith, e)
 more-by false e h = omega (arith, e)
 
 abbrev Inv-loop : tie.InvT-loop
-Inv-loop findings n errors₀ i₀ errors i = (i ≤ n) × (errors ≤ i) × (errors ≡ countBelow (error-at findings) i)
+Inv-loop findings n errors₀ i₀ errors i = (i ≤ n) × (errors ≤ i) × (errors ≡ count-below (error-at findings) i)
 
 abbrev μ-loop : tie.MeasureT-loop
 μ-loop findings n errors₀ i₀ errors i = n - i

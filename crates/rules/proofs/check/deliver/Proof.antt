@@ -4,7 +4,7 @@ use Rattle.rules.proofs.Totals.{findings-few}
 use native.Mathlib.Omega.{arith}
 use mathlib.Core.Path.{_∙_}
 use denote.Ref.{now}
-use Rattle.pack.specs.Meaning.{packOf}
+use Rattle.pack.specs.Meaning.{pack-of}
 use borrow.Author.Needs.{needs}
 use Rattle.rules.proofs.check.deliver.Statement.{statement}
 use Rattle.rules.proofs.check.deliver.Tie as tie
@@ -38,7 +38,7 @@ returns-2 : tie.Need-returns-2
 returns-2 c =
     let start = c .before .before .before .before .before .before .before .before .before in
     c .before .before .check-all .ensures .out
-    ∙ put-all (check (packOf (now (start .args .pack)))) (now (start .args .findings)) (omega (arith, start .pre .2, start .pre .4))
+    ∙ put-all (check (pack-of (now (start .args .pack)))) (now (start .args .findings)) (omega (arith, start .pre .2, start .pre .4))
 
 pub deliver-spec : {M : Type 1} → statement M
 deliver-spec =

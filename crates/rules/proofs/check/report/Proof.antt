@@ -3,7 +3,7 @@ use Rattle.rules.proofs.Reports.{buffer-short, all-put, put-front}
 use Rattle.rules.proofs.Totals.{findings-few}
 use native.Mathlib.Omega.{arith}
 use denote.Ref.{now}
-use Rattle.pack.specs.Meaning.{packOf}
+use Rattle.pack.specs.Meaning.{pack-of}
 use borrow.Author.Needs.{needs}
 use Rattle.rules.proofs.check.report.Statement.{statement}
 use Rattle.rules.proofs.check.report.Tie as tie
@@ -25,7 +25,7 @@ returns : tie.Need-returns
 returns c =
     let start = c .before .before .before .before .before .before .before in
     let check-all = c .before .before .check-all in
-    let a = buffer-short (check (packOf (now (start .args .pack)))) (now (start .args .findings)) (check-all .result) (omega (arith, check-all .ensures .count))
+    let a = buffer-short (check (pack-of (now (start .args .pack)))) (now (start .args .findings)) (check-all .result) (omega (arith, check-all .ensures .count))
     (c .if1 .taken) in
     (a .answer, a .out)
 
@@ -39,7 +39,7 @@ deliver-requires c κs =
       start .pre .0,
       start .pre .1,
       omega (arith, check-all .ensures .count),
-      (λ h. put-front (check (packOf (now (start .args .pack)))) _ _ (check-all .result) (check-all .ensures) (omega (arith, h, check-all .kept .0))),
+      (λ h. put-front (check (pack-of (now (start .args .pack)))) _ _ (check-all .result) (check-all .ensures) (omega (arith, h, check-all .kept .0))),
       c .before .before .if1 .left,
     )
 
@@ -56,7 +56,7 @@ returns-2 c =
     let check-all = c .before .before .before .before .before .before .before .before .before .check-all in
     let if1 = c .before .before .before .before .before .before .before .if1 in
     let deliver = c .before .before .before .before .deliver in
-    let a = all-put (check (packOf (now (start .args .pack)))) (now (start .args .findings)) (deliver .last .1 .1 .0) (check-all .result)
+    let a = all-put (check (pack-of (now (start .args .pack)))) (now (start .args .findings)) (deliver .last .1 .1 .0) (check-all .result)
     (c .count-errors .result) (omega (arith, check-all .ensures .count)) (if1 .left) (deliver .ensures) (c .count-errors .ensures) in
     (a .answer, a .out)
 

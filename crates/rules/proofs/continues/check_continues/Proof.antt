@@ -3,8 +3,8 @@ use Rattle.rules.proofs.Sizes.{fields-few}
 use Rattle.rules.proofs.Emits.{emitted-none, emitted-turn, fits-turn}
 use Rattle.rules.specs.Emit.{Emitted}
 use Rattle.rules.specs.declared.Finding.{Finding}
-use Rattle.pack.specs.Meaning.{packOf}
-use Rattle.pack.specs.Notation.{concatBelow}
+use Rattle.pack.specs.Meaning.{pack-of}
+use Rattle.pack.specs.Notation.{concat-below}
 use Rattle.pack.specs.Value.{pgn-at, field-at}
 use Prim.Native.Nat.{ℕ, _-_, _≤_}
 use native.Mathlib.Omega.{arith}
@@ -18,10 +18,10 @@ use Rattle.rules.proofs.continues.check_continues.Tie as tie
 
 -- the findings of field k
 abbrev of-field : List ℕ → ℕ → ℕ → ℕ → List Finding
-of-field s t i k = continues-at (packOf s .fieldtypes) t i (pgn-at (packOf s) t i) k (field-at (pgn-at (packOf s) t i) k .continues)
+of-field s t i k = continues-at (pack-of s .fieldtypes) t i (pgn-at (pack-of s) t i) k (field-at (pgn-at (pack-of s) t i) k .continues)
 
 abbrev Inv-loop : tie.InvT-loop
-Inv-loop out₀ n s work t i p g fields m₀ k₀ out m k = (k ≤ fields) × (length out ≡ length out₀) × Emitted out₀ n (concatBelow (of-field s t i) k) out m
+Inv-loop out₀ n s work t i p g fields m₀ k₀ out m k = (k ≤ fields) × (length out ≡ length out₀) × Emitted out₀ n (concat-below (of-field s t i) k) out m
 
 abbrev μ-loop : tie.MeasureT-loop
 μ-loop out₀ n s work t i p g fields m₀ k₀ out m k = fields - k
@@ -76,7 +76,7 @@ returns : tie.Need-returns Inv-loop μ-loop
 unfolding check-continues
 returns c =
     let start = c .before .before .before .before .before in
-    let e : length (pgn-at (packOf (now (start .args .s))) (start .args .t) (start .args .i) .fields) ≡ c .before .loop .k =
+    let e : length (pgn-at (pack-of (now (start .args .s))) (start .args .t) (start .args .i) .fields) ≡ c .before .loop .k =
     omega (arith, start .pre .2 .fields, c .before .loop .inv .0, c .loop-test .left) in
     rw e (c .before .loop .inv .2)
 

@@ -9,8 +9,8 @@ use Rattle.rules.specs.Findings.{report-if, pgn-error}
 use Rattle.rules.specs.Emit.{Fits}
 use Rattle.rules.specs.declared.Finding.{Finding}
 use Rattle.pack.specs.declared.field.FieldView.{FieldView}
-use Rattle.pack.specs.Meaning.{fieldMeaning, packOf}
-use Rattle.pack.specs.Items.{bytesOf}
+use Rattle.pack.specs.Meaning.{field-meaning, pack-of}
+use Rattle.pack.specs.Items.{bytes-of}
 use Rattle.pack.specs.Value.{Bytes, FieldType, Field, Pgn, pgn-at, field-at}
 use Rattle.pack.specs.Notation.{_==_, _<ᵇ_, _≐_, if_then_else_}
 use mathlib.Core.Bool.{not, _||_, Bool}
@@ -29,10 +29,10 @@ placed t i p k id j b =
     (pgn-error 43 4 t i k j)
 
 -- said of the views
-said : (s : List ℕ) (fts : List FieldType) (t i k j : ℕ) (p : Pgn) (id : Bytes) (f low : FieldView) → fieldMeaning s f ≡ field-at p k
-    → fieldMeaning s low ≡ field-at p j → (w d c e : Bool) → w ≡ (not (integer fts (fieldMeaning s low)) || not (root-of fts (fieldMeaning s f) ≐ NUMBER))
-    → d ≡ not-raw (fieldMeaning s f) → c ≡ (fieldtype-of fts (fieldMeaning s low) .signed || not (float-eq (low .scaling .offset) ZERO))
-    → e ≡ (64 <ᵇ value-bits (fieldMeaning s low))
+said : (s : List ℕ) (fts : List FieldType) (t i k j : ℕ) (p : Pgn) (id : Bytes) (f low : FieldView) → field-meaning s f ≡ field-at p k
+    → field-meaning s low ≡ field-at p j → (w d c e : Bool) → w ≡ (not (integer fts (field-meaning s low)) || not (root-of fts (field-meaning s f) ≐ NUMBER))
+    → d ≡ not-raw (field-meaning s f) → c ≡ (fieldtype-of fts (field-meaning s low) .signed || not (float-eq (low .scaling .offset) ZERO))
+    → e ≡ (64 <ᵇ value-bits (field-meaning s low))
     → continued-at fts t i p k (field-at p k) id j (field-at p j)
     ≡ placed t i p k id j (low .links .continuation .given)
     ++ report-if (low .authored .continues .given) (pgn-error 43 5 t i k j)
@@ -107,11 +107,11 @@ placed-at-requires c κs =
     let not-plain = c .before .before .not-plain in
     let t = start .args .t in let i = start .args .i in let s = now (start .args .s) in let k = start .args .k in let id = start .args .id in
     let j = start .args .j in (
-      fit1 (placed t i (pgn-at (packOf s) t i) k (bytesOf s id) j (field-of .result .links .continuation .given))
+      fit1 (placed t i (pgn-at (pack-of s) t i) k (bytes-of s id) j (field-of .result .links .continuation .given))
           (report-if (field-of .result .authored .continues .given) (pgn-error 43 5 t i k j)) (report-if (not-integers .result) (pgn-error 43 6 t i k j))
           (report-if (not-raw-call .result) (pgn-error 43 7 t i k j)) (report-if (not-plain .result) (pgn-error 43 8 t i k j))
           (report-if (c .before .too-wide .result) (pgn-error 43 9 t i k j))
-          (rw (said s (packOf s .fieldtypes) t i k j (pgn-at (packOf s) t i) (bytesOf s id) (start .args .f) (field-of .result) (start .pre .5)
+          (rw (said s (pack-of s .fieldtypes) t i k j (pgn-at (pack-of s) t i) (bytes-of s id) (start .args .f) (field-of .result) (start .pre .5)
           (field-of .ensures) (not-integers .result) (not-raw-call .result) (not-plain .result) (c .before .too-wide .result) (not-integers .ensures)
           (not-raw-call .ensures) (not-plain .ensures) (c .before .too-wide .ensures)) at (start .pre .0)),
       start .pre .1,
@@ -135,12 +135,12 @@ put-if-requires c κs =
     let placed-at = c .before .before .before .before .placed-at in
     let t = start .args .t in let i = start .args .i in let s = now (start .args .s) in let k = start .args .k in let id = start .args .id in
     let j = start .args .j in
-    rw (c .pgn-error .ensures) (fits-right (placed t i (pgn-at (packOf s) t i) k (bytesOf s id) j (field-of .result .links .continuation .given))
+    rw (c .pgn-error .ensures) (fits-right (placed t i (pgn-at (pack-of s) t i) k (bytes-of s id) j (field-of .result .links .continuation .given))
     (report-if (field-of .result .authored .continues .given) (pgn-error 43 5 t i k j))
-    (fit2 (placed t i (pgn-at (packOf s) t i) k (bytesOf s id) j (field-of .result .links .continuation .given))
+    (fit2 (placed t i (pgn-at (pack-of s) t i) k (bytes-of s id) j (field-of .result .links .continuation .given))
     (report-if (field-of .result .authored .continues .given) (pgn-error 43 5 t i k j)) (report-if (not-integers .result) (pgn-error 43 6 t i k j))
     (report-if (not-raw-call .result) (pgn-error 43 7 t i k j)) (report-if (not-plain .result) (pgn-error 43 8 t i k j))
-    (report-if (too-wide .result) (pgn-error 43 9 t i k j)) (rw (said s (packOf s .fieldtypes) t i k j (pgn-at (packOf s) t i) (bytesOf s id) (start .args .f)
+    (report-if (too-wide .result) (pgn-error 43 9 t i k j)) (rw (said s (pack-of s .fieldtypes) t i k j (pgn-at (pack-of s) t i) (bytes-of s id) (start .args .f)
     (field-of .result) (start .pre .5) (field-of .ensures) (not-integers .result) (not-raw-call .result) (not-plain .result) (too-wide .result)
     (not-integers .ensures) (not-raw-call .ensures) (not-plain .ensures) (too-wide .ensures)) at (start .pre .0))) (placed-at .ensures))
 
@@ -161,15 +161,15 @@ put-if-requires-2 c κs =
     let put-if = c .before .before .before .before .put-if in
     let t = start .args .t in let i = start .args .i in let s = now (start .args .s) in let k = start .args .k in let id = start .args .id in
     let j = start .args .j in
-    rw (c .pgn-error2 .ensures) (fits-right ((placed t i (pgn-at (packOf s) t i) k (bytesOf s id) j (field-of .result .links .continuation .given))
+    rw (c .pgn-error2 .ensures) (fits-right ((placed t i (pgn-at (pack-of s) t i) k (bytes-of s id) j (field-of .result .links .continuation .given))
     ++ (report-if (field-of .result .authored .continues .given) (pgn-error 43 5 t i k j))) (report-if (not-integers .result) (pgn-error 43 6 t i k j))
-    (fit3 (placed t i (pgn-at (packOf s) t i) k (bytesOf s id) j (field-of .result .links .continuation .given))
+    (fit3 (placed t i (pgn-at (pack-of s) t i) k (bytes-of s id) j (field-of .result .links .continuation .given))
     (report-if (field-of .result .authored .continues .given) (pgn-error 43 5 t i k j)) (report-if (not-integers .result) (pgn-error 43 6 t i k j))
     (report-if (not-raw-call .result) (pgn-error 43 7 t i k j)) (report-if (not-plain .result) (pgn-error 43 8 t i k j))
-    (report-if (too-wide .result) (pgn-error 43 9 t i k j)) (rw (said s (packOf s .fieldtypes) t i k j (pgn-at (packOf s) t i) (bytesOf s id) (start .args .f)
+    (report-if (too-wide .result) (pgn-error 43 9 t i k j)) (rw (said s (pack-of s .fieldtypes) t i k j (pgn-at (pack-of s) t i) (bytes-of s id) (start .args .f)
     (field-of .result) (start .pre .5) (field-of .ensures) (not-integers .result) (not-raw-call .result) (not-plain .result) (too-wide .result)
     (not-integers .ensures) (not-raw-call .ensures) (not-plain .ensures) (too-wide .ensures)) at (start .pre .0)))
-    (emitted-append {xs = (placed t i (pgn-at (packOf s) t i) k (bytesOf s id) j (field-of .result .links .continuation .given))}
+    (emitted-append {xs = (placed t i (pgn-at (pack-of s) t i) k (bytes-of s id) j (field-of .result .links .continuation .given))}
     {ys = (report-if (field-of .result .authored .continues .given) (pgn-error 43 5 t i k j))} (placed-at .ensures)
     (rw (pgn-error-call .ensures) at (put-if .ensures))))
 
@@ -192,17 +192,17 @@ put-if-requires-3 c κs =
     let put-if2 = c .before .before .before .before .put-if2 in
     let t = start .args .t in let i = start .args .i in let s = now (start .args .s) in let k = start .args .k in let id = start .args .id in
     let j = start .args .j in
-    rw (c .pgn-error3 .ensures) (fits-right ((placed t i (pgn-at (packOf s) t i) k (bytesOf s id) j (field-of .result .links .continuation .given))
+    rw (c .pgn-error3 .ensures) (fits-right ((placed t i (pgn-at (pack-of s) t i) k (bytes-of s id) j (field-of .result .links .continuation .given))
     ++ (report-if (field-of .result .authored .continues .given) (pgn-error 43 5 t i k j))
     ++ (report-if (not-integers .result) (pgn-error 43 6 t i k j))) (report-if (not-raw-call .result) (pgn-error 43 7 t i k j))
-    (fit4 (placed t i (pgn-at (packOf s) t i) k (bytesOf s id) j (field-of .result .links .continuation .given))
+    (fit4 (placed t i (pgn-at (pack-of s) t i) k (bytes-of s id) j (field-of .result .links .continuation .given))
     (report-if (field-of .result .authored .continues .given) (pgn-error 43 5 t i k j)) (report-if (not-integers .result) (pgn-error 43 6 t i k j))
     (report-if (not-raw-call .result) (pgn-error 43 7 t i k j)) (report-if (not-plain .result) (pgn-error 43 8 t i k j))
-    (report-if (too-wide .result) (pgn-error 43 9 t i k j)) (rw (said s (packOf s .fieldtypes) t i k j (pgn-at (packOf s) t i) (bytesOf s id) (start .args .f)
+    (report-if (too-wide .result) (pgn-error 43 9 t i k j)) (rw (said s (pack-of s .fieldtypes) t i k j (pgn-at (pack-of s) t i) (bytes-of s id) (start .args .f)
     (field-of .result) (start .pre .5) (field-of .ensures) (not-integers .result) (not-raw-call .result) (not-plain .result) (too-wide .result)
     (not-integers .ensures) (not-raw-call .ensures) (not-plain .ensures) (too-wide .ensures)) at (start .pre .0)))
     (emitted-append {ys = (report-if (not-integers .result) (pgn-error 43 6 t i k j))}
-    (emitted-append {xs = (placed t i (pgn-at (packOf s) t i) k (bytesOf s id) j (field-of .result .links .continuation .given))}
+    (emitted-append {xs = (placed t i (pgn-at (pack-of s) t i) k (bytes-of s id) j (field-of .result .links .continuation .given))}
     {ys = (report-if (field-of .result .authored .continues .given) (pgn-error 43 5 t i k j))} (placed-at .ensures)
     (rw (pgn-error-call .ensures) at (put-if .ensures))) (rw (pgn-error2 .ensures) at (put-if2 .ensures))))
 
@@ -228,19 +228,19 @@ put-if-requires-4 c κs =
     let put-if3 = c .before .before .before .before .put-if3 in
     let t = start .args .t in let i = start .args .i in let s = now (start .args .s) in let k = start .args .k in let id = start .args .id in
     let j = start .args .j in
-    rw (c .pgn-error4 .ensures) (fits-right ((placed t i (pgn-at (packOf s) t i) k (bytesOf s id) j (field-of .result .links .continuation .given))
+    rw (c .pgn-error4 .ensures) (fits-right ((placed t i (pgn-at (pack-of s) t i) k (bytes-of s id) j (field-of .result .links .continuation .given))
     ++ (report-if (field-of .result .authored .continues .given) (pgn-error 43 5 t i k j))
     ++ (report-if (not-integers .result) (pgn-error 43 6 t i k j))
     ++ (report-if (not-raw-call .result) (pgn-error 43 7 t i k j))) (report-if (not-plain .result) (pgn-error 43 8 t i k j))
-    (fit5 (placed t i (pgn-at (packOf s) t i) k (bytesOf s id) j (field-of .result .links .continuation .given))
+    (fit5 (placed t i (pgn-at (pack-of s) t i) k (bytes-of s id) j (field-of .result .links .continuation .given))
     (report-if (field-of .result .authored .continues .given) (pgn-error 43 5 t i k j)) (report-if (not-integers .result) (pgn-error 43 6 t i k j))
     (report-if (not-raw-call .result) (pgn-error 43 7 t i k j)) (report-if (not-plain .result) (pgn-error 43 8 t i k j))
-    (report-if (too-wide .result) (pgn-error 43 9 t i k j)) (rw (said s (packOf s .fieldtypes) t i k j (pgn-at (packOf s) t i) (bytesOf s id) (start .args .f)
+    (report-if (too-wide .result) (pgn-error 43 9 t i k j)) (rw (said s (pack-of s .fieldtypes) t i k j (pgn-at (pack-of s) t i) (bytes-of s id) (start .args .f)
     (field-of .result) (start .pre .5) (field-of .ensures) (not-integers .result) (not-raw-call .result) (not-plain .result) (too-wide .result)
     (not-integers .ensures) (not-raw-call .ensures) (not-plain .ensures) (too-wide .ensures)) at (start .pre .0)))
     (emitted-append {ys = (report-if (not-raw-call .result) (pgn-error 43 7 t i k j))}
     (emitted-append {ys = (report-if (not-integers .result) (pgn-error 43 6 t i k j))}
-    (emitted-append {xs = (placed t i (pgn-at (packOf s) t i) k (bytesOf s id) j (field-of .result .links .continuation .given))}
+    (emitted-append {xs = (placed t i (pgn-at (pack-of s) t i) k (bytes-of s id) j (field-of .result .links .continuation .given))}
     {ys = (report-if (field-of .result .authored .continues .given) (pgn-error 43 5 t i k j))} (placed-at .ensures)
     (rw (pgn-error-call .ensures) at (put-if .ensures))) (rw (pgn-error2 .ensures) at (put-if2 .ensures))) (rw (pgn-error3 .ensures) at (put-if3 .ensures))))
 
@@ -268,17 +268,17 @@ put-if-requires-5 c κs =
     let put-if4 = c .before .before .before .before .put-if4 in
     let t = start .args .t in let i = start .args .i in let s = now (start .args .s) in let k = start .args .k in let id = start .args .id in
     let j = start .args .j in
-    rw (c .pgn-error5 .ensures) (fits-right ((placed t i (pgn-at (packOf s) t i) k (bytesOf s id) j (field-of .result .links .continuation .given))
+    rw (c .pgn-error5 .ensures) (fits-right ((placed t i (pgn-at (pack-of s) t i) k (bytes-of s id) j (field-of .result .links .continuation .given))
     ++ (report-if (field-of .result .authored .continues .given) (pgn-error 43 5 t i k j))
     ++ (report-if (not-integers .result) (pgn-error 43 6 t i k j))
     ++ (report-if (not-raw-call .result) (pgn-error 43 7 t i k j))
     ++ (report-if (not-plain .result) (pgn-error 43 8 t i k j))) (report-if (too-wide .result) (pgn-error 43 9 t i k j))
-    (rw (said s (packOf s .fieldtypes) t i k j (pgn-at (packOf s) t i) (bytesOf s id) (start .args .f) (field-of .result) (start .pre .5) (field-of .ensures)
+    (rw (said s (pack-of s .fieldtypes) t i k j (pgn-at (pack-of s) t i) (bytes-of s id) (start .args .f) (field-of .result) (start .pre .5) (field-of .ensures)
     (not-integers .result) (not-raw-call .result) (not-plain .result) (too-wide .result) (not-integers .ensures) (not-raw-call .ensures) (not-plain .ensures)
     (too-wide .ensures)) at (start .pre .0)) (emitted-append {ys = (report-if (not-plain .result) (pgn-error 43 8 t i k j))}
     (emitted-append {ys = (report-if (not-raw-call .result) (pgn-error 43 7 t i k j))}
     (emitted-append {ys = (report-if (not-integers .result) (pgn-error 43 6 t i k j))}
-    (emitted-append {xs = (placed t i (pgn-at (packOf s) t i) k (bytesOf s id) j (field-of .result .links .continuation .given))}
+    (emitted-append {xs = (placed t i (pgn-at (pack-of s) t i) k (bytes-of s id) j (field-of .result .links .continuation .given))}
     {ys = (report-if (field-of .result .authored .continues .given) (pgn-error 43 5 t i k j))} (placed-at .ensures)
     (rw (pgn-error-call .ensures) at (put-if .ensures))) (rw (pgn-error2 .ensures) at (put-if2 .ensures))) (rw (pgn-error3 .ensures) at (put-if3 .ensures)))
     (rw (pgn-error4 .ensures) at (put-if4 .ensures))))
@@ -317,13 +317,13 @@ returns c =
     let pgn-error5 = c .before .before .before .pgn-error5 in
     let s = now (start .args .s) in let t = start .args .t in let i = start .args .i in let k = start .args .k in let j = start .args .j in
     let id = start .args .id in
-    rw (said s (packOf s .fieldtypes) t i k j (pgn-at (packOf s) t i) (bytesOf s id) (start .args .f) (field-of .result) (start .pre .5) (field-of .ensures)
+    rw (said s (pack-of s .fieldtypes) t i k j (pgn-at (pack-of s) t i) (bytes-of s id) (start .args .f) (field-of .result) (start .pre .5) (field-of .ensures)
     (not-integers .result) (not-raw-call .result) (not-plain .result) (too-wide .result) (not-integers .ensures) (not-raw-call .ensures) (not-plain .ensures)
     (too-wide .ensures)) (emitted-append {ys = (report-if (too-wide .result) (pgn-error 43 9 t i k j))}
     (emitted-append {ys = (report-if (not-plain .result) (pgn-error 43 8 t i k j))}
     (emitted-append {ys = (report-if (not-raw-call .result) (pgn-error 43 7 t i k j))}
     (emitted-append {ys = (report-if (not-integers .result) (pgn-error 43 6 t i k j))}
-    (emitted-append {xs = (placed t i (pgn-at (packOf s) t i) k (bytesOf s id) j (field-of .result .links .continuation .given))}
+    (emitted-append {xs = (placed t i (pgn-at (pack-of s) t i) k (bytes-of s id) j (field-of .result .links .continuation .given))}
     {ys = (report-if (field-of .result .authored .continues .given) (pgn-error 43 5 t i k j))} (placed-at .ensures)
     (rw (pgn-error-call .ensures) at (put-if .ensures))) (rw (pgn-error2 .ensures) at (put-if2 .ensures))) (rw (pgn-error3 .ensures) at (put-if3 .ensures)))
     (rw (pgn-error4 .ensures) at (put-if4 .ensures))) (rw (pgn-error5 .ensures) at (c .before .before .put-if5 .ensures)))

@@ -1,10 +1,10 @@
 use Rattle.rules.proofs.Sizes.{fields-few, hits-few}
 use Rattle.rules.specs.Continues.{continued-by}
 use Rattle.rules.specs.SearchLaws.{count-turn}
-use Rattle.rules.specs.Search.{countBelow}
+use Rattle.rules.specs.Search.{count-below}
 use Rattle.rules.specs.Model.{is-text}
-use Rattle.pack.specs.Meaning.{packOf}
-use Rattle.pack.specs.Items.{bytesOf}
+use Rattle.pack.specs.Meaning.{pack-of}
+use Rattle.pack.specs.Items.{bytes-of}
 use Rattle.pack.specs.Value.{Field, pgn-at, field-at}
 use mathlib.Core.Bool.{Bool}
 use Prim.Native.Nat.{ℕ, _-_, _≤_}
@@ -19,10 +19,10 @@ use Rattle.rules.proofs.continues.continued_by.Tie as tie
 
 -- whether field k continues the one with the id
 abbrev continuing : List ℕ → ℕ → ℕ → List ℕ → ℕ → Bool
-continuing s t i id k = is-text (field-at (pgn-at (packOf s) t i) k .continues) id
+continuing s t i id k = is-text (field-at (pgn-at (pack-of s) t i) k .continues) id
 
 abbrev Inv-loop : tie.InvT-loop
-Inv-loop s work t i p n id count₀ k₀ count k = (k ≤ n) × (count ≤ k) × (count ≡ countBelow (continuing s t i (bytesOf s id)) k)
+Inv-loop s work t i p n id count₀ k₀ count k = (k ≤ n) × (count ≤ k) × (count ≡ count-below (continuing s t i (bytes-of s id)) k)
 
 abbrev μ-loop : tie.MeasureT-loop
 μ-loop s work t i p n id count₀ k₀ count k = n - k
@@ -58,18 +58,18 @@ loop-again c =
     let start = c .before .before .before .before .before .before .before in
     let loop = c .before .before .before .before .loop in
     let s = now (start .args .s) in let t = start .args .t in let i = start .args .i in let id = start .args .id in
-    let e : continuing s t i (bytesOf s id) (loop .k) ≡ c .before .is-text .result =
-    ap (λ (F : Field). is-text (F .continues) (bytesOf s id)) (sym (c .before .before .field-of .ensures)) ∙ sym (c .before .is-text .ensures) in (
+    let e : continuing s t i (bytes-of s id) (loop .k) ≡ c .before .is-text .result =
+    ap (λ (F : Field). is-text (F .continues) (bytes-of s id)) (sym (c .before .before .field-of .ensures)) ∙ sym (c .before .is-text .ensures) in (
       omega (arith, c),
       (rw (c .counted .ensures) (hits-few (c .before .is-text .result) (loop .count) (loop .k) (loop .inv .1))),
-      c .counted .ensures ∙ (rw (count-turn (continuing s t i (bytesOf s id)) (loop .k), e, ← loop .inv .2)),
+      c .counted .ensures ∙ (rw (count-turn (continuing s t i (bytes-of s id)) (loop .k), e, ← loop .inv .2)),
     )
 
 returns : tie.Need-returns Inv-loop μ-loop
 unfolding continued-by
 returns c =
     let start = c .before .before .before .before in
-    let e : length (pgn-at (packOf (now (start .args .s))) (start .args .t) (start .args .i) .fields) ≡ c .before .loop .k =
+    let e : length (pgn-at (pack-of (now (start .args .s))) (start .args .t) (start .args .i) .fields) ≡ c .before .loop .k =
     omega (arith, start .pre .1, c .before .loop .inv .0, c .loop-test .left) in
     rw e (c .before .loop .inv .2)
 

@@ -1,13 +1,13 @@
 use Rattle.rules.specs.Continues.{continued-at, continued-found-at, continues-at}
 use Rattle.rules.specs.SearchLaws.{first-is}
-use Rattle.rules.specs.Search.{firstBelow}
+use Rattle.rules.specs.Search.{first-below}
 use Rattle.rules.proofs.Emits.{emitted-none}
 use Rattle.rules.specs.Model.{given}
 use Rattle.rules.specs.Findings.{pgn-error}
 use Rattle.rules.specs.declared.Finding.{Finding}
 use Rattle.pack.specs.declared.field.FieldView.{FieldView}
-use Rattle.pack.specs.Meaning.{fieldMeaning, packOf}
-use Rattle.pack.specs.Items.{bytesOf}
+use Rattle.pack.specs.Meaning.{field-meaning, pack-of}
+use Rattle.pack.specs.Items.{bytes-of}
 use Rattle.pack.specs.Value.{FieldType, Field, Pgn, pgn-at, field-at}
 use Rattle.pack.specs.Notation.{_≐_, optional}
 use mathlib.Core.Option.{some}
@@ -22,13 +22,13 @@ use denote.Ref.{now}
 use Rattle.rules.proofs.continues.continues_at.Statement.{statement}
 use Rattle.rules.proofs.continues.continues_at.Tie as tie
 
-module _ (s : List ℕ) (fts : List FieldType) (t i k : ℕ) (p : Pgn) (f : FieldView) (is : fieldMeaning s f ≡ field-at p k) where
+module _ (s : List ℕ) (fts : List FieldType) (t i k : ℕ) (p : Pgn) (f : FieldView) (is : field-meaning s f ≡ field-at p k) where
   without : f .authored .continues .given ≡ false → continues-at fts t i p k (field-at p k .continues) ≡ []
   unfolding continues-at
   without h = rw (← is, h)
 
-  module _ (h : f .authored .continues .given ≡ true) (b : Bool) (v : ℕ) (e : optional b v ≡ firstBelow (λ j. field-at p j .id ≐ bytesOf s (f .authored .continues .text)) k) where
-    text-is : field-at p k .continues ≡ some (bytesOf s (f .authored .continues .text))
+  module _ (h : f .authored .continues .given ≡ true) (b : Bool) (v : ℕ) (e : optional b v ≡ first-below (λ j. field-at p j .id ≐ bytes-of s (f .authored .continues .text)) k) where
+    text-is : field-at p k .continues ≡ some (bytes-of s (f .authored .continues .text))
     text-is = ap (λ (F : Field). F .continues) (sym is) ∙ (rw h)
 
     absent : b ≡ false → (F : Finding) → F ≡ pgn-error 43 1 t i k 0 → continues-at fts t i p k (field-at p k .continues) ≡ F ∷ []
@@ -37,18 +37,18 @@ module _ (s : List ℕ) (fts : List FieldType) (t i k : ℕ) (p : Pgn) (f : Fiel
 
     found : b ≡ true
         → continues-at fts t i p k (field-at p k .continues)
-        ≡ continued-at fts t i p k (field-at p k) (bytesOf s (f .authored .continues .text)) v (field-at p v)
+        ≡ continued-at fts t i p k (field-at p k) (bytes-of s (f .authored .continues .text)) v (field-at p v)
     unfolding continues-at continued-found-at
     found x = rw (text-is, ← e, x)
 
     below : b ≡ true → v < k
-    below x = first-is (λ j. field-at p j .id ≐ bytesOf s (f .authored .continues .text)) k v (sym e ∙ (rw x)) .0
+    below x = first-is (λ j. field-at p j .id ≐ bytes-of s (f .authored .continues .text)) k v (sym e ∙ (rw x)) .0
 
 returns : tie.Need-returns
 returns c =
     let start = c .before .before .before .before .before in
     let s = now (start .args .s) in let t = start .args .t in let i = start .args .i in
-    rw (without s (packOf s .fieldtypes) t i (start .args .k) (pgn-at (packOf s) t i) (start .args .f) (start .pre .4)
+    rw (without s (pack-of s .fieldtypes) t i (start .args .k) (pgn-at (pack-of s) t i) (start .args .f) (start .pre .4)
     (not-true (start .args .f .authored .continues .given) (c .if1 .taken))) (emitted-none (now (start .args .out)) (start .args .n))
 
 first-with-id-requires : tie.Need-first-with-id-requires
@@ -65,7 +65,7 @@ put-requires c κs =
     let if1 = c .before .before .before .before .before .before .if1 in
     let first-with-id = c .before .before .before .before .first-with-id in
     let s = now (start .args .s) in let t = start .args .t in let i = start .args .i in
-    rw (absent s (packOf s .fieldtypes) t i (start .args .k) (pgn-at (packOf s) t i) (start .args .f) (start .pre .4)
+    rw (absent s (pack-of s .fieldtypes) t i (start .args .k) (pgn-at (pack-of s) t i) (start .args .f) (start .pre .4)
     (not-false (start .args .f .authored .continues .given) (if1 .left)) (first-with-id .result .given) (first-with-id .result .value) (first-with-id .ensures)
     (not-true (first-with-id .result .given) (c .before .before .if2 .taken)) (c .pgn-error .result) (c .pgn-error .ensures)) at (start .pre .0)
 
@@ -81,7 +81,7 @@ returns-2 c =
     let if2 = c .before .before .before .before .before .if2 in
     let pgn-error-call = c .before .before .before .pgn-error in
     let s = now (start .args .s) in let t = start .args .t in let i = start .args .i in
-    rw (absent s (packOf s .fieldtypes) t i (start .args .k) (pgn-at (packOf s) t i) (start .args .f) (start .pre .4)
+    rw (absent s (pack-of s .fieldtypes) t i (start .args .k) (pgn-at (pack-of s) t i) (start .args .f) (start .pre .4)
     (not-false (start .args .f .authored .continues .given) (if1 .left)) (first-with-id .result .given) (first-with-id .result .value) (first-with-id .ensures)
     (not-true (first-with-id .result .given) (if2 .taken)) (pgn-error-call .result) (pgn-error-call .ensures)) (c .before .before .put .ensures)
 
@@ -91,13 +91,13 @@ continued-at-requires c κs =
     let if1 = c .before .before .before .before .before .if1 in
     let first-with-id = c .before .before .before .first-with-id in
     let s = now (start .args .s) in let t = start .args .t in let i = start .args .i in let k = start .args .k in let f = start .args .f in (
-      (rw (found s (packOf s .fieldtypes) t i k (pgn-at (packOf s) t i) f (start .pre .4) (not-false (start .args .f .authored .continues .given) (if1 .left))
+      (rw (found s (pack-of s .fieldtypes) t i k (pgn-at (pack-of s) t i) f (start .pre .4) (not-false (start .args .f .authored .continues .given) (if1 .left))
           (first-with-id .result .given) (first-with-id .result .value) (first-with-id .ensures)
           (not-false (first-with-id .result .given) (c .before .if2 .left))) at (start .pre .0)),
       start .pre .1,
       start .pre .2,
       start .pre .3,
-      below s (packOf s .fieldtypes) t i k (pgn-at (packOf s) t i) f (start .pre .4) (not-false (start .args .f .authored .continues .given) (if1 .left))
+      below s (pack-of s .fieldtypes) t i k (pgn-at (pack-of s) t i) f (start .pre .4) (not-false (start .args .f .authored .continues .given) (if1 .left))
           (first-with-id .result .given) (first-with-id .result .value) (first-with-id .ensures)
           (not-false (first-with-id .result .given) (c .before .if2 .left)),
       start .pre .4,
@@ -114,7 +114,7 @@ returns-3 c =
     let first-with-id = c .before .before .before .before .before .before .first-with-id in
     let if2 = c .before .before .before .before .if2 in
     let s = now (start .args .s) in let t = start .args .t in let i = start .args .i in
-    rw (found s (packOf s .fieldtypes) t i (start .args .k) (pgn-at (packOf s) t i) (start .args .f) (start .pre .4)
+    rw (found s (pack-of s .fieldtypes) t i (start .args .k) (pgn-at (pack-of s) t i) (start .args .f) (start .pre .4)
     (not-false (start .args .f .authored .continues .given) (if1 .left)) (first-with-id .result .given) (first-with-id .result .value) (first-with-id .ensures)
     (not-false (first-with-id .result .given) (if2 .left))) (c .before .before .continued-at .ensures)
 

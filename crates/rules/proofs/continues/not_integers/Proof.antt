@@ -1,7 +1,7 @@
 use Rattle.rules.specs.Texts.{NUMBER}
 use Rattle.rules.proofs.Types.{integer-is}
 use Rattle.pack.specs.Value.{FieldType}
-use Rattle.pack.specs.Meaning.{packOf}
+use Rattle.pack.specs.Meaning.{pack-of}
 use Rattle.pack.specs.Notation.{_≐_}
 use mathlib.Core.Bool.{not}
 use mathlib.Core.Path.{ap}
@@ -25,7 +25,7 @@ returns c =
     let type-of = c .before .before .type-of in
     let s = now (start .args .s) in
     rw (
-      integer-is s (packOf s .fieldtypes) (start .args .low) (type-of .result) (type-of .ensures),
+      integer-is s (pack-of s .fieldtypes) (start .args .low) (type-of .result) (type-of .ensures),
       ← c .before .integer .ensures,
       not-true (c .before .integer .result) (c .if1 .taken),
     )
@@ -49,7 +49,7 @@ returns-2 c =
     let if1 = c .before .before .before .if1 in
     let s = now (start .args .s) in
     rw (
-      integer-is s (packOf s .fieldtypes) (start .args .low) (type-of .result) (type-of .ensures),
+      integer-is s (pack-of s .fieldtypes) (start .args .low) (type-of .result) (type-of .ensures),
       ← integer .ensures,
       not-false (integer .result) (if1 .left),
       c .text-is .ensures,

@@ -3,7 +3,7 @@ use Rattle.rules.specs.Continues.{differs-from, not-raw}
 use Rattle.rules.specs.Floats.{ZERO, ONE}
 use Rattle.rules.specs.Model.{given}
 use Rattle.pack.specs.declared.field.FieldView.{FieldView}
-use Rattle.pack.specs.Meaning.{optFloat, fieldMeaning}
+use Rattle.pack.specs.Meaning.{optional-float, field-meaning}
 use mathlib.Core.Bool.{_||_, Bool}
 use Prim.Native.Nat.{ℕ}
 use mathlib.Core.Path.{_≡_, refl}
@@ -13,9 +13,9 @@ use denote.Ref.{now}
 use Rattle.rules.proofs.continues.not_raw.Statement.{statement}
 use Rattle.rules.proofs.continues.not_raw.Tie as tie
 
-said : (s : List ℕ) (f : FieldView) (a b : Bool) → a ≡ differs-from (optFloat (f .authored .resolution)) ONE
-    → b ≡ differs-from (optFloat (f .authored .offset)) ZERO
-    → not-raw (fieldMeaning s f) ≡ (a || b || f .flags .unit || f .links .reference .given || f .authored .matched .given || f .authored .spn .given)
+said : (s : List ℕ) (f : FieldView) (a b : Bool) → a ≡ differs-from (optional-float (f .authored .resolution)) ONE
+    → b ≡ differs-from (optional-float (f .authored .offset)) ZERO
+    → not-raw (field-meaning s f) ≡ (a || b || f .flags .unit || f .links .reference .given || f .authored .matched .given || f .authored .spn .given)
 unfolding not-raw
 said s f a b x y = rw (x, y, given-is (f .links .reference .given), given-is (f .authored .matched .given), given-is (f .authored .spn .given))
 

@@ -3,7 +3,7 @@ use Rattle.rules.specs.Continues.{holds-order, set-of}
 use Rattle.rules.specs.Findings.{pgn-error}
 use Rattle.pack.specs.declared.pgn.PgnView.{PgnView}
 use Rattle.pack.specs.Ready.{PgnIs}
-use Rattle.pack.specs.Meaning.{optRepeating, packOf}
+use Rattle.pack.specs.Meaning.{optional-repeating, pack-of}
 use Rattle.pack.specs.Value.{Pgn, pgn-at}
 use Rattle.pack.specs.Notation.{if_then_else_}
 use Prim.Native.Nat.{ℕ, _+_}
@@ -17,7 +17,7 @@ use Rattle.rules.proofs.continues.placed_at.Statement.{statement}
 use Rattle.rules.proofs.continues.placed_at.Tie as tie
 
 set-is : (s : List ℕ) (p : Pgn) (g : PgnView) → PgnIs s p g → (k r : ℕ)
-    → r ≡ (if holds-order (optRepeating (g .repeating2)) (k + 1) then 2 else if holds-order (optRepeating (g .repeating1)) (k + 1) then 1 else 0)
+    → r ≡ (if holds-order (optional-repeating (g .repeating2)) (k + 1) then 2 else if holds-order (optional-repeating (g .repeating1)) (k + 1) then 1 else 0)
     → set-of p k ≡ r
 unfolding set-of
 set-is s p g is k r e = sym (e ∙ (rw (ap (λ (G : Pgn). G .repeating1) (is .means), ap (λ (G : Pgn). G .repeating2) (is .means))))
@@ -42,8 +42,8 @@ put-requires c κs =
     let set-of2 = c .before .before .before .set-of2 in
     let s = now (start .args .s) in let t = start .args .t in let i = start .args .i in let g = start .args .g in
     rw (c .pgn-error .ensures) (rw (
-      (set-is s (pgn-at (packOf s) t i) g (start .pre .2) (start .args .j) (set-of-call .result) (set-of-call .ensures)),
-      (set-is s (pgn-at (packOf s) t i) g (start .pre .2) (start .args .k) (set-of2 .result) (set-of2 .ensures)),
+      (set-is s (pgn-at (pack-of s) t i) g (start .pre .2) (start .args .j) (set-of-call .result) (set-of-call .ensures)),
+      (set-is s (pgn-at (pack-of s) t i) g (start .pre .2) (start .args .k) (set-of2 .result) (set-of2 .ensures)),
       ne-eqb (set-of-call .result) (set-of2 .result) (c .before .before .if1 .taken),
     ) at (start .pre .0))
 
@@ -59,8 +59,8 @@ returns c =
     let pgn-error-call = c .before .before .before .pgn-error in
     let s = now (start .args .s) in let t = start .args .t in let i = start .args .i in let g = start .args .g in
     rw (
-      (set-is s (pgn-at (packOf s) t i) g (start .pre .2) (start .args .j) (set-of-call .result) (set-of-call .ensures)),
-      (set-is s (pgn-at (packOf s) t i) g (start .pre .2) (start .args .k) (set-of2 .result) (set-of2 .ensures)),
+      (set-is s (pgn-at (pack-of s) t i) g (start .pre .2) (start .args .j) (set-of-call .result) (set-of-call .ensures)),
+      (set-is s (pgn-at (pack-of s) t i) g (start .pre .2) (start .args .k) (set-of2 .result) (set-of2 .ensures)),
       ne-eqb (set-of-call .result) (set-of2 .result) (if1 .taken),
     ) (rw (pgn-error-call .ensures) at (c .before .before .put .ensures))
 
@@ -75,8 +75,8 @@ put-requires-2 c κs =
     let if1 = c .before .before .before .if1 in
     let s = now (start .args .s) in let t = start .args .t in let i = start .args .i in let g = start .args .g in
     rw (c .pgn-error2 .ensures) (rw (
-      (set-is s (pgn-at (packOf s) t i) g (start .pre .2) (start .args .j) (set-of-call .result) (set-of-call .ensures)),
-      (set-is s (pgn-at (packOf s) t i) g (start .pre .2) (start .args .k) (set-of2 .result) (set-of2 .ensures)),
+      (set-is s (pgn-at (pack-of s) t i) g (start .pre .2) (start .args .j) (set-of-call .result) (set-of-call .ensures)),
+      (set-is s (pgn-at (pack-of s) t i) g (start .pre .2) (start .args .k) (set-of2 .result) (set-of2 .ensures)),
       eq-eqb (set-of-call .result) (set-of2 .result) (if1 .left),
       not-true (start .args .continued) (c .before .before .if2 .taken),
     ) at (start .pre .0))
@@ -94,8 +94,8 @@ returns-2 c =
     let pgn-error2 = c .before .before .before .pgn-error2 in
     let s = now (start .args .s) in let t = start .args .t in let i = start .args .i in let g = start .args .g in
     rw (
-      (set-is s (pgn-at (packOf s) t i) g (start .pre .2) (start .args .j) (set-of-call .result) (set-of-call .ensures)),
-      (set-is s (pgn-at (packOf s) t i) g (start .pre .2) (start .args .k) (set-of2 .result) (set-of2 .ensures)),
+      (set-is s (pgn-at (pack-of s) t i) g (start .pre .2) (start .args .j) (set-of-call .result) (set-of-call .ensures)),
+      (set-is s (pgn-at (pack-of s) t i) g (start .pre .2) (start .args .k) (set-of2 .result) (set-of2 .ensures)),
       eq-eqb (set-of-call .result) (set-of2 .result) (if1 .left),
       not-true (start .args .continued) (if2 .taken),
     ) (rw (pgn-error2 .ensures) at (c .before .before .put2 .ensures))
@@ -118,8 +118,8 @@ put-if-requires c κs =
     let s = now (start .args .s) in let t = start .args .t in let i = start .args .i in let g = start .args .g in
     rw (c .pgn-error3 .ensures, c .before .before .continued-by .ensures)
     (rw (
-      (set-is s (pgn-at (packOf s) t i) g (start .pre .2) (start .args .j) (set-of-call .result) (set-of-call .ensures)),
-      (set-is s (pgn-at (packOf s) t i) g (start .pre .2) (start .args .k) (set-of2 .result) (set-of2 .ensures)),
+      (set-is s (pgn-at (pack-of s) t i) g (start .pre .2) (start .args .j) (set-of-call .result) (set-of-call .ensures)),
+      (set-is s (pgn-at (pack-of s) t i) g (start .pre .2) (start .args .k) (set-of2 .result) (set-of2 .ensures)),
       eq-eqb (set-of-call .result) (set-of2 .result) (if1 .left),
       not-false (start .args .continued) (if2 .left),
     ) at (start .pre .0))
@@ -139,8 +139,8 @@ returns-3 c =
     let pgn-error3 = c .before .before .before .pgn-error3 in
     let s = now (start .args .s) in let t = start .args .t in let i = start .args .i in let g = start .args .g in
     rw (
-      (set-is s (pgn-at (packOf s) t i) g (start .pre .2) (start .args .j) (set-of-call .result) (set-of-call .ensures)),
-      (set-is s (pgn-at (packOf s) t i) g (start .pre .2) (start .args .k) (set-of2 .result) (set-of2 .ensures)),
+      (set-is s (pgn-at (pack-of s) t i) g (start .pre .2) (start .args .j) (set-of-call .result) (set-of-call .ensures)),
+      (set-is s (pgn-at (pack-of s) t i) g (start .pre .2) (start .args .k) (set-of2 .result) (set-of2 .ensures)),
       eq-eqb (set-of-call .result) (set-of2 .result) (if1 .left),
       not-false (start .args .continued) (if2 .left),
     ) (rw (pgn-error3 .ensures, continued-by .ensures) at (c .before .before .put-if .ensures))

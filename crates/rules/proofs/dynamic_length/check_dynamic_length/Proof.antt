@@ -1,15 +1,15 @@
 use Rattle.rules.proofs.Emits.{emitted-none, emitted-turn, fits-turn}
 use Rattle.rules.specs.Emit.{Emitted}
 use Rattle.rules.specs.Texts.{DYNAMIC-FIELD-KEY}
-use Rattle.rules.specs.Search.{anyBelow}
+use Rattle.rules.specs.Search.{any-below}
 use Rattle.rules.specs.DynamicLength.{length-source, have-length-source, dynamic-length-at, check-dynamic-length}
 use Rattle.rules.specs.declared.Finding.{Finding}
 use mathlib.Core.Bool.{_||_, Bool}
 use Rattle.pack.proofs.Positions.{field-ft-law}
-use Rattle.pack.specs.Value.{Field, noFieldType, pgn-at, field-at}
-use Rattle.pack.specs.Notation.{_≐_, concatBelow}
-use Rattle.pack.specs.Meaning.{fieldMeaning, packOf}
-use Rattle.pack.specs.Items.{bytesOf}
+use Rattle.pack.specs.Value.{Field, no-field-type, pgn-at, field-at}
+use Rattle.pack.specs.Notation.{_≐_, concat-below}
+use Rattle.pack.specs.Meaning.{field-meaning, pack-of}
+use Rattle.pack.specs.Items.{bytes-of}
 use Rattle.pack.specs.declared.field.FieldView.{FieldView}
 use Prim.Native.Nat.{ℕ, suc, _-_, _≤_}
 use native.Mathlib.Omega.{arith}
@@ -23,21 +23,21 @@ use Rattle.rules.proofs.dynamic_length.check_dynamic_length.Statement.{
 use Rattle.rules.proofs.dynamic_length.check_dynamic_length.Tie as tie
 
 abbrev of-field : List ℕ → ℕ → ℕ → ℕ → List Finding
-of-field s t i k = dynamic-length-at (packOf s .fieldtypes) t i (pgn-at (packOf s) t i) k (field-at (pgn-at (packOf s) t i) k)
+of-field s t i k = dynamic-length-at (pack-of s .fieldtypes) t i (pgn-at (pack-of s) t i) k (field-at (pgn-at (pack-of s) t i) k)
 
 abbrev source : List ℕ → ℕ → ℕ → ℕ → Bool
-source s t i j = length-source (packOf s .fieldtypes) (field-at (pgn-at (packOf s) t i) j)
+source s t i j = length-source (pack-of s .fieldtypes) (field-at (pgn-at (pack-of s) t i) j)
 
 -- a turn of the search for a length source
-found : (s : List ℕ) (t i k : ℕ) (v : FieldView) (root : List ℕ) (old new : Bool) → fieldMeaning s v ≡ field-at (pgn-at (packOf s) t i) k
-    → root ≡ getD (packOf s .fieldtypes) (v .ft) noFieldType .root-name → old ≡ anyBelow (source s t i) k
-    → new ≡ (old || (v .flags .dynamic || (root ≐ DYNAMIC-FIELD-KEY))) → new ≡ anyBelow (source s t i) (suc k)
+found : (s : List ℕ) (t i k : ℕ) (v : FieldView) (root : List ℕ) (old new : Bool) → field-meaning s v ≡ field-at (pgn-at (pack-of s) t i) k
+    → root ≡ getD (pack-of s .fieldtypes) (v .ft) no-field-type .root-name → old ≡ any-below (source s t i) k
+    → new ≡ (old || (v .flags .dynamic || (root ≐ DYNAMIC-FIELD-KEY))) → new ≡ any-below (source s t i) (suc k)
 unfolding length-source
 found s t i k v root old new is r o n = rw (n, o, r, ← is)
 
 abbrev Inv-loop : tie.InvT-loop
 Inv-loop out₀ n s work t i p g m₀ have₀ k₀ out m have k =
-    (k ≤ g .fields) × (length out ≡ length out₀) × Emitted out₀ n (concatBelow (of-field s t i) k) out m × (have ≡ anyBelow (source s t i) k)
+    (k ≤ g .fields) × (length out ≡ length out₀) × Emitted out₀ n (concat-below (of-field s t i) k) out m × (have ≡ any-below (source s t i) k)
 
 abbrev μ-loop : tie.MeasureT-loop
 μ-loop out₀ n s work t i p g m₀ have₀ k₀ out m have k = g .fields - k
@@ -55,7 +55,7 @@ root-of-requires c κs =
     let start = c .before .before .before .before .before .before .before in
     let loop = c .before .before .before .loop in (
       start .pre .1 .ready,
-      (let e : c .field-of .result .ft ≡ field-at (pgn-at (packOf (now (start .args .s))) (start .args .t) (start .args .i)) (loop .k) .ft =
+      (let e : c .field-of .result .ft ≡ field-at (pgn-at (pack-of (now (start .args .s))) (start .args .t) (start .args .i)) (loop .k) .ft =
           ap (λ (F : Field). F .ft) (c .field-of .ensures) in
           omega (arith, e, field-ft-law (start .pre .1) (loop .k) (omega (arith, c .before .if1 .taken, start .pre .2 .fields)))),
     )
@@ -75,7 +75,7 @@ dynamic-length-at-requires c κs =
       fits-turn (of-field s t i) (start .args .g .fields) (loop .k) (if1 .taken) (rw (← start .pre .2 .fields) at (start .pre .0)) (loop .inv .2),
       field-of .ensures,
       (rw (← field-of .ensures) (root-of .ensures)),
-      found s t i (loop .k) (field-of .result) (bytesOf s (root-of .result)) (loop .have) _ (field-of .ensures) (root-of .ensures) (loop .inv .3)
+      found s t i (loop .k) (field-of .result) (bytes-of s (root-of .result)) (loop .have) _ (field-of .ensures) (root-of .ensures) (loop .inv .3)
           (c .before .have-length-source .ensures),
     )
 
@@ -100,7 +100,7 @@ loop-again c =
       omega (arith, c),
       dynamic-length-at-call .kept .0 ∙ loop .inv .1,
       emitted-turn (of-field s t i) (loop .k) (loop .inv .2) (dynamic-length-at-call .ensures),
-      (rw (add-one (loop .k)) (found s t i (loop .k) (field-of .result) (bytesOf s (root-of .result)) (loop .have) _ (field-of .ensures) (root-of .ensures)
+      (rw (add-one (loop .k)) (found s t i (loop .k) (field-of .result) (bytes-of s (root-of .result)) (loop .have) _ (field-of .ensures) (root-of .ensures)
           (loop .inv .3) (have-length-source-call .ensures))),
     )
 
@@ -112,7 +112,7 @@ unfolding check-dynamic-length
 returns c =
     let start = c .before .before .before .before .before .before in
     let loop = c .before .before .loop in
-    let e : loop .k ≡ length (pgn-at (packOf (now (start .args .s))) (start .args .t) (start .args .i) .fields) = omega (arith, start .pre .2 .fields) in
+    let e : loop .k ≡ length (pgn-at (pack-of (now (start .args .s))) (start .args .t) (start .args .i) .fields) = omega (arith, start .pre .2 .fields) in
     rw (← e) (loop .inv .2)
 
 pub check-dynamic-length-spec : {M : Type 1} → statement M

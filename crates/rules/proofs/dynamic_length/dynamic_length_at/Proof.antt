@@ -7,8 +7,8 @@ use Rattle.rules.specs.declared.Finding.{Finding}
 use mathlib.Core.Bool.{not, _&&_, Bool}
 use Rattle.pack.specs.Value.{FieldType, Field, Pgn, pgn-at}
 use Rattle.pack.specs.Notation.{_≐_}
-use Rattle.pack.specs.Meaning.{fieldMeaning, packOf}
-use Rattle.pack.specs.Items.{bytesOf}
+use Rattle.pack.specs.Meaning.{field-meaning, pack-of}
+use Rattle.pack.specs.Items.{bytes-of}
 use Rattle.pack.specs.declared.field.FieldView.{FieldView}
 use Prim.Native.Nat.{ℕ}
 use mathlib.Core.Path.{_≡_, refl}
@@ -20,7 +20,7 @@ use Rattle.rules.proofs.dynamic_length.dynamic_length_at.Tie as tie
 
 -- the rule at a field, said of the view
 viewed : (s : List ℕ) (fts : List FieldType) (t i : ℕ) (P : Pgn) (k : ℕ) (F : Field) (v : FieldView) (root : List ℕ) (have : Bool)
-    → fieldMeaning s v ≡ F → root ≡ root-of fts F → have ≡ have-length-source fts P k → (a b d l w : Bool) (f g h : Finding)
+    → field-meaning s v ≡ F → root ≡ root-of fts F → have ≡ have-length-source fts P k → (a b d l w : Bool) (f g h : Finding)
     → l ≡ (root ≐ DYNAMIC-FIELD-LENGTH) → w ≡ (root ≐ DYNAMIC-FIELD-VALUE) → a ≡ (v .flags .dynamic && not l) → f ≡ pgn-error 6 1 t i k 0
     → b ≡ (v .flags .overhead && not (v .flags .dynamic)) → g ≡ pgn-error 6 2 t i k 0 → d ≡ (w && not have) → h ≡ pgn-error 6 3 t i k 0
     → dynamic-length-at fts t i P k F ≡ report-if a f ++ report-if b g ++ report-if d h
@@ -52,8 +52,8 @@ put-if-requires c κs =
     let text-is = c .before .before .before .before .before .text-is in
     let text-is2 = c .before .before .before .text-is2 in
     let s = now (start .args .s) in let t = start .args .t in let i = start .args .i in
-    fits-left _ _ (fits-left _ _ (rw (viewed s (packOf s .fieldtypes) t i (pgn-at (packOf s) t i) (start .args .k) _ (start .args .f)
-    (bytesOf s (start .args .root)) (start .args .have) (start .pre .1) (start .pre .2) (start .pre .3) _ _ _ _ _ _ _ _ (text-is .ensures) (text-is2 .ensures)
+    fits-left _ _ (fits-left _ _ (rw (viewed s (pack-of s .fieldtypes) t i (pgn-at (pack-of s) t i) (start .args .k) _ (start .args .f)
+    (bytes-of s (start .args .root)) (start .args .have) (start .pre .1) (start .pre .2) (start .pre .3) _ _ _ _ _ _ _ _ (text-is .ensures) (text-is2 .ensures)
     (c .before .before .and-not .ensures) (c .pgn-error .ensures) refl refl refl refl) at (start .pre .0)))
 
 and-not-requires-2 : tie.Need-and-not-requires-2
@@ -73,7 +73,7 @@ put-if-requires-2 c κs =
     let put-if = c .before .before .before .before .before .put-if in
     let s = now (start .args .s) in let t = start .args .t in let i = start .args .i in
     fits-right (report-if (and-not .result) (pgn-error-call .result)) _
-    (fits-left _ _ (rw (viewed s (packOf s .fieldtypes) t i (pgn-at (packOf s) t i) (start .args .k) _ (start .args .f) (bytesOf s (start .args .root))
+    (fits-left _ _ (rw (viewed s (pack-of s .fieldtypes) t i (pgn-at (pack-of s) t i) (start .args .k) _ (start .args .f) (bytes-of s (start .args .root))
     (start .args .have) (start .pre .1) (start .pre .2) (start .pre .3) _ _ _ _ _ _ _ _ (text-is .ensures) (text-is2 .ensures) (and-not .ensures)
     (pgn-error-call .ensures) (c .before .before .and-not2 .ensures) (c .pgn-error2 .ensures) refl refl) at (start .pre .0))) (put-if .ensures)
 
@@ -96,7 +96,7 @@ put-if-requires-3 c κs =
     let pgn-error2 = c .before .before .before .before .before .before .pgn-error2 in
     let put-if2 = c .before .before .before .before .before .put-if2 in
     let s = now (start .args .s) in let t = start .args .t in let i = start .args .i in
-    fits-right _ _ (rw (viewed s (packOf s .fieldtypes) t i (pgn-at (packOf s) t i) (start .args .k) _ (start .args .f) (bytesOf s (start .args .root))
+    fits-right _ _ (rw (viewed s (pack-of s .fieldtypes) t i (pgn-at (pack-of s) t i) (start .args .k) _ (start .args .f) (bytes-of s (start .args .root))
     (start .args .have) (start .pre .1) (start .pre .2) (start .pre .3) _ _ _ _ _ _ _ _ (text-is .ensures) (text-is2 .ensures) (and-not .ensures)
     (pgn-error-call .ensures) (and-not2 .ensures) (pgn-error2 .ensures) (c .before .before .and-not3 .ensures) (c .pgn-error3 .ensures)) at (start .pre .0))
     (emitted-append (put-if .ensures) (put-if2 .ensures))
@@ -119,7 +119,7 @@ returns c =
     let and-not3 = c .before .before .before .before .before .and-not3 in
     let pgn-error3 = c .before .before .before .pgn-error3 in
     let s = now (start .args .s) in let t = start .args .t in let i = start .args .i in
-    rw (viewed s (packOf s .fieldtypes) t i (pgn-at (packOf s) t i) (start .args .k) _ (start .args .f) (bytesOf s (start .args .root)) (start .args .have)
+    rw (viewed s (pack-of s .fieldtypes) t i (pgn-at (pack-of s) t i) (start .args .k) _ (start .args .f) (bytes-of s (start .args .root)) (start .args .have)
     (start .pre .1) (start .pre .2) (start .pre .3) _ _ _ _ _ _ _ _ (text-is .ensures) (text-is2 .ensures) (and-not .ensures) (pgn-error-call .ensures)
     (and-not2 .ensures) (pgn-error2 .ensures) (and-not3 .ensures) (pgn-error3 .ensures))
     (emitted-append (emitted-append (put-if .ensures) (put-if2 .ensures)) (c .before .before .put-if3 .ensures))

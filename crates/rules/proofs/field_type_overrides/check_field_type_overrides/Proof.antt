@@ -5,8 +5,8 @@ use Rattle.rules.specs.Model.{fieldtype-of}
 use Rattle.rules.specs.declared.Finding.{Finding}
 use Rattle.pack.proofs.Positions.{field-ft-law}
 use Rattle.pack.specs.Value.{Field, pgn-at, field-at}
-use Rattle.pack.specs.Notation.{concatBelow}
-use Rattle.pack.specs.Meaning.{packOf}
+use Rattle.pack.specs.Notation.{concat-below}
+use Rattle.pack.specs.Meaning.{pack-of}
 use Prim.Native.Nat.{ℕ, _-_, _≤_}
 use native.Mathlib.Omega.{arith}
 use mathlib.Core.Path.{_≡_, refl, ap, _∙_}
@@ -20,10 +20,10 @@ use Rattle.rules.proofs.field_type_overrides.check_field_type_overrides
 }
 
 abbrev of-field : List ℕ → ℕ → ℕ → ℕ → List Finding
-of-field s t i k = overrides-at t i k (field-at (pgn-at (packOf s) t i) k) (fieldtype-of (packOf s .fieldtypes) (field-at (pgn-at (packOf s) t i) k))
+of-field s t i k = overrides-at t i k (field-at (pgn-at (pack-of s) t i) k) (fieldtype-of (pack-of s .fieldtypes) (field-at (pgn-at (pack-of s) t i) k))
 
 abbrev Inv-loop : tie.InvT-loop
-Inv-loop out₀ n s work t i p g m₀ k₀ out m k = (k ≤ g .fields) × (length out ≡ length out₀) × Emitted out₀ n (concatBelow (of-field s t i) k) out m
+Inv-loop out₀ n s work t i p g m₀ k₀ out m k = (k ≤ g .fields) × (length out ≡ length out₀) × Emitted out₀ n (concat-below (of-field s t i) k) out m
 
 abbrev μ-loop : tie.MeasureT-loop
 μ-loop out₀ n s work t i p g m₀ k₀ out m k = g .fields - k
@@ -46,7 +46,7 @@ overrides-at-requires c κs =
       fits-turn (of-field s t i) (start .args .g .fields) (loop .k) (if1 .taken) (rw (← start .pre .2 .fields) at (start .pre .0)) (loop .inv .2),
       c .before .field-of .ensures,
       start .pre .1 .ready,
-      (let e : c .before .field-of .result .ft ≡ field-at (pgn-at (packOf s) t i) (loop .k) .ft = ap (λ (F : Field). F .ft) (c .before .field-of .ensures) in
+      (let e : c .before .field-of .result .ft ≡ field-at (pgn-at (pack-of s) t i) (loop .k) .ft = ap (λ (F : Field). F .ft) (c .before .field-of .ensures) in
           omega (arith, e, field-ft-law (start .pre .1) (loop .k) (omega (arith, if1 .taken, start .pre .2 .fields)))),
     )
 
@@ -76,7 +76,7 @@ unfolding check-field-type-overrides
 returns c =
     let start = c .before .before .before .before .before .before in
     let loop = c .before .before .loop in
-    let e : loop .k ≡ length (pgn-at (packOf (now (start .args .s))) (start .args .t) (start .args .i) .fields) = omega (arith, start .pre .2 .fields) in
+    let e : loop .k ≡ length (pgn-at (pack-of (now (start .args .s))) (start .args .t) (start .args .i) .fields) = omega (arith, start .pre .2 .fields) in
     rw (← e) (loop .inv .2)
 
 pub check-field-type-overrides-spec : {M : Type 1} → statement M

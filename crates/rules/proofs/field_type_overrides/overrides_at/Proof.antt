@@ -5,9 +5,9 @@ use Rattle.rules.specs.Floats.{float-eq}
 use Rattle.rules.specs.Findings.{report-if, pgn-error}
 use Rattle.rules.specs.declared.Finding.{Finding}
 use mathlib.Core.Bool.{not, _&&_, Bool, true, false}
-use Rattle.pack.specs.Value.{Field, FieldType, noFieldType}
+use Rattle.pack.specs.Value.{Field, FieldType, no-field-type}
 use Rattle.pack.specs.Notation.{_==_, optional}
-use Rattle.pack.specs.Meaning.{fieldMeaning, typeMeaning, packOf}
+use Rattle.pack.specs.Meaning.{field-meaning, type-meaning, pack-of}
 use Rattle.pack.specs.declared.field_type.FieldTypeView.{FieldTypeView}
 use Rattle.pack.specs.declared.field.FieldView.{FieldView}
 use Prim.Native.Nat.{ℕ}
@@ -24,8 +24,8 @@ given-is true n = refl
 given-is false n = refl
 
 -- the rule at a field, said of the views
-viewed : (s : List ℕ) (fts : List FieldType) (t i k : ℕ) (F : Field) (v : FieldView) (u : FieldTypeView) → fieldMeaning s v ≡ F
-    → typeMeaning s u ≡ getD fts (v .ft) noFieldType → (a b z : Bool) (f h : Finding) → a ≡ (v .flags .bits && not (u .size == 0)) → f ≡ pgn-error 14 1 t i k 0
+viewed : (s : List ℕ) (fts : List FieldType) (t i k : ℕ) (F : Field) (v : FieldView) (u : FieldTypeView) → field-meaning s v ≡ F
+    → type-meaning s u ≡ getD fts (v .ft) no-field-type → (a b z : Bool) (f h : Finding) → a ≡ (v .flags .bits && not (u .size == 0)) → f ≡ pgn-error 14 1 t i k 0
     → z ≡ float-eq (u .resolution) 0 → b ≡ (v .authored .resolution .given && not z) → h ≡ pgn-error 14 2 t i k 0
     → overrides-at t i k F (fieldtype-of fts F) ≡ report-if a f ++ report-if b h
 unfolding overrides-at
@@ -46,7 +46,7 @@ put-if-requires c κs =
     let start = c .before .before .before .before .before .before .before .before in
     let type-of = c .before .before .before .before .type-of in
     let s = now (start .args .s) in
-    fits-left _ _ (rw (viewed s (packOf s .fieldtypes) (start .args .t) (start .args .i) (start .args .k) _ (start .args .f) (type-of .result) (start .pre .1)
+    fits-left _ _ (rw (viewed s (pack-of s .fieldtypes) (start .args .t) (start .args .i) (start .args .k) _ (start .args .f) (type-of .result) (start .pre .1)
     (type-of .ensures) _ _ _ _ _ (c .before .before .and-not .ensures) (c .pgn-error .ensures) refl refl refl) at (start .pre .0))
 
 float-eq-requires : tie.Need-float-eq-requires
@@ -69,7 +69,7 @@ put-if-requires-2 c κs =
     let float-eq-call = c .before .before .before .float-eq in
     let s = now (start .args .s) in
     fits-right (report-if (and-not .result) (pgn-error-call .result)) _
-    (rw (viewed s (packOf s .fieldtypes) (start .args .t) (start .args .i) (start .args .k) _ (start .args .f) (type-of .result) (start .pre .1)
+    (rw (viewed s (pack-of s .fieldtypes) (start .args .t) (start .args .i) (start .args .k) _ (start .args .f) (type-of .result) (start .pre .1)
     (type-of .ensures) _ _ _ _ _ (and-not .ensures) (pgn-error-call .ensures) (float-eq-call .ensures) (c .before .before .and-not2 .ensures)
     (c .pgn-error2 .ensures)) at (start .pre .0)) (put-if .ensures)
 
@@ -88,7 +88,7 @@ returns c =
     let and-not2 = c .before .before .before .before .before .and-not2 in
     let pgn-error2 = c .before .before .before .pgn-error2 in
     let s = now (start .args .s) in
-    rw (viewed s (packOf s .fieldtypes) (start .args .t) (start .args .i) (start .args .k) _ (start .args .f) (type-of .result) (start .pre .1)
+    rw (viewed s (pack-of s .fieldtypes) (start .args .t) (start .args .i) (start .args .k) _ (start .args .f) (type-of .result) (start .pre .1)
     (type-of .ensures) _ _ _ _ _ (and-not .ensures) (pgn-error-call .ensures) (float-eq-call .ensures) (and-not2 .ensures) (pgn-error2 .ensures))
     (emitted-append (put-if .ensures) (c .before .before .put-if2 .ensures))
 

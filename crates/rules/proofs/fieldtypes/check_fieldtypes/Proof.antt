@@ -2,9 +2,9 @@ use Rattle.rules.proofs.Emits.{emitted-none, emitted-turn, fits-turn}
 use Rattle.rules.specs.Emit.{Emitted}
 use Rattle.rules.specs.Fieldtypes.{fieldtype-at, check-fieldtypes}
 use Rattle.rules.specs.declared.Finding.{Finding}
-use Rattle.pack.specs.Notation.{concatBelow}
-use Rattle.pack.specs.Value.{noFieldType}
-use Rattle.pack.specs.Meaning.{packOf}
+use Rattle.pack.specs.Notation.{concat-below}
+use Rattle.pack.specs.Value.{no-field-type}
+use Rattle.pack.specs.Meaning.{pack-of}
 use Prim.Native.Nat.{ℕ, _-_, _≤_}
 use native.Mathlib.Omega.{arith}
 use mathlib.Core.Path.{_≡_, refl, _∙_}
@@ -16,10 +16,10 @@ use Rattle.rules.proofs.fieldtypes.check_fieldtypes.Statement.{statemen
 use Rattle.rules.proofs.fieldtypes.check_fieldtypes.Tie as tie
 
 abbrev of-type : List ℕ → ℕ → List Finding
-of-type s i = fieldtype-at i (getD (packOf s .fieldtypes) i noFieldType)
+of-type s i = fieldtype-at i (getD (pack-of s .fieldtypes) i no-field-type)
 
 abbrev Inv-loop : tie.InvT-loop
-Inv-loop out₀ n s work types m₀ i₀ out m i = (i ≤ types) × (length out ≡ length out₀) × Emitted out₀ n (concatBelow (of-type s) i) out m
+Inv-loop out₀ n s work types m₀ i₀ out m i = (i ≤ types) × (length out ≡ length out₀) × Emitted out₀ n (concat-below (of-type s) i) out m
 
 abbrev μ-loop : tie.MeasureT-loop
 μ-loop out₀ n s work types m₀ i₀ out m i = types - i
@@ -61,7 +61,7 @@ returns : tie.Need-returns Inv-loop μ-loop
 unfolding check-fieldtypes
 returns c =
     let start = c .before .before .before .before .before in
-    let e : c .before .loop .i ≡ length (packOf (now (start .args .s)) .fieldtypes) = omega (arith, c) in
+    let e : c .before .loop .i ≡ length (pack-of (now (start .args .s)) .fieldtypes) = omega (arith, c) in
     rw (← e) (c .before .loop .inv .2)
 
 pub check-fieldtypes-spec : {M : Type 1} → statement M

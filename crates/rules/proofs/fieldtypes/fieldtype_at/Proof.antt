@@ -3,7 +3,7 @@ use Rattle.rules.specs.Findings.{report-if, fieldtype-error}
 use Rattle.rules.specs.declared.Finding.{Finding}
 use mathlib.Core.Bool.{not, _&&_, Bool}
 use Rattle.pack.specs.Value.{FieldType}
-use Rattle.pack.specs.Meaning.{typeMeaning}
+use Rattle.pack.specs.Meaning.{type-meaning}
 use Rattle.pack.specs.declared.field_type.FieldTypeView.{FieldTypeView}
 use Prim.Native.Nat.{ℕ}
 use mathlib.Core.Path.{_≡_}
@@ -14,7 +14,7 @@ use Rattle.rules.proofs.fieldtypes.fieldtype_at.Statement.{statement}
 use Rattle.rules.proofs.fieldtypes.fieldtype_at.Tie as tie
 
 -- the rule, said of the view
-viewed : (s : List ℕ) (i : ℕ) (F : FieldType) (v : FieldTypeView) → typeMeaning s v ≡ F → (a : Bool) → a ≡ (not (v .base) && not (v .print)) → (f : Finding)
+viewed : (s : List ℕ) (i : ℕ) (F : FieldType) (v : FieldTypeView) → type-meaning s v ≡ F → (a : Bool) → a ≡ (not (v .base) && not (v .print)) → (f : Finding)
     → f ≡ fieldtype-error 23 1 i → fieldtype-at i F ≡ report-if a f
 unfolding fieldtype-at
 viewed s i F v is a d f e = rw (← is, d, e)

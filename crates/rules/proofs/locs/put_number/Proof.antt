@@ -5,7 +5,7 @@ use Rattle.rules.proofs.PlaceTexts.{prefix-is, prefix-within, prefix-sh
 use Rattle.rules.specs.PlaceText.{check-prefix}
 use Rattle.pack.specs.declared.protocol.Prefix.{Prefix}
 use Rattle.pack.specs.declared.protocol.Protocol.{Protocol}
-use Rattle.pack.specs.Trees.{protocolOf, prefixOf}
+use Rattle.pack.specs.Trees.{protocol-of, prefix-of}
 use Rattle.pack.proofs.Stores.{stored-append}
 use native.Mathlib.Omega.{arith}
 use Prim.Native.Nat.{ℕ, _≤_}
@@ -14,9 +14,9 @@ use borrow.Author.Needs.{needs}
 use Rattle.rules.proofs.locs.put_number.Statement.{statement}
 use Rattle.rules.proofs.locs.put_number.Tie as tie
 
-module _ (t : ℕ) (p : Protocol) (P : Prefix) (x : p ≡ protocolOf t) (y : P ≡ prefixOf p) where
-  read : P ≡ prefixOf (protocolOf t)
-  read = y ∙ ap prefixOf x
+module _ (t : ℕ) (p : Protocol) (P : Prefix) (x : p ≡ protocol-of t) (y : P ≡ prefix-of p) where
+  read : P ≡ prefix-of (protocol-of t)
+  read = y ∙ ap prefix-of x
 
   within : P .len ≤ length (P .bytes)
   within = rw read (prefix-within t)

@@ -2,7 +2,7 @@ use Rattle.rules.proofs.Marking.{MarkedTo, marked-first, marked-next, m
 use Rattle.rules.proofs.Sizes.{at-lookup, entries-few, lookups-few}
 use Rattle.pack.proofs.Positions.{lookup-place-next}
 use Rattle.pack.specs.Value.{Lookup}
-use Rattle.pack.specs.Items.{bytesOf}
+use Rattle.pack.specs.Items.{bytes-of}
 use borrow.Author.Needs.{needs}
 use native.Mathlib.Omega.{arith}
 use Prim.Native.Nat.{_-_, _≤_}
@@ -10,14 +10,14 @@ use mathlib.Core.Path.{_≡_, refl, _∙_, ap}
 use lib.ListN.{length}
 use denote.Ref.{now}
 use Rattle.pack.specs.Notation.{_≐_}
-use Rattle.pack.specs.Ready.{lookupPlace}
-use Rattle.pack.specs.Meaning.{packOf}
+use Rattle.pack.specs.Ready.{place-of-lookup}
+use Rattle.pack.specs.Meaning.{pack-of}
 use Rattle.rules.proofs.lookup_marks.mark.Statement.{statement}
 use Rattle.rules.proofs.lookup_marks.mark.Tie as tie
 
 abbrev Inv-loop : tie.InvT-loop
 Inv-loop marks₀ s work name count p₀ l₀ marks p l =
-    (l ≤ count) × (p ≡ lookupPlace (packOf s) l) × (length marks ≡ length marks₀) × MarkedTo (packOf s) l marks₀ (λ n. bytesOf s name ≐ n) marks
+    (l ≤ count) × (p ≡ place-of-lookup (pack-of s) l) × (length marks ≡ length marks₀) × MarkedTo (pack-of s) l marks₀ (λ n. bytes-of s name ≐ n) marks
 
 abbrev μ-loop : tie.MeasureT-loop
 μ-loop marks₀ s work name count p₀ l₀ marks p l = count - l
@@ -26,7 +26,7 @@ loop-holds : tie.Need-loop-holds Inv-loop μ-loop
 loop-holds c =
     let start = c .before .before .before in
     let s = now (start .args .s) in
-    (omega (arith, c), start .pre .3, refl, marked-first (packOf s) (now (start .args .marks)) (λ n. bytesOf s (start .args .name) ≐ n))
+    (omega (arith, c), start .pre .3, refl, marked-first (pack-of s) (now (start .args .marks)) (λ n. bytes-of s (start .args .name) ≐ n))
 
 lookup-of-requires : tie.Need-lookup-of-requires Inv-loop μ-loop
 lookup-of-requires c κs =
@@ -89,10 +89,10 @@ loop-again c =
     let mark-if = c .before .before .before .mark-if in
     let s = now (start .args .s) in (
       omega (arith, c),
-      omega (arith, lookup-place-next (packOf s) (loop .l), lookup-of .ensures .entries, loop .inv .1),
+      omega (arith, lookup-place-next (pack-of s) (loop .l), lookup-of .ensures .entries, loop .inv .1),
       mark-if .kept .0 ∙ loop .inv .2,
       marked-next (same-text .result) (loop .inv .3) (omega (arith, loop-test .taken, loop .inv .2, start .pre .0, start .pre .2))
-          (same-text .ensures ∙ ap (λ (L : Lookup). bytesOf s (start .args .name) ≐ L .name) (lookup-of .ensures .means)) (mark-if .ensures),
+          (same-text .ensures ∙ ap (λ (L : Lookup). bytes-of s (start .args .name) ≐ L .name) (lookup-of .ensures .means)) (mark-if .ensures),
     )
 
 same-length : tie.Need-same-length Inv-loop μ-loop

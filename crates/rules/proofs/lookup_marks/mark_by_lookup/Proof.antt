@@ -2,9 +2,9 @@ use Rattle.rules.proofs.Marking.{marked-none, marked-as, marked-turn, n
 use Rattle.rules.specs.Marks.{Marked}
 use Rattle.rules.specs.LookupWiring.{referenced-by-lookup}
 use Rattle.rules.specs.Model.{is-text}
-use Rattle.rules.specs.Search.{anyBelow}
-use Rattle.pack.specs.Value.{Lookup, Entry, noEntry, lookup-at}
-use Rattle.pack.specs.Meaning.{optBytes, packOf}
+use Rattle.rules.specs.Search.{any-below}
+use Rattle.pack.specs.Value.{Lookup, Entry, no-entry, lookup-at}
+use Rattle.pack.specs.Meaning.{optional-bytes, pack-of}
 use borrow.Author.Needs.{needs}
 use native.Mathlib.Omega.{arith}
 use Prim.Native.Nat.{ℕ, _-_, _≤_}
@@ -18,11 +18,11 @@ use Rattle.rules.proofs.lookup_marks.mark_by_lookup.Tie as tie
 
 -- whether entry e nests the name
 abbrev nests : List ℕ → ℕ → List ℕ → ℕ → Bool
-nests s l name e = is-text (getD (lookup-at (packOf s .lookups) l .entries) e noEntry .nested) name
+nests s l name e = is-text (getD (lookup-at (pack-of s .lookups) l .entries) e no-entry .nested) name
 
 abbrev Inv-loop : tie.InvT-loop
 Inv-loop marks₀ s work lookups l p entries e₀ marks e =
-    (e ≤ entries) × (length marks ≡ length marks₀) × Marked (packOf s) marks₀ (λ n. anyBelow (nests s l n) e) marks
+    (e ≤ entries) × (length marks ≡ length marks₀) × Marked (pack-of s) marks₀ (λ n. any-below (nests s l n) e) marks
 
 abbrev μ-loop : tie.MeasureT-loop
 μ-loop marks₀ s work lookups l p entries e₀ marks e = entries - e
@@ -31,14 +31,14 @@ returns : tie.Need-returns Inv-loop μ-loop
 returns c =
     let start = c .before .before .before .before .before in
     let s = now (start .args .s) in let l = start .args .l in
-    marked-as (λ n. false) (λ n. referenced-by-lookup n (lookup-at (packOf s .lookups) l))
-    (λ n. sym (not-nesting s n (lookup-at (packOf s .lookups) l) (start .args .v) (start .pre .4) (c .if1 .taken)))
-    (marked-none (packOf s) (now (start .args .marks)))
+    marked-as (λ n. false) (λ n. referenced-by-lookup n (lookup-at (pack-of s .lookups) l))
+    (λ n. sym (not-nesting s n (lookup-at (pack-of s .lookups) l) (start .args .v) (start .pre .4) (c .if1 .taken)))
+    (marked-none (pack-of s) (now (start .args .marks)))
 
 loop-holds : tie.Need-loop-holds Inv-loop μ-loop
 loop-holds c =
     let start = c .before .before .before .before .before in
-    (omega (arith, c), refl, marked-none (packOf (now (start .args .s))) (now (start .args .marks)))
+    (omega (arith, c), refl, marked-none (pack-of (now (start .args .s))) (now (start .args .marks)))
 
 entry-of-requires : tie.Need-entry-of-requires Inv-loop μ-loop
 entry-of-requires c κs =
@@ -69,7 +69,7 @@ loop-again c =
     let s = now (start .args .s) in let l = start .args .l in (
       omega (arith, c),
       mark-nested .kept .0 ∙ loop .inv .1,
-      marked-turn (nests s l) (loop .e) (loop .inv .2) (marked-as (λ n. is-text (optBytes s (entry-of .result .nested)) n) (λ n. nests s l n (loop .e))
+      marked-turn (nests s l) (loop .e) (loop .inv .2) (marked-as (λ n. is-text (optional-bytes s (entry-of .result .nested)) n) (λ n. nests s l n (loop .e))
           (λ n. ap (λ (E : Entry). is-text (E .nested) n) (entry-of .ensures)) (mark-nested .ensures)),
     )
 
@@ -80,10 +80,10 @@ returns-2 : tie.Need-returns-2 Inv-loop μ-loop
 returns-2 c =
     let start = c .before .before .before .before .before .before .before in
     let s = now (start .args .s) in let l = start .args .l in
-    let q : length (lookup-at (packOf s .lookups) l .entries) ≡ c .before .loop .e =
+    let q : length (lookup-at (pack-of s .lookups) l .entries) ≡ c .before .loop .e =
     omega (arith, start .pre .4 .entries, c .before .loop .inv .0, c .loop-test .left) in
-    marked-as (λ n. anyBelow (nests s l n) (c .before .loop .e)) (λ n. referenced-by-lookup n (lookup-at (packOf s .lookups) l))
-    (λ n. sym (nesting s n (lookup-at (packOf s .lookups) l) (start .args .v) (start .pre .4) (c .before .before .if1 .left) ∙ ap (anyBelow (nests s l n)) q))
+    marked-as (λ n. any-below (nests s l n) (c .before .loop .e)) (λ n. referenced-by-lookup n (lookup-at (pack-of s .lookups) l))
+    (λ n. sym (nesting s n (lookup-at (pack-of s .lookups) l) (start .args .v) (start .pre .4) (c .before .before .if1 .left) ∙ ap (any-below (nests s l n)) q))
     (c .before .loop .inv .2)
 
 pub mark-by-lookup-spec : {M : Type 1} → statement M

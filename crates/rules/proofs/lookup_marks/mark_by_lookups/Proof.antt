@@ -2,7 +2,7 @@ use Rattle.rules.proofs.Marking.{marked-none, marked-as, marked-turn}
 use Rattle.rules.proofs.Sizes.{at-lookup, entries-few, lookups-few}
 use Rattle.rules.specs.Marks.{Marked}
 use Rattle.rules.specs.LookupWiring.{referenced-by-lookup}
-use Rattle.rules.specs.Search.{anyBelow}
+use Rattle.rules.specs.Search.{any-below}
 use Rattle.pack.proofs.Positions.{lookup-place-next}
 use borrow.Author.Needs.{needs}
 use native.Mathlib.Omega.{arith}
@@ -12,19 +12,19 @@ use mathlib.Core.Bool.{Bool}
 use mathlib.Core.List.{List}
 use lib.ListN.{length}
 use denote.Ref.{now}
-use Rattle.pack.specs.Ready.{lookupPlace}
-use Rattle.pack.specs.Meaning.{packOf}
+use Rattle.pack.specs.Ready.{place-of-lookup}
+use Rattle.pack.specs.Meaning.{pack-of}
 use Rattle.pack.specs.Value.{lookup-at}
 use Rattle.rules.proofs.lookup_marks.mark_by_lookups.Statement.{statement}
 use Rattle.rules.proofs.lookup_marks.mark_by_lookups.Tie as tie
 
 -- whether lookup l references the name
 abbrev has : List ℕ → List ℕ → ℕ → Bool
-has s name l = referenced-by-lookup name (lookup-at (packOf s .lookups) l)
+has s name l = referenced-by-lookup name (lookup-at (pack-of s .lookups) l)
 
 abbrev Inv-loop : tie.InvT-loop
 Inv-loop marks₀ s work lookups count p₀ l₀ marks p l =
-    (l ≤ count) × (p ≡ lookupPlace (packOf s) l) × (length marks ≡ length marks₀) × Marked (packOf s) marks₀ (λ n. anyBelow (has s n) l) marks
+    (l ≤ count) × (p ≡ place-of-lookup (pack-of s) l) × (length marks ≡ length marks₀) × Marked (pack-of s) marks₀ (λ n. any-below (has s n) l) marks
 
 abbrev μ-loop : tie.MeasureT-loop
 μ-loop marks₀ s work lookups count p₀ l₀ marks p l = count - l
@@ -32,7 +32,7 @@ abbrev μ-loop : tie.MeasureT-loop
 loop-holds : tie.Need-loop-holds Inv-loop μ-loop
 loop-holds c =
     let start = c .before .before .before in
-    (omega (arith, c), start .pre .3, refl, marked-none (packOf (now (start .args .s))) (now (start .args .marks)))
+    (omega (arith, c), start .pre .3, refl, marked-none (pack-of (now (start .args .s))) (now (start .args .marks)))
 
 lookup-of-requires : tie.Need-lookup-of-requires Inv-loop μ-loop
 lookup-of-requires c κs =
@@ -91,7 +91,7 @@ loop-again c =
     let mark-by-lookup = c .before .before .before .mark-by-lookup in
     let s = now (start .args .s) in (
       omega (arith, c),
-      omega (arith, lookup-place-next (packOf s) (loop .l), lookup-of .ensures .entries, loop .inv .1),
+      omega (arith, lookup-place-next (pack-of s) (loop .l), lookup-of .ensures .entries, loop .inv .1),
       mark-by-lookup .kept .0 ∙ loop .inv .2,
       marked-turn (has s) (loop .l) (loop .inv .3) (mark-by-lookup .ensures),
     )
@@ -103,8 +103,8 @@ returns : tie.Need-returns Inv-loop μ-loop
 returns c =
     let start = c .before .before .before .before .before in
     let s = now (start .args .s) in
-    let q : c .before .loop .l ≡ length (packOf s .lookups) = omega (arith, start .pre .2, c .before .loop .inv .0, c .loop-test .left) in
-    marked-as (λ n. anyBelow (has s n) (c .before .loop .l)) (λ n. anyBelow (has s n) (length (packOf s .lookups))) (λ n. ap (anyBelow (has s n)) q)
+    let q : c .before .loop .l ≡ length (pack-of s .lookups) = omega (arith, start .pre .2, c .before .loop .inv .0, c .loop-test .left) in
+    marked-as (λ n. any-below (has s n) (c .before .loop .l)) (λ n. any-below (has s n) (length (pack-of s .lookups))) (λ n. ap (any-below (has s n)) q)
     (c .before .loop .inv .3)
 
 pub mark-by-lookups-spec : {M : Type 1} → statement M

@@ -1,9 +1,9 @@
 use Rattle.rules.proofs.Marking.{marked-none, marked-as, marked-turn}
 use Rattle.rules.specs.Marks.{Marked}
 use Rattle.rules.specs.LookupWiring.{ref-is, referenced-by-pgn}
-use Rattle.rules.specs.Search.{anyBelow}
+use Rattle.rules.specs.Search.{any-below}
 use Rattle.pack.specs.Value.{Field, pgn-at, field-at}
-use Rattle.pack.specs.Meaning.{optReference, packOf}
+use Rattle.pack.specs.Meaning.{optional-reference, pack-of}
 use borrow.Author.Needs.{needs}
 use native.Mathlib.Omega.{arith}
 use Prim.Native.Nat.{ℕ, _-_, _≤_}
@@ -17,11 +17,11 @@ use Rattle.rules.proofs.lookup_marks.mark_by_pgn.Tie as tie
 
 -- whether field k refers to the name
 abbrev refers : List ℕ → ℕ → ℕ → List ℕ → ℕ → Bool
-refers s t i name k = ref-is (field-at (pgn-at (packOf s) t i) k .reference) name
+refers s t i name k = ref-is (field-at (pgn-at (pack-of s) t i) k .reference) name
 
 abbrev Inv-loop : tie.InvT-loop
 Inv-loop marks₀ s work lookups t i p fields k₀ marks k =
-    (k ≤ fields) × (length marks ≡ length marks₀) × Marked (packOf s) marks₀ (λ n. anyBelow (refers s t i n) k) marks
+    (k ≤ fields) × (length marks ≡ length marks₀) × Marked (pack-of s) marks₀ (λ n. any-below (refers s t i n) k) marks
 
 abbrev μ-loop : tie.MeasureT-loop
 μ-loop marks₀ s work lookups t i p fields k₀ marks k = fields - k
@@ -29,7 +29,7 @@ abbrev μ-loop : tie.MeasureT-loop
 loop-holds : tie.Need-loop-holds Inv-loop μ-loop
 loop-holds c =
     let start = c .before .before .before in
-    (omega (arith, c), refl, marked-none (packOf (now (start .args .s))) (now (start .args .marks)))
+    (omega (arith, c), refl, marked-none (pack-of (now (start .args .s))) (now (start .args .marks)))
 
 field-of-requires : tie.Need-field-of-requires Inv-loop μ-loop
 field-of-requires c κs =
@@ -57,7 +57,7 @@ loop-again c =
     let s = now (start .args .s) in let t = start .args .t in let i = start .args .i in (
       omega (arith, c),
       mark-reference .kept .0 ∙ loop .inv .1,
-      marked-turn (refers s t i) (loop .k) (loop .inv .2) (marked-as (λ n. ref-is (optReference s (field-of .result .links .reference)) n)
+      marked-turn (refers s t i) (loop .k) (loop .inv .2) (marked-as (λ n. ref-is (optional-reference s (field-of .result .links .reference)) n)
           (λ n. refers s t i n (loop .k)) (λ n. ap (λ (F : Field). ref-is (F .reference) n) (field-of .ensures)) (mark-reference .ensures)),
     )
 
@@ -69,8 +69,8 @@ unfolding referenced-by-pgn
 returns c =
     let start = c .before .before .before .before .before in
     let s = now (start .args .s) in let t = start .args .t in let i = start .args .i in
-    let q : c .before .loop .k ≡ length (pgn-at (packOf s) t i .fields) = omega (arith, start .pre .4, c .before .loop .inv .0, c .loop-test .left) in
-    marked-as (λ n. anyBelow (refers s t i n) (c .before .loop .k)) (λ n. referenced-by-pgn n (pgn-at (packOf s) t i)) (λ n. ap (anyBelow (refers s t i n)) q)
+    let q : c .before .loop .k ≡ length (pgn-at (pack-of s) t i .fields) = omega (arith, start .pre .4, c .before .loop .inv .0, c .loop-test .left) in
+    marked-as (λ n. any-below (refers s t i n) (c .before .loop .k)) (λ n. referenced-by-pgn n (pgn-at (pack-of s) t i)) (λ n. ap (any-below (refers s t i n)) q)
     (c .before .loop .inv .2)
 
 pub mark-by-pgn-spec : {M : Type 1} → statement M

@@ -2,9 +2,9 @@ use Rattle.rules.proofs.Marking.{marked-none, marked-as, marked-turn}
 use Rattle.rules.proofs.Sizes.{at-pgn, fields-few, pgns-few}
 use Rattle.rules.specs.Marks.{Marked}
 use Rattle.rules.specs.LookupWiring.{referenced-by-pgn, referenced-by-tree}
-use Rattle.rules.specs.Search.{anyBelow}
+use Rattle.rules.specs.Search.{any-below}
 use Rattle.pack.proofs.Positions.{pgn-place-next}
-use Rattle.pack.specs.Ready.{pgnPlace}
+use Rattle.pack.specs.Ready.{place-of-pgn}
 use borrow.Author.Needs.{needs}
 use native.Mathlib.Omega.{arith}
 use Prim.Native.Nat.{ℕ, _-_, _≤_}
@@ -13,18 +13,18 @@ use mathlib.Core.Bool.{Bool}
 use mathlib.Core.List.{List}
 use lib.ListN.{length}
 use denote.Ref.{now}
-use Rattle.pack.specs.Meaning.{packOf}
+use Rattle.pack.specs.Meaning.{pack-of}
 use Rattle.pack.specs.Value.{pgns-of, pgn-at}
 use Rattle.rules.proofs.lookup_marks.mark_by_tree.Statement.{statement}
 use Rattle.rules.proofs.lookup_marks.mark_by_tree.Tie as tie
 
 -- whether PGN i references the name
 abbrev has : List ℕ → ℕ → List ℕ → ℕ → Bool
-has s t name i = referenced-by-pgn name (pgn-at (packOf s) t i)
+has s t name i = referenced-by-pgn name (pgn-at (pack-of s) t i)
 
 abbrev Inv-loop : tie.InvT-loop
 Inv-loop marks₀ s work lookups t count p₀ i₀ marks p i =
-    (i ≤ count) × (p ≡ pgnPlace (packOf s) t i) × (length marks ≡ length marks₀) × Marked (packOf s) marks₀ (λ n. anyBelow (has s t n) i) marks
+    (i ≤ count) × (p ≡ place-of-pgn (pack-of s) t i) × (length marks ≡ length marks₀) × Marked (pack-of s) marks₀ (λ n. any-below (has s t n) i) marks
 
 abbrev μ-loop : tie.MeasureT-loop
 μ-loop marks₀ s work lookups t count p₀ i₀ marks p i = count - i
@@ -32,7 +32,7 @@ abbrev μ-loop : tie.MeasureT-loop
 loop-holds : tie.Need-loop-holds Inv-loop μ-loop
 loop-holds c =
     let start = c .before .before .before in
-    (omega (arith, c), omega (arith, start .pre .6), refl, marked-none (packOf (now (start .args .s))) (now (start .args .marks)))
+    (omega (arith, c), omega (arith, start .pre .6), refl, marked-none (pack-of (now (start .args .s))) (now (start .args .marks)))
 
 pgn-of-requires : tie.Need-pgn-of-requires Inv-loop μ-loop
 pgn-of-requires c κs =
@@ -91,7 +91,7 @@ loop-again c =
     let mark-by-pgn = c .before .before .before .mark-by-pgn in
     let s = now (start .args .s) in let t = start .args .t in (
       omega (arith, c),
-      omega (arith, pgn-place-next (packOf s) t (loop .i), pgn-of .ensures .fields, loop .inv .1),
+      omega (arith, pgn-place-next (pack-of s) t (loop .i), pgn-of .ensures .fields, loop .inv .1),
       mark-by-pgn .kept .0 ∙ loop .inv .2,
       marked-turn (has s t) (loop .i) (loop .inv .3) (mark-by-pgn .ensures),
     )
@@ -104,8 +104,8 @@ unfolding referenced-by-tree
 returns c =
     let start = c .before .before .before .before .before in
     let s = now (start .args .s) in let t = start .args .t in
-    let q : c .before .loop .i ≡ length (pgns-of (packOf s) t) = omega (arith, start .pre .5, c .before .loop .inv .0, c .loop-test .left) in
-    marked-as (λ n. anyBelow (has s t n) (c .before .loop .i)) (λ n. referenced-by-tree (packOf s) n t) (λ n. ap (anyBelow (has s t n)) q)
+    let q : c .before .loop .i ≡ length (pgns-of (pack-of s) t) = omega (arith, start .pre .5, c .before .loop .inv .0, c .loop-test .left) in
+    marked-as (λ n. any-below (has s t n) (c .before .loop .i)) (λ n. referenced-by-tree (pack-of s) n t) (λ n. ap (any-below (has s t n)) q)
     (c .before .loop .inv .3)
 
 pub mark-by-tree-spec : {M : Type 1} → statement M

@@ -2,7 +2,7 @@ use Rattle.rules.proofs.Marking.{marked-none, marked-as, marked-turn}
 use Rattle.rules.proofs.Sections.{at-tree}
 use Rattle.rules.specs.Marks.{Marked}
 use Rattle.rules.specs.LookupWiring.{referenced-by-tree}
-use Rattle.rules.specs.Search.{anyBelow}
+use Rattle.rules.specs.Search.{any-below}
 use borrow.Author.Needs.{needs}
 use native.Mathlib.Omega.{arith}
 use Prim.Native.Nat.{ℕ, _-_, _≤_}
@@ -11,16 +11,16 @@ use mathlib.Core.Bool.{Bool}
 use mathlib.Core.List.{List}
 use lib.ListN.{length}
 use denote.Ref.{now}
-use Rattle.pack.specs.Meaning.{packOf}
+use Rattle.pack.specs.Meaning.{pack-of}
 use Rattle.rules.proofs.lookup_marks.mark_by_trees.Statement.{statement}
 use Rattle.rules.proofs.lookup_marks.mark_by_trees.Tie as tie
 
 -- whether tree t references the name
 abbrev has : List ℕ → List ℕ → ℕ → Bool
-has s name t = referenced-by-tree (packOf s) name t
+has s name t = referenced-by-tree (pack-of s) name t
 
 abbrev Inv-loop : tie.InvT-loop
-Inv-loop marks₀ s work index t₀ marks t = (t ≤ 3) × (length marks ≡ length marks₀) × Marked (packOf s) marks₀ (λ n. anyBelow (has s n) t) marks
+Inv-loop marks₀ s work index t₀ marks t = (t ≤ 3) × (length marks ≡ length marks₀) × Marked (pack-of s) marks₀ (λ n. any-below (has s n) t) marks
 
 abbrev μ-loop : tie.MeasureT-loop
 μ-loop marks₀ s work index t₀ marks t = 3 - t
@@ -28,7 +28,7 @@ abbrev μ-loop : tie.MeasureT-loop
 loop-holds : tie.Need-loop-holds Inv-loop μ-loop
 loop-holds c =
     let start = c .before .before .before in
-    (omega (arith, c), refl, marked-none (packOf (now (start .args .s))) (now (start .args .marks)))
+    (omega (arith, c), refl, marked-none (pack-of (now (start .args .s))) (now (start .args .marks)))
 
 of-tree-requires : tie.Need-of-tree-requires Inv-loop μ-loop
 of-tree-requires c κs = search needs
@@ -42,7 +42,7 @@ mark-by-tree-requires c κs =
     let loop = c .before .before .before .before .loop in
     let loop-test = c .before .before .before .loop-test in
     let of-tree = c .before .before .of-tree in
-    let a = at-tree (packOf (now (start .args .s))) (start .args .index) (start .pre .2) (loop .t) (loop-test .taken) (of-tree .result)
+    let a = at-tree (pack-of (now (start .args .s))) (start .args .index) (start .pre .2) (loop .t) (loop-test .taken) (of-tree .result)
     (c .before .section .result) (of-tree .ensures) (c .before .section .ensures) in
     (omega (arith, loop .inv .1, start .pre .0), start .pre .1, start .pre .2 .lookups, start .pre .2 .lookups-place, loop-test .taken, a .0, a .1)
 
@@ -69,7 +69,7 @@ returns c =
     let start = c .before .before .before .before .before in
     let s = now (start .args .s) in
     let q : c .before .loop .t ≡ 3 = omega (arith, c .before .loop .inv .0, c .loop-test .left) in
-    marked-as (λ n. anyBelow (has s n) (c .before .loop .t)) (λ n. anyBelow (has s n) 3) (λ n. ap (anyBelow (has s n)) q) (c .before .loop .inv .2)
+    marked-as (λ n. any-below (has s n) (c .before .loop .t)) (λ n. any-below (has s n) 3) (λ n. ap (any-below (has s n)) q) (c .before .loop .inv .2)
 
 pub mark-by-trees-spec : {M : Type 1} → statement M
 mark-by-trees-spec =

@@ -1,8 +1,8 @@
 use Rattle.rules.proofs.Marking.{marked-none, marked-as}
 use Rattle.rules.specs.Model.{is-text}
 use Rattle.pack.specs.declared.text.OptText.{OptText}
-use Rattle.pack.specs.Meaning.{optBytes, packOf}
-use Rattle.pack.specs.Items.{bytesOf}
+use Rattle.pack.specs.Meaning.{optional-bytes, pack-of}
+use Rattle.pack.specs.Items.{bytes-of}
 use Prim.Native.Nat.{ℕ}
 use mathlib.Core.Path.{_≡_}
 use mathlib.Core.Bool.{true, false}
@@ -13,10 +13,10 @@ use borrow.Author.Needs.{needs}
 use Rattle.rules.proofs.lookup_marks.mark_nested.Statement.{statement}
 use Rattle.rules.proofs.lookup_marks.mark_nested.Tie as tie
 
-named : (s : List ℕ) (o : OptText) → o .given ≡ true → (n : List ℕ) → (bytesOf s (o .text) ≐ n) ≡ is-text (optBytes s o) n
+named : (s : List ℕ) (o : OptText) → o .given ≡ true → (n : List ℕ) → (bytes-of s (o .text) ≐ n) ≡ is-text (optional-bytes s o) n
 named s o e n = rw e
 
-unnamed : (s : List ℕ) (o : OptText) → o .given ≡ false → (n : List ℕ) → false ≡ is-text (optBytes s o) n
+unnamed : (s : List ℕ) (o : OptText) → o .given ≡ false → (n : List ℕ) → false ≡ is-text (optional-bytes s o) n
 unnamed s o e n = rw e
 
 mark-requires : tie.Need-mark-requires
@@ -32,13 +32,13 @@ returns c =
     let start = c .before .before .before .before .before .before .before .before in
     let if1 = c .before .before .before .before .if1 in
     let s = now (start .args .s) in let o = start .args .o in
-    marked-as (λ n. bytesOf s (start .args .o .text) ≐ n) (λ n. is-text (optBytes s o) n) (named s o (if1 .taken)) (c .before .before .mark .ensures)
+    marked-as (λ n. bytes-of s (start .args .o .text) ≐ n) (λ n. is-text (optional-bytes s o) n) (named s o (if1 .taken)) (c .before .before .mark .ensures)
 
 returns-2 : tie.Need-returns-2
 returns-2 c =
     let start = c .before .before .before .before in
     let s = now (start .args .s) in let o = start .args .o in
-    marked-as (λ n. false) (λ n. is-text (optBytes s o) n) (unnamed s o (c .if1 .left)) (marked-none (packOf s) (now (start .args .marks)))
+    marked-as (λ n. false) (λ n. is-text (optional-bytes s o) n) (unnamed s o (c .if1 .left)) (marked-none (pack-of s) (now (start .args .marks)))
 
 pub mark-nested-spec : {M : Type 1} → statement M
 mark-nested-spec = tie.close (tie.spec mark-requires same-length returns returns-2)

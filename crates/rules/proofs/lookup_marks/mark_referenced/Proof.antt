@@ -1,11 +1,11 @@
 use Rattle.rules.proofs.Marking.{marked-then}
 use Rattle.rules.specs.LookupWiring.{referenced-by-tree, referenced-by-lookup, referenced}
-use Rattle.rules.specs.Search.{anyBelow}
+use Rattle.rules.specs.Search.{any-below}
 use native.Mathlib.Omega.{arith}
 use mathlib.Core.Path.{_∙_}
 use lib.ListN.{length}
 use denote.Ref.{now}
-use Rattle.pack.specs.Meaning.{packOf}
+use Rattle.pack.specs.Meaning.{pack-of}
 use Rattle.pack.specs.Value.{lookup-at}
 use Rattle.rules.proofs.lookup_marks.mark_referenced.Statement.{statement}
 use Rattle.rules.proofs.lookup_marks.mark_referenced.Tie as tie
@@ -32,8 +32,8 @@ returns c =
     let start = c .before .before .before .before .before .before .before .before .before .before .before in
     let mark-by-trees = c .before .before .before .before .before .before .mark-by-trees in
     let s = now (start .args .s) in
-    marked-then (λ n. anyBelow (λ t. referenced-by-tree (packOf s) n t) 3)
-    (λ n. anyBelow (λ l. referenced-by-lookup n (lookup-at (packOf s .lookups) l)) (length (packOf s .lookups))) (mark-by-trees .ensures)
+    marked-then (λ n. any-below (λ t. referenced-by-tree (pack-of s) n t) 3)
+    (λ n. any-below (λ l. referenced-by-lookup n (lookup-at (pack-of s .lookups) l)) (length (pack-of s .lookups))) (mark-by-trees .ensures)
     (c .before .before .mark-by-lookups .ensures)
 
 pub mark-referenced-spec : {M : Type 1} → statement M

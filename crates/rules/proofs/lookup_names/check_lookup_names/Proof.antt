@@ -1,12 +1,12 @@
 use Rattle.rules.proofs.Sizes.{at-lookup, entries-few, lookups-few}
 use Rattle.rules.specs.LookupNames.{lookup-names-of}
 use Rattle.pack.proofs.Positions.{lookup-place-next}
-use Rattle.pack.specs.Ready.{lookupPlace}
+use Rattle.pack.specs.Ready.{place-of-lookup}
 use Rattle.rules.proofs.Emits.{emitted-none, emitted-turn, fits-turn}
 use Rattle.rules.specs.Emit.{Emitted}
 use Rattle.rules.specs.declared.Finding.{Finding}
-use Rattle.pack.specs.Meaning.{packOf}
-use Rattle.pack.specs.Notation.{concatBelow}
+use Rattle.pack.specs.Meaning.{pack-of}
+use Rattle.pack.specs.Notation.{concat-below}
 use Rattle.pack.specs.Value.{lookup-at}
 use Prim.Native.Nat.{ℕ, _-_, _≤_}
 use native.Mathlib.Omega.{arith}
@@ -20,11 +20,11 @@ use Rattle.rules.proofs.lookup_names.check_lookup_names.Tie as tie
 
 -- the findings of lookup l
 abbrev of-lookup : List ℕ → ℕ → List Finding
-of-lookup s l = lookup-names-of l (lookup-at (packOf s .lookups) l)
+of-lookup s l = lookup-names-of l (lookup-at (pack-of s .lookups) l)
 
 abbrev Inv-loop : tie.InvT-loop
 Inv-loop out₀ n s work count m₀ p₀ l₀ out m p l =
-    (l ≤ count) × (p ≡ lookupPlace (packOf s) l) × (length out ≡ length out₀) × Emitted out₀ n (concatBelow (of-lookup s) l) out m
+    (l ≤ count) × (p ≡ place-of-lookup (pack-of s) l) × (length out ≡ length out₀) × Emitted out₀ n (concat-below (of-lookup s) l) out m
 
 abbrev μ-loop : tie.MeasureT-loop
 μ-loop out₀ n s work count m₀ p₀ l₀ out m p l = count - l
@@ -91,7 +91,7 @@ loop-again c =
     let lookup-names-of-call = c .before .before .before .lookup-names-of in
     let s = now (start .args .s) in (
       omega (arith, c),
-      omega (arith, lookup-place-next (packOf s) (loop .l), lookup-of .ensures .entries, loop .inv .1),
+      omega (arith, lookup-place-next (pack-of s) (loop .l), lookup-of .ensures .entries, loop .inv .1),
       lookup-names-of-call .kept .0 ∙ loop .inv .2,
       emitted-turn (of-lookup s) (loop .l) (loop .inv .3) (lookup-names-of-call .ensures),
     )

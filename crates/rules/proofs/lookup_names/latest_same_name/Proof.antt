@@ -1,9 +1,9 @@
 use Rattle.rules.specs.LookupNames.{same-name}
 use Rattle.rules.specs.SearchLaws.{latest-turn}
-use Rattle.rules.specs.Search.{latestBelow}
+use Rattle.rules.specs.Search.{latest-below}
 use Rattle.pack.specs.declared.entry.EntryView.{EntryView}
-use Rattle.pack.specs.Meaning.{entryMeaning, optNumber, packOf}
-use Rattle.pack.specs.Value.{noEntry, lookup-at}
+use Rattle.pack.specs.Meaning.{entry-meaning, optional-number, pack-of}
+use Rattle.pack.specs.Value.{no-entry, lookup-at}
 use mathlib.Core.Bool.{Bool}
 use Prim.Native.Nat.{ℕ, _-_, _≤_}
 use native.Mathlib.Omega.{arith}
@@ -18,16 +18,16 @@ use Rattle.rules.proofs.lookup_names.latest_same_name.Tie as tie
 -- whether entry d has the name of entry e
 abbrev named : List ℕ → ℕ → ℕ → ℕ → Bool
 named s l e d =
-    same-name (lookup-at (packOf s .lookups) l .kind) (getD (lookup-at (packOf s .lookups) l .entries) d noEntry)
-    (getD (lookup-at (packOf s .lookups) l .entries) e noEntry)
+    same-name (lookup-at (pack-of s .lookups) l .kind) (getD (lookup-at (pack-of s .lookups) l .entries) d no-entry)
+    (getD (lookup-at (pack-of s .lookups) l .entries) e no-entry)
 
-said : (s : List ℕ) (l e d k : ℕ) (a b : EntryView) (r : Bool) → k ≡ lookup-at (packOf s .lookups) l .kind
-    → entryMeaning s a ≡ getD (lookup-at (packOf s .lookups) l .entries) d noEntry
-    → entryMeaning s b ≡ getD (lookup-at (packOf s .lookups) l .entries) e noEntry → r ≡ same-name k (entryMeaning s a) (entryMeaning s b) → r ≡ named s l e d
+said : (s : List ℕ) (l e d k : ℕ) (a b : EntryView) (r : Bool) → k ≡ lookup-at (pack-of s .lookups) l .kind
+    → entry-meaning s a ≡ getD (lookup-at (pack-of s .lookups) l .entries) d no-entry
+    → entry-meaning s b ≡ getD (lookup-at (pack-of s .lookups) l .entries) e no-entry → r ≡ same-name k (entry-meaning s a) (entry-meaning s b) → r ≡ named s l e d
 said s l e d k a b r x y z h = h ∙ (λ j. same-name (x j) (y j) (z j))
 
 abbrev Inv-loop : tie.InvT-loop
-Inv-loop s work l p kind e entry found₀ d₀ found d = (d ≤ e) × (optNumber found ≡ latestBelow (named s l e) d)
+Inv-loop s work l p kind e entry found₀ d₀ found d = (d ≤ e) × (optional-number found ≡ latest-below (named s l e) d)
 
 abbrev μ-loop : tie.MeasureT-loop
 μ-loop s work l p kind e entry found₀ d₀ found d = e - d
@@ -66,7 +66,7 @@ returns : tie.Need-returns Inv-loop μ-loop
 returns c =
     let start = c .before .before .before .before in
     let q : c .before .loop .d ≡ start .args .e = omega (arith, c .before .loop .inv .0, c .loop-test .left) in
-    c .before .loop .inv .1 ∙ ap (latestBelow (named (now (start .args .s)) (start .args .l) (start .args .e))) q
+    c .before .loop .inv .1 ∙ ap (latest-below (named (now (start .args .s)) (start .args .l) (start .args .e))) q
 
 pub latest-same-name-spec : {M : Type 1} → statement M
 latest-same-name-spec =

@@ -1,16 +1,16 @@
 use Rattle.rules.proofs.Sizes.{entries-few}
 use Rattle.rules.specs.LookupNames.{same-name, same-name-as, lookup-names-of}
 use Rattle.rules.specs.Texts.{SPN-LOOKUP}
-use Rattle.rules.specs.Search.{latestBelow}
+use Rattle.rules.specs.Search.{latest-below}
 use Rattle.pack.specs.declared.lookup.LookupView.{LookupView}
-use Rattle.pack.specs.Value.{noEntry, Lookup, lookup-at}
+use Rattle.pack.specs.Value.{no-entry, Lookup, lookup-at}
 use Rattle.rules.proofs.Emits.{emitted-none, emitted-turn, fits-turn}
 use Rattle.rules.specs.Emit.{Emitted}
 use Rattle.rules.specs.declared.Finding.{Finding}
 use Rattle.pack.specs.Ready.{LookupIs}
-use Rattle.pack.specs.Meaning.{packOf}
-use Rattle.pack.specs.Items.{bytesOf}
-use Rattle.pack.specs.Notation.{_≐_, concatBelow}
+use Rattle.pack.specs.Meaning.{pack-of}
+use Rattle.pack.specs.Items.{bytes-of}
+use Rattle.pack.specs.Notation.{_≐_, concat-below}
 use mathlib.Core.Bool.{Bool, true, false}
 use Prim.Native.Nat.{ℕ, _-_, _≤_}
 use native.Mathlib.Omega.{arith}
@@ -24,20 +24,20 @@ use Rattle.rules.proofs.lookup_names.lookup_names_of.Tie as tie
 
 -- the findings of entry e
 abbrev of-entry : Lookup → ℕ → ℕ → List Finding
-of-entry L l e = same-name-as l e (latestBelow (λ d. same-name (L .kind) (getD (L .entries) d noEntry) (getD (L .entries) e noEntry)) e)
+of-entry L l e = same-name-as l e (latest-below (λ d. same-name (L .kind) (getD (L .entries) d no-entry) (getD (L .entries) e no-entry)) e)
 
-module _ (s : List ℕ) (L : Lookup) (v : LookupView) (is : LookupIs s L v) (l : ℕ) (b : Bool) (z : b ≡ (bytesOf s (v .name) ≐ SPN-LOOKUP)) where
+module _ (s : List ℕ) (L : Lookup) (v : LookupView) (is : LookupIs s L v) (l : ℕ) (b : Bool) (z : b ≡ (bytes-of s (v .name) ≐ SPN-LOOKUP)) where
   spns : b ≡ true → lookup-names-of l L ≡ []
   unfolding lookup-names-of
   spns h = let e : (L .name ≐ SPN-LOOKUP) ≡ true = ap (λ (M : Lookup). M .name ≐ SPN-LOOKUP) (sym (is .means)) ∙ sym z ∙ h in rw e
 
-  others : b ≡ false → lookup-names-of l L ≡ concatBelow (of-entry L l) (v .entries)
+  others : b ≡ false → lookup-names-of l L ≡ concat-below (of-entry L l) (v .entries)
   unfolding lookup-names-of
   others h = let e : (L .name ≐ SPN-LOOKUP) ≡ false = ap (λ (M : Lookup). M .name ≐ SPN-LOOKUP) (sym (is .means)) ∙ sym z ∙ h in rw (e, is .entries)
 
 abbrev Inv-loop : tie.InvT-loop
 Inv-loop out₀ n s work l p entries kind m₀ e₀ out m e =
-    (e ≤ entries) × (length out ≡ length out₀) × Emitted out₀ n (concatBelow (of-entry (lookup-at (packOf s .lookups) l) l) e) out m
+    (e ≤ entries) × (length out ≡ length out₀) × Emitted out₀ n (concat-below (of-entry (lookup-at (pack-of s .lookups) l) l) e) out m
 
 abbrev μ-loop : tie.MeasureT-loop
 μ-loop out₀ n s work l p entries kind m₀ e₀ out m e = entries - e
@@ -52,7 +52,7 @@ returns : tie.Need-returns Inv-loop μ-loop
 returns c =
     let start = c .before .before .before .before .before .before in
     let s = now (start .args .s) in let l = start .args .l in
-    rw (spns s (lookup-at (packOf s .lookups) l) (start .args .v) (start .pre .2) l (c .before .text-is .result) (c .before .text-is .ensures) (c .if1 .taken))
+    rw (spns s (lookup-at (pack-of s .lookups) l) (start .args .v) (start .pre .2) l (c .before .text-is .result) (c .before .text-is .ensures) (c .if1 .taken))
     (emitted-none (now (start .args .out)) (start .args .n))
 
 loop-holds : tie.Need-loop-holds Inv-loop μ-loop
@@ -67,8 +67,8 @@ same-name-at-requires c κs =
     let if1 = c .before .before .before .if1 in
     let loop = c .before .before .loop in
     let s = now (start .args .s) in let l = start .args .l in (
-      fits-turn (of-entry (lookup-at (packOf s .lookups) l) l) (start .args .v .entries) (loop .e) (c .before .loop-test .taken)
-          (rw (others s (lookup-at (packOf s .lookups) l) (start .args .v) (start .pre .2) l (text-is .result) (text-is .ensures) (if1 .left)) at
+      fits-turn (of-entry (lookup-at (pack-of s .lookups) l) l) (start .args .v .entries) (loop .e) (c .before .loop-test .taken)
+          (rw (others s (lookup-at (pack-of s .lookups) l) (start .args .v) (start .pre .2) l (text-is .result) (text-is .ensures) (if1 .left)) at
           (start .pre .0)) (loop .inv .2),
       start .pre .1,
       ap (λ (M : Lookup). M .kind) (start .pre .2 .means),
@@ -92,7 +92,7 @@ loop-again c =
     let l = start .args .l in (
       omega (arith, c),
       same-name-at .kept .0 ∙ loop .inv .1,
-      emitted-turn (of-entry (lookup-at (packOf (now (start .args .s)) .lookups) l) l) (loop .e) (loop .inv .2) (same-name-at .ensures),
+      emitted-turn (of-entry (lookup-at (pack-of (now (start .args .s)) .lookups) l) l) (loop .e) (loop .inv .2) (same-name-at .ensures),
     )
 
 same-length : tie.Need-same-length Inv-loop μ-loop
@@ -104,7 +104,7 @@ returns-2 c =
     let text-is = c .before .before .before .text-is in
     let s = now (start .args .s) in let l = start .args .l in
     let q : start .args .v .entries ≡ c .before .loop .e = omega (arith, c .before .loop .inv .0, c .loop-test .left) in
-    rw (others s (lookup-at (packOf s .lookups) l) (start .args .v) (start .pre .2) l (text-is .result) (text-is .ensures) (c .before .before .if1 .left), q)
+    rw (others s (lookup-at (pack-of s .lookups) l) (start .args .v) (start .pre .2) l (text-is .result) (text-is .ensures) (c .before .before .if1 .left), q)
     (c .before .loop .inv .2)
 
 pub lookup-names-of-spec : {M : Type 1} → statement M

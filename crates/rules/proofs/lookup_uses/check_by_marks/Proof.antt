@@ -9,8 +9,8 @@ use mathlib.Core.Bool.{Bool, false, not}
 use mathlib.Core.List.{List}
 use lib.ListN.{length, getD}
 use denote.Ref.{now}
-use Rattle.pack.specs.Notation.{concatBelow}
-use Rattle.pack.specs.Meaning.{packOf}
+use Rattle.pack.specs.Notation.{concat-below}
+use Rattle.pack.specs.Meaning.{pack-of}
 use Rattle.rules.specs.declared.Finding.{Finding}
 use Rattle.rules.specs.Emit.{Emitted, Fits}
 use Rattle.rules.specs.Findings.{report-if, lookup-warning}
@@ -20,13 +20,13 @@ use Rattle.rules.proofs.lookup_uses.check_by_marks.Tie as tie
 
 -- what the marks say is what the rule says
 said : (P : Pack) (m m′ : List Bool) (count : ℕ) → count ≡ length (P .lookups) → Clear m → Marked P m (λ n. referenced P n) m′
-    → concatBelow (λ l. report-if (not (referenced P (lookup-at (P .lookups) l .name))) (lookup-warning 22 1 l 0 0)) (length (P .lookups))
-    ≡ concatBelow (λ l. report-if (not (getD m′ l false)) (lookup-warning 22 1 l 0 0)) count
+    → concat-below (λ l. report-if (not (referenced P (lookup-at (P .lookups) l .name))) (lookup-warning 22 1 l 0 0)) (length (P .lookups))
+    ≡ concat-below (λ l. report-if (not (getD m′ l false)) (lookup-warning 22 1 l 0 0)) count
 said P m m′ count e z a =
     concat-same (λ l. report-if (not (referenced P (lookup-at (P .lookups) l .name))) (lookup-warning 22 1 l 0 0))
     (λ l. report-if (not (getD m′ l false)) (lookup-warning 22 1 l 0 0)) (length (P .lookups))
     (λ l h. ap (λ (b : Bool). report-if (not b) (lookup-warning 22 1 l 0 0)) (sym (marks-are (λ n. referenced P n) z a l h)))
-    ∙ ap (concatBelow (λ l. report-if (not (getD m′ l false)) (lookup-warning 22 1 l 0 0))) (sym e)
+    ∙ ap (concat-below (λ l. report-if (not (getD m′ l false)) (lookup-warning 22 1 l 0 0))) (sym e)
 
 fits-as : {n : ℕ} {xs ys : List Finding} → xs ≡ ys → Fits n xs → Fits n ys
 fits-as e f = rw (← e) f
@@ -43,7 +43,7 @@ report-unmarked-requires : tie.Need-report-unmarked-requires
 report-unmarked-requires c κs =
     let start = c .before .before .before .before .before .before .before .before .before .before in
     let mark-referenced = c .before .before .before .before .mark-referenced in (
-      fits-as (said (packOf (now (start .args .s))) (now (start .args .marks)) _ (start .args .index .lookups .count) (start .pre .4 .lookups) (start .pre .1)
+      fits-as (said (pack-of (now (start .args .s))) (now (start .args .marks)) _ (start .args .index .lookups .count) (start .pre .4 .lookups) (start .pre .1)
           (mark-referenced .ensures)) (start .pre .0),
       omega (arith, start .pre .2, start .pre .4 .lookups, mark-referenced .kept .0),
     )
@@ -59,7 +59,7 @@ returns c =
     let back12 = c .before .before .before .before .before .before .before .before .before .before .before .before in
     let start = back12 .before in
     let mark-referenced = c .before .before .before .before .before .before .before .mark-referenced in
-    emitted-as (said (packOf (now (start .args .s))) (now (start .args .marks)) _ (start .args .index .lookups .count) (start .pre .4 .lookups) (start .pre .1)
+    emitted-as (said (pack-of (now (start .args .s))) (now (start .args .marks)) _ (start .args .index .lookups .count) (start .pre .4 .lookups) (start .pre .1)
     (mark-referenced .ensures)) (c .before .before .report-unmarked .ensures)
 
 pub check-by-marks-spec : {M : Type 1} → statement M

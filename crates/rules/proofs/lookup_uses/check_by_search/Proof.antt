@@ -1,6 +1,6 @@
 use Rattle.pack.specs.declared.lookup.LookupView.{LookupView}
 use Rattle.pack.specs.Value.{Lookup, lookup-at}
-use Rattle.pack.specs.Items.{bytesOf}
+use Rattle.pack.specs.Items.{bytes-of}
 use Rattle.pack.proofs.Positions.{lookup-place-next}
 use Rattle.rules.proofs.Sizes.{at-lookup, entries-few, lookups-few}
 use Rattle.rules.specs.LookupWiring.{referenced}
@@ -12,9 +12,9 @@ use mathlib.Core.Bool.{Bool, not}
 use mathlib.Core.List.{List}
 use lib.ListN.{length}
 use denote.Ref.{now}
-use Rattle.pack.specs.Notation.{concatBelow}
-use Rattle.pack.specs.Ready.{LookupIs, lookupPlace}
-use Rattle.pack.specs.Meaning.{packOf}
+use Rattle.pack.specs.Notation.{concat-below}
+use Rattle.pack.specs.Ready.{LookupIs, place-of-lookup}
+use Rattle.pack.specs.Meaning.{pack-of}
 use Rattle.rules.specs.declared.Finding.{Finding}
 use Rattle.rules.specs.Emit.{Emitted}
 use Rattle.rules.specs.Findings.{report-if, lookup-warning}
@@ -24,17 +24,17 @@ use Rattle.rules.proofs.lookup_uses.check_by_search.Tie as tie
 
 -- the finding of lookup l
 abbrev of-lookup : List ℕ → ℕ → List Finding
-of-lookup s l = report-if (not (referenced (packOf s) (lookup-at (packOf s .lookups) l .name))) (lookup-warning 22 1 l 0 0)
+of-lookup s l = report-if (not (referenced (pack-of s) (lookup-at (pack-of s .lookups) l .name))) (lookup-warning 22 1 l 0 0)
 
-said : (s : List ℕ) (l : ℕ) (v : LookupView) → LookupIs s (lookup-at (packOf s .lookups) l) v → (b : Bool) → b ≡ referenced (packOf s) (bytesOf s (v .name))
+said : (s : List ℕ) (l : ℕ) (v : LookupView) → LookupIs s (lookup-at (pack-of s .lookups) l) v → (b : Bool) → b ≡ referenced (pack-of s) (bytes-of s (v .name))
     → (F : Finding) → F ≡ lookup-warning 22 1 l 0 0 → of-lookup s l ≡ report-if (not b) F
 said s l v is b x F y =
-    let e : b ≡ referenced (packOf s) (lookup-at (packOf s .lookups) l .name) = x ∙ ap (λ (L : Lookup). referenced (packOf s) (L .name)) (is .means) in
+    let e : b ≡ referenced (pack-of s) (lookup-at (pack-of s .lookups) l .name) = x ∙ ap (λ (L : Lookup). referenced (pack-of s) (L .name)) (is .means) in
     sym (λ j. report-if (not (e j)) (y j))
 
 abbrev Inv-loop : tie.InvT-loop
 Inv-loop out₀ n s work index count m₀ p₀ l₀ out m p l =
-    (l ≤ count) × (p ≡ lookupPlace (packOf s) l) × (length out ≡ length out₀) × Emitted out₀ n (concatBelow (of-lookup s) l) out m
+    (l ≤ count) × (p ≡ place-of-lookup (pack-of s) l) × (length out ≡ length out₀) × Emitted out₀ n (concat-below (of-lookup s) l) out m
 
 abbrev μ-loop : tie.MeasureT-loop
 μ-loop out₀ n s work index count m₀ p₀ l₀ out m p l = count - l
@@ -116,7 +116,7 @@ loop-again c =
     let put-if = c .before .before .before .put-if in
     let s = now (start .args .s) in (
       omega (arith, c),
-      omega (arith, lookup-place-next (packOf s) (loop .l), lookup-of .ensures .entries, loop .inv .1),
+      omega (arith, lookup-place-next (pack-of s) (loop .l), lookup-of .ensures .entries, loop .inv .1),
       put-if .kept .0 ∙ loop .inv .2,
       emitted-turn (of-lookup s) (loop .l) (loop .inv .3) (rw (said s (loop .l) (lookup-of .result) (lookup-of .ensures) (referenced-call .result)
           (referenced-call .ensures) (lookup-warning-call .result) (lookup-warning-call .ensures)) (put-if .ensures)),

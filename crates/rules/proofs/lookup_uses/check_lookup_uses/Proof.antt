@@ -2,7 +2,7 @@ use Rattle.rules.proofs.Marking.{clear-replicate, room-replicate}
 use native.Mathlib.Omega.{arith}
 use lib.ListN.{length}
 use denote.Ref.{now}
-use Rattle.pack.specs.Meaning.{packOf}
+use Rattle.pack.specs.Meaning.{pack-of}
 use borrow.Author.Needs.{needs}
 use Rattle.rules.proofs.lookup_uses.check_lookup_uses.Statement.{statement}
 use Rattle.rules.proofs.lookup_uses.check_lookup_uses.Tie as tie
@@ -26,7 +26,7 @@ check-by-marks-requires c κs =
     let start = c .before .before .before .before .before .before .before in (
       start .pre .0,
       clear-replicate 4096,
-      room-replicate 4096 (length (packOf (now (start .args .s)) .lookups)) (omega (arith, start .pre .2 .lookups, c .before .before .if1 .left)),
+      room-replicate 4096 (length (pack-of (now (start .args .s)) .lookups)) (omega (arith, start .pre .2 .lookups, c .before .before .if1 .left)),
       start .pre .1,
       start .pre .2,
     )

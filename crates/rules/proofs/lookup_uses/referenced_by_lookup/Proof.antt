@@ -1,9 +1,9 @@
 use Rattle.rules.proofs.Marking.{not-nesting, nesting}
 use Rattle.pack.specs.declared.entry.EntryView.{EntryView}
-use Rattle.pack.specs.Value.{Lookup, noEntry, lookup-at}
-use Rattle.pack.specs.Meaning.{optBytes, entryMeaning, packOf}
-use Rattle.pack.specs.Items.{bytesOf}
-use Rattle.rules.specs.Search.{anyBelow}
+use Rattle.pack.specs.Value.{Lookup, no-entry, lookup-at}
+use Rattle.pack.specs.Meaning.{optional-bytes, entry-meaning, pack-of}
+use Rattle.pack.specs.Items.{bytes-of}
+use Rattle.rules.specs.Search.{any-below}
 use Rattle.rules.specs.SearchLaws.{any-turn, any-hit}
 use Rattle.rules.specs.Model.{is-text}
 use borrow.Author.Needs.{needs}
@@ -19,14 +19,14 @@ use Rattle.rules.proofs.lookup_uses.referenced_by_lookup.Tie as tie
 
 -- whether entry e of lookup l nests the name
 abbrev nests : List ℕ → ℕ → List ℕ → ℕ → Bool
-nests s l name e = is-text (getD (lookup-at (packOf s .lookups) l .entries) e noEntry .nested) name
+nests s l name e = is-text (getD (lookup-at (pack-of s .lookups) l .entries) e no-entry .nested) name
 
-said : (s : List ℕ) (l : ℕ) (name : List ℕ) (e : ℕ) (v : EntryView) (r : Bool) → entryMeaning s v ≡ getD (lookup-at (packOf s .lookups) l .entries) e noEntry
-    → r ≡ is-text (optBytes s (v .nested)) name → nests s l name e ≡ r
+said : (s : List ℕ) (l : ℕ) (name : List ℕ) (e : ℕ) (v : EntryView) (r : Bool) → entry-meaning s v ≡ getD (lookup-at (pack-of s .lookups) l .entries) e no-entry
+    → r ≡ is-text (optional-bytes s (v .nested)) name → nests s l name e ≡ r
 said s l name e v r y h = sym (h ∙ (λ j. is-text (y j .nested) name))
 
 abbrev Inv-loop : tie.InvT-loop
-Inv-loop s work l p name entries e₀ e = (e ≤ entries) × (anyBelow (nests s l (bytesOf s name)) e ≡ false)
+Inv-loop s work l p name entries e₀ e = (e ≤ entries) × (any-below (nests s l (bytes-of s name)) e ≡ false)
 
 abbrev μ-loop : tie.MeasureT-loop
 μ-loop s work l p name entries e₀ e = entries - e
@@ -35,7 +35,7 @@ returns : tie.Need-returns Inv-loop μ-loop
 returns c =
     let start = c .before .before .before .before in
     let s = now (start .args .s) in
-    sym (not-nesting s (bytesOf s (start .args .name)) (lookup-at (packOf s .lookups) (start .args .l)) (start .args .v) (start .pre .1) (c .if1 .taken))
+    sym (not-nesting s (bytes-of s (start .args .name)) (lookup-at (pack-of s .lookups) (start .args .l)) (start .args .v) (start .pre .1) (c .if1 .taken))
 
 loop-holds : tie.Need-loop-holds Inv-loop μ-loop
 loop-holds c = (search needs, refl)
@@ -59,9 +59,9 @@ returns-2 c =
     let loop-test = c .before .before .before .loop-test in
     let entry-of = c .before .before .entry-of in
     let s = now (start .args .s) in let l = start .args .l in let name = start .args .name in
-    let h = said s l (bytesOf s name) (loop .e) (entry-of .result) (c .before .is-text .result) (entry-of .ensures) (c .before .is-text .ensures) in
-    sym (nesting s (bytesOf s name) (lookup-at (packOf s .lookups) l) (start .args .v) (start .pre .1) (if1 .left)
-    ∙ any-hit (nests s l (bytesOf s name)) (length (lookup-at (packOf s .lookups) l .entries)) (loop .e)
+    let h = said s l (bytes-of s name) (loop .e) (entry-of .result) (c .before .is-text .result) (entry-of .ensures) (c .before .is-text .ensures) in
+    sym (nesting s (bytes-of s name) (lookup-at (pack-of s .lookups) l) (start .args .v) (start .pre .1) (if1 .left)
+    ∙ any-hit (nests s l (bytes-of s name)) (length (lookup-at (pack-of s .lookups) l .entries)) (loop .e)
     (omega (arith, start .pre .1 .entries, loop-test .taken)) (h ∙ c .if2 .taken))
 
 add-e : tie.Need-add-e Inv-loop μ-loop
@@ -76,16 +76,16 @@ loop-again c =
     let loop = c .before .before .before .before .loop in
     let entry-of = c .before .before .entry-of in
     let s = now (start .args .s) in let l = start .args .l in let name = start .args .name in
-    let h = said s l (bytesOf s name) (loop .e) (entry-of .result) (c .before .is-text .result) (entry-of .ensures) (c .before .is-text .ensures) in
-    (omega (arith, c), any-turn (nests s l (bytesOf s name)) (loop .e) ∙ (rw (loop .inv .1, h ∙ c .if2 .left)))
+    let h = said s l (bytes-of s name) (loop .e) (entry-of .result) (c .before .is-text .result) (entry-of .ensures) (c .before .is-text .ensures) in
+    (omega (arith, c), any-turn (nests s l (bytes-of s name)) (loop .e) ∙ (rw (loop .inv .1, h ∙ c .if2 .left)))
 
 returns-3 : tie.Need-returns-3 Inv-loop μ-loop
 returns-3 c =
     let start = c .before .before .before .before .before .before in
     let s = now (start .args .s) in let l = start .args .l in
-    let q : length (lookup-at (packOf s .lookups) l .entries) ≡ c .before .loop .e =
+    let q : length (lookup-at (pack-of s .lookups) l .entries) ≡ c .before .loop .e =
     omega (arith, start .pre .1 .entries, c .before .loop .inv .0, c .loop-test .left) in
-    sym (nesting s (bytesOf s (start .args .name)) (lookup-at (packOf s .lookups) l) (start .args .v) (start .pre .1) (c .before .before .if1 .left)
+    sym (nesting s (bytes-of s (start .args .name)) (lookup-at (pack-of s .lookups) l) (start .args .v) (start .pre .1) (c .before .before .if1 .left)
     ∙ (rw (q, c .before .loop .inv .1)))
 
 pub referenced-by-lookup-spec : {M : Type 1} → statement M

@@ -1,7 +1,7 @@
-use Rattle.pack.specs.Items.{bytesOf}
+use Rattle.pack.specs.Items.{bytes-of}
 use Rattle.pack.proofs.Positions.{lookup-place-next}
 use Rattle.rules.proofs.Sizes.{at-lookup, entries-few, lookups-few}
-use Rattle.rules.specs.Search.{anyBelow}
+use Rattle.rules.specs.Search.{any-below}
 use Rattle.rules.specs.SearchLaws.{any-turn, any-hit}
 use Rattle.rules.specs.LookupWiring.{referenced-by-lookup}
 use borrow.Author.Needs.{needs}
@@ -12,18 +12,18 @@ use mathlib.Core.Bool.{Bool, false}
 use mathlib.Core.List.{List}
 use lib.ListN.{length}
 use denote.Ref.{now}
-use Rattle.pack.specs.Ready.{lookupPlace}
-use Rattle.pack.specs.Meaning.{packOf}
+use Rattle.pack.specs.Ready.{place-of-lookup}
+use Rattle.pack.specs.Meaning.{pack-of}
 use Rattle.pack.specs.Value.{lookup-at}
 use Rattle.rules.proofs.lookup_uses.referenced_by_lookups.Statement.{statement}
 use Rattle.rules.proofs.lookup_uses.referenced_by_lookups.Tie as tie
 
 -- whether lookup l nests the name
 abbrev has : List ℕ → List ℕ → ℕ → Bool
-has s name l = referenced-by-lookup name (lookup-at (packOf s .lookups) l)
+has s name l = referenced-by-lookup name (lookup-at (pack-of s .lookups) l)
 
 abbrev Inv-loop : tie.InvT-loop
-Inv-loop s work name count p₀ l₀ p l = (l ≤ count) × (p ≡ lookupPlace (packOf s) l) × (anyBelow (has s (bytesOf s name)) l ≡ false)
+Inv-loop s work name count p₀ l₀ p l = (l ≤ count) × (p ≡ place-of-lookup (pack-of s) l) × (any-below (has s (bytes-of s name)) l ≡ false)
 
 abbrev μ-loop : tie.MeasureT-loop
 μ-loop s work name count p₀ l₀ p l = count - l
@@ -47,7 +47,7 @@ returns c =
     let loop = c .before .before .before .before .loop in
     let loop-test = c .before .before .before .loop-test in
     let s = now (start .args .s) in
-    sym (any-hit (has s (bytesOf s (start .args .name))) (length (packOf s .lookups)) (loop .l) (omega (arith, start .pre .1, loop-test .taken))
+    sym (any-hit (has s (bytes-of s (start .args .name))) (length (pack-of s .lookups)) (loop .l) (omega (arith, start .pre .1, loop-test .taken))
     (sym (c .before .referenced-by-lookup .ensures) ∙ c .if1 .taken))
 
 add-p : tie.Need-add-p Inv-loop μ-loop
@@ -90,15 +90,15 @@ loop-again c =
     let lookup-of = c .before .before .before .lookup-of in
     let s = now (start .args .s) in (
       omega (arith, c),
-      omega (arith, lookup-place-next (packOf s) (loop .l), lookup-of .ensures .entries, loop .inv .1),
-      any-turn (has s (bytesOf s (start .args .name))) (loop .l)
+      omega (arith, lookup-place-next (pack-of s) (loop .l), lookup-of .ensures .entries, loop .inv .1),
+      any-turn (has s (bytes-of s (start .args .name))) (loop .l)
           ∙ (rw (loop .inv .2, sym (c .before .before .referenced-by-lookup .ensures) ∙ c .before .if1 .left)),
     )
 
 returns-2 : tie.Need-returns-2 Inv-loop μ-loop
 returns-2 c =
     let start = c .before .before .before .before in
-    let q : length (packOf (now (start .args .s)) .lookups) ≡ c .before .loop .l = omega (arith, start .pre .1, c .before .loop .inv .0, c .loop-test .left) in
+    let q : length (pack-of (now (start .args .s)) .lookups) ≡ c .before .loop .l = omega (arith, start .pre .1, c .before .loop .inv .0, c .loop-test .left) in
     rw (q, c .before .loop .inv .2)
 
 pub referenced-by-lookups-spec : {M : Type 1} → statement M

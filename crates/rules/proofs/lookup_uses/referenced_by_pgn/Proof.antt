@@ -1,8 +1,8 @@
 use Rattle.pack.specs.declared.field.FieldView.{FieldView}
-use Rattle.pack.specs.Meaning.{optReference, packOf, fieldMeaning}
-use Rattle.pack.specs.Items.{bytesOf}
+use Rattle.pack.specs.Meaning.{optional-reference, pack-of, field-meaning}
+use Rattle.pack.specs.Items.{bytes-of}
 use Rattle.pack.specs.Value.{pgn-at, field-at}
-use Rattle.rules.specs.Search.{anyBelow}
+use Rattle.rules.specs.Search.{any-below}
 use Rattle.rules.specs.SearchLaws.{any-turn, any-hit}
 use Rattle.rules.specs.LookupWiring.{ref-is, referenced-by-pgn}
 use borrow.Author.Needs.{needs}
@@ -18,14 +18,14 @@ use Rattle.rules.proofs.lookup_uses.referenced_by_pgn.Tie as tie
 
 -- whether field k references the name
 abbrev refers : List ℕ → ℕ → ℕ → List ℕ → ℕ → Bool
-refers s t i name k = ref-is (field-at (pgn-at (packOf s) t i) k .reference) name
+refers s t i name k = ref-is (field-at (pgn-at (pack-of s) t i) k .reference) name
 
-said : (s : List ℕ) (t i : ℕ) (name : List ℕ) (k : ℕ) (v : FieldView) (r : Bool) → fieldMeaning s v ≡ field-at (pgn-at (packOf s) t i) k
-    → r ≡ ref-is (optReference s (v .links .reference)) name → refers s t i name k ≡ r
+said : (s : List ℕ) (t i : ℕ) (name : List ℕ) (k : ℕ) (v : FieldView) (r : Bool) → field-meaning s v ≡ field-at (pgn-at (pack-of s) t i) k
+    → r ≡ ref-is (optional-reference s (v .links .reference)) name → refers s t i name k ≡ r
 said s t i name k v r y h = sym (h ∙ (λ j. ref-is (y j .reference) name))
 
 abbrev Inv-loop : tie.InvT-loop
-Inv-loop s work t i p fields name k₀ k = (k ≤ fields) × (anyBelow (refers s t i (bytesOf s name)) k ≡ false)
+Inv-loop s work t i p fields name k₀ k = (k ≤ fields) × (any-below (refers s t i (bytes-of s name)) k ≡ false)
 
 abbrev μ-loop : tie.MeasureT-loop
 μ-loop s work t i p fields name k₀ k = fields - k
@@ -49,8 +49,8 @@ returns c =
     let loop-test = c .before .before .before .loop-test in
     let field-of = c .before .before .field-of in
     let s = now (start .args .s) in let t = start .args .t in let i = start .args .i in let name = start .args .name in
-    let h = said s t i (bytesOf s name) (loop .k) (field-of .result) (c .before .ref-is .result) (field-of .ensures) (c .before .ref-is .ensures) in
-    sym (any-hit (refers s t i (bytesOf s name)) (length (pgn-at (packOf s) t i .fields)) (loop .k) (omega (arith, start .pre .1, loop-test .taken))
+    let h = said s t i (bytes-of s name) (loop .k) (field-of .result) (c .before .ref-is .result) (field-of .ensures) (c .before .ref-is .ensures) in
+    sym (any-hit (refers s t i (bytes-of s name)) (length (pgn-at (pack-of s) t i .fields)) (loop .k) (omega (arith, start .pre .1, loop-test .taken))
     (h ∙ c .if1 .taken))
 
 add-k : tie.Need-add-k Inv-loop μ-loop
@@ -65,14 +65,14 @@ loop-again c =
     let loop = c .before .before .before .before .loop in
     let field-of = c .before .before .field-of in
     let s = now (start .args .s) in let t = start .args .t in let i = start .args .i in let name = start .args .name in
-    let h = said s t i (bytesOf s name) (loop .k) (field-of .result) (c .before .ref-is .result) (field-of .ensures) (c .before .ref-is .ensures) in
-    (omega (arith, c), any-turn (refers s t i (bytesOf s name)) (loop .k) ∙ (rw (loop .inv .1, h ∙ c .if1 .left)))
+    let h = said s t i (bytes-of s name) (loop .k) (field-of .result) (c .before .ref-is .result) (field-of .ensures) (c .before .ref-is .ensures) in
+    (omega (arith, c), any-turn (refers s t i (bytes-of s name)) (loop .k) ∙ (rw (loop .inv .1, h ∙ c .if1 .left)))
 
 returns-2 : tie.Need-returns-2 Inv-loop μ-loop
 unfolding referenced-by-pgn
 returns-2 c =
     let start = c .before .before .before .before in
-    let q : length (pgn-at (packOf (now (start .args .s))) (start .args .t) (start .args .i) .fields) ≡ c .before .loop .k =
+    let q : length (pgn-at (pack-of (now (start .args .s))) (start .args .t) (start .args .i) .fields) ≡ c .before .loop .k =
     omega (arith, start .pre .1, c .before .loop .inv .0, c .loop-test .left) in
     rw (q, c .before .loop .inv .1)
 

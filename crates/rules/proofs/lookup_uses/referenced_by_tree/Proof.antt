@@ -1,8 +1,8 @@
-use Rattle.pack.specs.Ready.{pgnPlace}
-use Rattle.pack.specs.Items.{bytesOf}
+use Rattle.pack.specs.Ready.{place-of-pgn}
+use Rattle.pack.specs.Items.{bytes-of}
 use Rattle.pack.proofs.Positions.{pgn-place-next}
 use Rattle.rules.proofs.Sizes.{at-pgn, fields-few, pgns-few}
-use Rattle.rules.specs.Search.{anyBelow}
+use Rattle.rules.specs.Search.{any-below}
 use Rattle.rules.specs.SearchLaws.{any-turn, any-hit}
 use Rattle.rules.specs.LookupWiring.{referenced-by-pgn, referenced-by-tree}
 use borrow.Author.Needs.{needs}
@@ -13,17 +13,17 @@ use mathlib.Core.Bool.{Bool, false}
 use mathlib.Core.List.{List}
 use lib.ListN.{length}
 use denote.Ref.{now}
-use Rattle.pack.specs.Meaning.{packOf}
+use Rattle.pack.specs.Meaning.{pack-of}
 use Rattle.pack.specs.Value.{pgns-of, pgn-at}
 use Rattle.rules.proofs.lookup_uses.referenced_by_tree.Statement.{statement}
 use Rattle.rules.proofs.lookup_uses.referenced_by_tree.Tie as tie
 
 -- whether PGN i references the name
 abbrev has : List ℕ → ℕ → List ℕ → ℕ → Bool
-has s t name i = referenced-by-pgn name (pgn-at (packOf s) t i)
+has s t name i = referenced-by-pgn name (pgn-at (pack-of s) t i)
 
 abbrev Inv-loop : tie.InvT-loop
-Inv-loop s work t name count p₀ i₀ p i = (i ≤ count) × (p ≡ pgnPlace (packOf s) t i) × (anyBelow (has s t (bytesOf s name)) i ≡ false)
+Inv-loop s work t name count p₀ i₀ p i = (i ≤ count) × (p ≡ place-of-pgn (pack-of s) t i) × (any-below (has s t (bytes-of s name)) i ≡ false)
 
 abbrev μ-loop : tie.MeasureT-loop
 μ-loop s work t name count p₀ i₀ p i = count - i
@@ -50,7 +50,7 @@ returns c =
     let loop = c .before .before .before .before .loop in
     let loop-test = c .before .before .before .loop-test in
     let s = now (start .args .s) in let t = start .args .t in
-    sym (any-hit (has s t (bytesOf s (start .args .name))) (length (pgns-of (packOf s) t)) (loop .i) (omega (arith, start .pre .2, loop-test .taken))
+    sym (any-hit (has s t (bytes-of s (start .args .name))) (length (pgns-of (pack-of s) t)) (loop .i) (omega (arith, start .pre .2, loop-test .taken))
     (sym (c .before .referenced-by-pgn .ensures) ∙ c .if1 .taken))
 
 add-p : tie.Need-add-p Inv-loop μ-loop
@@ -93,8 +93,8 @@ loop-again c =
     let pgn-of = c .before .before .before .pgn-of in
     let s = now (start .args .s) in let t = start .args .t in (
       omega (arith, c),
-      omega (arith, pgn-place-next (packOf s) t (loop .i), pgn-of .ensures .fields, loop .inv .1),
-      any-turn (has s t (bytesOf s (start .args .name))) (loop .i)
+      omega (arith, pgn-place-next (pack-of s) t (loop .i), pgn-of .ensures .fields, loop .inv .1),
+      any-turn (has s t (bytes-of s (start .args .name))) (loop .i)
           ∙ (rw (loop .inv .2, sym (c .before .before .referenced-by-pgn .ensures) ∙ c .before .if1 .left)),
     )
 
@@ -102,7 +102,7 @@ returns-2 : tie.Need-returns-2 Inv-loop μ-loop
 unfolding referenced-by-tree
 returns-2 c =
     let start = c .before .before .before .before in
-    let q : length (pgns-of (packOf (now (start .args .s))) (start .args .t)) ≡ c .before .loop .i =
+    let q : length (pgns-of (pack-of (now (start .args .s))) (start .args .t)) ≡ c .before .loop .i =
     omega (arith, start .pre .2, c .before .loop .inv .0, c .loop-test .left) in
     rw (q, c .before .loop .inv .2)
 

@@ -1,6 +1,6 @@
-use Rattle.pack.specs.Items.{bytesOf}
+use Rattle.pack.specs.Items.{bytes-of}
 use Rattle.rules.proofs.Sections.{at-tree}
-use Rattle.rules.specs.Search.{anyBelow}
+use Rattle.rules.specs.Search.{any-below}
 use Rattle.rules.specs.SearchLaws.{any-turn, any-hit}
 use Rattle.rules.specs.LookupWiring.{referenced-by-tree}
 use borrow.Author.Needs.{needs}
@@ -10,16 +10,16 @@ use mathlib.Core.Path.{_≡_, refl, sym, _∙_, ap}
 use mathlib.Core.Bool.{Bool, false}
 use mathlib.Core.List.{List}
 use denote.Ref.{now}
-use Rattle.pack.specs.Meaning.{packOf}
+use Rattle.pack.specs.Meaning.{pack-of}
 use Rattle.rules.proofs.lookup_uses.referenced_by_trees.Statement.{statement}
 use Rattle.rules.proofs.lookup_uses.referenced_by_trees.Tie as tie
 
 -- whether tree t references the name
 abbrev has : List ℕ → List ℕ → ℕ → Bool
-has s name t = referenced-by-tree (packOf s) name t
+has s name t = referenced-by-tree (pack-of s) name t
 
 abbrev Inv-loop : tie.InvT-loop
-Inv-loop s work index name t₀ t = (t ≤ 3) × (anyBelow (has s (bytesOf s name)) t ≡ false)
+Inv-loop s work index name t₀ t = (t ≤ 3) × (any-below (has s (bytes-of s name)) t ≡ false)
 
 abbrev μ-loop : tie.MeasureT-loop
 μ-loop s work index name t₀ t = 3 - t
@@ -38,7 +38,7 @@ referenced-by-tree-requires c κs =
     let start = c .before .before .before .before .before .before in
     let loop = c .before .before .before .loop in
     let loop-test = c .before .before .loop-test in
-    let a = at-tree (packOf (now (start .args .s))) (start .args .index) (start .pre .1) (loop .t) (loop-test .taken) (c .before .of-tree .result)
+    let a = at-tree (pack-of (now (start .args .s))) (start .args .index) (start .pre .1) (loop .t) (loop-test .taken) (c .before .of-tree .result)
     (c .section .result) (c .before .of-tree .ensures) (c .section .ensures) in
     (start .pre .0, loop-test .taken, a .0, a .1)
 
@@ -48,7 +48,7 @@ returns c =
     let loop = c .before .before .before .before .before .loop in
     let loop-test = c .before .before .before .before .loop-test in
     let s = now (start .args .s) in
-    sym (any-hit (has s (bytesOf s (start .args .name))) 3 (loop .t) (loop-test .taken) (sym (c .before .referenced-by-tree .ensures) ∙ c .if1 .taken))
+    sym (any-hit (has s (bytes-of s (start .args .name))) 3 (loop .t) (loop-test .taken) (sym (c .before .referenced-by-tree .ensures) ∙ c .if1 .taken))
 
 add-t : tie.Need-add-t Inv-loop μ-loop
 add-t c =
@@ -64,7 +64,7 @@ loop-again c =
     let loop = c .before .before .before .before .before .loop in
     let s = now (start .args .s) in (
       omega (arith, c),
-      any-turn (has s (bytesOf s (start .args .name))) (loop .t) ∙ (rw (loop .inv .1, sym (c .before .referenced-by-tree .ensures) ∙ c .if1 .left)),
+      any-turn (has s (bytes-of s (start .args .name))) (loop .t) ∙ (rw (loop .inv .1, sym (c .before .referenced-by-tree .ensures) ∙ c .if1 .left)),
     )
 
 returns-2 : tie.Need-returns-2 Inv-loop μ-loop
@@ -72,7 +72,7 @@ returns-2 c =
     let start = c .before .before .before .before in
     let s = now (start .args .s) in
     let q : c .before .loop .t ≡ 3 = omega (arith, c .before .loop .inv .0, c .loop-test .left) in
-    sym (ap (anyBelow (has s (bytesOf s (start .args .name)))) (sym q) ∙ c .before .loop .inv .1)
+    sym (ap (any-below (has s (bytes-of s (start .args .name)))) (sym q) ∙ c .before .loop .inv .1)
 
 pub referenced-by-trees-spec : {M : Type 1} → statement M
 referenced-by-trees-spec =

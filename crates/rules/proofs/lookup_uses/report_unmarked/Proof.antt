@@ -6,7 +6,7 @@ use mathlib.Core.Bool.{Bool, false, not}
 use mathlib.Core.List.{List}
 use lib.ListN.{length, getD}
 use denote.Ref.{now}
-use Rattle.pack.specs.Notation.{concatBelow}
+use Rattle.pack.specs.Notation.{concat-below}
 use Rattle.rules.specs.declared.Finding.{Finding}
 use Rattle.rules.specs.Emit.{Emitted}
 use Rattle.rules.specs.Findings.{report-if, lookup-warning}
@@ -22,7 +22,7 @@ said : (marks : List Bool) (l : ℕ) (F : Finding) → F ≡ lookup-warning 22 1
 said marks l F y = ap (λ (G : Finding). report-if (not (getD marks l false)) G) (sym y)
 
 abbrev Inv-loop : tie.InvT-loop
-Inv-loop out₀ n marks count m₀ l₀ out m l = (l ≤ count) × (length out ≡ length out₀) × Emitted out₀ n (concatBelow (of-mark marks) l) out m
+Inv-loop out₀ n marks count m₀ l₀ out m l = (l ≤ count) × (length out ≡ length out₀) × Emitted out₀ n (concat-below (of-mark marks) l) out m
 
 abbrev μ-loop : tie.MeasureT-loop
 μ-loop out₀ n marks count m₀ l₀ out m l = count - l

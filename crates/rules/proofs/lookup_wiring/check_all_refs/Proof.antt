@@ -7,8 +7,8 @@ use mathlib.Core.Path.{_≡_, refl, _∙_}
 use mathlib.Core.List.{List}
 use lib.ListN.{length}
 use denote.Ref.{now}
-use Rattle.pack.specs.Notation.{concatBelow}
-use Rattle.pack.specs.Meaning.{packOf}
+use Rattle.pack.specs.Notation.{concat-below}
+use Rattle.pack.specs.Meaning.{pack-of}
 use Rattle.pack.specs.Value.{pgns-of, pgn-at}
 use Rattle.rules.specs.declared.Finding.{Finding}
 use Rattle.rules.specs.Emit.{Emitted}
@@ -18,10 +18,10 @@ use Rattle.rules.proofs.lookup_wiring.check_all_refs.Tie as tie
 
 -- the findings of tree t
 abbrev of-tree : List ℕ → ℕ → List Finding
-of-tree s t = concatBelow (λ i. check-lookup-refs (packOf s .lookups) t i (pgn-at (packOf s) t i)) (length (pgns-of (packOf s) t))
+of-tree s t = concat-below (λ i. check-lookup-refs (pack-of s .lookups) t i (pgn-at (pack-of s) t i)) (length (pgns-of (pack-of s) t))
 
 abbrev Inv-loop : tie.InvT-loop
-Inv-loop out₀ n s work index m₀ t₀ out m t = (t ≤ 3) × (length out ≡ length out₀) × Emitted out₀ n (concatBelow (of-tree s) t) out m
+Inv-loop out₀ n s work index m₀ t₀ out m t = (t ≤ 3) × (length out ≡ length out₀) × Emitted out₀ n (concat-below (of-tree s) t) out m
 
 abbrev μ-loop : tie.MeasureT-loop
 μ-loop out₀ n s work index m₀ t₀ out m t = 3 - t
@@ -44,7 +44,7 @@ check-tree-refs-requires c κs =
     let loop-test = c .before .before .before .loop-test in
     let of-tree-call = c .before .before .of-tree in
     let s = now (start .args .s) in
-    let a = at-tree (packOf s) (start .args .index) (start .pre .2) (loop .t) (loop-test .taken) (of-tree-call .result) (c .before .section .result)
+    let a = at-tree (pack-of s) (start .args .index) (start .pre .2) (loop .t) (loop-test .taken) (of-tree-call .result) (c .before .section .result)
     (of-tree-call .ensures) (c .before .section .ensures) in (
       fits-turn (of-tree s) 3 (loop .t) (loop-test .taken) (start .pre .0) (loop .inv .2),
       start .pre .1,

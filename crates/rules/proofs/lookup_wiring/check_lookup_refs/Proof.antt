@@ -1,6 +1,6 @@
 use Rattle.pack.specs.declared.field.FieldView.{FieldView}
 use Rattle.pack.specs.Value.{Lookup, Field, pgn-at, field-at}
-use Rattle.pack.specs.Meaning.{optReference, packOf, fieldMeaning}
+use Rattle.pack.specs.Meaning.{optional-reference, pack-of, field-meaning}
 use Rattle.rules.proofs.Sizes.{fields-few}
 use Rattle.rules.specs.LookupWiring.{lookup-ref-at, check-lookup-refs}
 use borrow.Author.Needs.{needs}
@@ -10,7 +10,7 @@ use mathlib.Core.Path.{_≡_, refl, _∙_}
 use mathlib.Core.List.{List}
 use lib.ListN.{length}
 use denote.Ref.{now}
-use Rattle.pack.specs.Notation.{concatBelow}
+use Rattle.pack.specs.Notation.{concat-below}
 use Rattle.rules.specs.declared.Finding.{Finding}
 use Rattle.rules.specs.Emit.{Emitted, Fits}
 use Rattle.rules.proofs.Emits.{emitted-none, emitted-turn, fits-turn}
@@ -19,18 +19,18 @@ use Rattle.rules.proofs.lookup_wiring.check_lookup_refs.Tie as tie
 
 -- the findings of field k
 abbrev of-field : List ℕ → ℕ → ℕ → ℕ → List Finding
-of-field s t i k = lookup-ref-at (packOf s .lookups) t i k (field-at (pgn-at (packOf s) t i) k) (field-at (pgn-at (packOf s) t i) k .reference)
+of-field s t i k = lookup-ref-at (pack-of s .lookups) t i k (field-at (pgn-at (pack-of s) t i) k) (field-at (pgn-at (pack-of s) t i) k .reference)
 
-module _ (s : List ℕ) (ls : List Lookup) (t i k : ℕ) (v : FieldView) (F : Field) (is : fieldMeaning s v ≡ F) where
-  asked : {m : ℕ} → Fits m (lookup-ref-at ls t i k F (F .reference)) → Fits m (lookup-ref-at ls t i k (fieldMeaning s v) (optReference s (v .links .reference)))
+module _ (s : List ℕ) (ls : List Lookup) (t i k : ℕ) (v : FieldView) (F : Field) (is : field-meaning s v ≡ F) where
+  asked : {m : ℕ} → Fits m (lookup-ref-at ls t i k F (F .reference)) → Fits m (lookup-ref-at ls t i k (field-meaning s v) (optional-reference s (v .links .reference)))
   asked h = rw (← is) at h
 
-  told : {o o′ : List ℕ} {n m : ℕ} → Emitted o n (lookup-ref-at ls t i k (fieldMeaning s v) (optReference s (v .links .reference))) o′ m
+  told : {o o′ : List ℕ} {n m : ℕ} → Emitted o n (lookup-ref-at ls t i k (field-meaning s v) (optional-reference s (v .links .reference))) o′ m
       → Emitted o n (lookup-ref-at ls t i k F (F .reference)) o′ m
   told h = rw (← is) h
 
 abbrev Inv-loop : tie.InvT-loop
-Inv-loop out₀ n s work lookups t i p fields m₀ k₀ out m k = (k ≤ fields) × (length out ≡ length out₀) × Emitted out₀ n (concatBelow (of-field s t i) k) out m
+Inv-loop out₀ n s work lookups t i p fields m₀ k₀ out m k = (k ≤ fields) × (length out ≡ length out₀) × Emitted out₀ n (concat-below (of-field s t i) k) out m
 
 abbrev μ-loop : tie.MeasureT-loop
 μ-loop out₀ n s work lookups t i p fields m₀ k₀ out m k = fields - k
@@ -51,7 +51,7 @@ lookup-ref-at-requires c κs =
     let start = c .before .before .before .before .before .before .before in
     let loop = c .before .before .before .loop in
     let s = now (start .args .s) in let t = start .args .t in let i = start .args .i in (
-      asked s (packOf s .lookups) t i (loop .k) (c .before .field-of .result) (field-at (pgn-at (packOf s) t i) (loop .k)) (c .before .field-of .ensures)
+      asked s (pack-of s .lookups) t i (loop .k) (c .before .field-of .result) (field-at (pgn-at (pack-of s) t i) (loop .k)) (c .before .field-of .ensures)
           (fits-turn (of-field s t i) (start .args .fields) (loop .k) (c .before .before .loop-test .taken) (rw (← start .pre .4) at (start .pre .0))
           (loop .inv .2)),
       start .pre .1 .ready,
@@ -77,8 +77,8 @@ loop-again c =
     let s = now (start .args .s) in let t = start .args .t in let i = start .args .i in (
       omega (arith, c),
       lookup-ref-at-call .kept .0 ∙ loop .inv .1,
-      emitted-turn (of-field s t i) (loop .k) (loop .inv .2) (told s (packOf s .lookups) t i (loop .k) (field-of .result)
-          (field-at (pgn-at (packOf s) t i) (loop .k)) (field-of .ensures) (lookup-ref-at-call .ensures)),
+      emitted-turn (of-field s t i) (loop .k) (loop .inv .2) (told s (pack-of s .lookups) t i (loop .k) (field-of .result)
+          (field-at (pgn-at (pack-of s) t i) (loop .k)) (field-of .ensures) (lookup-ref-at-call .ensures)),
     )
 
 same-length : tie.Need-same-length Inv-loop μ-loop
@@ -88,7 +88,7 @@ returns : tie.Need-returns Inv-loop μ-loop
 unfolding check-lookup-refs
 returns c =
     let start = c .before .before .before .before .before in
-    let e : length (pgn-at (packOf (now (start .args .s))) (start .args .t) (start .args .i) .fields) ≡ c .before .loop .k =
+    let e : length (pgn-at (pack-of (now (start .args .s))) (start .args .t) (start .args .i) .fields) ≡ c .before .loop .k =
     omega (arith, start .pre .4, c .before .loop .inv .0, c .loop-test .left) in
     rw e (c .before .loop .inv .2)
 

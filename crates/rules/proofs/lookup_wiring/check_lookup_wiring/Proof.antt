@@ -5,8 +5,8 @@ use mathlib.Core.Bool.{not}
 use mathlib.Core.List.{List, _++_}
 use lib.ListN.{length}
 use denote.Ref.{now}
-use Rattle.pack.specs.Notation.{concatBelow}
-use Rattle.pack.specs.Meaning.{packOf}
+use Rattle.pack.specs.Notation.{concat-below}
+use Rattle.pack.specs.Meaning.{pack-of}
 use Rattle.rules.specs.declared.Finding.{Finding}
 use Rattle.rules.specs.Findings.{report-if, lookup-warning}
 use Rattle.rules.proofs.Emits.{emitted-append, fits-left, fits-right}
@@ -14,20 +14,20 @@ use Rattle.rules.proofs.lookup_wiring.check_lookup_wiring.Statement.{st
 use Rattle.rules.proofs.lookup_wiring.check_lookup_wiring.Tie as tie
 
 abbrev refs : Pack → List Finding
-refs P = concatBelow (λ t. concatBelow (λ i. check-lookup-refs (P .lookups) t i (pgn-at P t i)) (length (pgns-of P t))) 3
+refs P = concat-below (λ t. concat-below (λ i. check-lookup-refs (P .lookups) t i (pgn-at P t i)) (length (pgns-of P t))) 3
 
 abbrev nested : Pack → List Finding
-nested P = concatBelow (λ l. check-nested-refs P l (lookup-at (P .lookups) l)) (length (P .lookups))
+nested P = concat-below (λ l. check-nested-refs P l (lookup-at (P .lookups) l)) (length (P .lookups))
 
 abbrev unused : Pack → List Finding
-unused P = concatBelow (λ l. report-if (not (referenced P (lookup-at (P .lookups) l .name))) (lookup-warning 22 1 l 0 0)) (length (P .lookups))
+unused P = concat-below (λ l. report-if (not (referenced P (lookup-at (P .lookups) l .name))) (lookup-warning 22 1 l 0 0)) (length (P .lookups))
 
 check-all-refs-requires : tie.Need-check-all-refs-requires
 unfolding check-lookup-wiring
 check-all-refs-requires c κs =
     let start = c .before .before .before .before in
     let s = now (start .args .s) in (
-      fits-left (refs (packOf s)) (nested (packOf s)) (fits-left (refs (packOf s) ++ nested (packOf s)) (unused (packOf s)) (start .pre .0)),
+      fits-left (refs (pack-of s)) (nested (pack-of s)) (fits-left (refs (pack-of s) ++ nested (pack-of s)) (unused (pack-of s)) (start .pre .0)),
       start .pre .1,
       start .pre .2,
     )
@@ -38,7 +38,7 @@ check-all-nested-refs-requires c κs =
     let start = c .before .before .before .before .before .before .before .before in
     let check-all-refs = c .before .before .before .check-all-refs in
     let s = now (start .args .s) in (
-      fits-right (refs (packOf s)) (nested (packOf s)) (fits-left (refs (packOf s) ++ nested (packOf s)) (unused (packOf s)) (start .pre .0))
+      fits-right (refs (pack-of s)) (nested (pack-of s)) (fits-left (refs (pack-of s) ++ nested (pack-of s)) (unused (pack-of s)) (start .pre .0))
           (check-all-refs .ensures),
       start .pre .1,
       start .pre .2,
@@ -51,8 +51,8 @@ check-lookup-uses-requires c κs =
     let check-all-refs = c .before .before .before .before .before .before .before .check-all-refs in
     let check-all-nested-refs = c .before .before .before .check-all-nested-refs in
     let s = now (start .args .s) in (
-      fits-right (refs (packOf s) ++ nested (packOf s)) (unused (packOf s)) (start .pre .0)
-          (emitted-append {xs = refs (packOf s)} {ys = nested (packOf s)} (check-all-refs .ensures) (check-all-nested-refs .ensures)),
+      fits-right (refs (pack-of s) ++ nested (pack-of s)) (unused (pack-of s)) (start .pre .0)
+          (emitted-append {xs = refs (pack-of s)} {ys = nested (pack-of s)} (check-all-refs .ensures) (check-all-nested-refs .ensures)),
       start .pre .1,
       start .pre .2,
     )
@@ -68,8 +68,8 @@ returns c =
     let check-all-refs = c .before .before .before .before .before .before .before .before .before .before .check-all-refs in
     let check-all-nested-refs = c .before .before .before .before .before .before .check-all-nested-refs in
     let s = now (start .args .s) in
-    emitted-append {xs = refs (packOf s) ++ nested (packOf s)} {ys = unused (packOf s)}
-    (emitted-append {xs = refs (packOf s)} {ys = nested (packOf s)} (check-all-refs .ensures) (check-all-nested-refs .ensures))
+    emitted-append {xs = refs (pack-of s) ++ nested (pack-of s)} {ys = unused (pack-of s)}
+    (emitted-append {xs = refs (pack-of s)} {ys = nested (pack-of s)} (check-all-refs .ensures) (check-all-nested-refs .ensures))
     (c .before .before .check-lookup-uses .ensures)
 
 pub check-lookup-wiring-spec : {M : Type 1} → statement M

@@ -1,8 +1,8 @@
 use borrow.Author.Tests.{not-true, not-false}
 use Rattle.pack.specs.declared.field.OptReference.{OptReference}
 use Rattle.pack.specs.Value.{Lookup, Field}
-use Rattle.pack.specs.Meaning.{optReference, packOf, fieldMeaning}
-use Rattle.pack.specs.Items.{bytesOf}
+use Rattle.pack.specs.Meaning.{optional-reference, pack-of, field-meaning}
+use Rattle.pack.specs.Items.{bytes-of}
 use Rattle.rules.specs.Model.{find-lookup}
 use Rattle.rules.specs.LookupWiring.{lookup-found-at, lookup-ref-at}
 use borrow.Author.Needs.{needs}
@@ -20,16 +20,16 @@ use Rattle.rules.proofs.lookup_wiring.lookup_ref_at.Statement.{statemen
 use Rattle.rules.proofs.lookup_wiring.lookup_ref_at.Tie as tie
 
 module _ (s : List ℕ) (ls : List Lookup) (t i k : ℕ) (F : Field) (r : OptReference) where
-  absent : r .given ≡ false → lookup-ref-at ls t i k F (optReference s r) ≡ []
+  absent : r .given ≡ false → lookup-ref-at ls t i k F (optional-reference s r) ≡ []
   unfolding lookup-ref-at
   absent h = rw h
 
-  module _ (h : r .given ≡ true) (g : Bool) (l : ℕ) (e : optional g l ≡ find-lookup ls (bytesOf s (r .name))) where
-    unknown : g ≡ false → (E : Finding) → E ≡ pgn-error 8 1 t i k 0 → lookup-ref-at ls t i k F (optReference s r) ≡ E ∷ []
+  module _ (h : r .given ≡ true) (g : Bool) (l : ℕ) (e : optional g l ≡ find-lookup ls (bytes-of s (r .name))) where
+    unknown : g ≡ false → (E : Finding) → E ≡ pgn-error 8 1 t i k 0 → lookup-ref-at ls t i k F (optional-reference s r) ≡ E ∷ []
     unfolding lookup-ref-at lookup-found-at
     unknown d E y = rw (h, ← e, d, y)
 
-    known : g ≡ true → lookup-ref-at ls t i k F (optReference s r) ≡ lookup-found-at ls t i k F (record { kind = r .kind; name = bytesOf s (r .name) }) (some l)
+    known : g ≡ true → lookup-ref-at ls t i k F (optional-reference s r) ≡ lookup-found-at ls t i k F (record { kind = r .kind; name = bytes-of s (r .name) }) (some l)
     unfolding lookup-ref-at
     known d = rw (h, ← e, d)
 
@@ -37,7 +37,7 @@ returns : tie.Need-returns
 returns c =
     let start = c .before .before .before .before .before in
     let s = now (start .args .s) in
-    rw (absent s (packOf s .lookups) (start .args .t) (start .args .i) (start .args .k) (fieldMeaning s (start .args .f)) (start .args .f .links .reference)
+    rw (absent s (pack-of s .lookups) (start .args .t) (start .args .i) (start .args .k) (field-meaning s (start .args .f)) (start .args .f .links .reference)
     (not-true (start .args .f .links .reference .given) (c .if1 .taken))) (emitted-none (now (start .args .out)) (start .args .n))
 
 find-lookup-requires : tie.Need-find-lookup-requires
@@ -54,7 +54,7 @@ put-requires c κs =
     let if1 = c .before .before .before .before .before .if1 in
     let find-lookup-call = c .before .before .before .before .find-lookup in
     let s = now (start .args .s) in
-    rw (unknown s (packOf s .lookups) (start .args .t) (start .args .i) (start .args .k) (fieldMeaning s (start .args .f)) (start .args .f .links .reference)
+    rw (unknown s (pack-of s .lookups) (start .args .t) (start .args .i) (start .args .k) (field-meaning s (start .args .f)) (start .args .f .links .reference)
     (not-false (start .args .f .links .reference .given) (if1 .left)) (find-lookup-call .result .given) (find-lookup-call .result .index)
     (find-lookup-call .ensures .0) (not-true (find-lookup-call .result .given) (c .before .before .if2 .taken)) (c .pgn-error .result) (c .pgn-error .ensures))
     at (start .pre .0)
@@ -71,7 +71,7 @@ returns-2 c =
     let if2 = c .before .before .before .before .before .if2 in
     let pgn-error-call = c .before .before .before .pgn-error in
     let s = now (start .args .s) in
-    rw (unknown s (packOf s .lookups) (start .args .t) (start .args .i) (start .args .k) (fieldMeaning s (start .args .f)) (start .args .f .links .reference)
+    rw (unknown s (pack-of s .lookups) (start .args .t) (start .args .i) (start .args .k) (field-meaning s (start .args .f)) (start .args .f .links .reference)
     (not-false (start .args .f .links .reference .given) (if1 .left)) (find-lookup-call .result .given) (find-lookup-call .result .index)
     (find-lookup-call .ensures .0) (not-true (find-lookup-call .result .given) (if2 .taken)) (pgn-error-call .result) (pgn-error-call .ensures))
     (c .before .before .put .ensures)
@@ -82,7 +82,7 @@ lookup-found-at-requires c κs =
     let if1 = c .before .before .before .before .if1 in
     let find-lookup-call = c .before .before .before .find-lookup in
     let s = now (start .args .s) in (
-      rw (known s (packOf s .lookups) (start .args .t) (start .args .i) (start .args .k) (fieldMeaning s (start .args .f)) (start .args .f .links .reference)
+      rw (known s (pack-of s .lookups) (start .args .t) (start .args .i) (start .args .k) (field-meaning s (start .args .f)) (start .args .f .links .reference)
           (not-false (start .args .f .links .reference .given) (if1 .left)) (find-lookup-call .result .given) (find-lookup-call .result .index)
           (find-lookup-call .ensures .0) (not-false (find-lookup-call .result .given) (c .before .if2 .left))) at (start .pre .0),
       find-lookup-call .ensures .1 (not-false (find-lookup-call .result .given) (c .before .if2 .left)),
@@ -98,7 +98,7 @@ returns-3 c =
     let find-lookup-call = c .before .before .before .before .before .before .find-lookup in
     let if2 = c .before .before .before .before .if2 in
     let s = now (start .args .s) in
-    rw (known s (packOf s .lookups) (start .args .t) (start .args .i) (start .args .k) (fieldMeaning s (start .args .f)) (start .args .f .links .reference)
+    rw (known s (pack-of s .lookups) (start .args .t) (start .args .i) (start .args .k) (field-meaning s (start .args .f)) (start .args .f .links .reference)
     (not-false (start .args .f .links .reference .given) (if1 .left)) (find-lookup-call .result .given) (find-lookup-call .result .index)
     (find-lookup-call .ensures .0) (not-false (find-lookup-call .result .given) (if2 .left))) (c .before .before .lookup-found-at .ensures)
 

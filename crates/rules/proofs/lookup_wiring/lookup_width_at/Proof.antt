@@ -12,7 +12,7 @@ use mathlib.Core.List.{List, [], _∷_}
 use denote.Ref.{now}
 use Rattle.pack.specs.Notation.{if_then_else_, _==_}
 use Rattle.pack.specs.Ready.{LookupIs}
-use Rattle.pack.specs.Meaning.{packOf, fieldMeaning}
+use Rattle.pack.specs.Meaning.{pack-of, field-meaning}
 use Rattle.rules.specs.declared.Finding.{Finding}
 use Rattle.rules.specs.Findings.{report-if, pgn-error, pgn-warning}
 use Rattle.rules.proofs.lookup_wiring.lookup_width_at.Statement.{statement}
@@ -22,31 +22,31 @@ use Rattle.rules.proofs.lookup_wiring.lookup_width_at.Tie as tie
 abbrev chosen : (lost equal allowed : Bool) → (A B C : Finding) → List Finding
 chosen lost equal allowed A B C = if lost then A ∷ [] else if not equal && not allowed then B ∷ [] else report-if (not (not equal) && allowed) C
 
-module _ (s : List ℕ) (t i k l width : ℕ) (f : FieldView) (L : Lookup) (v : LookupView) (is : LookupIs s L v) (w : width ≡ value-bits (fieldMeaning s f))
+module _ (s : List ℕ) (t i k l width : ℕ) (f : FieldView) (L : Lookup) (v : LookupView) (is : LookupIs s L v) (w : width ≡ value-bits (field-meaning s f))
     (lost shared bad : Bool) (x : lost ≡ unreachable L width) (y : shared ≡ ((v .kind == 2) && f .flags .mismatch)) (z : bad ≡ (lost && not shared)) where
-  reached : (unreachable L (value-bits (fieldMeaning s f)) && not ((L .kind == 2) && f .flags .mismatch)) ≡ bad
+  reached : (unreachable L (value-bits (field-meaning s f)) && not ((L .kind == 2) && f .flags .mismatch)) ≡ bad
   reached =
-      let p : lost ≡ unreachable L (value-bits (fieldMeaning s f)) = x ∙ ap (unreachable L) w in
+      let p : lost ≡ unreachable L (value-bits (field-meaning s f)) = x ∙ ap (unreachable L) w in
       let q : shared ≡ ((L .kind == 2) && f .flags .mismatch) = y ∙ ap (λ (M : Lookup). (M .kind == 2) && f .flags .mismatch) (is .means) in
       sym (z ∙ (λ j. p j && not (q j)))
 
   by-tests : (equal : Bool) → (width == v .bits) ≡ equal
-      → lookup-width-at t i k (fieldMeaning s f) l L
+      → lookup-width-at t i k (field-meaning s f) l L
       ≡ chosen bad equal (f .flags .mismatch) (pgn-error 8 3 t i k l) (pgn-error 8 4 t i k l) (pgn-warning 8 5 t i k l)
   unfolding lookup-width-at
   by-tests equal d =
-      let q : (value-bits (fieldMeaning s f) == L .bits) ≡ equal = sym (λ j. w j == is .means j .bits) ∙ d in
+      let q : (value-bits (field-meaning s f) == L .bits) ≡ equal = sym (λ j. w j == is .means j .bits) ∙ d in
       λ j. chosen (reached j) (q j) (f .flags .mismatch) (pgn-error 8 3 t i k l) (pgn-error 8 4 t i k l) (pgn-warning 8 5 t i k l)
 
-  beyond : bad ≡ true → (F : Finding) → F ≡ pgn-error 8 3 t i k l → lookup-width-at t i k (fieldMeaning s f) l L ≡ F ∷ []
+  beyond : bad ≡ true → (F : Finding) → F ≡ pgn-error 8 3 t i k l → lookup-width-at t i k (field-meaning s f) l L ≡ F ∷ []
   beyond h F e = by-tests (width == v .bits) refl ∙ (rw (h, e))
 
   other : bad ≡ false → (width ≡ v .bits → ⊥) → (F : Finding) → F ≡ pgn-error 8 4 t i k l
-      → lookup-width-at t i k (fieldMeaning s f) l L ≡ report-if (not (f .flags .mismatch)) F
+      → lookup-width-at t i k (field-meaning s f) l L ≡ report-if (not (f .flags .mismatch)) F
   other h d F e = by-tests false (ne-eqb width (v .bits) d) ∙ (rw (h, e))
 
   same : bad ≡ false → width ≡ v .bits → (F : Finding) → F ≡ pgn-warning 8 5 t i k l
-      → lookup-width-at t i k (fieldMeaning s f) l L ≡ report-if (f .flags .mismatch) F
+      → lookup-width-at t i k (field-meaning s f) l L ≡ report-if (f .flags .mismatch) F
   same h d F e = by-tests true (eq-eqb width (v .bits) d) ∙ (rw (h, e))
 
 value-bits-requires : tie.Need-value-bits-requires
@@ -74,7 +74,7 @@ put-requires c κs =
     let shares-bits = c .before .before .before .before .shares-bits in
     let and-not = c .before .before .before .and-not in
     let s = now (start .args .s) in let l = start .args .l in
-    rw (beyond s (start .args .t) (start .args .i) (start .args .k) l (value-bits-call .result) (start .args .f) (lookup-at (packOf s .lookups) l)
+    rw (beyond s (start .args .t) (start .args .i) (start .args .k) l (value-bits-call .result) (start .args .f) (lookup-at (pack-of s .lookups) l)
     (start .args .v) (start .pre .2) (value-bits-call .ensures) (unreachable-call .result) (shares-bits .result) (and-not .result) (unreachable-call .ensures)
     (shares-bits .ensures) (and-not .ensures) (c .before .before .if1 .taken) (c .pgn-error .result) (c .pgn-error .ensures)) at (start .pre .0)
 
@@ -92,7 +92,7 @@ returns c =
     let if1 = c .before .before .before .before .before .if1 in
     let pgn-error-call = c .before .before .before .pgn-error in
     let s = now (start .args .s) in let l = start .args .l in
-    rw (beyond s (start .args .t) (start .args .i) (start .args .k) l (value-bits-call .result) (start .args .f) (lookup-at (packOf s .lookups) l)
+    rw (beyond s (start .args .t) (start .args .i) (start .args .k) l (value-bits-call .result) (start .args .f) (lookup-at (pack-of s .lookups) l)
     (start .args .v) (start .pre .2) (value-bits-call .ensures) (unreachable-call .result) (shares-bits .result) (and-not .result) (unreachable-call .ensures)
     (shares-bits .ensures) (and-not .ensures) (if1 .taken) (pgn-error-call .result) (pgn-error-call .ensures)) (c .before .before .put .ensures)
 
@@ -111,7 +111,7 @@ put-if-requires c κs =
     let and-not = c .before .before .before .before .before .and-not in
     let if1 = c .before .before .before .before .if1 in
     let s = now (start .args .s) in let l = start .args .l in
-    rw (other s (start .args .t) (start .args .i) (start .args .k) l (value-bits-call .result) (start .args .f) (lookup-at (packOf s .lookups) l)
+    rw (other s (start .args .t) (start .args .i) (start .args .k) l (value-bits-call .result) (start .args .f) (lookup-at (pack-of s .lookups) l)
     (start .args .v) (start .pre .2) (value-bits-call .ensures) (unreachable-call .result) (shares-bits .result) (and-not .result) (unreachable-call .ensures)
     (shares-bits .ensures) (and-not .ensures) (if1 .left) (c .before .before .if2 .taken) (c .pgn-error2 .result) (c .pgn-error2 .ensures)) at (start .pre .0)
 
@@ -130,7 +130,7 @@ returns-2 c =
     let if2 = c .before .before .before .before .before .if2 in
     let pgn-error2 = c .before .before .before .pgn-error2 in
     let s = now (start .args .s) in let l = start .args .l in
-    rw (other s (start .args .t) (start .args .i) (start .args .k) l (value-bits-call .result) (start .args .f) (lookup-at (packOf s .lookups) l)
+    rw (other s (start .args .t) (start .args .i) (start .args .k) l (value-bits-call .result) (start .args .f) (lookup-at (pack-of s .lookups) l)
     (start .args .v) (start .pre .2) (value-bits-call .ensures) (unreachable-call .result) (shares-bits .result) (and-not .result) (unreachable-call .ensures)
     (shares-bits .ensures) (and-not .ensures) (if1 .left) (if2 .taken) (pgn-error2 .result) (pgn-error2 .ensures)) (c .before .before .put-if .ensures)
 
@@ -146,7 +146,7 @@ put-if-requires-2 c κs =
     let and-not = c .before .before .before .before .before .and-not in
     let if1 = c .before .before .before .before .if1 in
     let s = now (start .args .s) in let l = start .args .l in
-    rw (same s (start .args .t) (start .args .i) (start .args .k) l (value-bits-call .result) (start .args .f) (lookup-at (packOf s .lookups) l)
+    rw (same s (start .args .t) (start .args .i) (start .args .k) l (value-bits-call .result) (start .args .f) (lookup-at (pack-of s .lookups) l)
     (start .args .v) (start .pre .2) (value-bits-call .ensures) (unreachable-call .result) (shares-bits .result) (and-not .result) (unreachable-call .ensures)
     (shares-bits .ensures) (and-not .ensures) (if1 .left) (c .before .before .if2 .left) (c .pgn-warning .result) (c .pgn-warning .ensures)) at (start .pre .0)
 
@@ -165,7 +165,7 @@ returns-3 c =
     let if2 = c .before .before .before .before .before .if2 in
     let pgn-warning-call = c .before .before .before .pgn-warning in
     let s = now (start .args .s) in let l = start .args .l in
-    rw (same s (start .args .t) (start .args .i) (start .args .k) l (value-bits-call .result) (start .args .f) (lookup-at (packOf s .lookups) l)
+    rw (same s (start .args .t) (start .args .i) (start .args .k) l (value-bits-call .result) (start .args .f) (lookup-at (pack-of s .lookups) l)
     (start .args .v) (start .pre .2) (value-bits-call .ensures) (unreachable-call .result) (shares-bits .result) (and-not .result) (unreachable-call .ensures)
     (shares-bits .ensures) (and-not .ensures) (if1 .left) (if2 .left) (pgn-warning-call .result) (pgn-warning-call .ensures))
     (c .before .before .put-if2 .ensures)

@@ -1,8 +1,8 @@
 use Rattle.rules.proofs.Sizes.{entries-few}
 use Rattle.pack.specs.declared.entry.EntryView.{EntryView}
-use Rattle.pack.specs.Value.{Lookup, noEntry, lookup-at}
-use Rattle.pack.specs.Meaning.{entryMeaning, packOf}
-use Rattle.rules.specs.Search.{anyBelow}
+use Rattle.pack.specs.Value.{Lookup, no-entry, lookup-at}
+use Rattle.pack.specs.Meaning.{entry-meaning, pack-of}
+use Rattle.rules.specs.Search.{any-below}
 use Rattle.rules.specs.SearchLaws.{any-turn, any-hit}
 use Rattle.rules.specs.LookupWiring.{beyond-width, unreachable}
 use borrow.Author.Needs.{needs}
@@ -18,14 +18,14 @@ use Rattle.rules.proofs.lookup_wiring.unreachable.Tie as tie
 
 -- whether entry e of lookup l is beyond the width
 abbrev beyond : List ℕ → ℕ → ℕ → ℕ → Bool
-beyond s l width e = beyond-width (lookup-at (packOf s .lookups) l .kind) width (getD (lookup-at (packOf s .lookups) l .entries) e noEntry .value)
+beyond s l width e = beyond-width (lookup-at (pack-of s .lookups) l .kind) width (getD (lookup-at (pack-of s .lookups) l .entries) e no-entry .value)
 
-said : (s : List ℕ) (l width e k : ℕ) (v : EntryView) (r : Bool) → k ≡ lookup-at (packOf s .lookups) l .kind
-    → entryMeaning s v ≡ getD (lookup-at (packOf s .lookups) l .entries) e noEntry → r ≡ beyond-width k width (v .value) → beyond s l width e ≡ r
+said : (s : List ℕ) (l width e k : ℕ) (v : EntryView) (r : Bool) → k ≡ lookup-at (pack-of s .lookups) l .kind
+    → entry-meaning s v ≡ getD (lookup-at (pack-of s .lookups) l .entries) e no-entry → r ≡ beyond-width k width (v .value) → beyond s l width e ≡ r
 said s l width e k v r x y h = sym (h ∙ (λ j. beyond-width (x j) width (y j .value)))
 
 abbrev Inv-loop : tie.InvT-loop
-Inv-loop s work l p width kind entries e₀ e = (e ≤ entries) × (anyBelow (beyond s l width) e ≡ false)
+Inv-loop s work l p width kind entries e₀ e = (e ≤ entries) × (any-below (beyond s l width) e ≡ false)
 
 abbrev μ-loop : tie.MeasureT-loop
 μ-loop s work l p width kind entries e₀ e = entries - e
@@ -51,7 +51,7 @@ returns c =
     let s = now (start .args .s) in let l = start .args .l in let width = start .args .width in
     let h = said s l width (loop .e) (start .args .v .kind) (entry-of .result) (c .before .beyond-width .result)
     (ap (λ (L : Lookup). L .kind) (start .pre .1 .means)) (entry-of .ensures) (c .before .beyond-width .ensures) in
-    sym (any-hit (beyond s l width) (length (lookup-at (packOf s .lookups) l .entries)) (loop .e) (omega (arith, start .pre .1 .entries, loop-test .taken))
+    sym (any-hit (beyond s l width) (length (lookup-at (pack-of s .lookups) l .entries)) (loop .e) (omega (arith, start .pre .1 .entries, loop-test .taken))
     (h ∙ c .if1 .taken))
 
 add-e : tie.Need-add-e Inv-loop μ-loop
@@ -77,7 +77,7 @@ returns-2 : tie.Need-returns-2 Inv-loop μ-loop
 unfolding unreachable
 returns-2 c =
     let start = c .before .before .before .before in
-    let q : length (lookup-at (packOf (now (start .args .s)) .lookups) (start .args .l) .entries) ≡ c .before .loop .e =
+    let q : length (lookup-at (pack-of (now (start .args .s)) .lookups) (start .args .l) .entries) ≡ c .before .loop .e =
     omega (arith, start .pre .1 .entries, c .before .loop .inv .0, c .loop-test .left) in
     rw (q, c .before .loop .inv .1)
 

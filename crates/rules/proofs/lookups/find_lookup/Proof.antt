@@ -1,11 +1,11 @@
 use Rattle.rules.proofs.Sizes.{at-lookup}
 use Rattle.rules.specs.Model.{find-lookup}
 use Rattle.rules.specs.SearchLaws.{first-turn, first-hit}
-use Rattle.rules.specs.Search.{firstBelow}
+use Rattle.rules.specs.Search.{first-below}
 use Rattle.pack.proofs.Positions.{lookup-place-next, lookup-room}
-use Rattle.pack.specs.Ready.{lookupPlace}
-use Rattle.pack.specs.Meaning.{packOf}
-use Rattle.pack.specs.Items.{bytesOf}
+use Rattle.pack.specs.Ready.{place-of-lookup}
+use Rattle.pack.specs.Meaning.{pack-of}
+use Rattle.pack.specs.Items.{bytes-of}
 use Rattle.pack.specs.Value.{Lookup, lookup-at}
 use Rattle.pack.specs.Notation.{_≐_}
 use mathlib.Core.Option.{none}
@@ -22,10 +22,10 @@ use Rattle.rules.proofs.lookups.find_lookup.Tie as tie
 
 -- whether lookup l has the name
 abbrev named : List ℕ → List ℕ → ℕ → Bool
-named s name l = lookup-at (packOf s .lookups) l .name ≐ name
+named s name l = lookup-at (pack-of s .lookups) l .name ≐ name
 
 abbrev Inv-loop : tie.InvT-loop
-Inv-loop s work name n place₀ index₀ place index = (index ≤ n) × (place ≡ lookupPlace (packOf s) index) × (firstBelow (named s (bytesOf s name)) index ≡ none)
+Inv-loop s work name n place₀ index₀ place index = (index ≤ n) × (place ≡ place-of-lookup (pack-of s) index) × (first-below (named s (bytes-of s name)) index ≡ none)
 
 abbrev μ-loop : tie.MeasureT-loop
 μ-loop s work name n place₀ index₀ place index = n - index
@@ -48,7 +48,7 @@ returns c =
     let loop = c .before .before .before .before .loop in
     let loop-test = c .before .before .before .loop-test in
     let s = now (start .args .s) in
-    let b = bytesOf s (start .args .name) in
+    let b = bytes-of s (start .args .name) in
     let e : named s b (loop .index) ≡ true =
     rw (← ap (λ (L : Lookup). L .name) (c .before .before .lookup-of .ensures .means), ← c .before .same-text .ensures) (c .if1 .taken) in (
       sym (rw (start .pre .1) at (first-hit (named s b) (start .args .lookups .count) (loop .index) (loop-test .taken) (loop .inv .2) e)),
@@ -85,11 +85,11 @@ loop-again c =
     let loop = c .before .before .before .before .before .loop in
     let lookup-of = c .before .before .before .lookup-of in
     let s = now (start .args .s) in
-    let b = bytesOf s (start .args .name) in
+    let b = bytes-of s (start .args .name) in
     let e : named s b (loop .index) ≡ false =
     rw (← ap (λ (L : Lookup). L .name) (lookup-of .ensures .means), ← c .before .before .same-text .ensures) (c .before .if1 .left) in (
       omega (arith, c),
-      omega (arith, lookup-place-next (packOf s) (loop .index), lookup-of .ensures .entries, loop .inv .1),
+      omega (arith, lookup-place-next (pack-of s) (loop .index), lookup-of .ensures .entries, loop .inv .1),
       first-turn (named s b) (loop .index) ∙ (rw (loop .inv .2, e)),
     )
 
@@ -97,7 +97,7 @@ returns-2 : tie.Need-returns-2 Inv-loop μ-loop
 unfolding find-lookup
 returns-2 c =
     let start = c .before .before .before .before in
-    let e : length (packOf (now (start .args .s)) .lookups) ≡ c .before .loop .index =
+    let e : length (pack-of (now (start .args .s)) .lookups) ≡ c .before .loop .index =
     omega (arith, start .pre .1, c .before .loop .inv .0, c .loop-test .left) in
     ((rw (e, c .before .loop .inv .2)), λ z. absurd (false≢true z))
 

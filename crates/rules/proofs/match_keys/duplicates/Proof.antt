@@ -9,7 +9,7 @@ use mathlib.Core.Bool.{true, false}
 use lib.ListN.{length}
 use denote.Ref.{now}
 use Rattle.pack.specs.Notation.{_≐_}
-use Rattle.pack.specs.Meaning.{packOf}
+use Rattle.pack.specs.Meaning.{pack-of}
 use borrow.Author.Needs.{needs}
 use Rattle.rules.proofs.match_keys.duplicates.Statement.{statement}
 use Rattle.rules.proofs.match_keys.duplicates.Tie as tie
@@ -37,7 +37,7 @@ returns : tie.Need-returns
 returns c =
     let start = c .before .before .before .before in
     let s = now (start .args .s) in let t = start .args .t in
-    first-none (pgn-at (packOf s) t (start .args .i)) (pgn-at (packOf s) t (start .args .j)) (start .args .m) (start .args .n) (start .pre .1) (start .pre .3)
+    first-none (pgn-at (pack-of s) t (start .args .i)) (pgn-at (pack-of s) t (start .args .j)) (start .args .m) (start .args .n) (start .pre .1) (start .pre .3)
     (sym (c .before .has-match .ensures) ∙ not-true (c .before .has-match .result) (c .if1 .taken))
 
 has-match-requires-2 : tie.Need-has-match-requires-2
@@ -48,7 +48,7 @@ returns-2 c =
     let start = c .before .before .before .before .before .before in
     let has-match-call = c .before .before .before .has-match in
     let s = now (start .args .s) in let t = start .args .t in
-    second-none (pgn-at (packOf s) t (start .args .i)) (pgn-at (packOf s) t (start .args .j)) (start .args .m) (start .args .n) (start .pre .1) (start .pre .3)
+    second-none (pgn-at (pack-of s) t (start .args .i)) (pgn-at (pack-of s) t (start .args .j)) (start .args .m) (start .args .n) (start .pre .1) (start .pre .3)
     (sym (has-match-call .ensures) ∙ not-false (has-match-call .result) (c .before .before .if1 .left))
     (sym (c .before .has-match2 .ensures) ∙ not-true (c .before .has-match2 .result) (c .if2 .taken))
 
@@ -63,7 +63,7 @@ returns-3 c =
     let has-match2 = c .before .before .has-match2 in
     let s = now (start .args .s) in let t = start .args .t in
     c .same-key .ensures
-    ∙ both (pgn-at (packOf s) t (start .args .i)) (pgn-at (packOf s) t (start .args .j)) (start .args .m) (start .args .n) (start .pre .1) (start .pre .3)
+    ∙ both (pgn-at (pack-of s) t (start .args .i)) (pgn-at (pack-of s) t (start .args .j)) (start .args .m) (start .args .n) (start .pre .1) (start .pre .3)
     (sym (has-match-call .ensures) ∙ not-false (has-match-call .result) (if1 .left))
     (sym (has-match2 .ensures) ∙ not-false (has-match2 .result) (c .before .if2 .left))
 

@@ -1,10 +1,10 @@
 use Rattle.pack.specs.declared.field.FieldView.{FieldView}
-use Rattle.pack.specs.Items.{bytesOf}
+use Rattle.pack.specs.Items.{bytes-of}
 use Rattle.pack.specs.Value.{Pgn, Field, pgn-at, field-at}
 use Rattle.rules.proofs.Types.{given-is}
 use Rattle.rules.specs.Model.{given}
 use Rattle.rules.specs.SearchLaws.{any-turn, any-hit}
-use Rattle.rules.specs.Search.{anyBelow}
+use Rattle.rules.specs.Search.{any-below}
 use Rattle.rules.specs.Variants.{has-match}
 use borrow.Author.Needs.{needs}
 use native.Mathlib.Omega.{arith}
@@ -13,7 +13,7 @@ use mathlib.Core.Path.{_≡_, refl, sym, _∙_, ap}
 use mathlib.Core.Bool.{Bool, false}
 use mathlib.Core.List.{List}
 use denote.Ref.{now}
-use Rattle.pack.specs.Meaning.{packOf, fieldMeaning}
+use Rattle.pack.specs.Meaning.{pack-of, field-meaning}
 use Rattle.rules.proofs.match_keys.has_match.Statement.{statement}
 use Rattle.rules.proofs.match_keys.has_match.Tie as tie
 
@@ -21,11 +21,11 @@ use Rattle.rules.proofs.match_keys.has_match.Tie as tie
 abbrev has : Pgn → ℕ → Bool
 has p k = given (field-at p k .match)
 
-said : (s : List ℕ) (p : Pgn) (k : ℕ) (f : FieldView) → fieldMeaning s f ≡ field-at p k → has p k ≡ f .authored .matched .given
-said s p k f e = ap (λ (x : Field). given (x .match)) (sym e) ∙ given-is (f .authored .matched .given) (bytesOf s (f .authored .matched .text))
+said : (s : List ℕ) (p : Pgn) (k : ℕ) (f : FieldView) → field-meaning s f ≡ field-at p k → has p k ≡ f .authored .matched .given
+said s p k f e = ap (λ (x : Field). given (x .match)) (sym e) ∙ given-is (f .authored .matched .given) (bytes-of s (f .authored .matched .text))
 
 abbrev Inv-loop : tie.InvT-loop
-Inv-loop s work t i p fields k₀ k = (k ≤ fields) × (anyBelow (has (pgn-at (packOf s) t i)) k ≡ false)
+Inv-loop s work t i p fields k₀ k = (k ≤ fields) × (any-below (has (pgn-at (pack-of s) t i)) k ≡ false)
 
 abbrev μ-loop : tie.MeasureT-loop
 μ-loop s work t i p fields k₀ k = fields - k
@@ -44,8 +44,8 @@ returns c =
     let start = c .before .before .before .before .before .before in
     let loop = c .before .before .before .loop in
     let s = now (start .args .s) in let t = start .args .t in let i = start .args .i in
-    sym (any-hit (has (pgn-at (packOf s) t i)) (start .args .fields) (loop .k) (c .before .before .loop-test .taken)
-    (said s (pgn-at (packOf s) t i) (loop .k) (c .before .field-of .result) (c .before .field-of .ensures) ∙ c .if1 .taken))
+    sym (any-hit (has (pgn-at (pack-of s) t i)) (start .args .fields) (loop .k) (c .before .before .loop-test .taken)
+    (said s (pgn-at (pack-of s) t i) (loop .k) (c .before .field-of .result) (c .before .field-of .ensures) ∙ c .if1 .taken))
 
 add-k : tie.Need-add-k Inv-loop μ-loop
 add-k c = search needs
@@ -59,8 +59,8 @@ loop-again c =
     let loop = c .before .before .before .loop in
     let s = now (start .args .s) in let t = start .args .t in let i = start .args .i in (
       omega (arith, c),
-      any-turn (has (pgn-at (packOf s) t i)) (loop .k)
-          ∙ (rw (loop .inv .1) (said s (pgn-at (packOf s) t i) (loop .k) (c .before .field-of .result) (c .before .field-of .ensures) ∙ c .if1 .left)),
+      any-turn (has (pgn-at (pack-of s) t i)) (loop .k)
+          ∙ (rw (loop .inv .1) (said s (pgn-at (pack-of s) t i) (loop .k) (c .before .field-of .result) (c .before .field-of .ensures) ∙ c .if1 .left)),
     )
 
 returns-2 : tie.Need-returns-2 Inv-loop μ-loop

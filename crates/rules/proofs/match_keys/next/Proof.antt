@@ -1,7 +1,7 @@
 use Rattle.rules.proofs.MatchKeys.{head-byte}
 use native.Mathlib.Omega.{arith}
 use denote.Ref.{now}
-use Rattle.pack.specs.Meaning.{packOf}
+use Rattle.pack.specs.Meaning.{pack-of}
 use Rattle.pack.specs.Value.{pgn-at}
 use borrow.Author.Needs.{needs}
 use Rattle.rules.proofs.match_keys.next.Statement.{statement}
@@ -23,7 +23,7 @@ returns-2 : tie.Need-returns-2
 returns-2 c =
     let start = c .before .before .before .before .before in
     let s = now (start .args .s) in (
-      head-byte s (pgn-at (packOf s) (start .args .t) (start .args .i)) (start .args .key) (omega (arith, start .pre .3, c .before .before .if1 .left)),
+      head-byte s (pgn-at (pack-of s) (start .args .t) (start .args .i)) (start .args .key) (omega (arith, start .pre .3, c .before .before .if1 .left)),
       (start .pre .2, start .pre .3),
     )
 

@@ -2,7 +2,7 @@ use Rattle.rules.proofs.MatchKeys.{text-ended, text-there, text-byte}
 use native.Mathlib.Omega.{arith}
 use mathlib.Core.Path.{_∙_}
 use denote.Ref.{now}
-use Rattle.pack.specs.Meaning.{packOf}
+use Rattle.pack.specs.Meaning.{pack-of}
 use Rattle.pack.specs.Value.{pgn-at}
 use borrow.Author.Needs.{needs}
 use Rattle.rules.proofs.match_keys.next_of_text.Statement.{statement}
@@ -19,7 +19,7 @@ returns c =
     let start = c .before .before .before .before .before in
     let part = c .before .before .part in
     let s = now (start .args .s) in (
-      text-ended s (pgn-at (packOf s) (start .args .t) (start .args .i)) (start .args .key) (omega (arith, start .pre .3, start .pre .4)) (now (part .result))
+      text-ended s (pgn-at (pack-of s) (start .args .t) (start .args .i)) (start .args .key) (omega (arith, start .pre .3, start .pre .4)) (now (part .result))
           (part .ensures) (c .before .if1 .taken)
           ∙ (rw (← start .pre .1) (c .next-piece .ensures .0)),
       c .next-piece .ensures .1,
@@ -33,7 +33,7 @@ add-t13 c =
     let start = c .before .before .before .before .before .before in
     let part = c .before .before .before .part in
     let s = now (start .args .s) in
-    let x = text-there s (pgn-at (packOf s) (start .args .t) (start .args .i)) (start .args .key) (omega (arith, start .pre .3, start .pre .4))
+    let x = text-there s (pgn-at (pack-of s) (start .args .t) (start .args .i)) (start .args .key) (omega (arith, start .pre .3, start .pre .4))
     (now (part .result)) (part .ensures) (c .before .before .if1 .left) in
     omega (arith, x .0)
 
@@ -43,7 +43,7 @@ sub-t17 c =
     let part = c .before .before .before .before .part in
     let if1 = c .before .before .before .if1 in
     let s = now (start .args .s) in
-    let x = text-there s (pgn-at (packOf s) (start .args .t) (start .args .i)) (start .args .key) (omega (arith, start .pre .3, start .pre .4))
+    let x = text-there s (pgn-at (pack-of s) (start .args .t) (start .args .i)) (start .args .key) (omega (arith, start .pre .3, start .pre .4))
     (now (part .result)) (part .ensures) (if1 .left) in
     omega (arith, x .1)
 
@@ -53,7 +53,7 @@ returns-2 c =
     let part = c .before .before .before .before .before .part in
     let if1 = c .before .before .before .before .if1 in
     let s = now (start .args .s) in (
-      text-byte s (pgn-at (packOf s) (start .args .t) (start .args .i)) (start .args .key) (omega (arith, start .pre .3, start .pre .4)) (now (part .result))
+      text-byte s (pgn-at (pack-of s) (start .args .t) (start .args .i)) (start .args .key) (omega (arith, start .pre .3, start .pre .4)) (now (part .result))
           (part .ensures) (if1 .left),
       (start .pre .2, start .pre .3),
     )

@@ -1,5 +1,5 @@
 use Rattle.pack.specs.declared.field.FieldView.{FieldView}
-use Rattle.pack.specs.Items.{bytesOf}
+use Rattle.pack.specs.Items.{bytes-of}
 use Rattle.pack.specs.Value.{Pgn, Field, Bytes, pgn-at, field-at}
 use Rattle.rules.specs.MatchKeys.{pieces-from}
 use Rattle.rules.proofs.MatchKeys.{pieces-next, pieces-ended, piece-begun}
@@ -12,15 +12,15 @@ use mathlib.Core.List.{List}
 use mathlib.Core.Option.{some}
 use denote.Ref.{now}
 use Rattle.pack.specs.Notation.{optional}
-use Rattle.pack.specs.Meaning.{packOf, fieldMeaning}
+use Rattle.pack.specs.Meaning.{pack-of, field-meaning}
 use Rattle.rules.proofs.match_keys.next_piece.Statement.{statement}
 use Rattle.rules.proofs.match_keys.next_piece.Tie as tie
 
-matched : (s : List ℕ) (p : Pgn) (k : ℕ) (f : FieldView) → fieldMeaning s f ≡ field-at p k
-    → field-at p k .match ≡ optional (f .authored .matched .given) (bytesOf s (f .authored .matched .text))
+matched : (s : List ℕ) (p : Pgn) (k : ℕ) (f : FieldView) → field-meaning s f ≡ field-at p k
+    → field-at p k .match ≡ optional (f .authored .matched .given) (bytes-of s (f .authored .matched .text))
 matched s p k f e = ap (λ (x : Field). x .match) (sym e)
 
-skipped : (s : List ℕ) (p : Pgn) (k n : ℕ) (f : FieldView) → k < n → fieldMeaning s f ≡ field-at p k → f .authored .matched .given ≡ false
+skipped : (s : List ℕ) (p : Pgn) (k n : ℕ) (f : FieldView) → k < n → field-meaning s f ≡ field-at p k → f .authored .matched .given ≡ false
     → pieces-from p k (n - k) ≡ pieces-from p (k + 1) (n - (k + 1))
 skipped s p k n f h e g = pieces-next p k n h ∙ (rw (matched s p k f e, g))
 
@@ -29,7 +29,7 @@ given-text b m e = rw e
 
 abbrev Inv-loop : tie.InvT-loop
 Inv-loop s work t i p fields from k₀ k =
-    (k ≤ fields) × (pieces-from (pgn-at (packOf s) t i) from (fields - from) ≡ pieces-from (pgn-at (packOf s) t i) k (fields - k))
+    (k ≤ fields) × (pieces-from (pgn-at (pack-of s) t i) from (fields - from) ≡ pieces-from (pgn-at (pack-of s) t i) k (fields - k))
 
 abbrev μ-loop : tie.MeasureT-loop
 μ-loop s work t i p fields from k₀ k = fields - k
@@ -53,9 +53,9 @@ returns c =
     let field-of = c .before .before .field-of in
     let s = now (start .args .s) in let t = start .args .t in let i = start .args .i in (
       loop .inv .1
-          ∙ piece-begun s (pgn-at (packOf s) t i) (loop .k) (start .args .fields) (field-of .result .authored .matched .text) (c .begun .result)
-          (loop-test .taken) (start .pre .1) (matched s (pgn-at (packOf s) t i) (loop .k) (field-of .result) (field-of .ensures)
-          ∙ given-text (field-of .result .authored .matched .given) (bytesOf s (field-of .result .authored .matched .text)) (c .before .if1 .taken))
+          ∙ piece-begun s (pgn-at (pack-of s) t i) (loop .k) (start .args .fields) (field-of .result .authored .matched .text) (c .begun .result)
+          (loop-test .taken) (start .pre .1) (matched s (pgn-at (pack-of s) t i) (loop .k) (field-of .result) (field-of .ensures)
+          ∙ given-text (field-of .result .authored .matched .given) (bytes-of s (field-of .result .authored .matched .text)) (c .before .if1 .taken))
           (c .begun .ensures),
       (omega (arith, c .begun .ensures .4, loop-test .taken), c .begun .ensures .5),
     )
@@ -73,7 +73,7 @@ loop-again c =
     let s = now (start .args .s) in (
       omega (arith, c),
       loop .inv .1
-          ∙ skipped s (pgn-at (packOf s) (start .args .t) (start .args .i)) (loop .k) (start .args .fields) (c .before .field-of .result)
+          ∙ skipped s (pgn-at (pack-of s) (start .args .t) (start .args .i)) (loop .k) (start .args .fields) (c .before .field-of .result)
           (c .before .before .loop-test .taken) (c .before .field-of .ensures) (c .if1 .left),
     )
 
@@ -85,7 +85,7 @@ returns-2 c =
     let start = c .before .before .before .before .before in
     let loop = c .before .before .loop in (
       loop .inv .1
-          ∙ pieces-ended (pgn-at (packOf (now (start .args .s))) (start .args .t) (start .args .i)) (loop .k) (start .args .fields)
+          ∙ pieces-ended (pgn-at (pack-of (now (start .args .s))) (start .args .t) (start .args .i)) (loop .k) (start .args .fields)
           (c .before .loop-test .left),
       (omega (arith, c .before2 .ensures .2), c .before2 .ensures .3),
     )

@@ -11,7 +11,7 @@ use mathlib.Core.Path.{_≡_, sym, _∙_}
 use mathlib.Core.List.{List, []}
 use denote.Ref.{now}
 use Rattle.pack.specs.Notation.{_≐_}
-use Rattle.pack.specs.Meaning.{packOf}
+use Rattle.pack.specs.Meaning.{pack-of}
 use Rattle.rules.proofs.match_keys.same_key.Statement.{statement}
 use Rattle.rules.proofs.match_keys.same_key.Tie as tie
 
@@ -26,11 +26,11 @@ abbrev Inv-loop : tie.InvT-loop
 Inv-loop s work t i p m j q n a₀ b₀ a b =
     ((a .field ≤ m) × (length (a .head) ≡ 11))
     × ((b .field ≤ n) × (length (b .head) ≡ 11))
-    × ((pieces-from (pgn-at (packOf s) t i) 0 m ≐ pieces-from (pgn-at (packOf s) t j) 0 n)
-    ≡ (to-come s (pgn-at (packOf s) t i) a ≐ to-come s (pgn-at (packOf s) t j) b))
+    × ((pieces-from (pgn-at (pack-of s) t i) 0 m ≐ pieces-from (pgn-at (pack-of s) t j) 0 n)
+    ≡ (to-come s (pgn-at (pack-of s) t i) a ≐ to-come s (pgn-at (pack-of s) t j) b))
 
 abbrev μ-loop : tie.MeasureT-loop
-μ-loop s work t i p m j q n a₀ b₀ a b = length (to-come s (pgn-at (packOf s) t i) a)
+μ-loop s work t i p m j q n a₀ b₀ a b = length (to-come s (pgn-at (pack-of s) t i) a)
 
 before-requires : tie.Need-before-requires Inv-loop μ-loop
 before-requires c κs = search needs
@@ -44,7 +44,7 @@ loop-holds c =
     let s = now (start .args .s) in let t = start .args .t in (
       (omega (arith, c .before .before2 .ensures .2), c .before .before2 .ensures .3),
       (omega (arith, c .before3 .ensures .2), c .before3 .ensures .3),
-      none-yet s (pgn-at (packOf s) t (start .args .i)) (pgn-at (packOf s) t (start .args .j)) (start .args .m) (start .args .n) (c .before .before2 .result)
+      none-yet s (pgn-at (pack-of s) t (start .args .i)) (pgn-at (pack-of s) t (start .args .j)) (start .args .m) (start .args .n) (c .before .before2 .result)
           (c .before3 .result) (start .pre .1) (start .pre .3) (c .before .before2 .ensures) (c .before3 .ensures),
     )
 
@@ -65,9 +65,9 @@ returns c =
     let next = c .before .before .before .before .next in
     let next2 = c .before .before .before .next2 in
     let s = now (start .args .s) in let t = start .args .t in let i = start .args .i in let j = start .args .j in
-    over (to-come s (pgn-at (packOf s) t i) (loop .a)) (next .result .given) (next .result .byte) (to-come s (pgn-at (packOf s) t i) (next .result .after))
-    (next .ensures .0) (to-come s (pgn-at (packOf s) t j) (loop .b)) (next2 .result .given) (next2 .result .byte)
-    (to-come s (pgn-at (packOf s) t j) (next2 .result .after)) (next2 .ensures .0) (not-true (next .result .given) (c .before .if1 .taken))
+    over (to-come s (pgn-at (pack-of s) t i) (loop .a)) (next .result .given) (next .result .byte) (to-come s (pgn-at (pack-of s) t i) (next .result .after))
+    (next .ensures .0) (to-come s (pgn-at (pack-of s) t j) (loop .b)) (next2 .result .given) (next2 .result .byte)
+    (to-come s (pgn-at (pack-of s) t j) (next2 .result .after)) (next2 .ensures .0) (not-true (next .result .given) (c .before .if1 .taken))
     ∙ sym (loop .inv .2)
 
 returns-2 : tie.Need-returns-2 Inv-loop μ-loop
@@ -77,9 +77,9 @@ returns-2 c =
     let next = c .before .before .before .before .before .next in
     let next2 = c .before .before .before .before .next2 in
     let s = now (start .args .s) in let t = start .args .t in let i = start .args .i in let j = start .args .j in
-    longer (to-come s (pgn-at (packOf s) t i) (loop .a)) (next .result .given) (next .result .byte) (to-come s (pgn-at (packOf s) t i) (next .result .after))
-    (next .ensures .0) (to-come s (pgn-at (packOf s) t j) (loop .b)) (next2 .result .given) (next2 .result .byte)
-    (to-come s (pgn-at (packOf s) t j) (next2 .result .after)) (next2 .ensures .0) (not-false (next .result .given) (c .before .before .if1 .left))
+    longer (to-come s (pgn-at (pack-of s) t i) (loop .a)) (next .result .given) (next .result .byte) (to-come s (pgn-at (pack-of s) t i) (next .result .after))
+    (next .ensures .0) (to-come s (pgn-at (pack-of s) t j) (loop .b)) (next2 .result .given) (next2 .result .byte)
+    (to-come s (pgn-at (pack-of s) t j) (next2 .result .after)) (next2 .ensures .0) (not-false (next .result .given) (c .before .before .if1 .left))
     (not-true (next2 .result .given) (c .if2 .taken))
     ∙ sym (loop .inv .2)
 
@@ -93,9 +93,9 @@ returns-3 c =
     let if1 = c .before .before .before .before .before .if1 in
     let if2 = c .before .before .before .if2 in
     let s = now (start .args .s) in let t = start .args .t in let i = start .args .i in let j = start .args .j in
-    differ (to-come s (pgn-at (packOf s) t i) (loop .a)) (next .result .given) (next .result .byte) (to-come s (pgn-at (packOf s) t i) (next .result .after))
-    (next .ensures .0) (to-come s (pgn-at (packOf s) t j) (loop .b)) (next2 .result .given) (next2 .result .byte)
-    (to-come s (pgn-at (packOf s) t j) (next2 .result .after)) (next2 .ensures .0) (not-false (next .result .given) (if1 .left))
+    differ (to-come s (pgn-at (pack-of s) t i) (loop .a)) (next .result .given) (next .result .byte) (to-come s (pgn-at (pack-of s) t i) (next .result .after))
+    (next .ensures .0) (to-come s (pgn-at (pack-of s) t j) (loop .b)) (next2 .result .given) (next2 .result .byte)
+    (to-come s (pgn-at (pack-of s) t j) (next2 .result .after)) (next2 .ensures .0) (not-false (next .result .given) (if1 .left))
     (not-false (next2 .result .given) (if2 .left)) (c .if3 .taken)
     ∙ sym (loop .inv .2)
 
@@ -107,7 +107,7 @@ loop-less c =
     let next = c .before .before .before .before .before .before .before .before .before .before .next in
     let if1 = c .before .before .before .before .before .before .before .if1 in
     let s = now (start .args .s) in let t = start .args .t in let i = start .args .i in
-    shorter (to-come s (pgn-at (packOf s) t i) (loop .a)) (next .result .given) (next .result .byte) (to-come s (pgn-at (packOf s) t i) (next .result .after))
+    shorter (to-come s (pgn-at (pack-of s) t i) (loop .a)) (next .result .given) (next .result .byte) (to-come s (pgn-at (pack-of s) t i) (next .result .after))
     (next .ensures .0) (not-false (next .result .given) (if1 .left))
 
 loop-again : tie.Need-loop-again Inv-loop μ-loop
@@ -123,9 +123,9 @@ loop-again c =
       next .ensures .1,
       next2 .ensures .1,
       loop .inv .2
-          ∙ level (to-come s (pgn-at (packOf s) t i) (loop .a)) (next .result .given) (next .result .byte)
-          (to-come s (pgn-at (packOf s) t i) (next .result .after)) (next .ensures .0) (to-come s (pgn-at (packOf s) t j) (loop .b)) (next2 .result .given)
-          (next2 .result .byte) (to-come s (pgn-at (packOf s) t j) (next2 .result .after)) (next2 .ensures .0) (not-false (next .result .given) (if1 .left))
+          ∙ level (to-come s (pgn-at (pack-of s) t i) (loop .a)) (next .result .given) (next .result .byte)
+          (to-come s (pgn-at (pack-of s) t i) (next .result .after)) (next .ensures .0) (to-come s (pgn-at (pack-of s) t j) (loop .b)) (next2 .result .given)
+          (next2 .result .byte) (to-come s (pgn-at (pack-of s) t j) (next2 .result .after)) (next2 .ensures .0) (not-false (next .result .given) (if1 .left))
           (not-false (next2 .result .given) (if2 .left)) (c .before .before .if3 .left),
     )
 

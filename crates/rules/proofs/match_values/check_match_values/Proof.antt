@@ -2,8 +2,8 @@ use Rattle.rules.proofs.Sizes.{fields-few}
 use Rattle.rules.specs.MatchValues.{match-value-at, check-match-values}
 use Rattle.rules.proofs.Emits.{emitted-none, emitted-turn, fits-turn}
 use Rattle.rules.specs.Emit.{Emitted}
-use Rattle.pack.specs.Meaning.{packOf}
-use Rattle.pack.specs.Notation.{concatBelow}
+use Rattle.pack.specs.Meaning.{pack-of}
+use Rattle.pack.specs.Notation.{concat-below}
 use Rattle.pack.specs.Value.{pgn-at}
 use Prim.Native.Nat.{_-_, _≤_}
 use native.Mathlib.Omega.{arith}
@@ -16,7 +16,7 @@ use Rattle.rules.proofs.match_values.check_match_values.Tie as tie
 
 abbrev Inv-loop : tie.InvT-loop
 Inv-loop out₀ n s work lookups t i p fields m₀ k₀ out m k =
-    (k ≤ fields) × (length out ≡ length out₀) × Emitted out₀ n (concatBelow (match-value-at (packOf s .lookups) t i (pgn-at (packOf s) t i)) k) out m
+    (k ≤ fields) × (length out ≡ length out₀) × Emitted out₀ n (concat-below (match-value-at (pack-of s .lookups) t i (pgn-at (pack-of s) t i)) k) out m
 
 abbrev μ-loop : tie.MeasureT-loop
 μ-loop out₀ n s work lookups t i p fields m₀ k₀ out m k = fields - k
@@ -37,7 +37,7 @@ match-value-at-requires c κs =
     let start = c .before .before .before .before .before .before .before in
     let loop = c .before .before .before .loop in
     let s = now (start .args .s) in let t = start .args .t in let i = start .args .i in (
-      fits-turn (match-value-at (packOf s .lookups) t i (pgn-at (packOf s) t i)) (start .args .g .fields) (loop .k) (c .before .before .loop-test .taken)
+      fits-turn (match-value-at (pack-of s .lookups) t i (pgn-at (pack-of s) t i)) (start .args .g .fields) (loop .k) (c .before .before .loop-test .taken)
           (rw (← start .pre .4 .fields) at (start .pre .0)) (loop .inv .2),
       start .pre .1 .ready,
       start .pre .2,
@@ -62,7 +62,7 @@ loop-again c =
     let s = now (start .args .s) in let t = start .args .t in let i = start .args .i in (
       omega (arith, c),
       match-value-at-call .kept .0 ∙ loop .inv .1,
-      emitted-turn (match-value-at (packOf s .lookups) t i (pgn-at (packOf s) t i)) (loop .k) (loop .inv .2) (match-value-at-call .ensures),
+      emitted-turn (match-value-at (pack-of s .lookups) t i (pgn-at (pack-of s) t i)) (loop .k) (loop .inv .2) (match-value-at-call .ensures),
     )
 
 same-length : tie.Need-same-length Inv-loop μ-loop
@@ -72,7 +72,7 @@ returns : tie.Need-returns Inv-loop μ-loop
 unfolding check-match-values
 returns c =
     let start = c .before .before .before .before .before in
-    let e : length (pgn-at (packOf (now (start .args .s))) (start .args .t) (start .args .i) .fields) ≡ c .before .loop .k =
+    let e : length (pgn-at (pack-of (now (start .args .s))) (start .args .t) (start .args .i) .fields) ≡ c .before .loop .k =
     omega (arith, start .pre .4 .fields, c .before .loop .inv .0, c .loop-test .left) in
     rw e (c .before .loop .inv .2)
 

@@ -6,7 +6,7 @@ use Rattle.rules.proofs.Emits.{emitted-none}
 use Rattle.rules.specs.Findings.{report-if, pgn-error}
 use Rattle.rules.specs.declared.Finding.{Finding}
 use Rattle.pack.specs.declared.field.FieldView.{FieldView}
-use Rattle.pack.specs.Meaning.{fieldMeaning, packOf}
+use Rattle.pack.specs.Meaning.{field-meaning, pack-of}
 use Rattle.pack.specs.Value.{Lookup, Pgn, pgn-at, field-at}
 use Rattle.pack.specs.Notation.{_<ᵇ_, _≤ᵇ_, optional}
 use mathlib.Core.Bool.{_&&_, Bool, true, false}
@@ -27,12 +27,12 @@ less-one a b h = go (decLt b a)
     go (yes l) = rw (le-ltb (a - 1) b (omega arith), lt-leb a b l)
     go (no l) = rw (lt-ltb (a - 1) b (omega arith), le-leb a b (omega arith))
 
-module _ (s : List ℕ) (ls : List Lookup) (t i k : ℕ) (p : Pgn) (f : FieldView) (is : fieldMeaning s f ≡ field-at p k) where
+module _ (s : List ℕ) (ls : List Lookup) (t i k : ℕ) (p : Pgn) (f : FieldView) (is : field-meaning s f ≡ field-at p k) where
   unmatched : f .authored .matched .given ≡ false → match-value-at ls t i p k ≡ []
   unfolding match-value-at
   unmatched h = rw (← is, h)
 
-  module _ (h : f .authored .matched .given ≡ true) (g : Bool) (v : ℕ) (e : optional g v ≡ resolve-match ls (fieldMeaning s f)) where
+  module _ (h : f .authored .matched .given ≡ true) (g : Bool) (v : ℕ) (e : optional g v ≡ resolve-match ls (field-meaning s f)) where
     unresolved : g ≡ false → (F : Finding) → F ≡ pgn-error 13 1 t i k 0 → match-value-at ls t i p k ≡ F ∷ []
     unfolding match-value-at resolved-at
     unresolved x F y = rw (← is, ← e, h, x, y)
@@ -46,7 +46,7 @@ returns : tie.Need-returns
 returns c =
     let start = c .before .before .before .before .before in
     let s = now (start .args .s) in let t = start .args .t in let i = start .args .i in
-    rw (unmatched s (packOf s .lookups) t i (start .args .k) (pgn-at (packOf s) t i) (start .args .f) (start .pre .4)
+    rw (unmatched s (pack-of s .lookups) t i (start .args .k) (pgn-at (pack-of s) t i) (start .args .f) (start .pre .4)
     (not-true (start .args .f .authored .matched .given) (c .if1 .taken))) (emitted-none (now (start .args .out)) (start .args .n))
 
 resolve-match-requires : tie.Need-resolve-match-requires
@@ -63,7 +63,7 @@ put-requires c κs =
     let if1 = c .before .before .before .before .before .if1 in
     let resolve-match-call = c .before .before .before .before .resolve-match in
     let s = now (start .args .s) in let t = start .args .t in let i = start .args .i in
-    rw (unresolved s (packOf s .lookups) t i (start .args .k) (pgn-at (packOf s) t i) (start .args .f) (start .pre .4)
+    rw (unresolved s (pack-of s .lookups) t i (start .args .k) (pgn-at (pack-of s) t i) (start .args .f) (start .pre .4)
     (not-false (start .args .f .authored .matched .given) (if1 .left)) (resolve-match-call .result .given) (resolve-match-call .result .value)
     (resolve-match-call .ensures) (not-true (resolve-match-call .result .given) (c .before .before .if2 .taken)) (c .pgn-error .result)
     (c .pgn-error .ensures)) at (start .pre .0)
@@ -80,7 +80,7 @@ returns-2 c =
     let if2 = c .before .before .before .before .before .if2 in
     let pgn-error-call = c .before .before .before .pgn-error in
     let s = now (start .args .s) in let t = start .args .t in let i = start .args .i in
-    rw (unresolved s (packOf s .lookups) t i (start .args .k) (pgn-at (packOf s) t i) (start .args .f) (start .pre .4)
+    rw (unresolved s (pack-of s .lookups) t i (start .args .k) (pgn-at (pack-of s) t i) (start .args .f) (start .pre .4)
     (not-false (start .args .f .authored .matched .given) (if1 .left)) (resolve-match-call .result .given) (resolve-match-call .result .value)
     (resolve-match-call .ensures) (not-true (resolve-match-call .result .given) (if2 .taken)) (pgn-error-call .result) (pgn-error-call .ensures))
     (c .before .before .put .ensures)
@@ -99,7 +99,7 @@ put-if-requires c κs =
     let if2 = c .before .before .before .if2 in
     let exceeds = c .before .before .exceeds in
     let s = now (start .args .s) in let t = start .args .t in let i = start .args .i in
-    rw (resolved s (packOf s .lookups) t i (start .args .k) (pgn-at (packOf s) t i) (start .args .f) (start .pre .4)
+    rw (resolved s (pack-of s .lookups) t i (start .args .k) (pgn-at (pack-of s) t i) (start .args .f) (start .pre .4)
     (not-false (start .args .f .authored .matched .given) (if1 .left)) (resolve-match-call .result .given) (resolve-match-call .result .value)
     (resolve-match-call .ensures) (not-false (resolve-match-call .result .given) (if2 .left)) (exceeds .result) (exceeds .ensures) (c .pgn-error2 .result)
     (c .pgn-error2 .ensures)) at (start .pre .0)
@@ -117,7 +117,7 @@ returns-3 c =
     let exceeds = c .before .before .before .before .before .exceeds in
     let pgn-error2 = c .before .before .before .pgn-error2 in
     let s = now (start .args .s) in let t = start .args .t in let i = start .args .i in
-    rw (resolved s (packOf s .lookups) t i (start .args .k) (pgn-at (packOf s) t i) (start .args .f) (start .pre .4)
+    rw (resolved s (pack-of s .lookups) t i (start .args .k) (pgn-at (pack-of s) t i) (start .args .f) (start .pre .4)
     (not-false (start .args .f .authored .matched .given) (if1 .left)) (resolve-match-call .result .given) (resolve-match-call .result .value)
     (resolve-match-call .ensures) (not-false (resolve-match-call .result .given) (if2 .left)) (exceeds .result) (exceeds .ensures) (pgn-error2 .result)
     (pgn-error2 .ensures)) (c .before .before .put-if .ensures)

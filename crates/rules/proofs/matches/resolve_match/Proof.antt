@@ -1,7 +1,7 @@
 use Rattle.rules.specs.Model.{parse-u64, resolve-name, resolve-text, resolve-match}
 use mathlib.Core.Option.{Option, some}
-use Rattle.pack.specs.Meaning.{packOf, optReference}
-use Rattle.pack.specs.Items.{bytesOf}
+use Rattle.pack.specs.Meaning.{pack-of, optional-reference}
+use Rattle.pack.specs.Items.{bytes-of}
 use Rattle.pack.specs.Value.{Bytes, Lookup, Reference}
 use Rattle.pack.specs.Notation.{optional}
 use Prim.Native.Nat.{ℕ}
@@ -42,7 +42,7 @@ returns-2 c =
     let if1 = c .before .before .before .before .if1 in
     let s = now (start .args .s) in
     rw (not-false (start .args .f .authored .matched .given) (if1 .left))
-    (sym (by-number (packOf s .lookups) (optReference s (start .args .f .links .reference)) (bytesOf s (start .args .f .authored .matched .text))
+    (sym (by-number (pack-of s .lookups) (optional-reference s (start .args .f .links .reference)) (bytes-of s (start .args .f .authored .matched .text))
     (c .before .parse-u64 .result .given) (c .before .parse-u64 .result .value)
     (c .before .parse-u64 .ensures ∙ ap parse-u64 (c .before .before .part .ensures)) (c .if2 .taken)))
 
@@ -59,7 +59,7 @@ returns-3 c =
     let s = now (start .args .s) in
     rw (not-false (start .args .f .authored .matched .given) (if1 .left))
     (c .resolve-name .ensures
-    ∙ sym (by-name (packOf s .lookups) (optReference s (start .args .f .links .reference)) (bytesOf s (start .args .f .authored .matched .text))
+    ∙ sym (by-name (pack-of s .lookups) (optional-reference s (start .args .f .links .reference)) (bytes-of s (start .args .f .authored .matched .text))
     (parse-u64-call .result .given) (parse-u64-call .result .value) (parse-u64-call .ensures ∙ ap parse-u64 (part .ensures)) (c .before .if2 .left)))
 
 pub resolve-match-spec : {M : Type 1} → statement M

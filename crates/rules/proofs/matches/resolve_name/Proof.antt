@@ -1,6 +1,6 @@
 use Rattle.rules.specs.Model.{find-lookup, fieldtypes, pairs, value-named, resolve-in, resolve-name}
-use Rattle.pack.specs.Meaning.{packOf}
-use Rattle.pack.specs.Items.{bytesOf}
+use Rattle.pack.specs.Meaning.{pack-of}
+use Rattle.pack.specs.Items.{bytes-of}
 use Rattle.pack.specs.Value.{Bytes, Entry, Lookup, Reference, lookup-at}
 use Rattle.pack.specs.Notation.{_==_, if_then_else_, optional}
 use mathlib.Core.Option.{none, some}
@@ -52,8 +52,8 @@ returns-2 c =
     let if1 = c .before .before .before .if1 in
     let find-lookup-call = c .before .before .find-lookup in
     let s = now (start .args .s) in
-    rw (not-false (start .args .r .given) (if1 .left)) (sym (unknown (packOf s .lookups) (bytesOf s (start .args .m))
-    (record { kind = start .args .r .kind; name = bytesOf s (start .args .r .name) }) (find-lookup-call .result .index) (find-lookup-call .result .given)
+    rw (not-false (start .args .r .given) (if1 .left)) (sym (unknown (pack-of s .lookups) (bytes-of s (start .args .m))
+    (record { kind = start .args .r .kind; name = bytes-of s (start .args .r .name) }) (find-lookup-call .result .index) (find-lookup-call .result .given)
     (find-lookup-call .ensures .0) (not-true (find-lookup-call .result .given) (c .if2 .taken))))
 
 lookup-of-requires : tie.Need-lookup-of-requires
@@ -72,7 +72,7 @@ returns-3 c =
     let if2 = c .before .before .before .if2 in
     let lookup-of = c .before .before .lookup-of in
     let s = now (start .args .s) in
-    let e = known (packOf s .lookups) (bytesOf s (start .args .m)) (record { kind = start .args .r .kind; name = bytesOf s (start .args .r .name) })
+    let e = known (pack-of s .lookups) (bytes-of s (start .args .m)) (record { kind = start .args .r .kind; name = bytes-of s (start .args .r .name) })
     (find-lookup-call .result .index) (lookup-of .result .kind) (find-lookup-call .result .given) (c .before .has-entries .result)
     (find-lookup-call .ensures .0) (not-false (find-lookup-call .result .given) (if2 .left)) (ap (λ (L : Lookup). L .kind) (lookup-of .ensures .means))
     (c .before .has-entries .ensures) in
@@ -97,7 +97,7 @@ returns-4 c =
     let lookup-of = c .before .before .before .lookup-of in
     let has-entries = c .before .before .has-entries in
     let s = now (start .args .s) in
-    let e = known (packOf s .lookups) (bytesOf s (start .args .m)) (record { kind = start .args .r .kind; name = bytesOf s (start .args .r .name) })
+    let e = known (pack-of s .lookups) (bytes-of s (start .args .m)) (record { kind = start .args .r .kind; name = bytes-of s (start .args .r .name) })
     (find-lookup-call .result .index) (lookup-of .result .kind) (find-lookup-call .result .given) (has-entries .result) (find-lookup-call .ensures .0)
     (not-false (find-lookup-call .result .given) (if2 .left)) (ap (λ (L : Lookup). L .kind) (lookup-of .ensures .means)) (has-entries .ensures) in
     rw (not-false (start .args .r .given) (if1 .left), e, not-false (has-entries .result) (c .before .if3 .left)) (c .value-named .ensures)

@@ -1,9 +1,9 @@
 use Rattle.rules.specs.Model.{value-named}
 use Rattle.rules.specs.SearchLaws.{first-turn, first-hit}
-use Rattle.rules.specs.Search.{firstBelow}
-use Rattle.pack.specs.Meaning.{packOf}
-use Rattle.pack.specs.Items.{bytesOf}
-use Rattle.pack.specs.Value.{Entry, noEntry, lookup-at}
+use Rattle.rules.specs.Search.{first-below}
+use Rattle.pack.specs.Meaning.{pack-of}
+use Rattle.pack.specs.Items.{bytes-of}
+use Rattle.pack.specs.Value.{Entry, no-entry, lookup-at}
 use Rattle.pack.specs.Notation.{_≐_}
 use mathlib.Core.Option.{none}
 use Prim.Native.Nat.{ℕ, _-_, _≤_}
@@ -19,10 +19,10 @@ use Rattle.rules.proofs.matches.value_named.Tie as tie
 
 -- whether entry e has the name
 abbrev named : List ℕ → ℕ → List ℕ → ℕ → Bool
-named s l name e = getD (lookup-at (packOf s .lookups) l .entries) e noEntry .name ≐ name
+named s l name e = getD (lookup-at (pack-of s .lookups) l .entries) e no-entry .name ≐ name
 
 abbrev Inv-loop : tie.InvT-loop
-Inv-loop s work l p kind n name e₀ e = (e ≤ n) × (firstBelow (named s l (bytesOf s name)) e ≡ none)
+Inv-loop s work l p kind n name e₀ e = (e ≤ n) × (first-below (named s l (bytes-of s name)) e ≡ none)
 
 abbrev μ-loop : tie.MeasureT-loop
 μ-loop s work l p kind n name e₀ e = n - e
@@ -46,7 +46,7 @@ returns c =
     let loop-test = c .before .before .before .loop-test in
     let entry-of = c .before .before .entry-of in
     let s = now (start .args .s) in let l = start .args .l in
-    let b = bytesOf s (start .args .name) in
+    let b = bytes-of s (start .args .name) in
     let h : named s l b (loop .e) ≡ true = rw (← ap (λ (x : Entry). x .name) (entry-of .ensures), ← c .before .same-text .ensures) (c .if1 .taken) in
     rw (← start .pre .2, first-hit (named s l b) (start .args .n) (loop .e) (loop-test .taken) (loop .inv .1) h, ← entry-of .ensures)
 
@@ -61,7 +61,7 @@ loop-again c =
     let start = c .before .before .before .before .before .before .before in
     let loop = c .before .before .before .before .loop in
     let s = now (start .args .s) in let l = start .args .l in
-    let b = bytesOf s (start .args .name) in
+    let b = bytes-of s (start .args .name) in
     let h : named s l b (loop .e) ≡ false =
     rw (← ap (λ (x : Entry). x .name) (c .before .before .entry-of .ensures), ← c .before .same-text .ensures) (c .if1 .left) in
     (omega (arith, c), first-turn (named s l b) (loop .e) ∙ (rw (loop .inv .1, h)))
@@ -70,7 +70,7 @@ returns-2 : tie.Need-returns-2 Inv-loop μ-loop
 unfolding value-named
 returns-2 c =
     let start = c .before .before .before .before in
-    let e : length (lookup-at (packOf (now (start .args .s)) .lookups) (start .args .l) .entries) ≡ c .before .loop .e =
+    let e : length (lookup-at (pack-of (now (start .args .s)) .lookups) (start .args .l) .entries) ≡ c .before .loop .e =
     omega (arith, start .pre .2, c .before .loop .inv .0, c .loop-test .left) in
     rw (e, c .before .loop .inv .1)
 

@@ -3,7 +3,7 @@ use Rattle.rules.specs.MinLength.{min-length-at, check-min-length}
 use mathlib.Core.Option.{some}
 use Rattle.pack.specs.Value.{Pgn}
 use Rattle.pack.specs.Ready.{PgnIs}
-use Rattle.pack.specs.Meaning.{optNumber}
+use Rattle.pack.specs.Meaning.{optional-number}
 use Rattle.pack.specs.declared.pgn.PgnView.{PgnView}
 use Prim.Native.Nat.{ℕ}
 use mathlib.Core.Path.{_≡_, ap, sym}
@@ -16,7 +16,7 @@ use Rattle.rules.proofs.min_length.check_min_length.Tie as tie
 
 -- the rule, said of the view
 module _ (s : List ℕ) (t i : ℕ) (G : Pgn) (g : PgnView) (is : PgnIs s G g) where
-  minimum : G .min-length ≡ optNumber (g .minimum)
+  minimum : G .min-length ≡ optional-number (g .minimum)
   minimum = sym (ap (λ (P : Pgn). P .min-length) (is .means))
 
   given : g .minimum .given ≡ true → check-min-length t i G ≡ min-length-at t i G (some (g .minimum .value))

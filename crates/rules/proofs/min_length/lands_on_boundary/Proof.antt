@@ -1,10 +1,10 @@
 use Rattle.rules.specs.SearchLaws.{any-turn, any-hit, sum-turn}
-use Rattle.rules.specs.Search.{anyBelow, sumBelow}
+use Rattle.rules.specs.Search.{any-below, sum-below}
 use Rattle.rules.specs.MinLength.{lands-on-boundary}
 use Rattle.pack.specs.declared.field.FieldView.{FieldView}
 use Rattle.pack.specs.Value.{Field, pgn-at, field-at}
 use Rattle.pack.specs.Notation.{_==_}
-use Rattle.pack.specs.Meaning.{fieldMeaning, packOf}
+use Rattle.pack.specs.Meaning.{field-meaning, pack-of}
 use Prim.Native.Nat.{ℕ, suc, _+_, _-_, _*_, _≤_, _<_}
 use native.Mathlib.Omega.{arith}
 use mathlib.Core.Path.{_≡_, refl, ap, _∙_, sym}
@@ -19,24 +19,24 @@ use Rattle.rules.proofs.min_length.lands_on_boundary.Tie as tie
 
 -- the width of a field, and whether the fields up to it end at the boundary
 abbrev width : List ℕ → ℕ → ℕ → ℕ → ℕ
-width s t i j = field-at (pgn-at (packOf s) t i) j .res-bits
+width s t i j = field-at (pgn-at (pack-of s) t i) j .res-bits
 
 abbrev ends : List ℕ → ℕ → ℕ → ℕ → ℕ → Bool
-ends s t i least k = sumBelow (width s t i) (suc k) == least * 8
+ends s t i least k = sum-below (width s t i) (suc k) == least * 8
 
-module _ (s : List ℕ) (t i least bits k : ℕ) (v : FieldView) (is : fieldMeaning s v ≡ field-at (pgn-at (packOf s) t i) k) (sum : bits ≡ sumBelow (width s t i) k) where
-  grown : bits + v .scaling .bits ≡ sumBelow (width s t i) k + width s t i k
+module _ (s : List ℕ) (t i least bits k : ℕ) (v : FieldView) (is : field-meaning s v ≡ field-at (pgn-at (pack-of s) t i) k) (sum : bits ≡ sum-below (width s t i) k) where
+  grown : bits + v .scaling .bits ≡ sum-below (width s t i) k + width s t i k
   grown = let e : v .scaling .bits ≡ width s t i k = ap (λ (F : Field). F .res-bits) is in rw (sum, e)
 
-  hit : (n : ℕ) → k < n → bits + v .scaling .bits ≡ least * 8 → anyBelow (ends s t i least) n ≡ true
-  hit n h e = any-hit (ends s t i least) n k h (eq-eqb (sumBelow (width s t i) k + width s t i k) (least * 8) (sym grown ∙ e))
+  hit : (n : ℕ) → k < n → bits + v .scaling .bits ≡ least * 8 → any-below (ends s t i least) n ≡ true
+  hit n h e = any-hit (ends s t i least) n k h (eq-eqb (sum-below (width s t i) k + width s t i k) (least * 8) (sym grown ∙ e))
 
-  missed : anyBelow (ends s t i least) k ≡ false → (bits + v .scaling .bits ≡ least * 8 → ⊥) → anyBelow (ends s t i least) (k + 1) ≡ false
-  missed a e = rw (any-turn (ends s t i least) k, a) (ne-eqb (sumBelow (width s t i) k + width s t i k) (least * 8) (λ q. e (grown ∙ q)))
+  missed : any-below (ends s t i least) k ≡ false → (bits + v .scaling .bits ≡ least * 8 → ⊥) → any-below (ends s t i least) (k + 1) ≡ false
+  missed a e = rw (any-turn (ends s t i least) k, a) (ne-eqb (sum-below (width s t i) k + width s t i k) (least * 8) (λ q. e (grown ∙ q)))
 
 abbrev Inv-loop : tie.InvT-loop
 Inv-loop s work t i p fields least boundary bits₀ k₀ bits k =
-    (k ≤ fields) × (bits ≡ sumBelow (width s t i) k) × (bits ≤ k * 4294967295) × (anyBelow (ends s t i least) k ≡ false)
+    (k ≤ fields) × (bits ≡ sum-below (width s t i) k) × (bits ≤ k * 4294967295) × (any-below (ends s t i least) k ≡ false)
 
 abbrev μ-loop : tie.MeasureT-loop
 μ-loop s work t i p fields least boundary bits₀ k₀ bits k = fields - k
@@ -65,7 +65,7 @@ returns c =
     let loop = c .before .before .before .before .loop in
     let field-of = c .before .before .field-of in
     let s = now (start .args .s) in let t = start .args .t in let i = start .args .i in
-    sym (hit s t i (start .args .least) (loop .bits) (loop .k) (field-of .result) (field-of .ensures) (loop .inv .1) (length (pgn-at (packOf s) t i .fields))
+    sym (hit s t i (start .args .least) (loop .bits) (loop .k) (field-of .result) (field-of .ensures) (loop .inv .1) (length (pgn-at (pack-of s) t i .fields))
     (omega (arith, start .pre .1)) (c .if1 .taken))
 
 add-k : tie.Need-add-k Inv-loop μ-loop
@@ -90,7 +90,7 @@ returns-2 : tie.Need-returns-2 Inv-loop μ-loop
 unfolding lands-on-boundary
 returns-2 c =
     let start = c .before .before .before .before in
-    let e : c .before .loop .k ≡ length (pgn-at (packOf (now (start .args .s))) (start .args .t) (start .args .i) .fields) = omega (arith, start .pre .1) in
+    let e : c .before .loop .k ≡ length (pgn-at (pack-of (now (start .args .s))) (start .args .t) (start .args .i) .fields) = omega (arith, start .pre .1) in
     rw (← e) (sym (c .before .loop .inv .3))
 
 pub lands-on-boundary-spec : {M : Type 1} → statement M

@@ -8,9 +8,9 @@ use mathlib.Core.Path.{_≡_, refl, _∙_}
 use mathlib.Core.List.{List}
 use lib.ListN.{length}
 use denote.Ref.{now}
-use Rattle.pack.specs.Notation.{concatBelow}
-use Rattle.pack.specs.Ready.{lookupPlace}
-use Rattle.pack.specs.Meaning.{packOf}
+use Rattle.pack.specs.Notation.{concat-below}
+use Rattle.pack.specs.Ready.{place-of-lookup}
+use Rattle.pack.specs.Meaning.{pack-of}
 use Rattle.pack.specs.Value.{lookup-at}
 use Rattle.rules.specs.declared.Finding.{Finding}
 use Rattle.rules.specs.Emit.{Emitted}
@@ -20,11 +20,11 @@ use Rattle.rules.proofs.nested_refs.check_all_nested_refs.Tie as tie
 
 -- the findings of lookup l
 abbrev of-lookup : List ℕ → ℕ → List Finding
-of-lookup s l = check-nested-refs (packOf s) l (lookup-at (packOf s .lookups) l)
+of-lookup s l = check-nested-refs (pack-of s) l (lookup-at (pack-of s .lookups) l)
 
 abbrev Inv-loop : tie.InvT-loop
 Inv-loop out₀ n s work index count m₀ p₀ l₀ out m p l =
-    (l ≤ count) × (p ≡ lookupPlace (packOf s) l) × (length out ≡ length out₀) × Emitted out₀ n (concatBelow (of-lookup s) l) out m
+    (l ≤ count) × (p ≡ place-of-lookup (pack-of s) l) × (length out ≡ length out₀) × Emitted out₀ n (concat-below (of-lookup s) l) out m
 
 abbrev μ-loop : tie.MeasureT-loop
 μ-loop out₀ n s work index count m₀ p₀ l₀ out m p l = count - l
@@ -92,7 +92,7 @@ loop-again c =
     let check-nested-refs-call = c .before .before .before .check-nested-refs in
     let s = now (start .args .s) in (
       omega (arith, c),
-      omega (arith, lookup-place-next (packOf s) (loop .l), lookup-of .ensures .entries, loop .inv .1),
+      omega (arith, lookup-place-next (pack-of s) (loop .l), lookup-of .ensures .entries, loop .inv .1),
       check-nested-refs-call .kept .0 ∙ loop .inv .2,
       emitted-turn (of-lookup s) (loop .l) (loop .inv .3) (check-nested-refs-call .ensures),
     )

@@ -1,8 +1,8 @@
 use borrow.Author.Tests.{eq-eqb, ne-eqb}
 use Rattle.pack.specs.declared.lookup.LookupView.{LookupView}
 use Rattle.pack.specs.declared.entry.EntryView.{EntryView}
-use Rattle.pack.specs.Value.{Entry, Lookup, Pack, noEntry, lookup-at}
-use Rattle.pack.specs.Meaning.{entryMeaning, packOf}
+use Rattle.pack.specs.Value.{Entry, Lookup, Pack, no-entry, lookup-at}
+use Rattle.pack.specs.Meaning.{entry-meaning, pack-of}
 use Rattle.rules.proofs.Sizes.{entries-few}
 use Rattle.rules.specs.Model.{fieldtypes}
 use Rattle.rules.specs.LookupWiring.{fieldtype-entry-at, check-nested-refs}
@@ -14,7 +14,7 @@ use mathlib.Core.Bool.{true, false}
 use mathlib.Core.List.{List, []}
 use lib.ListN.{length, getD}
 use denote.Ref.{now}
-use Rattle.pack.specs.Notation.{concatBelow, _==_}
+use Rattle.pack.specs.Notation.{concat-below, _==_}
 use Rattle.pack.specs.Ready.{LookupIs}
 use Rattle.rules.specs.declared.Finding.{Finding}
 use Rattle.rules.specs.Emit.{Emitted, Fits}
@@ -24,26 +24,26 @@ use Rattle.rules.proofs.nested_refs.check_nested_refs.Tie as tie
 
 -- the findings of entry e
 abbrev of-entry : List ℕ → ℕ → ℕ → List Finding
-of-entry s l e = fieldtype-entry-at (packOf s) l e (getD (lookup-at (packOf s .lookups) l .entries) e noEntry)
+of-entry s l e = fieldtype-entry-at (pack-of s) l e (getD (lookup-at (pack-of s .lookups) l .entries) e no-entry)
 
 module _ (s : List ℕ) (P : Pack) (L : Lookup) (v : LookupView) (is : LookupIs s L v) (l : ℕ) where
   others : (v .kind ≡ 3 → ⊥) → check-nested-refs P l L ≡ []
   unfolding check-nested-refs fieldtypes
   others h = let e : (L .kind == 3) ≡ false = ap (λ (M : Lookup). M .kind == 3) (sym (is .means)) ∙ ne-eqb (v .kind) 3 h in rw e
 
-  nesting : v .kind ≡ 3 → check-nested-refs P l L ≡ concatBelow (λ e. fieldtype-entry-at P l e (getD (L .entries) e noEntry)) (v .entries)
+  nesting : v .kind ≡ 3 → check-nested-refs P l L ≡ concat-below (λ e. fieldtype-entry-at P l e (getD (L .entries) e no-entry)) (v .entries)
   unfolding check-nested-refs fieldtypes
   nesting h = let e : (L .kind == 3) ≡ true = ap (λ (M : Lookup). M .kind == 3) (sym (is .means)) ∙ eq-eqb (v .kind) 3 h in rw (e, is .entries)
 
-module _ (s : List ℕ) (P : Pack) (l e : ℕ) (v : EntryView) (E : Entry) (is : entryMeaning s v ≡ E) where
-  asked : {m : ℕ} → Fits m (fieldtype-entry-at P l e E) → Fits m (fieldtype-entry-at P l e (entryMeaning s v))
+module _ (s : List ℕ) (P : Pack) (l e : ℕ) (v : EntryView) (E : Entry) (is : entry-meaning s v ≡ E) where
+  asked : {m : ℕ} → Fits m (fieldtype-entry-at P l e E) → Fits m (fieldtype-entry-at P l e (entry-meaning s v))
   asked h = rw (← is) at h
 
-  told : {o o′ : List ℕ} {n m : ℕ} → Emitted o n (fieldtype-entry-at P l e (entryMeaning s v)) o′ m → Emitted o n (fieldtype-entry-at P l e E) o′ m
+  told : {o o′ : List ℕ} {n m : ℕ} → Emitted o n (fieldtype-entry-at P l e (entry-meaning s v)) o′ m → Emitted o n (fieldtype-entry-at P l e E) o′ m
   told h = rw (← is) h
 
 abbrev Inv-loop : tie.InvT-loop
-Inv-loop out₀ n s work index l p entries m₀ e₀ out m e = (e ≤ entries) × (length out ≡ length out₀) × Emitted out₀ n (concatBelow (of-entry s l) e) out m
+Inv-loop out₀ n s work index l p entries m₀ e₀ out m e = (e ≤ entries) × (length out ≡ length out₀) × Emitted out₀ n (concat-below (of-entry s l) e) out m
 
 abbrev μ-loop : tie.MeasureT-loop
 μ-loop out₀ n s work index l p entries m₀ e₀ out m e = entries - e
@@ -52,7 +52,7 @@ returns : tie.Need-returns Inv-loop μ-loop
 returns c =
     let start = c .before .before .before .before .before in
     let s = now (start .args .s) in let l = start .args .l in
-    rw (others s (packOf s) (lookup-at (packOf s .lookups) l) (start .args .v) (start .pre .2) l (c .if1 .taken))
+    rw (others s (pack-of s) (lookup-at (pack-of s .lookups) l) (start .args .v) (start .pre .2) l (c .if1 .taken))
     (emitted-none (now (start .args .out)) (start .args .n))
 
 loop-holds : tie.Need-loop-holds Inv-loop μ-loop
@@ -74,9 +74,9 @@ fieldtype-entry-at-requires c κs =
     let if1 = c .before .before .before .before .if1 in
     let loop = c .before .before .before .loop in
     let s = now (start .args .s) in let l = start .args .l in (
-      asked s (packOf s) l (loop .e) (c .before .entry-of .result) (getD (lookup-at (packOf s .lookups) l .entries) (loop .e) noEntry)
+      asked s (pack-of s) l (loop .e) (c .before .entry-of .result) (getD (lookup-at (pack-of s .lookups) l .entries) (loop .e) no-entry)
           (c .before .entry-of .ensures) (fits-turn (of-entry s l) (start .args .v .entries) (loop .e) (c .before .before .loop-test .taken)
-          (rw (nesting s (packOf s) (lookup-at (packOf s .lookups) l) (start .args .v) (start .pre .2) l (if1 .left)) at (start .pre .0)) (loop .inv .2)),
+          (rw (nesting s (pack-of s) (lookup-at (pack-of s .lookups) l) (start .args .v) (start .pre .2) l (if1 .left)) at (start .pre .0)) (loop .inv .2)),
       start .pre .1 .ready,
       start .pre .3,
     )
@@ -99,8 +99,8 @@ loop-again c =
     let s = now (start .args .s) in let l = start .args .l in (
       omega (arith, c),
       fieldtype-entry-at-call .kept .0 ∙ loop .inv .1,
-      emitted-turn (of-entry s l) (loop .e) (loop .inv .2) (told s (packOf s) l (loop .e) (entry-of .result)
-          (getD (lookup-at (packOf s .lookups) l .entries) (loop .e) noEntry) (entry-of .ensures) (fieldtype-entry-at-call .ensures)),
+      emitted-turn (of-entry s l) (loop .e) (loop .inv .2) (told s (pack-of s) l (loop .e) (entry-of .result)
+          (getD (lookup-at (pack-of s .lookups) l .entries) (loop .e) no-entry) (entry-of .ensures) (fieldtype-entry-at-call .ensures)),
     )
 
 same-length : tie.Need-same-length Inv-loop μ-loop
@@ -111,7 +111,7 @@ returns-2 c =
     let start = c .before .before .before .before .before .before .before in
     let s = now (start .args .s) in let l = start .args .l in
     let q : start .args .v .entries ≡ c .before .loop .e = omega (arith, c .before .loop .inv .0, c .loop-test .left) in
-    rw (nesting s (packOf s) (lookup-at (packOf s .lookups) l) (start .args .v) (start .pre .2) l (c .before .before .if1 .left), q) (c .before .loop .inv .2)
+    rw (nesting s (pack-of s) (lookup-at (pack-of s .lookups) l) (start .args .v) (start .pre .2) l (c .before .before .if1 .left), q) (c .before .loop .inv .2)
 
 pub check-nested-refs-spec : {M : Type 1} → statement M
 check-nested-refs-spec =

@@ -1,7 +1,7 @@
 use Rattle.pack.specs.declared.entry.EntryView.{EntryView}
 use Rattle.pack.specs.Value.{Pack}
-use Rattle.pack.specs.Meaning.{optBytes, entryMeaning, packOf}
-use Rattle.pack.specs.Items.{bytesOf}
+use Rattle.pack.specs.Meaning.{optional-bytes, entry-meaning, pack-of}
+use Rattle.pack.specs.Items.{bytes-of}
 use Rattle.rules.specs.LookupWiring.{is-fieldtype, nested-lookup-at, fieldtype-entry-at}
 use borrow.Author.Needs.{needs}
 use Prim.Native.Nat.{ℕ}
@@ -15,9 +15,9 @@ use Rattle.rules.proofs.Emits.{emitted-append, fits-left, fits-right}
 use Rattle.rules.proofs.nested_refs.fieldtype_entry_at.Statement.{statement}
 use Rattle.rules.proofs.nested_refs.fieldtype_entry_at.Tie as tie
 
-parted : (s : List ℕ) (P : Pack) (l e : ℕ) (v : EntryView) (b : Bool) → b ≡ is-fieldtype (P .fieldtypes) (bytesOf s (v .fieldtype)) → (F : Finding)
+parted : (s : List ℕ) (P : Pack) (l e : ℕ) (v : EntryView) (b : Bool) → b ≡ is-fieldtype (P .fieldtypes) (bytes-of s (v .fieldtype)) → (F : Finding)
     → F ≡ lookup-error 8 6 l e 0
-    → fieldtype-entry-at P l e (entryMeaning s v) ≡ report-if (not b) F ++ nested-lookup-at (P .lookups) l e (optBytes s (v .nested))
+    → fieldtype-entry-at P l e (entry-meaning s v) ≡ report-if (not b) F ++ nested-lookup-at (P .lookups) l e (optional-bytes s (v .nested))
 unfolding fieldtype-entry-at
 parted s P l e v b x F y = rw (x, y)
 
@@ -35,9 +35,9 @@ put-if-requires c κs =
     let is-fieldtype-call = c .before .before .is-fieldtype in
     let s = now (start .args .s) in let l = start .args .l in let e = start .args .e in
     fits-left (report-if (not (is-fieldtype-call .result)) (c .lookup-error .result))
-    (nested-lookup-at (packOf s .lookups) l e (optBytes s (start .args .entry .nested)))
+    (nested-lookup-at (pack-of s .lookups) l e (optional-bytes s (start .args .entry .nested)))
     (rw
-    (parted s (packOf s) l e (start .args .entry) (is-fieldtype-call .result) (is-fieldtype-call .ensures) (c .lookup-error .result) (c .lookup-error .ensures))
+    (parted s (pack-of s) l e (start .args .entry) (is-fieldtype-call .result) (is-fieldtype-call .ensures) (c .lookup-error .result) (c .lookup-error .ensures))
     at (start .pre .0))
 
 nested-lookup-at-requires : tie.Need-nested-lookup-at-requires
@@ -48,8 +48,8 @@ nested-lookup-at-requires c κs =
     let put-if = c .before .before .before .put-if in
     let s = now (start .args .s) in let l = start .args .l in let e = start .args .e in (
       fits-right (report-if (not (is-fieldtype-call .result)) (lookup-error-call .result))
-          (nested-lookup-at (packOf s .lookups) l e (optBytes s (start .args .entry .nested)))
-          (rw (parted s (packOf s) l e (start .args .entry) (is-fieldtype-call .result) (is-fieldtype-call .ensures) (lookup-error-call .result)
+          (nested-lookup-at (pack-of s .lookups) l e (optional-bytes s (start .args .entry .nested)))
+          (rw (parted s (pack-of s) l e (start .args .entry) (is-fieldtype-call .result) (is-fieldtype-call .ensures) (lookup-error-call .result)
           (lookup-error-call .ensures)) at (start .pre .0)) (put-if .ensures),
       start .pre .1,
       start .pre .2 .lookups,
@@ -67,9 +67,9 @@ returns c =
     let lookup-error-call = c .before .before .before .before .before .before .before .lookup-error in
     let put-if = c .before .before .before .before .before .before .put-if in
     let s = now (start .args .s) in let l = start .args .l in let e = start .args .e in
-    rw (parted s (packOf s) l e (start .args .entry) (is-fieldtype-call .result) (is-fieldtype-call .ensures) (lookup-error-call .result)
+    rw (parted s (pack-of s) l e (start .args .entry) (is-fieldtype-call .result) (is-fieldtype-call .ensures) (lookup-error-call .result)
     (lookup-error-call .ensures)) (emitted-append {xs = report-if (not (is-fieldtype-call .result)) (lookup-error-call .result)}
-    {ys = nested-lookup-at (packOf s .lookups) l e (optBytes s (start .args .entry .nested))} (put-if .ensures) (c .before .before .nested-lookup-at .ensures))
+    {ys = nested-lookup-at (pack-of s .lookups) l e (optional-bytes s (start .args .entry .nested))} (put-if .ensures) (c .before .before .nested-lookup-at .ensures))
 
 pub fieldtype-entry-at-spec : {M : Type 1} → statement M
 fieldtype-entry-at-spec =

@@ -1,8 +1,8 @@
 use Rattle.pack.specs.declared.field_type.FieldTypeView.{FieldTypeView}
-use Rattle.pack.specs.Value.{noFieldType}
-use Rattle.pack.specs.Meaning.{typeMeaning, packOf}
-use Rattle.pack.specs.Items.{bytesOf}
-use Rattle.rules.specs.Search.{anyBelow}
+use Rattle.pack.specs.Value.{no-field-type}
+use Rattle.pack.specs.Meaning.{type-meaning, pack-of}
+use Rattle.pack.specs.Items.{bytes-of}
+use Rattle.rules.specs.Search.{any-below}
 use Rattle.rules.specs.SearchLaws.{any-turn, any-hit}
 use Rattle.rules.specs.LookupWiring.{is-fieldtype}
 use borrow.Author.Needs.{needs}
@@ -19,14 +19,14 @@ use Rattle.rules.proofs.nested_refs.is_fieldtype.Tie as tie
 
 -- whether field type j has the name
 abbrev named : List ℕ → List ℕ → ℕ → Bool
-named s name j = getD (packOf s .fieldtypes) j noFieldType .name ≐ name
+named s name j = getD (pack-of s .fieldtypes) j no-field-type .name ≐ name
 
-said : (s name : List ℕ) (j : ℕ) (v : FieldTypeView) (r : Bool) → typeMeaning s v ≡ getD (packOf s .fieldtypes) j noFieldType → r ≡ (bytesOf s (v .name) ≐ name)
+said : (s name : List ℕ) (j : ℕ) (v : FieldTypeView) (r : Bool) → type-meaning s v ≡ getD (pack-of s .fieldtypes) j no-field-type → r ≡ (bytes-of s (v .name) ≐ name)
     → named s name j ≡ r
 said s name j v r y h = sym (h ∙ (λ k. y k .name ≐ name))
 
 abbrev Inv-loop : tie.InvT-loop
-Inv-loop s work types name j₀ j = (j ≤ types) × (anyBelow (named s (bytesOf s name)) j ≡ false)
+Inv-loop s work types name j₀ j = (j ≤ types) × (any-below (named s (bytes-of s name)) j ≡ false)
 
 abbrev μ-loop : tie.MeasureT-loop
 μ-loop s work types name j₀ j = types - j
@@ -50,8 +50,8 @@ returns c =
     let loop-test = c .before .before .before .loop-test in
     let type-of = c .before .before .type-of in
     let s = now (start .args .s) in let name = start .args .name in
-    let h = said s (bytesOf s name) (loop .j) (type-of .result) (c .before .same-text .result) (type-of .ensures) (c .before .same-text .ensures) in
-    sym (any-hit (named s (bytesOf s name)) (length (packOf s .fieldtypes)) (loop .j) (omega (arith, start .pre .1, loop-test .taken)) (h ∙ c .if1 .taken))
+    let h = said s (bytes-of s name) (loop .j) (type-of .result) (c .before .same-text .result) (type-of .ensures) (c .before .same-text .ensures) in
+    sym (any-hit (named s (bytes-of s name)) (length (pack-of s .fieldtypes)) (loop .j) (omega (arith, start .pre .1, loop-test .taken)) (h ∙ c .if1 .taken))
 
 add-j : tie.Need-add-j Inv-loop μ-loop
 add-j c = search needs
@@ -65,14 +65,14 @@ loop-again c =
     let loop = c .before .before .before .before .loop in
     let type-of = c .before .before .type-of in
     let s = now (start .args .s) in let name = start .args .name in
-    let h = said s (bytesOf s name) (loop .j) (type-of .result) (c .before .same-text .result) (type-of .ensures) (c .before .same-text .ensures) in
-    (omega (arith, c), any-turn (named s (bytesOf s name)) (loop .j) ∙ (rw (loop .inv .1, h ∙ c .if1 .left)))
+    let h = said s (bytes-of s name) (loop .j) (type-of .result) (c .before .same-text .result) (type-of .ensures) (c .before .same-text .ensures) in
+    (omega (arith, c), any-turn (named s (bytes-of s name)) (loop .j) ∙ (rw (loop .inv .1, h ∙ c .if1 .left)))
 
 returns-2 : tie.Need-returns-2 Inv-loop μ-loop
 unfolding is-fieldtype
 returns-2 c =
     let start = c .before .before .before .before in
-    let q : length (packOf (now (start .args .s)) .fieldtypes) ≡ c .before .loop .j =
+    let q : length (pack-of (now (start .args .s)) .fieldtypes) ≡ c .before .loop .j =
     omega (arith, start .pre .1, c .before .loop .inv .0, c .loop-test .left) in
     rw (q, c .before .loop .inv .1)
 

@@ -1,8 +1,8 @@
 use borrow.Author.Tests.{not-true, not-false}
 use Rattle.pack.specs.declared.text.OptText.{OptText}
 use Rattle.pack.specs.Value.{Lookup}
-use Rattle.pack.specs.Meaning.{optBytes, packOf}
-use Rattle.pack.specs.Items.{bytesOf}
+use Rattle.pack.specs.Meaning.{optional-bytes, pack-of}
+use Rattle.pack.specs.Items.{bytes-of}
 use Rattle.rules.proofs.Types.{given-is}
 use Rattle.rules.specs.Model.{find-lookup}
 use Rattle.rules.specs.LookupWiring.{nested-lookup-at}
@@ -20,12 +20,12 @@ use Rattle.rules.proofs.nested_refs.nested_lookup_at.Statement.{stateme
 use Rattle.rules.proofs.nested_refs.nested_lookup_at.Tie as tie
 
 module _ (s : List ℕ) (ls : List Lookup) (l e : ℕ) (o : OptText) where
-  absent : o .given ≡ false → nested-lookup-at ls l e (optBytes s o) ≡ []
+  absent : o .given ≡ false → nested-lookup-at ls l e (optional-bytes s o) ≡ []
   unfolding nested-lookup-at
   absent h = rw h
 
-  nested : o .given ≡ true → (g : Bool) (v : ℕ) → optional g v ≡ find-lookup ls (bytesOf s (o .text)) → (F : Finding) → F ≡ lookup-error 8 7 l e 0
-      → nested-lookup-at ls l e (optBytes s o) ≡ report-if (not g) F
+  nested : o .given ≡ true → (g : Bool) (v : ℕ) → optional g v ≡ find-lookup ls (bytes-of s (o .text)) → (F : Finding) → F ≡ lookup-error 8 7 l e 0
+      → nested-lookup-at ls l e (optional-bytes s o) ≡ report-if (not g) F
   unfolding nested-lookup-at
   nested h g v x F y = rw (h, ← x, given-is g v, y)
 
@@ -33,7 +33,7 @@ returns : tie.Need-returns
 returns c =
     let start = c .before .before .before .before .before in
     let s = now (start .args .s) in
-    rw (absent s (packOf s .lookups) (start .args .l) (start .args .e) (start .args .nested) (not-true (start .args .nested .given) (c .if1 .taken)))
+    rw (absent s (pack-of s .lookups) (start .args .l) (start .args .e) (start .args .nested) (not-true (start .args .nested .given) (c .if1 .taken)))
     (emitted-none (now (start .args .out)) (start .args .n))
 
 find-lookup-requires : tie.Need-find-lookup-requires
@@ -48,7 +48,7 @@ put-if-requires c κs =
     let if1 = c .before .before .before .before .if1 in
     let find-lookup-call = c .before .before .before .find-lookup in
     let s = now (start .args .s) in
-    rw (nested s (packOf s .lookups) (start .args .l) (start .args .e) (start .args .nested) (not-false (start .args .nested .given) (if1 .left))
+    rw (nested s (pack-of s .lookups) (start .args .l) (start .args .e) (start .args .nested) (not-false (start .args .nested .given) (if1 .left))
     (find-lookup-call .result .given) (find-lookup-call .result .index) (find-lookup-call .ensures .0) (c .lookup-error .result) (c .lookup-error .ensures)) at
     (start .pre .0)
 
@@ -62,7 +62,7 @@ returns-2 c =
     let find-lookup-call = c .before .before .before .before .before .before .find-lookup in
     let lookup-error-call = c .before .before .before .lookup-error in
     let s = now (start .args .s) in
-    rw (nested s (packOf s .lookups) (start .args .l) (start .args .e) (start .args .nested) (not-false (start .args .nested .given) (if1 .left))
+    rw (nested s (pack-of s .lookups) (start .args .l) (start .args .e) (start .args .nested) (not-false (start .args .nested .given) (if1 .left))
     (find-lookup-call .result .given) (find-lookup-call .result .index) (find-lookup-call .ensures .0) (lookup-error-call .result)
     (lookup-error-call .ensures)) (c .before .before .put-if .ensures)
 

@@ -2,7 +2,7 @@ use mathlib.Core.Logic.{_⊎_, inl, inr}
 use Rattle.rules.proofs.Emits.{emitted-none}
 use Rattle.rules.specs.PgnRange.{ranges-of, find-range, quick-range, found-range, check-pgn-range}
 use Rattle.pack.specs.Value.{Pgn}
-use Rattle.pack.specs.Trees.{treeNumber, protocolOf}
+use Rattle.pack.specs.Trees.{tree-number, protocol-of}
 use Rattle.pack.specs.Ready.{PgnIs}
 use Rattle.pack.specs.declared.pgn.PgnView.{PgnView}
 use Prim.Native.Nat.{ℕ, zero, suc, _≤_, _<_}
@@ -15,7 +15,7 @@ use denote.Ref.{now}
 use Rattle.rules.proofs.pgn_range.check_pgn_range.Statement.{statement}
 use Rattle.rules.proofs.pgn_range.check_pgn_range.Tie as tie
 
-tree-of : (t : ℕ) → t < 3 → treeNumber (protocolOf t) ≡ t
+tree-of : (t : ℕ) → t < 3 → tree-number (protocol-of t) ≡ t
 tree-of zero h = refl
 tree-of (suc zero) h = refl
 tree-of (suc (suc zero)) h = refl
@@ -61,7 +61,7 @@ quick-range-requires c κs =
     let of-tree = c .before .before .before .of-tree in
     let t = start .args .t in (
       rw (in-quick (now (start .args .s)) t (start .args .i) _ (start .args .g) (start .pre .1) (if1 .left)
-          (sym (tree-of t (start .pre .2)) ∙ ap treeNumber (sym (of-tree .ensures) ∙ c .before .enum-told .given .1))) at (start .pre .0),
+          (sym (tree-of t (start .pre .2)) ∙ ap tree-number (sym (of-tree .ensures) ∙ c .before .enum-told .given .1))) at (start .pre .0),
       start .pre .1,
     )
 
@@ -76,7 +76,7 @@ returns-2 c =
     let enum-told-here = c .before .before .before .before .enum-told in
     let t = start .args .t in
     rw (in-quick (now (start .args .s)) t (start .args .i) _ (start .args .g) (start .pre .1) (if1 .left)
-    (sym (tree-of t (start .pre .2)) ∙ ap treeNumber (sym (of-tree .ensures) ∙ enum-told-here .given .1))) (c .before .before .quick-range .ensures)
+    (sym (tree-of t (start .pre .2)) ∙ ap tree-number (sym (of-tree .ensures) ∙ enum-told-here .given .1))) (c .before .before .quick-range .ensures)
 
 find-range-requires : tie.Need-find-range-requires
 find-range-requires c κs = search needs

@@ -1,5 +1,5 @@
 use Rattle.rules.specs.PgnRange.{Range, ranges-of, find-range}
-use Rattle.pack.specs.Trees.{treeNumber}
+use Rattle.pack.specs.Trees.{tree-number}
 use lib.ListN.{drop-of-length-le, length, drop}
 use mathlib.Core.Option.{none, some}
 use mathlib.Core.List.{List, _∷_}
@@ -27,9 +27,9 @@ ended rs n j h = let x = drop-of-length-le rs {i = j} h in rw x
 
 abbrev Inv-loop : tie.InvT-loop
 Inv-loop protocol pgn count j₀ j =
-    (count ≡ length (ranges-of (treeNumber protocol)))
+    (count ≡ length (ranges-of (tree-number protocol)))
     × (j ≤ count)
-    × (find-range (ranges-of (treeNumber protocol)) pgn ≡ find-range (drop j (ranges-of (treeNumber protocol))) pgn)
+    × (find-range (ranges-of (tree-number protocol)) pgn ≡ find-range (drop j (ranges-of (tree-number protocol))) pgn)
 
 abbrev μ-loop : tie.MeasureT-loop
 μ-loop protocol pgn count j₀ j = count - j
@@ -47,7 +47,7 @@ returns : tie.Need-returns Inv-loop μ-loop
 returns c =
     let start = c .before .before .before .before .before .before in
     let loop = c .before .before .before .before .loop in
-    loop .inv .2 ∙ hit (ranges-of (treeNumber (start .args .protocol))) (start .args .pgn) (loop .j) _ (c .before .before .range-at .ensures) (c .if1 .taken)
+    loop .inv .2 ∙ hit (ranges-of (tree-number (start .args .protocol))) (start .args .pgn) (loop .j) _ (c .before .before .range-at .ensures) (c .if1 .taken)
 
 add-j : tie.Need-add-j Inv-loop μ-loop
 add-j c = search needs
@@ -62,13 +62,13 @@ loop-again c =
       loop .inv .0,
       omega (arith, c),
       loop .inv .2
-          ∙ missed (ranges-of (treeNumber (start .args .protocol))) (start .args .pgn) (loop .j) _ (c .before .before .range-at .ensures) (c .if1 .left),
+          ∙ missed (ranges-of (tree-number (start .args .protocol))) (start .args .pgn) (loop .j) _ (c .before .before .range-at .ensures) (c .if1 .left),
     )
 
 returns-2 : tie.Need-returns-2 Inv-loop μ-loop
 returns-2 c =
     let start = c .before .before .before in
-    c .before .loop .inv .2 ∙ ended (ranges-of (treeNumber (start .args .protocol))) (start .args .pgn) (c .before .loop .j) (omega (arith, c))
+    c .before .loop .inv .2 ∙ ended (ranges-of (tree-number (start .args .protocol))) (start .args .pgn) (c .before .loop .j) (omega (arith, c))
 
 pub find-range-spec : {M : Type 1} → statement M
 find-range-spec =

@@ -5,7 +5,7 @@ use Rattle.rules.specs.PlaceText.{place-text}
 use Rattle.rules.specs.Locs.{loc-text}
 use mathlib.Core.Path.{_∙_}
 use denote.Ref.{now}
-use Rattle.pack.specs.Meaning.{packOf}
+use Rattle.pack.specs.Meaning.{pack-of}
 use borrow.Author.Needs.{needs}
 use Rattle.rules.proofs.place_text.write_named.Statement.{statement}
 use Rattle.rules.proofs.place_text.write_named.Tie as tie
@@ -18,7 +18,7 @@ returns c =
     let start = c .before .before .before .before .before .before in
     let find-loc = c .before .before .find-loc in
     let pack = now (start .args .pack) in
-    let a = not-there (place-text (packOf pack) (start .args .place) (start .args .tree) (start .args .item)) (find-loc .result .given)
+    let a = not-there (place-text (pack-of pack) (start .args .place) (start .args .tree) (start .args .item)) (find-loc .result .given)
     (loc-text pack (find-loc .result .loc)) (find-loc .ensures) (now (start .args .text)) (not-true (find-loc .result .given) (c .if1 .taken)) in
     (a .answer, a .text)
 
@@ -42,7 +42,7 @@ returns-2 c =
     let put-loc = c .before .before .before .put-loc in
     let text = now (start .args .text) in let pack = now (start .args .pack) in
     let x = empty-part (put-loc .last .0) text (put-loc .kept .0) in
-    let a = too-short (place-text (packOf pack) (start .args .place) (start .args .tree) (start .args .item)) (find-loc .result .given)
+    let a = too-short (place-text (pack-of pack) (start .args .place) (start .args .tree) (start .args .item)) (find-loc .result .given)
     (loc-text pack (find-loc .result .loc)) (find-loc .ensures) text (not-false (find-loc .result .given) (if1 .left)) (put-loc .result)
     (put-loc .ensures .count) (rw x at (c .if2 .taken)) in
     (a .answer, x ∙ a .text)
@@ -64,7 +64,7 @@ returns-3 c =
     let put-loc2 = c .before .before .put-loc2 in
     let text = now (start .args .text) in let pack = now (start .args .pack) in
     let x = empty-part (put-loc .last .0) text (put-loc .kept .0) in
-    let a = all-written (place-text (packOf pack) (start .args .place) (start .args .tree) (start .args .item)) (find-loc .result .given)
+    let a = all-written (place-text (pack-of pack) (start .args .place) (start .args .tree) (start .args .item)) (find-loc .result .given)
     (loc-text pack (find-loc .result .loc)) (find-loc .ensures) text (not-false (find-loc .result .given) (if1 .left)) (put-loc .result)
     (put-loc .ensures .count) (rw x at (if2 .left)) (put-loc2 .last .0) (put-loc2 .result) (rw x at (put-loc2 .ensures)) in
     (a .answer, a .text)

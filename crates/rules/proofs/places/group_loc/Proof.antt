@@ -1,7 +1,7 @@
 use borrow.Author.Tests.{lt-ltb, le-ltb}
 use Rattle.rules.proofs.Sections.{at-tree}
 use denote.Ref.{now}
-use Rattle.pack.specs.Meaning.{packOf}
+use Rattle.pack.specs.Meaning.{pack-of}
 use borrow.Author.Needs.{needs}
 use Rattle.rules.proofs.places.group_loc.Statement.{statement}
 use Rattle.rules.proofs.places.group_loc.Tie as tie
@@ -24,7 +24,7 @@ has-number-requires : tie.Need-has-number-requires
 has-number-requires c κs =
     let start = c .before .before .before .before .before in
     let if1 = c .before .before .if1 in
-    let a = at-tree (packOf (now (start .args .s))) (start .args .index) (start .pre .1) (start .args .tree) (if1 .left) (c .before .of-tree .result)
+    let a = at-tree (pack-of (now (start .args .s))) (start .args .index) (start .pre .1) (start .args .tree) (if1 .left) (c .before .of-tree .result)
     (c .section .result) (c .before .of-tree .ensures) (c .section .ensures) in
     (start .pre .0, if1 .left, a .0, a .1)
 

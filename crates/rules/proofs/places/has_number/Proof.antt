@@ -2,10 +2,10 @@
 use Rattle.rules.proofs.Sizes.{pgns-few, at-pgn, fields-few}
 use borrow.Author.Tests.{eq-eqb, ne-eqb}
 use Rattle.pack.specs.Value.{Pgn, pgns-of, pgn-at}
-use Rattle.pack.specs.Ready.{pgnPlace}
+use Rattle.pack.specs.Ready.{place-of-pgn}
 use Rattle.pack.proofs.Positions.{pgn-place-next}
 use Rattle.rules.specs.SearchLaws.{any-turn, any-hit}
-use Rattle.rules.specs.Search.{anyBelow}
+use Rattle.rules.specs.Search.{any-below}
 use Rattle.rules.specs.PlaceText.{has-number}
 use borrow.Author.Needs.{needs}
 use native.Mathlib.Omega.{arith}
@@ -16,15 +16,15 @@ use mathlib.Core.List.{List}
 use lib.ListN.{length}
 use denote.Ref.{now}
 use Rattle.pack.specs.Notation.{_==_}
-use Rattle.pack.specs.Meaning.{packOf}
+use Rattle.pack.specs.Meaning.{pack-of}
 use Rattle.rules.proofs.places.has_number.Statement.{statement}
 use Rattle.rules.proofs.places.has_number.Tie as tie
 
 abbrev numbered : List ℕ → ℕ → ℕ → ℕ → Bool
-numbered s t number i = pgn-at (packOf s) t i .pgn == number
+numbered s t number i = pgn-at (pack-of s) t i .pgn == number
 
 abbrev Inv-loop : tie.InvT-loop
-Inv-loop s work t number n p₀ i₀ p i = (i ≤ n) × (p ≡ pgnPlace (packOf s) t i) × (anyBelow (numbered s t number) i ≡ false)
+Inv-loop s work t number n p₀ i₀ p i = (i ≤ n) × (p ≡ place-of-pgn (pack-of s) t i) × (any-below (numbered s t number) i ≡ false)
 
 abbrev μ-loop : tie.MeasureT-loop
 μ-loop s work t number n p₀ i₀ p i = n - i
@@ -45,7 +45,7 @@ returns c =
     let loop-test = c .before .before .before .loop-test in
     let s = now (start .args .s) in let t = start .args .t in let number = start .args .number in
     let e : numbered s t number (loop .i) ≡ true = eq-eqb _ _ (sym (ap (λ (G : Pgn). G .pgn) (c .before .before .pgn-of .ensures .means)) ∙ c .if1 .taken) in
-    sym (any-hit (numbered s t number) (length (pgns-of (packOf s) t)) (loop .i) (omega (arith, loop-test .taken, start .pre .2)) e)
+    sym (any-hit (numbered s t number) (length (pgns-of (pack-of s) t)) (loop .i) (omega (arith, loop-test .taken, start .pre .2)) e)
 
 add-p : tie.Need-add-p Inv-loop μ-loop
 add-p c =
@@ -90,7 +90,7 @@ loop-again c =
     let e : numbered s t number (loop .i) ≡ false =
     rw (← ap (λ (G : Pgn). G .pgn) (pgn-of .ensures .means)) (ne-eqb (pgn-of .result .pgn) number (c .before .if1 .left)) in (
       omega (arith, loop-test .taken),
-      omega (arith, pgn-place-next (packOf s) t (loop .i), pgn-of .ensures .fields, loop .inv .1),
+      omega (arith, pgn-place-next (pack-of s) t (loop .i), pgn-of .ensures .fields, loop .inv .1),
       any-turn (numbered s t number) (loop .i) ∙ (rw (loop .inv .2, e)),
     )
 
@@ -98,7 +98,7 @@ returns-2 : tie.Need-returns-2 Inv-loop μ-loop
 unfolding has-number
 returns-2 c =
     let start = c .before .before .before .before in
-    let e : length (pgns-of (packOf (now (start .args .s))) (start .args .t)) ≡ c .before .loop .i =
+    let e : length (pgns-of (pack-of (now (start .args .s))) (start .args .t)) ≡ c .before .loop .i =
     omega (arith, c .before .loop .inv .0, c .loop-test .left, start .pre .2) in
     rw e (sym (c .before .loop .inv .2))
 

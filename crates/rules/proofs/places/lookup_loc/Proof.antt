@@ -9,7 +9,7 @@ use mathlib.Core.Option.{some}
 use lib.ListN.{length}
 use denote.Ref.{now}
 use Rattle.pack.specs.Notation.{_==_, _<ᵇ_}
-use Rattle.pack.specs.Meaning.{packOf}
+use Rattle.pack.specs.Meaning.{pack-of}
 use borrow.Author.Needs.{needs}
 use Rattle.rules.proofs.places.lookup_loc.Statement.{statement}
 use Rattle.rules.proofs.places.lookup_loc.Tie as tie
@@ -31,7 +31,7 @@ returns : tie.Need-returns
 returns c =
     let start = c .before .before .before .before .before in
     let in-first-tree = c .before .before .in-first-tree in
-    let e : ((start .args .tree == 0) && (start .args .item <ᵇ length (packOf (now (start .args .s)) .lookups))) ≡ false =
+    let e : ((start .args .tree == 0) && (start .args .item <ᵇ length (pack-of (now (start .args .s)) .lookups))) ≡ false =
     rw (← start .pre .1) (sym (in-first-tree .ensures) ∙ not-true (in-first-tree .result) (c .before .if1 .taken)) in
     rw (c .absent .ensures, e)
 
@@ -55,7 +55,7 @@ returns-2 : tie.Need-returns-2
 returns-2 c =
     let start = c .before .before .before .before .before .before in
     let in-first-tree = c .before .before .before .in-first-tree in
-    let e : ((start .args .tree == 0) && (start .args .item <ᵇ length (packOf (now (start .args .s)) .lookups))) ≡ true =
+    let e : ((start .args .tree == 0) && (start .args .item <ᵇ length (pack-of (now (start .args .s)) .lookups))) ≡ true =
     rw (← start .pre .1) (sym (in-first-tree .ensures) ∙ not-false (in-first-tree .result) (c .before .before .if1 .left)) in
     rw e (ap (λ (x : Bytes). some (lookup-loc x)) (c .lookup-name-of .ensures))
 

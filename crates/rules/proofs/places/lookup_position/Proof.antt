@@ -7,16 +7,16 @@ use mathlib.Core.Path.{_≡_}
 use mathlib.Core.List.{List}
 use lib.ListN.{length}
 use denote.Ref.{now}
-use Rattle.pack.specs.Ready.{Ready, LookupAt, lookupPlace}
-use Rattle.pack.specs.Meaning.{packOf}
+use Rattle.pack.specs.Ready.{Ready, LookupAt, place-of-lookup}
+use Rattle.pack.specs.Meaning.{pack-of}
 use Rattle.rules.proofs.places.lookup_position.Statement.{statement}
 use Rattle.rules.proofs.places.lookup_position.Tie as tie
 
-there : (s w : List ℕ) (item l p : ℕ) → Ready s w → item < length (packOf s .lookups) → l < item → p ≡ lookupPlace (packOf s) l → LookupAt s w l p
+there : (s w : List ℕ) (item l p : ℕ) → Ready s w → item < length (pack-of s .lookups) → l < item → p ≡ place-of-lookup (pack-of s) l → LookupAt s w l p
 there s w item l p r h k e = record { ready = r; lookup = omega arith; place = e }
 
 abbrev Inv-loop : tie.InvT-loop
-Inv-loop s work first item p₀ l₀ p l = (l ≤ item) × (p ≡ lookupPlace (packOf s) l)
+Inv-loop s work first item p₀ l₀ p l = (l ≤ item) × (p ≡ place-of-lookup (pack-of s) l)
 
 abbrev μ-loop : tie.MeasureT-loop
 μ-loop s work first item p₀ l₀ p l = item - l
@@ -73,7 +73,7 @@ loop-again c =
     let start = c .before .before .before .before .before .before in
     let loop = c .before .before .before .loop in (
       omega (arith, c .before .before .loop-test .taken),
-      omega (arith, lookup-place-next (packOf (now (start .args .s))) (loop .l), c .before .lookup-of .ensures .entries, loop .inv .1),
+      omega (arith, lookup-place-next (pack-of (now (start .args .s))) (loop .l), c .before .lookup-of .ensures .entries, loop .inv .1),
     )
 
 returns : tie.Need-returns Inv-loop μ-loop

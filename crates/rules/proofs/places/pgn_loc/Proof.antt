@@ -1,6 +1,6 @@
 use borrow.Author.Tests.{lt-ltb, le-ltb}
 use Rattle.pack.specs.Value.{Pgn, pgns-of, pgn-at}
-use Rattle.pack.specs.Items.{bytesOf}
+use Rattle.pack.specs.Items.{bytes-of}
 use Rattle.pack.specs.declared.pgn.PgnView.{PgnView}
 use Rattle.rules.proofs.Sections.{at-tree}
 use Rattle.rules.specs.PlaceText.{pgn-loc}
@@ -13,12 +13,12 @@ use mathlib.Core.Option.{some}
 use lib.ListN.{length}
 use denote.Ref.{now}
 use Rattle.pack.specs.Ready.{PgnIs}
-use Rattle.pack.specs.Meaning.{packOf}
+use Rattle.pack.specs.Meaning.{pack-of}
 use borrow.Author.Needs.{needs}
 use Rattle.rules.proofs.places.pgn_loc.Statement.{statement}
 use Rattle.rules.proofs.places.pgn_loc.Tie as tie
 
-text-is : (s : List ℕ) (t : ℕ) (G : Pgn) (v : PgnView) → PgnIs s G v → pgn-text t (v .pgn) (bytesOf s (v .id)) ≡ pgn-loc t G
+text-is : (s : List ℕ) (t : ℕ) (G : Pgn) (v : PgnView) → PgnIs s G v → pgn-text t (v .pgn) (bytes-of s (v .id)) ≡ pgn-loc t G
 unfolding pgn-text pgn-loc
 text-is s t G v is = ap (λ (H : Pgn). pgn-loc t H) (is .means)
 
@@ -47,9 +47,9 @@ returns-2 c =
     let section = c .before .before .before .section in
     let s = now (start .args .s) in let tree = start .args .tree in
     let a =
-    at-tree (packOf s) (start .args .index) (start .pre .1) tree (if1 .left) (of-tree .result) (section .result) (of-tree .ensures) (section .ensures) in
+    at-tree (pack-of s) (start .args .index) (start .pre .1) tree (if1 .left) (of-tree .result) (section .result) (of-tree .ensures) (section .ensures) in
     rw
-    (c .absent2 .ensures, lt-ltb tree 3 (if1 .left), le-ltb (start .args .item) (length (pgns-of (packOf s) tree)) (omega (arith, a .0, c .before .if2 .taken)))
+    (c .absent2 .ensures, lt-ltb tree 3 (if1 .left), le-ltb (start .args .item) (length (pgns-of (pack-of s) tree)) (omega (arith, a .0, c .before .if2 .taken)))
 
 pgn-position-requires : tie.Need-pgn-position-requires
 pgn-position-requires c κs =
@@ -57,7 +57,7 @@ pgn-position-requires c κs =
     let if1 = c .before .before .before .before .if1 in
     let of-tree = c .before .before .before .of-tree in
     let section = c .before .before .section in
-    let a = at-tree (packOf (now (start .args .s))) (start .args .index) (start .pre .1) (start .args .tree) (if1 .left) (of-tree .result) (section .result)
+    let a = at-tree (pack-of (now (start .args .s))) (start .args .index) (start .pre .1) (start .args .tree) (if1 .left) (of-tree .result) (section .result)
     (of-tree .ensures) (section .ensures) in
     (start .pre .0, if1 .left, a .1, omega (arith, a .0, c .if2 .left))
 
@@ -73,9 +73,9 @@ returns-3 c =
     let if2 = c .before .before .before .if2 in
     let s = now (start .args .s) in let tree = start .args .tree in let item = start .args .item in
     let a =
-    at-tree (packOf s) (start .args .index) (start .pre .1) tree (if1 .left) (of-tree .result) (section .result) (of-tree .ensures) (section .ensures) in
-    rw (lt-ltb tree 3 (if1 .left), lt-ltb item (length (pgns-of (packOf s) tree)) (omega (arith, a .0, if2 .left)))
-    (ap some (text-is s tree (pgn-at (packOf s) tree item) (c .before .pgn-of .result) (c .before .pgn-of .ensures)))
+    at-tree (pack-of s) (start .args .index) (start .pre .1) tree (if1 .left) (of-tree .result) (section .result) (of-tree .ensures) (section .ensures) in
+    rw (lt-ltb tree 3 (if1 .left), lt-ltb item (length (pgns-of (pack-of s) tree)) (omega (arith, a .0, if2 .left)))
+    (ap some (text-is s tree (pgn-at (pack-of s) tree item) (c .before .pgn-of .result) (c .before .pgn-of .ensures)))
 
 pub pgn-loc-spec : {M : Type 1} → statement M
 pgn-loc-spec =

@@ -1,4 +1,4 @@
-use Rattle.pack.specs.Ready.{pgnPlace}
+use Rattle.pack.specs.Ready.{place-of-pgn}
 use Rattle.pack.proofs.Positions.{pgn-place-next}
 use Rattle.rules.proofs.Sizes.{at-pgn, fields-few}
 use borrow.Author.Needs.{needs}
@@ -6,12 +6,12 @@ use native.Mathlib.Omega.{arith}
 use Prim.Native.Nat.{_-_, _≤_}
 use mathlib.Core.Path.{_≡_}
 use denote.Ref.{now}
-use Rattle.pack.specs.Meaning.{packOf}
+use Rattle.pack.specs.Meaning.{pack-of}
 use Rattle.rules.proofs.places.pgn_position.Statement.{statement}
 use Rattle.rules.proofs.places.pgn_position.Tie as tie
 
 abbrev Inv-loop : tie.InvT-loop
-Inv-loop s work t first item p₀ i₀ p i = (i ≤ item) × (p ≡ pgnPlace (packOf s) t i)
+Inv-loop s work t first item p₀ i₀ p i = (i ≤ item) × (p ≡ place-of-pgn (pack-of s) t i)
 
 abbrev μ-loop : tie.MeasureT-loop
 μ-loop s work t first item p₀ i₀ p i = item - i
@@ -61,7 +61,7 @@ loop-again c =
     let start = c .before .before .before .before .before .before in
     let loop = c .before .before .before .loop in (
       omega (arith, c .before .before .loop-test .taken),
-      omega (arith, pgn-place-next (packOf (now (start .args .s))) (start .args .t) (loop .i), c .before .pgn-of .ensures .fields, loop .inv .1),
+      omega (arith, pgn-place-next (pack-of (now (start .args .s))) (start .args .t) (loop .i), c .before .pgn-of .ensures .fields, loop .inv .1),
     )
 
 returns : tie.Need-returns Inv-loop μ-loop

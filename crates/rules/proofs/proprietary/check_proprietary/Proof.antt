@@ -6,7 +6,7 @@ use mathlib.Core.Bool.{not, _||_, Bool, true, false}
 use Rattle.pack.specs.Value.{FieldType, Pgn}
 use Rattle.pack.specs.Ready.{PgnIs}
 use Rattle.pack.specs.Notation.{if_then_else_}
-use Rattle.pack.specs.Meaning.{packOf}
+use Rattle.pack.specs.Meaning.{pack-of}
 use Rattle.pack.specs.declared.pgn.PgnView.{PgnView}
 use Prim.Native.Nat.{ℕ}
 use mathlib.Core.Path.{_≡_, ap, _∙_, sym}
@@ -49,14 +49,14 @@ returns c =
     let start = c .before .before .before .before .before in
     let s = now (start .args .s) in
     rw
-    (free s (packOf s .fieldtypes) (start .args .t) (start .args .i) _ (start .args .g) (start .pre .2) (sym (c .before .is-exempt .ensures) ∙ c .if1 .taken))
+    (free s (pack-of s .fieldtypes) (start .args .t) (start .args .i) _ (start .args .g) (start .pre .2) (sym (c .before .is-exempt .ensures) ∙ c .if1 .taken))
     (emitted-none (now (start .args .out)) (start .args .n))
 
 returns-2 : tie.Need-returns-2
 returns-2 c =
     let start = c .before .before .before .before .before .before in
     let s = now (start .args .s) in
-    rw (declared s (packOf s .fieldtypes) (start .args .t) (start .args .i) _ (start .args .g) (start .pre .2)
+    rw (declared s (pack-of s .fieldtypes) (start .args .t) (start .args .i) _ (start .args .g) (start .pre .2)
     (sym (c .before .before .is-exempt .ensures) ∙ c .before .if1 .left) (c .if2 .taken)) (emitted-none (now (start .args .out)) (start .args .n))
 
 company-fields-requires : tie.Need-company-fields-requires
@@ -74,7 +74,7 @@ put-if-requires c κs =
     let if1 = c .before .before .before .before .if1 in
     let if2 = c .before .before .before .if2 in
     let s = now (start .args .s) in
-    rw (judged s (packOf s .fieldtypes) (start .args .t) (start .args .i) _ (start .args .g) (start .pre .2) (sym (is-exempt .ensures) ∙ if1 .left) (if2 .left)
+    rw (judged s (pack-of s .fieldtypes) (start .args .t) (start .args .i) _ (start .args .g) (start .pre .2) (sym (is-exempt .ensures) ∙ if1 .left) (if2 .left)
     _ (c .before .before .company-fields .ensures) _ (c .pgn-error .ensures)) at (start .pre .0)
 
 same-length : tie.Need-same-length
@@ -89,7 +89,7 @@ returns-3 c =
     let company-fields-call = c .before .before .before .before .before .company-fields in
     let pgn-error-call = c .before .before .before .pgn-error in
     let s = now (start .args .s) in
-    rw (judged s (packOf s .fieldtypes) (start .args .t) (start .args .i) _ (start .args .g) (start .pre .2) (sym (is-exempt .ensures) ∙ if1 .left) (if2 .left)
+    rw (judged s (pack-of s .fieldtypes) (start .args .t) (start .args .i) _ (start .args .g) (start .pre .2) (sym (is-exempt .ensures) ∙ if1 .left) (if2 .left)
     _ (company-fields-call .ensures) _ (pgn-error-call .ensures)) (c .before .before .put-if .ensures)
 
 pub check-proprietary-spec : {M : Type 1} → statement M

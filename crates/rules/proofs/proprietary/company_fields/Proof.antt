@@ -5,7 +5,7 @@ use mathlib.Core.Bool.{_&&_, Bool, true, false}
 use Rattle.pack.proofs.Positions.{field-ft-law}
 use Rattle.pack.specs.Value.{FieldType, Field, Pgn, pgn-at, field-at}
 use Rattle.pack.specs.Notation.{_==_, _≐_, _≤ᵇ_}
-use Rattle.pack.specs.Meaning.{fieldMeaning, optReference, packOf}
+use Rattle.pack.specs.Meaning.{field-meaning, optional-reference, pack-of}
 use Rattle.pack.specs.declared.field.FieldView.{FieldView}
 use Prim.Native.Nat.{ℕ, _≤_, _<_}
 use native.Mathlib.Omega.{arith}
@@ -37,10 +37,10 @@ at-second true false y z e = refl
 at-second false x y z e = refl
 
 abbrev pair : List ℕ → FieldView → List ℕ → ℕ → Bool
-pair s v name bits = pair-is (optReference s (v .links .reference)) name && (v .scaling .bits == bits)
+pair s v name bits = pair-is (optional-reference s (v .links .reference)) name && (v .scaling .bits == bits)
 
 abbrev reserved : List ℕ → List FieldType → FieldView → ℕ → Bool
-reserved s fts v bits = (root-of fts (fieldMeaning s v) ≐ RESERVED) && (v .scaling .bits == bits)
+reserved s fts v bits = (root-of fts (field-meaning s v) ≐ RESERVED) && (v .scaling .bits == bits)
 
 at-third : (a x y z : Bool) → a ≡ true → x ≡ true → y ≡ true → (a && (x && (y && z))) ≡ z
 at-third a x y z e d f = rw (e, d, f)
@@ -66,13 +66,13 @@ module _ (s : List ℕ) (fts : List FieldType) (P : Pgn) where
       regroup (3 ≤ᵇ length (P .fields)) (pair-is (field-at P 0 .reference) MANUFACTURER-CODE) (field-at P 0 .res-bits == 11)
       (root-of fts (field-at P 1) ≐ RESERVED) (field-at P 1 .res-bits == 2) (pair-is (field-at P 2 .reference) INDUSTRY-CODE) (field-at P 2 .res-bits == 3)
 
-  first : (u : FieldView) → fieldMeaning s u ≡ field-at P 0 → pair s u MANUFACTURER-CODE 11 ≡ false → company-fields fts P ≡ false
+  first : (u : FieldView) → field-meaning s u ≡ field-at P 0 → pair s u MANUFACTURER-CODE 11 ≡ false → company-fields fts P ≡ false
   first u e x = parted ∙ at-first (3 ≤ᵇ length (P .fields)) (coded P) (spared fts P && grouped P) (rw (← e) x)
 
-  second : (v : FieldView) → fieldMeaning s v ≡ field-at P 1 → reserved s fts v 2 ≡ false → company-fields fts P ≡ false
+  second : (v : FieldView) → field-meaning s v ≡ field-at P 1 → reserved s fts v 2 ≡ false → company-fields fts P ≡ false
   second v e x = parted ∙ at-second (3 ≤ᵇ length (P .fields)) (coded P) (spared fts P) (grouped P) (rw (← e) x)
 
-  third : (u v w : FieldView) → 3 ≤ length (P .fields) → fieldMeaning s u ≡ field-at P 0 → fieldMeaning s v ≡ field-at P 1 → fieldMeaning s w ≡ field-at P 2
+  third : (u v w : FieldView) → 3 ≤ length (P .fields) → field-meaning s u ≡ field-at P 0 → field-meaning s v ≡ field-at P 1 → field-meaning s w ≡ field-at P 2
       → pair s u MANUFACTURER-CODE 11 ≡ true → reserved s fts v 2 ≡ true → company-fields fts P ≡ pair s w INDUSTRY-CODE 3
   third u v w h a b c x y =
       parted ∙ at-third (3 ≤ᵇ length (P .fields)) (coded P) (spared fts P) (grouped P) (le-leb 3 (length (P .fields)) h) (rw (← a) x) (rw (← b) y) ∙ (rw (← c))
@@ -81,7 +81,7 @@ returns : tie.Need-returns
 returns c =
     let start = c .before .before .before in
     let s = now (start .args .s) in
-    sym (few s (packOf s .fieldtypes) (pgn-at (packOf s) (start .args .t) (start .args .i)) (omega (arith, start .pre .1, c .if1 .taken)))
+    sym (few s (pack-of s .fieldtypes) (pgn-at (pack-of s) (start .args .t) (start .args .i)) (omega (arith, start .pre .1, c .if1 .taken)))
 
 field-of-requires : tie.Need-field-of-requires
 field-of-requires c κs =
@@ -99,7 +99,7 @@ returns-2 c =
     let start = c .before .before .before .before .before .before .before in
     let field-of = c .before .before .before .field-of in
     let s = now (start .args .s) in
-    sym (first s (packOf s .fieldtypes) (pgn-at (packOf s) (start .args .t) (start .args .i)) (field-of .result) (field-of .ensures)
+    sym (first s (pack-of s .fieldtypes) (pgn-at (pack-of s) (start .args .t) (start .args .i)) (field-of .result) (field-of .ensures)
     (sym (c .before .is-pair .ensures) ∙ not-true (c .before .is-pair .result) (c .if2 .taken)))
 
 field-of-requires-2 : tie.Need-field-of-requires-2
@@ -113,7 +113,7 @@ is-reserved-requires c κs =
     let start = c .before .before .before .before .before .before .before .before in
     let if1 = c .before .before .before .before .before .if1 in (
       start .pre .0 .ready,
-      (let e : c .field-of2 .result .ft ≡ field-at (pgn-at (packOf (now (start .args .s))) (start .args .t) (start .args .i)) 1 .ft =
+      (let e : c .field-of2 .result .ft ≡ field-at (pgn-at (pack-of (now (start .args .s))) (start .args .t) (start .args .i)) 1 .ft =
           ap (λ (F : Field). F .ft) (c .field-of2 .ensures) in
           omega (arith, e, field-ft-law (start .pre .0) 1 (omega (arith, start .pre .1, if1 .left)))),
     )
@@ -123,7 +123,7 @@ returns-3 c =
     let start = c .before .before .before .before .before .before .before .before .before .before in
     let field-of2 = c .before .before .field-of2 in
     let s = now (start .args .s) in
-    sym (second s (packOf s .fieldtypes) (pgn-at (packOf s) (start .args .t) (start .args .i)) (field-of2 .result) (field-of2 .ensures)
+    sym (second s (pack-of s .fieldtypes) (pgn-at (pack-of s) (start .args .t) (start .args .i)) (field-of2 .result) (field-of2 .ensures)
     (sym (c .before .is-reserved .ensures) ∙ not-true (c .before .is-reserved .result) (c .if3 .taken)))
 
 field-of-requires-3 : tie.Need-field-of-requires-3
@@ -152,7 +152,7 @@ returns-4 c =
     let field-of3 = c .before .before .field-of3 in
     let s = now (start .args .s) in
     c .is-pair2 .ensures
-    ∙ sym (third s (packOf s .fieldtypes) (pgn-at (packOf s) (start .args .t) (start .args .i)) (field-of .result) (field-of2 .result) (field-of3 .result)
+    ∙ sym (third s (pack-of s .fieldtypes) (pgn-at (pack-of s) (start .args .t) (start .args .i)) (field-of .result) (field-of2 .result) (field-of3 .result)
     (omega (arith, start .pre .1, if1 .left)) (field-of .ensures) (field-of2 .ensures) (field-of3 .ensures)
     (sym (is-pair .ensures) ∙ not-false (is-pair .result) (if2 .left)) (sym (is-reserved .ensures) ∙ not-false (is-reserved .result) (if3 .left)))
 

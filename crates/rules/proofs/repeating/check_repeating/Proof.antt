@@ -3,7 +3,7 @@ use Rattle.rules.specs.Repeating.{check-set, check-repeating}
 use mathlib.Core.Option.{none}
 use Rattle.pack.specs.Value.{Pgn}
 use Rattle.pack.specs.Ready.{PgnIs}
-use Rattle.pack.specs.Meaning.{optRepeating}
+use Rattle.pack.specs.Meaning.{optional-repeating}
 use Rattle.pack.specs.declared.pgn.PgnView.{PgnView}
 use Prim.Native.Nat.{ℕ}
 use mathlib.Core.Path.{_≡_}
@@ -16,8 +16,8 @@ use Rattle.rules.proofs.repeating.check_repeating.Tie as tie
 -- the rule, said of the view
 viewed : (s : List ℕ) (t i : ℕ) (G : Pgn) (g : PgnView) → PgnIs s G g
     → check-repeating t i G
-    ≡ check-set t i 1 (g .fields) none (optRepeating (g .repeating1))
-    ++ check-set t i 2 (g .fields) (optRepeating (g .repeating1)) (optRepeating (g .repeating2))
+    ≡ check-set t i 1 (g .fields) none (optional-repeating (g .repeating1))
+    ++ check-set t i 2 (g .fields) (optional-repeating (g .repeating1)) (optional-repeating (g .repeating2))
 unfolding check-repeating
 viewed s t i G g is = rw (is .fields, ← is .means)
 
@@ -31,7 +31,7 @@ check-set-requires-2 c κs =
     let start = c .before .before .before .before .before .before .before .before .before .before in
     let check-set-call = c .before .before .before .check-set in
     let t = start .args .t in let i = start .args .i in
-    fits-right (check-set t i 1 (start .args .g .fields) none (optRepeating (start .args .g .repeating1))) _
+    fits-right (check-set t i 1 (start .args .g .fields) none (optional-repeating (start .args .g .repeating1))) _
     (rw (viewed (now (start .args .s)) t i _ (start .args .g) (start .pre .1)) at (start .pre .0)) (check-set-call .ensures)
 
 same-length : tie.Need-same-length

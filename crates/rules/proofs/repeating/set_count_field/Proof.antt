@@ -4,7 +4,7 @@ use Rattle.rules.specs.Findings.{report-if, pgn-error}
 use Rattle.rules.specs.declared.Finding.{Finding}
 use mathlib.Core.Bool.{_||_, Bool, true, false}
 use Rattle.pack.specs.Notation.{_==_, _≤ᵇ_}
-use Rattle.pack.specs.Meaning.{optNumber}
+use Rattle.pack.specs.Meaning.{optional-number}
 use Rattle.pack.specs.declared.optional.OptNumber.{OptNumber}
 use Prim.Native.Nat.{ℕ}
 use mathlib.Core.Path.{_≡_}
@@ -15,12 +15,12 @@ use Rattle.rules.proofs.repeating.set_count_field.Statement.{statement}
 use Rattle.rules.proofs.repeating.set_count_field.Tie as tie
 
 module _ (t i part start : ℕ) (v : OptNumber) where
-  absent : v .given ≡ false → set-count-field t i part start (optNumber v) ≡ []
+  absent : v .given ≡ false → set-count-field t i part start (optional-number v) ≡ []
   unfolding set-count-field
   absent e = rw e
 
   given : v .given ≡ true → (a : Bool) → a ≡ ((v .value == 0) || (start ≤ᵇ v .value)) → (f : Finding) → f ≡ pgn-error 5 3 t i part 0
-      → set-count-field t i part start (optNumber v) ≡ report-if a f
+      → set-count-field t i part start (optional-number v) ≡ report-if a f
   unfolding set-count-field
   given e a d f x = rw (e, d, x)
 

@@ -5,8 +5,8 @@ use Rattle.rules.specs.declared.Finding.{Finding}
 use mathlib.Core.Bool.{not, Bool, true, false}
 use Rattle.pack.specs.Value.{Field}
 use Rattle.pack.specs.Notation.{_≐_, if_then_else_}
-use Rattle.pack.specs.Meaning.{fieldMeaning}
-use Rattle.pack.specs.Items.{bytesOf}
+use Rattle.pack.specs.Meaning.{field-meaning}
+use Rattle.pack.specs.Items.{bytes-of}
 use Rattle.pack.specs.declared.field.FieldView.{FieldView}
 use Prim.Native.Nat.{ℕ}
 use mathlib.Core.Path.{_≡_, refl}
@@ -22,14 +22,14 @@ spread false true a b f = refl
 spread false false a b f = refl
 
 -- the rule at a field, said of the view
-viewed : (s : List ℕ) (t i k : ℕ) (F : Field) (v : FieldView) → fieldMeaning s v ≡ F → (a : Bool)
+viewed : (s : List ℕ) (t i k : ℕ) (F : Field) (v : FieldView) → field-meaning s v ≡ F → (a : Bool)
     → a
-    ≡ (if bytesOf s (v .names .name) ≐ bytes "Reserved" then not (numbered (bytes "reserved") (bytesOf s (v .names .id))) else if bytesOf s (v .names .name) ≐
-    bytes "Spare" then not (numbered (bytes "spare") (bytesOf s (v .names .id))) else false) → (f : Finding) → f ≡ pgn-error 12 1 t i k 0
+    ≡ (if bytes-of s (v .names .name) ≐ bytes "Reserved" then not (numbered (bytes "reserved") (bytes-of s (v .names .id))) else if bytes-of s (v .names .name) ≐
+    bytes "Spare" then not (numbered (bytes "spare") (bytes-of s (v .names .id))) else false) → (f : Finding) → f ≡ pgn-error 12 1 t i k 0
     → reserved-id-at t i k F ≡ report-if a f
 unfolding reserved-id-at
 viewed s t i k F v is a d f x =
-    rw (← is, d, x) (spread (bytesOf s (v .names .name) ≐ bytes "Reserved") (bytesOf s (v .names .name) ≐ bytes "Spare") _ _ _)
+    rw (← is, d, x) (spread (bytes-of s (v .names .name) ≐ bytes "Reserved") (bytes-of s (v .names .name) ≐ bytes "Spare") _ _ _)
 
 misnamed-requires : tie.Need-misnamed-requires
 misnamed-requires c κs = search needs

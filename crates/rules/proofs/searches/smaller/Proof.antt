@@ -5,7 +5,7 @@ use mathlib.Core.Path.{_≡_}
 use mathlib.Core.Bool.{Bool, false}
 use mathlib.Core.Option.{Option, none, some}
 use Rattle.pack.specs.Notation.{optional}
-use Rattle.pack.specs.Meaning.{optNumber}
+use Rattle.pack.specs.Meaning.{optional-number}
 use Rattle.rules.proofs.searches.smaller.Statement.{statement}
 use Rattle.rules.proofs.searches.smaller.Tie as tie
 
@@ -15,7 +15,7 @@ unhit none h v e = rw e
 unhit (some x) h v e = rw e
 
 returns : tie.Need-returns
-returns c = unhit (optNumber (c .before .args .found)) (c .before .args .hit) (c .before .args .v) (not-true (c .before .args .hit) (c .if1 .taken))
+returns c = unhit (optional-number (c .before .args .found)) (c .before .args .hit) (c .before .args .v) (not-true (c .before .args .hit) (c .if1 .taken))
 
 returns-2 : tie.Need-returns-2
 returns-2 c =

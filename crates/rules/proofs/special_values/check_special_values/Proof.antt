@@ -2,8 +2,8 @@ use Rattle.rules.proofs.Emits.{emitted-none, emitted-turn, fits-turn}
 use Rattle.rules.specs.Emit.{Emitted}
 use Rattle.rules.specs.SpecialValues.{special-values-at, check-special-values}
 use Rattle.rules.specs.declared.Finding.{Finding}
-use Rattle.pack.specs.Notation.{concatBelow}
-use Rattle.pack.specs.Meaning.{packOf}
+use Rattle.pack.specs.Notation.{concat-below}
+use Rattle.pack.specs.Meaning.{pack-of}
 use Rattle.pack.specs.Value.{pgn-at, field-at}
 use Prim.Native.Nat.{ℕ, _-_, _≤_}
 use native.Mathlib.Omega.{arith}
@@ -16,10 +16,10 @@ use Rattle.rules.proofs.special_values.check_special_values.Statement.{
 use Rattle.rules.proofs.special_values.check_special_values.Tie as tie
 
 abbrev of-field : List ℕ → ℕ → ℕ → ℕ → List Finding
-of-field s t i k = special-values-at t i k (field-at (pgn-at (packOf s) t i) k .res-bits) (field-at (pgn-at (packOf s) t i) k .special-values)
+of-field s t i k = special-values-at t i k (field-at (pgn-at (pack-of s) t i) k .res-bits) (field-at (pgn-at (pack-of s) t i) k .special-values)
 
 abbrev Inv-loop : tie.InvT-loop
-Inv-loop out₀ n s work t i p g m₀ k₀ out m k = (k ≤ g .fields) × (length out ≡ length out₀) × Emitted out₀ n (concatBelow (of-field s t i) k) out m
+Inv-loop out₀ n s work t i p g m₀ k₀ out m k = (k ≤ g .fields) × (length out ≡ length out₀) × Emitted out₀ n (concat-below (of-field s t i) k) out m
 
 abbrev μ-loop : tie.MeasureT-loop
 μ-loop out₀ n s work t i p g m₀ k₀ out m k = g .fields - k
@@ -68,7 +68,7 @@ unfolding check-special-values
 returns c =
     let start = c .before .before .before .before .before .before in
     let loop = c .before .before .loop in
-    let e : loop .k ≡ length (pgn-at (packOf (now (start .args .s))) (start .args .t) (start .args .i) .fields) = omega (arith, start .pre .2 .fields) in
+    let e : loop .k ≡ length (pgn-at (pack-of (now (start .args .s))) (start .args .t) (start .args .i) .fields) = omega (arith, start .pre .2 .fields) in
     rw (← e) (loop .inv .2)
 
 pub check-special-values-spec : {M : Type 1} → statement M

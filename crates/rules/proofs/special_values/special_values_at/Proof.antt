@@ -5,7 +5,7 @@ use Rattle.rules.specs.declared.Finding.{Finding}
 use Rattle.pack.specs.Notation.{_<ᵇ_}
 use mathlib.Core.Bool.{_||_, Bool, true, false}
 use Rattle.pack.specs.Value.{Field}
-use Rattle.pack.specs.Meaning.{fieldMeaning}
+use Rattle.pack.specs.Meaning.{field-meaning}
 use Rattle.pack.specs.declared.field.FieldView.{FieldView}
 use Prim.Native.Nat.{ℕ}
 use mathlib.Core.Path.{_≡_}
@@ -16,7 +16,7 @@ use Rattle.rules.proofs.special_values.special_values_at.Statement.{sta
 use Rattle.rules.proofs.special_values.special_values_at.Tie as tie
 
 -- the rule at a field, said of the view: none given, and one given
-module _ (s : List ℕ) (t i k : ℕ) (F : Field) (v : FieldView) (is : fieldMeaning s v ≡ F) where
+module _ (s : List ℕ) (t i k : ℕ) (F : Field) (v : FieldView) (is : field-meaning s v ≡ F) where
   absent : v .links .special .given ≡ false → special-values-at t i k (F .res-bits) (F .special-values) ≡ []
   unfolding special-values-at
   absent e = rw (← is, e)

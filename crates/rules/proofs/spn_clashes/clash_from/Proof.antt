@@ -8,24 +8,24 @@ use mathlib.Core.List.{List}
 use lib.ListN.{length}
 use denote.Ref.{now}
 use Rattle.pack.specs.Value.{Field, pgn-at, field-at}
-use Rattle.pack.specs.Items.{bytesOf}
-use Rattle.pack.specs.Meaning.{packOf, fieldMeaning, optNumber}
+use Rattle.pack.specs.Items.{bytes-of}
+use Rattle.pack.specs.Meaning.{pack-of, field-meaning, optional-number}
 use Rattle.pack.specs.declared.field.FieldView.{FieldView}
-use Rattle.rules.specs.Search.{anyBelow}
+use Rattle.rules.specs.Search.{any-below}
 use Rattle.rules.specs.SearchLaws.{any-turn, any-hit}
 use Rattle.rules.specs.SpnClashes.{other-among, clash-from}
 use Rattle.rules.proofs.spn_clashes.clash_from.Statement.{statement}
 use Rattle.rules.proofs.spn_clashes.clash_from.Tie as tie
 
 abbrev hit : List ℕ → ℕ → ℕ → Bool
-hit s i k = other-among (packOf s .pgns-j1939) (i + 1) (field-at (pgn-at (packOf s) 1 i) k .name) (field-at (pgn-at (packOf s) 1 i) k .spn)
+hit s i k = other-among (pack-of s .pgns-j1939) (i + 1) (field-at (pgn-at (pack-of s) 1 i) k .name) (field-at (pgn-at (pack-of s) 1 i) k .spn)
 
-said : (s : List ℕ) (i k : ℕ) (v : FieldView) (r : Bool) → fieldMeaning s v ≡ field-at (pgn-at (packOf s) 1 i) k
-    → r ≡ other-among (packOf s .pgns-j1939) (i + 1) (bytesOf s (v .names .name)) (optNumber (v .authored .spn)) → hit s i k ≡ r
-said s i k v r y e = sym (e ∙ ap (λ (f : Field). other-among (packOf s .pgns-j1939) (i + 1) (f .name) (f .spn)) y)
+said : (s : List ℕ) (i k : ℕ) (v : FieldView) (r : Bool) → field-meaning s v ≡ field-at (pgn-at (pack-of s) 1 i) k
+    → r ≡ other-among (pack-of s .pgns-j1939) (i + 1) (bytes-of s (v .names .name)) (optional-number (v .authored .spn)) → hit s i k ≡ r
+said s i k v r y e = sym (e ∙ ap (λ (f : Field). other-among (pack-of s .pgns-j1939) (i + 1) (f .name) (f .spn)) y)
 
 abbrev Inv-loop : tie.InvT-loop
-Inv-loop s work first i p fields k₀ k = (k ≤ fields) × (anyBelow (hit s i) k ≡ false)
+Inv-loop s work first i p fields k₀ k = (k ≤ fields) × (any-below (hit s i) k ≡ false)
 
 abbrev μ-loop : tie.MeasureT-loop
 μ-loop s work first i p fields k₀ k = fields - k
@@ -51,7 +51,7 @@ returns c =
     let loop-test = c .before .before .before .loop-test in
     let field-of = c .before .before .field-of in
     let s = now (start .args .s) in let i = start .args .i in
-    sym (any-hit (hit s i) (length (pgn-at (packOf s) 1 i .fields)) (loop .k) (omega (arith, start .pre .2, loop-test .taken))
+    sym (any-hit (hit s i) (length (pgn-at (pack-of s) 1 i .fields)) (loop .k) (omega (arith, start .pre .2, loop-test .taken))
     (said s i (loop .k) (field-of .result) (c .before .other-among .result) (field-of .ensures) (c .before .other-among .ensures) ∙ c .if1 .taken))
 
 add-k : tie.Need-add-k Inv-loop μ-loop
@@ -78,7 +78,7 @@ returns-2 : tie.Need-returns-2 Inv-loop μ-loop
 unfolding clash-from
 returns-2 c =
     let start = c .before .before .before .before in
-    let e : length (pgn-at (packOf (now (start .args .s))) 1 (start .args .i) .fields) ≡ c .before .loop .k =
+    let e : length (pgn-at (pack-of (now (start .args .s))) 1 (start .args .i) .fields) ≡ c .before .loop .k =
     omega (arith, start .pre .2, c .before .loop .inv .0, c .loop-test .left) in
     rw (e, c .before .loop .inv .1)
 

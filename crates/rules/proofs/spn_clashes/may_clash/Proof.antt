@@ -4,10 +4,10 @@ use mathlib.Core.Path.{_≡_, refl, sym, _∙_}
 use mathlib.Core.Bool.{false}
 use lib.ListN.{length}
 use denote.Ref.{now}
-use Rattle.pack.specs.Ready.{pgnPlace}
-use Rattle.pack.specs.Meaning.{packOf}
+use Rattle.pack.specs.Ready.{place-of-pgn}
+use Rattle.pack.specs.Meaning.{pack-of}
 use Rattle.pack.proofs.Positions.{pgn-place-next}
-use Rattle.rules.specs.Search.{anyBelow}
+use Rattle.rules.specs.Search.{any-below}
 use Rattle.rules.specs.SearchLaws.{any-turn, any-hit}
 use Rattle.rules.specs.SpnClashes.{clash-from, may-clash}
 use Rattle.rules.proofs.Sizes.{at-pgn, fields-few, pgns-few}
@@ -15,7 +15,7 @@ use Rattle.rules.proofs.spn_clashes.may_clash.Statement.{statement}
 use Rattle.rules.proofs.spn_clashes.may_clash.Tie as tie
 
 abbrev Inv-loop : tie.InvT-loop
-Inv-loop s work count first p₀ i₀ p i = (i ≤ count) × (p ≡ pgnPlace (packOf s) 1 i) × (anyBelow (clash-from (packOf s .pgns-j1939)) i ≡ false)
+Inv-loop s work count first p₀ i₀ p i = (i ≤ count) × (p ≡ place-of-pgn (pack-of s) 1 i) × (any-below (clash-from (pack-of s .pgns-j1939)) i ≡ false)
 
 abbrev μ-loop : tie.MeasureT-loop
 μ-loop s work count first p₀ i₀ p i = count - i
@@ -43,7 +43,7 @@ returns c =
     let loop = c .before .before .before .before .loop in
     let loop-test = c .before .before .before .loop-test in
     let s = now (start .args .s) in
-    sym (any-hit (clash-from (packOf s .pgns-j1939)) (length (packOf s .pgns-j1939)) (loop .i) (omega (arith, start .pre .1, loop-test .taken))
+    sym (any-hit (clash-from (pack-of s .pgns-j1939)) (length (pack-of s .pgns-j1939)) (loop .i) (omega (arith, start .pre .1, loop-test .taken))
     (sym (c .before .clash-from .ensures) ∙ c .if1 .taken))
 
 add-p : tie.Need-add-p Inv-loop μ-loop
@@ -97,15 +97,15 @@ loop-again c =
     let pgn-of = c .before .before .before .pgn-of in
     let s = now (start .args .s) in (
       omega (arith, loop-test .taken),
-      omega (arith, pgn-place-next (packOf s) 1 (loop .i), pgn-of .ensures .fields, loop .inv .1),
-      any-turn (clash-from (packOf s .pgns-j1939)) (loop .i) ∙ (rw (loop .inv .2, sym (c .before .before .clash-from .ensures) ∙ c .before .if1 .left)),
+      omega (arith, pgn-place-next (pack-of s) 1 (loop .i), pgn-of .ensures .fields, loop .inv .1),
+      any-turn (clash-from (pack-of s .pgns-j1939)) (loop .i) ∙ (rw (loop .inv .2, sym (c .before .before .clash-from .ensures) ∙ c .before .if1 .left)),
     )
 
 returns-2 : tie.Need-returns-2 Inv-loop μ-loop
 unfolding may-clash
 returns-2 c =
     let start = c .before .before .before .before in
-    let e : length (packOf (now (start .args .s)) .pgns-j1939) ≡ c .before .loop .i =
+    let e : length (pack-of (now (start .args .s)) .pgns-j1939) ≡ c .before .loop .i =
     omega (arith, start .pre .1, c .before .loop .inv .0, c .loop-test .left) in
     rw (e, c .before .loop .inv .2)
 

@@ -7,11 +7,11 @@ use mathlib.Core.Bool.{Bool, false}
 use mathlib.Core.List.{List}
 use denote.Ref.{now}
 use Rattle.pack.specs.Value.{Bytes, pgn-at}
-use Rattle.pack.specs.Items.{bytesOf}
-use Rattle.pack.specs.Ready.{pgnPlace}
-use Rattle.pack.specs.Meaning.{packOf}
+use Rattle.pack.specs.Items.{bytes-of}
+use Rattle.pack.specs.Ready.{place-of-pgn}
+use Rattle.pack.specs.Meaning.{pack-of}
 use Rattle.pack.proofs.Positions.{pgn-place-next}
-use Rattle.rules.specs.Search.{anyBelow}
+use Rattle.rules.specs.Search.{any-below}
 use Rattle.rules.specs.SearchLaws.{any-turn, any-hit}
 use Rattle.rules.specs.SpnClashes.{other-in}
 use Rattle.rules.proofs.Sizes.{at-pgn, fields-few, pgns-few}
@@ -19,10 +19,10 @@ use Rattle.rules.proofs.spn_clashes.other_among.Statement.{statement}
 use Rattle.rules.proofs.spn_clashes.other_among.Tie as tie
 
 abbrev has : List ℕ → Bytes → ℕ → ℕ → Bool
-has s name spn j = other-in name spn (pgn-at (packOf s) 1 j)
+has s name spn j = other-in name spn (pgn-at (pack-of s) 1 j)
 
 abbrev Inv-loop : tie.InvT-loop
-Inv-loop s work first i name spn q₀ j₀ q j = (j ≤ i + 1) × (q ≡ pgnPlace (packOf s) 1 j) × (anyBelow (has s (bytesOf s name) (spn .value)) j ≡ false)
+Inv-loop s work first i name spn q₀ j₀ q j = (j ≤ i + 1) × (q ≡ place-of-pgn (pack-of s) 1 j) × (any-below (has s (bytes-of s name) (spn .value)) j ≡ false)
 
 abbrev μ-loop : tie.MeasureT-loop
 μ-loop s work first i name spn q₀ j₀ q j = i + 1 - j
@@ -59,7 +59,7 @@ returns-2 c =
     let loop = c .before .before .before .before .loop in
     let loop-test = c .before .before .before .loop-test in
     let s = now (start .args .s) in
-    rw (not-false (start .args .spn .given) (if1 .left)) (sym (any-hit (has s (bytesOf s (start .args .name)) (start .args .spn .value)) (start .args .i + 1)
+    rw (not-false (start .args .spn .given) (if1 .left)) (sym (any-hit (has s (bytes-of s (start .args .name)) (start .args .spn .value)) (start .args .i + 1)
     (loop .j) (omega (arith, loop-test .taken)) (sym (c .before .other-in .ensures) ∙ c .if2 .taken)))
 
 add-q : tie.Need-add-q Inv-loop μ-loop
@@ -123,8 +123,8 @@ loop-again c =
     let pgn-of = c .before .before .before .pgn-of in
     let s = now (start .args .s) in (
       omega (arith, loop-test .taken),
-      omega (arith, pgn-place-next (packOf s) 1 (loop .j), pgn-of .ensures .fields, loop .inv .1),
-      any-turn (has s (bytesOf s (start .args .name)) (start .args .spn .value)) (loop .j)
+      omega (arith, pgn-place-next (pack-of s) 1 (loop .j), pgn-of .ensures .fields, loop .inv .1),
+      any-turn (has s (bytes-of s (start .args .name)) (start .args .spn .value)) (loop .j)
           ∙ (rw (loop .inv .2, sym (c .before .before .other-in .ensures) ∙ c .before .if2 .left)),
     )
 

@@ -8,19 +8,19 @@ use mathlib.Core.List.{List}
 use lib.ListN.{length}
 use denote.Ref.{now}
 use Rattle.pack.specs.Value.{Bytes, pgn-at, field-at}
-use Rattle.pack.specs.Items.{bytesOf}
-use Rattle.pack.specs.Meaning.{packOf}
-use Rattle.rules.specs.Search.{anyBelow}
+use Rattle.pack.specs.Items.{bytes-of}
+use Rattle.pack.specs.Meaning.{pack-of}
+use Rattle.rules.specs.Search.{any-below}
 use Rattle.rules.specs.SearchLaws.{any-turn, any-hit}
 use Rattle.rules.specs.SpnClashes.{other-spn, other-in}
 use Rattle.rules.proofs.spn_clashes.other_in.Statement.{statement}
 use Rattle.rules.proofs.spn_clashes.other_in.Tie as tie
 
 abbrev other : List ℕ → Bytes → ℕ → ℕ → ℕ → Bool
-other s name spn j h = other-spn name spn (field-at (pgn-at (packOf s) 1 j) h .name) (field-at (pgn-at (packOf s) 1 j) h .spn)
+other s name spn j h = other-spn name spn (field-at (pgn-at (pack-of s) 1 j) h .name) (field-at (pgn-at (pack-of s) 1 j) h .spn)
 
 abbrev Inv-loop : tie.InvT-loop
-Inv-loop s work name spn j q fields h₀ h = (h ≤ fields) × (anyBelow (other s (bytesOf s name) spn j) h ≡ false)
+Inv-loop s work name spn j q fields h₀ h = (h ≤ fields) × (any-below (other s (bytes-of s name) spn j) h ≡ false)
 
 abbrev μ-loop : tie.MeasureT-loop
 μ-loop s work name spn j q fields h₀ h = fields - h
@@ -39,7 +39,7 @@ returns c =
     let start = c .before .before .before .before .before .before in
     let loop = c .before .before .before .loop in
     let s = now (start .args .s) in let j = start .args .j in
-    sym (any-hit (other s (bytesOf s (start .args .name)) (start .args .spn) j) (length (pgn-at (packOf s) 1 j .fields)) (loop .h)
+    sym (any-hit (other s (bytes-of s (start .args .name)) (start .args .spn) j) (length (pgn-at (pack-of s) 1 j .fields)) (loop .h)
     (omega (arith, start .pre .1, c .before .before .loop-test .taken)) (sym (c .before .other-spn .ensures) ∙ c .if1 .taken))
 
 add-h : tie.Need-add-h Inv-loop μ-loop
@@ -54,7 +54,7 @@ loop-again c =
     let loop = c .before .before .before .loop in
     let s = now (start .args .s) in (
       omega (arith, c),
-      any-turn (other s (bytesOf s (start .args .name)) (start .args .spn) (start .args .j)) (loop .h)
+      any-turn (other s (bytes-of s (start .args .name)) (start .args .spn) (start .args .j)) (loop .h)
           ∙ (rw (loop .inv .1, sym (c .before .other-spn .ensures) ∙ c .if1 .left)),
     )
 
@@ -62,7 +62,7 @@ returns-2 : tie.Need-returns-2 Inv-loop μ-loop
 unfolding other-in
 returns-2 c =
     let start = c .before .before .before .before in
-    let e : length (pgn-at (packOf (now (start .args .s))) 1 (start .args .j) .fields) ≡ c .before .loop .h =
+    let e : length (pgn-at (pack-of (now (start .args .s))) 1 (start .args .j) .fields) ≡ c .before .loop .h =
     omega (arith, start .pre .1, c .before .loop .inv .0, c .loop-test .left) in
     rw (e, c .before .loop .inv .1)
 

@@ -7,8 +7,8 @@ use mathlib.Core.Option.{Option, none, some}
 use denote.Ref.{now}
 use Rattle.pack.specs.Notation.{_==_, _≐_, optional}
 use Rattle.pack.specs.Value.{Bytes, Field, pgn-at, field-at}
-use Rattle.pack.specs.Items.{bytesOf}
-use Rattle.pack.specs.Meaning.{packOf}
+use Rattle.pack.specs.Items.{bytes-of}
+use Rattle.pack.specs.Meaning.{pack-of}
 use Rattle.rules.specs.SpnClashes.{other-spn}
 use Rattle.rules.proofs.spn_clashes.other_spn.Statement.{statement}
 use Rattle.rules.proofs.spn_clashes.other_spn.Tie as tie
@@ -31,8 +31,8 @@ returns : tie.Need-returns
 returns c =
     let start = c .before .before .before .before .before in
     let s = now (start .args .s) in let name = start .args .name in let j = start .args .j in let h = start .args .h in
-    sym (missed (bytesOf s name) (field-at (pgn-at (packOf s) 1 j) h .name) (start .args .spn) (field-at (pgn-at (packOf s) 1 j) h .spn)
-    (ap (λ (t : Bytes). t ≐ bytesOf s name) (sym (c .before .before .field-name-of .ensures))
+    sym (missed (bytes-of s name) (field-at (pgn-at (pack-of s) 1 j) h .name) (start .args .spn) (field-at (pgn-at (pack-of s) 1 j) h .spn)
+    (ap (λ (t : Bytes). t ≐ bytes-of s name) (sym (c .before .before .field-name-of .ensures))
     ∙ sym (c .before .same-text .ensures)
     ∙ not-true (c .before .same-text .result) (c .if1 .taken)))
 
@@ -49,11 +49,11 @@ returns-2 c =
     let same-text = c .before .before .before .same-text in
     let s = now (start .args .s) in let name = start .args .name in let j = start .args .j in let h = start .args .h in let spn = start .args .spn in
     c .differs .ensures
-    ∙ told (bytesOf s name) (field-at (pgn-at (packOf s) 1 j) h .name) spn (c .before .field-of .result .authored .spn .given)
-    (c .before .field-of .result .authored .spn .value) (ap (λ (t : Bytes). t ≐ bytesOf s name) (sym (field-name-of .ensures))
+    ∙ told (bytes-of s name) (field-at (pgn-at (pack-of s) 1 j) h .name) spn (c .before .field-of .result .authored .spn .given)
+    (c .before .field-of .result .authored .spn .value) (ap (λ (t : Bytes). t ≐ bytes-of s name) (sym (field-name-of .ensures))
     ∙ sym (same-text .ensures)
     ∙ not-false (same-text .result) (c .before .before .if1 .left))
-    ∙ ap (λ (G : Field). other-spn (bytesOf s name) spn (field-at (pgn-at (packOf s) 1 j) h .name) (G .spn)) (c .before .field-of .ensures)
+    ∙ ap (λ (G : Field). other-spn (bytes-of s name) spn (field-at (pgn-at (pack-of s) 1 j) h .name) (G .spn)) (c .before .field-of .ensures)
 
 pub other-spn-spec : {M : Type 1} → statement M
 other-spn-spec = tie.close (tie.spec field-name-of-requires same-text-requires returns field-of-requires differs-requires returns-2)

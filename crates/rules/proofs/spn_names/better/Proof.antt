@@ -1,6 +1,6 @@
 use borrow.Author.Tests.{lt-ltb, le-ltb, leb-true, leb-false}
 use Rattle.pack.specs.declared.pgn.PgnView.{PgnView}
-use Rattle.pack.specs.Value.{Pgn, noPgn, pgn-at}
+use Rattle.pack.specs.Value.{Pgn, no-pgn, pgn-at}
 use Rattle.rules.proofs.Types.{given-is}
 use Rattle.rules.proofs.Extremes.{and-left, and-right}
 use Rattle.rules.specs.declared.spn_names.Namer.{Namer}
@@ -8,7 +8,7 @@ use Rattle.rules.specs.Namers.{NamesAmong}
 use Rattle.rules.specs.Model.{given}
 use Rattle.rules.specs.SpnNames.{spn-field}
 use Rattle.rules.specs.SearchLaws.{least-turn}
-use Rattle.rules.specs.Search.{lower-key, leastBelow}
+use Rattle.rules.specs.Search.{lower-key, least-below}
 use native.Mathlib.Omega.{arith}
 use Prim.Native.Nat.{ℕ, _+_, _≤_, _<_}
 use mathlib.Core.Path.{_≡_, refl, sym, _∙_, ap}
@@ -19,7 +19,7 @@ use lib.ListN.{getD}
 use denote.Ref.{now}
 use Rattle.pack.specs.Notation.{if_then_else_, optional, _≤ᵇ_}
 use Rattle.pack.specs.Ready.{PgnAt, PgnIs}
-use Rattle.pack.specs.Meaning.{packOf}
+use Rattle.pack.specs.Meaning.{pack-of}
 use borrow.Author.Needs.{needs}
 use Rattle.rules.proofs.spn_names.better.Statement.{statement}
 use Rattle.rules.proofs.spn_names.better.Tie as tie
@@ -38,33 +38,33 @@ unmet : (key : ℕ → ℕ) (j : ℕ) (o : Option ℕ) (b : Bool) → b ≡ fals
 unmet key j o b e = rw e
 
 abbrev number-of : List ℕ → ℕ → ℕ
-number-of s i = getD (packOf s .pgns-j1939) i noPgn .pgn
+number-of s i = getD (pack-of s .pgns-j1939) i no-pgn .pgn
 
 abbrev has : List ℕ → ℕ → ℕ → Bool
-has s spn i = given (spn-field (getD (packOf s .pgns-j1939) i noPgn) spn)
+has s spn i = given (spn-field (getD (pack-of s .pgns-j1939) i no-pgn) spn)
 
-module _ (s w : List ℕ) (spn j : ℕ) (best : Namer) (a : NamesAmong s w spn j best) (g : PgnView) (is : PgnIs s (pgn-at (packOf s) 1 j) g) where
+module _ (s w : List ℕ) (spn j : ℕ) (best : Namer) (a : NamesAmong s w spn j best) (g : PgnView) (is : PgnIs s (pgn-at (pack-of s) 1 j) g) where
   g-number : g .pgn ≡ number-of s j
   g-number = ap (λ (G : Pgn). G .pgn) (is .means)
 
-  as-before : leastBelow (number-of s) (has s spn) (j + 1) ≡ leastBelow (number-of s) (has s spn) j → NamesAmong s w spn (j + 1) best
+  as-before : least-below (number-of s) (has s spn) (j + 1) ≡ least-below (number-of s) (has s spn) j → NamesAmong s w spn (j + 1) best
   as-before e = record { least = a .least ∙ sym e; at = a .at; field = a .field; number = a .number }
 
   first-stays : (best .given && (best .number ≤ᵇ g .pgn)) ≡ true → NamesAmong s w spn (j + 1) best
   first-stays e =
       let u = and-left (best .given) (best .number ≤ᵇ g .pgn) e in
       let v = leb-true (best .number) (g .pgn) (and-right (best .given) (best .number ≤ᵇ g .pgn) e) in
-      let o : leastBelow (number-of s) (has s spn) j ≡ some (best .pgn) = sym (a .least) ∙ ap (λ (b : Bool). optional b (best .pgn)) u in
+      let o : least-below (number-of s) (has s spn) j ≡ some (best .pgn) = sym (a .least) ∙ ap (λ (b : Bool). optional b (best .pgn)) u in
       let l : number-of s (best .pgn) ≤ number-of s j = omega (arith, v, a .number u, g-number) in
-      as-before (least-turn (number-of s) (has s spn) j ∙ stays (number-of s) j (best .pgn) (leastBelow (number-of s) (has s spn) j) (has s spn j) o l)
+      as-before (least-turn (number-of s) (has s spn) j ∙ stays (number-of s) j (best .pgn) (least-below (number-of s) (has s spn) j) (has s spn j) o l)
 
-  stays-unmet : (f : Bool) (x : ℕ) → optional f x ≡ spn-field (pgn-at (packOf s) 1 j) spn → f ≡ false → NamesAmong s w spn (j + 1) best
+  stays-unmet : (f : Bool) (x : ℕ) → optional f x ≡ spn-field (pgn-at (pack-of s) 1 j) spn → f ≡ false → NamesAmong s w spn (j + 1) best
   stays-unmet f x h e =
       let u : has s spn j ≡ false = ap given (sym h) ∙ given-is f x ∙ e in
-      as-before (least-turn (number-of s) (has s spn) j ∙ unmet (number-of s) j (leastBelow (number-of s) (has s spn) j) (has s spn j) u)
+      as-before (least-turn (number-of s) (has s spn) j ∙ unmet (number-of s) j (least-below (number-of s) (has s spn) j) (has s spn j) u)
 
   is-better : (p : ℕ) → PgnAt s w 1 j p → (best .given && (best .number ≤ᵇ g .pgn)) ≡ false → (f : Bool) (x : ℕ)
-      → optional f x ≡ spn-field (pgn-at (packOf s) 1 j) spn → f ≡ true
+      → optional f x ≡ spn-field (pgn-at (pack-of s) 1 j) spn → f ≡ true
       → NamesAmong s w spn (j + 1) (record { given = true; pgn = j; place = p; number = g .pgn; field = x })
   is-better p q e f x h t =
       let u : has s spn j ≡ true = ap given (sym h) ∙ given-is f x ∙ t in

@@ -1,10 +1,10 @@
-use Rattle.pack.specs.Ready.{pgnPlace}
+use Rattle.pack.specs.Ready.{place-of-pgn}
 use Rattle.pack.proofs.Positions.{pgn-place-next}
 use Rattle.rules.proofs.Sizes.{at-pgn, fields-few, pgns-few}
-use Rattle.pack.specs.Items.{bytesOf}
+use Rattle.pack.specs.Items.{bytes-of}
 use Rattle.rules.specs.Namers.{candidate-in, candidate}
 use Rattle.rules.specs.SearchLaws.{max-turn}
-use Rattle.rules.specs.Search.{maxBelow, larger}
+use Rattle.rules.specs.Search.{max-below, larger}
 use borrow.Author.Needs.{needs}
 use native.Mathlib.Omega.{arith}
 use Prim.Native.Nat.{ℕ, _-_, _≤_}
@@ -12,13 +12,13 @@ use mathlib.Core.Path.{_≡_, refl, sym, _∙_, ap}
 use mathlib.Core.Option.{Option}
 use lib.ListN.{length}
 use denote.Ref.{now}
-use Rattle.pack.specs.Meaning.{packOf, optNumber}
+use Rattle.pack.specs.Meaning.{pack-of, optional-number}
 use Rattle.rules.proofs.spn_names.candidate.Statement.{statement}
 use Rattle.rules.proofs.spn_names.candidate.Tie as tie
 
 abbrev Inv-loop : tie.InvT-loop
 Inv-loop s work b name count found₀ p₀ i₀ found p i =
-    (i ≤ count) × (p ≡ pgnPlace (packOf s) 1 i) × (optNumber found ≡ maxBelow (candidate-in (packOf s .pgns-j1939) (bytesOf s name) b) i)
+    (i ≤ count) × (p ≡ place-of-pgn (pack-of s) 1 i) × (optional-number found ≡ max-below (candidate-in (pack-of s .pgns-j1939) (bytes-of s name) b) i)
 
 abbrev μ-loop : tie.MeasureT-loop
 μ-loop s work b name count found₀ p₀ i₀ found p i = count - i
@@ -92,12 +92,12 @@ loop-again c =
     let pgn-of = c .before .before .before .pgn-of in
     let candidate-in-call = c .before .before .candidate-in in
     let s = now (start .args .s) in
-    let f = candidate-in (packOf s .pgns-j1939) (bytesOf s (start .args .name)) (start .args .b) in (
+    let f = candidate-in (pack-of s .pgns-j1939) (bytes-of s (start .args .name)) (start .args .b) in (
       omega (arith, loop-test .taken),
-      omega (arith, pgn-place-next (packOf s) 1 (loop .i), pgn-of .ensures .fields, loop .inv .1),
+      omega (arith, pgn-place-next (pack-of s) 1 (loop .i), pgn-of .ensures .fields, loop .inv .1),
       c .before .larger .ensures
-          ∙ ap (λ (x : Option ℕ). larger x (optNumber (candidate-in-call .result))) (loop .inv .2)
-          ∙ ap (larger (maxBelow f (loop .i))) (candidate-in-call .ensures)
+          ∙ ap (λ (x : Option ℕ). larger x (optional-number (candidate-in-call .result))) (loop .inv .2)
+          ∙ ap (larger (max-below f (loop .i))) (candidate-in-call .ensures)
           ∙ sym (max-turn f (loop .i)),
     )
 
@@ -106,8 +106,8 @@ unfolding candidate
 returns c =
     let start = c .before .before .before .before in
     let s = now (start .args .s) in
-    let e : length (packOf s .pgns-j1939) ≡ c .before .loop .i = omega (arith, start .pre .1, c .before .loop .inv .0, c .loop-test .left) in
-    c .before .loop .inv .2 ∙ ap (maxBelow (candidate-in (packOf s .pgns-j1939) (bytesOf s (start .args .name)) (start .args .b))) (sym e)
+    let e : length (pack-of s .pgns-j1939) ≡ c .before .loop .i = omega (arith, start .pre .1, c .before .loop .inv .0, c .loop-test .left) in
+    c .before .loop .inv .2 ∙ ap (max-below (candidate-in (pack-of s .pgns-j1939) (bytes-of s (start .args .name)) (start .args .b))) (sym e)
 
 pub candidate-spec : {M : Type 1} → statement M
 candidate-spec =

@@ -1,9 +1,9 @@
 use Rattle.pack.specs.declared.field.FieldView.{FieldView}
-use Rattle.pack.specs.Items.{bytesOf}
+use Rattle.pack.specs.Items.{bytes-of}
 use Rattle.pack.specs.Value.{Bytes, Field, pgn-at, field-at}
 use Rattle.rules.specs.Namers.{candidate-at, candidate-in}
 use Rattle.rules.specs.SearchLaws.{max-turn}
-use Rattle.rules.specs.Search.{maxBelow, larger}
+use Rattle.rules.specs.Search.{max-below, larger}
 use borrow.Author.Needs.{needs}
 use native.Mathlib.Omega.{arith}
 use Prim.Native.Nat.{ℕ, _-_, _≤_}
@@ -14,26 +14,26 @@ use mathlib.Core.Option.{Option}
 use lib.ListN.{length}
 use denote.Ref.{now}
 use Rattle.pack.specs.Notation.{optional, _<ᵇ_, _≐_}
-use Rattle.pack.specs.Meaning.{packOf, fieldMeaning, optNumber}
+use Rattle.pack.specs.Meaning.{pack-of, field-meaning, optional-number}
 use Rattle.rules.proofs.spn_names.candidate_in.Statement.{statement}
 use Rattle.rules.proofs.spn_names.candidate_in.Tie as tie
 
 abbrev cand : List ℕ → Bytes → ℕ → ℕ → ℕ → Option ℕ
-cand s name b i k = candidate-at name b (field-at (pgn-at (packOf s) 1 i) k .name) (field-at (pgn-at (packOf s) 1 i) k .spn)
+cand s name b i k = candidate-at name b (field-at (pgn-at (pack-of s) 1 i) k .name) (field-at (pgn-at (pack-of s) 1 i) k .spn)
 
 both : (name own : Bytes) (b : ℕ) (g : Bool) (v : ℕ) → optional (g && (v <ᵇ b) && (own ≐ name)) v ≡ candidate-at name b own (optional g v)
 both name own b true v = refl
 both name own b false v = refl
 
-said : (s : List ℕ) (name : Bytes) (b i k : ℕ) (v : FieldView) (h : Bool) → fieldMeaning s v ≡ field-at (pgn-at (packOf s) 1 i) k
-    → h ≡ (v .authored .spn .given && (v .authored .spn .value <ᵇ b) && (bytesOf s (v .names .name) ≐ name))
+said : (s : List ℕ) (name : Bytes) (b i k : ℕ) (v : FieldView) (h : Bool) → field-meaning s v ≡ field-at (pgn-at (pack-of s) 1 i) k
+    → h ≡ (v .authored .spn .given && (v .authored .spn .value <ᵇ b) && (bytes-of s (v .names .name) ≐ name))
     → optional h (v .authored .spn .value) ≡ cand s name b i k
 said s name b i k v h is e =
-    ap (λ (x : Bool). optional x (v .authored .spn .value)) e ∙ both name (bytesOf s (v .names .name)) b (v .authored .spn .given) (v .authored .spn .value)
+    ap (λ (x : Bool). optional x (v .authored .spn .value)) e ∙ both name (bytes-of s (v .names .name)) b (v .authored .spn .given) (v .authored .spn .value)
     ∙ ap (λ (F : Field). candidate-at name b (F .name) (F .spn)) is
 
 abbrev Inv-loop : tie.InvT-loop
-Inv-loop s work b name i p fields found₀ k₀ found k = (k ≤ fields) × (optNumber found ≡ maxBelow (cand s (bytesOf s name) b i) k)
+Inv-loop s work b name i p fields found₀ k₀ found k = (k ≤ fields) × (optional-number found ≡ max-below (cand s (bytes-of s name) b i) k)
 
 abbrev μ-loop : tie.MeasureT-loop
 μ-loop s work b name i p fields found₀ k₀ found k = fields - k
@@ -67,12 +67,12 @@ loop-again c =
     let loop-test = c .before .before .before .loop-test in
     let field-of = c .before .before .field-of in
     let s = now (start .args .s) in let name = start .args .name in let b = start .args .b in let i = start .args .i in
-    let f = cand s (bytesOf s name) b i in (
+    let f = cand s (bytes-of s name) b i in (
       omega (arith, loop-test .taken),
       c .larger .ensures
           ∙ ap (λ (x : Option ℕ). larger x (optional (c .before .is-candidate .result) (field-of .result .authored .spn .value))) (loop .inv .1)
-          ∙ ap (larger (maxBelow f (loop .k)))
-          (said s (bytesOf s name) b i (loop .k) (field-of .result) (c .before .is-candidate .result) (field-of .ensures) (c .before .is-candidate .ensures))
+          ∙ ap (larger (max-below f (loop .k)))
+          (said s (bytes-of s name) b i (loop .k) (field-of .result) (c .before .is-candidate .result) (field-of .ensures) (c .before .is-candidate .ensures))
           ∙ sym (max-turn f (loop .k)),
     )
 
@@ -81,8 +81,8 @@ unfolding candidate-in
 returns c =
     let start = c .before .before .before .before in
     let s = now (start .args .s) in let i = start .args .i in
-    let e : length (pgn-at (packOf s) 1 i .fields) ≡ c .before .loop .k = omega (arith, start .pre .1, c .before .loop .inv .0, c .loop-test .left) in
-    c .before .loop .inv .1 ∙ ap (maxBelow (cand s (bytesOf s (start .args .name)) (start .args .b) i)) (sym e)
+    let e : length (pgn-at (pack-of s) 1 i .fields) ≡ c .before .loop .k = omega (arith, start .pre .1, c .before .loop .inv .0, c .loop-test .left) in
+    c .before .loop .inv .1 ∙ ap (max-below (cand s (bytes-of s (start .args .name)) (start .args .b) i)) (sym e)
 
 pub candidate-in-spec : {M : Type 1} → statement M
 candidate-in-spec =

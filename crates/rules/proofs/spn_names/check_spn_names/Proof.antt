@@ -1,7 +1,7 @@
 use borrow.Author.Needs.{needs}
 use mathlib.Core.Path.{sym, _∙_}
 use denote.Ref.{now}
-use Rattle.pack.specs.Meaning.{packOf}
+use Rattle.pack.specs.Meaning.{pack-of}
 use Rattle.rules.proofs.Emits.{emitted-none}
 use Rattle.rules.proofs.SpnClashLaws.{no-clash}
 use Rattle.rules.proofs.spn_names.check_spn_names.Statement.{statement}
@@ -26,7 +26,7 @@ returns c = c .before .before .spn-clashes .ensures
 returns-2 : tie.Need-returns-2
 returns-2 c =
     let start = c .before .before .before .before .before in
-    rw (no-clash (packOf (now (start .args .s)) .pgns-j1939) (sym (c .before .may-clash .ensures) ∙ c .if1 .left))
+    rw (no-clash (pack-of (now (start .args .s)) .pgns-j1939) (sym (c .before .may-clash .ensures) ∙ c .if1 .left))
     (emitted-none (now (start .args .out)) (start .args .n))
 
 pub check-spn-names-spec : {M : Type 1} → statement M

@@ -1,6 +1,6 @@
-use Rattle.pack.specs.Meaning.{pgnMeaning, packOf}
+use Rattle.pack.specs.Meaning.{pgn-meaning, pack-of}
 use Rattle.pack.specs.declared.pgn.PgnView.{PgnView}
-use Rattle.pack.specs.Value.{Pgn, noPgn}
+use Rattle.pack.specs.Value.{Pgn, no-pgn}
 use Rattle.rules.specs.SpnNames.{clash-at}
 use Rattle.rules.specs.PlaceText.{pgn-loc}
 use Prim.Native.Nat.{ℕ}
@@ -20,16 +20,16 @@ use Rattle.rules.proofs.spn_names.clash_at.Tie as tie
 
 -- whether the two places are one, and the findings then
 placed : (s : List ℕ) (G H : Pgn) (a b : PgnView) → PgnIs s G a → PgnIs s H b → (r d : Bool)
-    → r ≡ (pgn-loc 1 (pgnMeaning s a []) ≐ pgn-loc 1 (pgnMeaning s b [])) → r ≡ d → (pgn-loc 1 G ≐ pgn-loc 1 H) ≡ d
+    → r ≡ (pgn-loc 1 (pgn-meaning s a []) ≐ pgn-loc 1 (pgn-meaning s b [])) → r ≡ d → (pgn-loc 1 G ≐ pgn-loc 1 H) ≡ d
 unfolding pgn-loc
 placed s G H a b x y r d e h = (λ j. pgn-loc 1 (sym (x .means) j) ≐ pgn-loc 1 (sym (y .means) j)) ∙ sym e ∙ h
 
-one : (pgns : List Pgn) (earlier spn i j : ℕ) → (pgn-loc 1 (getD pgns i noPgn) ≐ pgn-loc 1 (getD pgns j noPgn)) ≡ true → (F : Finding)
+one : (pgns : List Pgn) (earlier spn i j : ℕ) → (pgn-loc 1 (getD pgns i no-pgn) ≐ pgn-loc 1 (getD pgns j no-pgn)) ≡ true → (F : Finding)
     → F ≡ pgn-error 24 2 1 i earlier spn → clash-at pgns earlier spn i j ≡ F ∷ []
 unfolding clash-at
 one pgns earlier spn i j e F h = rw (e, h)
 
-two : (pgns : List Pgn) (earlier spn i j : ℕ) → (pgn-loc 1 (getD pgns i noPgn) ≐ pgn-loc 1 (getD pgns j noPgn)) ≡ false → (F G : Finding)
+two : (pgns : List Pgn) (earlier spn i j : ℕ) → (pgn-loc 1 (getD pgns i no-pgn) ≐ pgn-loc 1 (getD pgns j no-pgn)) ≡ false → (F G : Finding)
     → F ≡ pgn-error 24 2 1 i earlier spn → G ≡ pgn-error 24 2 1 j earlier spn → clash-at pgns earlier spn i j ≡ (F ∷ []) ++ (G ∷ [])
 unfolding clash-at
 two pgns earlier spn i j e F G h k = rw (e, h, k)
@@ -57,7 +57,7 @@ put-requires c κs =
     let pgn-of2 = c .before .before .before .before .pgn-of2 in
     let same-place = c .before .before .before .same-place in
     let s = now (start .args .s) in
-    rw (one (packOf s .pgns-j1939) (start .args .earlier) (start .args .spn) (start .args .i) (start .args .j)
+    rw (one (pack-of s .pgns-j1939) (start .args .earlier) (start .args .spn) (start .args .i) (start .args .j)
     (placed s _ _ (pgn-of .result) (pgn-of2 .result) (pgn-of .ensures) (pgn-of2 .ensures) (same-place .result) true (same-place .ensures)
     (c .before .before .if1 .taken)) (c .pgn-error .result) (c .pgn-error .ensures)) at (start .pre .0)
 
@@ -73,7 +73,7 @@ returns c =
     let if1 = c .before .before .before .before .before .if1 in
     let pgn-error-call = c .before .before .before .pgn-error in
     let s = now (start .args .s) in
-    rw (one (packOf s .pgns-j1939) (start .args .earlier) (start .args .spn) (start .args .i) (start .args .j)
+    rw (one (pack-of s .pgns-j1939) (start .args .earlier) (start .args .spn) (start .args .i) (start .args .j)
     (placed s _ _ (pgn-of .result) (pgn-of2 .result) (pgn-of .ensures) (pgn-of2 .ensures) (same-place .result) true (same-place .ensures) (if1 .taken))
     (pgn-error-call .result) (pgn-error-call .ensures)) (c .before .before .put .ensures)
 
@@ -88,7 +88,7 @@ put-requires-2 c κs =
     let same-place = c .before .before .before .same-place in
     let j = start .args .j in let earlier = start .args .earlier in let spn = start .args .spn in let s = now (start .args .s) in
     let G = pgn-error 24 2 1 j earlier spn in
-    fits-left (c .pgn-error2 .result ∷ []) (G ∷ []) (rw (two (packOf s .pgns-j1939) earlier spn (start .args .i) j
+    fits-left (c .pgn-error2 .result ∷ []) (G ∷ []) (rw (two (pack-of s .pgns-j1939) earlier spn (start .args .i) j
     (placed s _ _ (pgn-of .result) (pgn-of2 .result) (pgn-of .ensures) (pgn-of2 .ensures) (same-place .result) false (same-place .ensures)
     (c .before .before .if1 .left)) (c .pgn-error2 .result) G (c .pgn-error2 .ensures) refl) at (start .pre .0))
 
@@ -107,7 +107,7 @@ put-requires-3 c κs =
     let put2 = c .before .before .before .before .put2 in
     let s = now (start .args .s) in
     fits-right (pgn-error2 .result ∷ []) (c .pgn-error3 .result ∷ [])
-    (rw (two (packOf s .pgns-j1939) (start .args .earlier) (start .args .spn) (start .args .i) (start .args .j)
+    (rw (two (pack-of s .pgns-j1939) (start .args .earlier) (start .args .spn) (start .args .i) (start .args .j)
     (placed s _ _ (pgn-of .result) (pgn-of2 .result) (pgn-of .ensures) (pgn-of2 .ensures) (same-place .result) false (same-place .ensures) (if1 .left))
     (pgn-error2 .result) (c .pgn-error3 .result) (pgn-error2 .ensures) (c .pgn-error3 .ensures)) at (start .pre .0)) (put2 .ensures)
 
@@ -126,7 +126,7 @@ returns-2 c =
     let put2 = c .before .before .before .before .before .before .before .put2 in
     let pgn-error3 = c .before .before .before .pgn-error3 in
     let s = now (start .args .s) in
-    rw (two (packOf s .pgns-j1939) (start .args .earlier) (start .args .spn) (start .args .i) (start .args .j)
+    rw (two (pack-of s .pgns-j1939) (start .args .earlier) (start .args .spn) (start .args .i) (start .args .j)
     (placed s _ _ (pgn-of .result) (pgn-of2 .result) (pgn-of .ensures) (pgn-of2 .ensures) (same-place .result) false (same-place .ensures) (if1 .left))
     (pgn-error2 .result) (pgn-error3 .result) (pgn-error2 .ensures) (pgn-error3 .ensures))
     (emitted-append {xs = pgn-error2 .result ∷ []} {ys = pgn-error3 .result ∷ []} (put2 .ensures) (c .before .before .put3 .ensures))

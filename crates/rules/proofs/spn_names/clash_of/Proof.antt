@@ -9,7 +9,7 @@ use mathlib.Core.List.{List, []}
 use mathlib.Core.Option.{some}
 use denote.Ref.{now}
 use Rattle.pack.specs.Notation.{optional}
-use Rattle.pack.specs.Meaning.{packOf}
+use Rattle.pack.specs.Meaning.{pack-of}
 use Rattle.rules.proofs.Emits.{emitted-none}
 use borrow.Author.Needs.{needs}
 use Rattle.rules.proofs.spn_names.clash_of.Statement.{statement}
@@ -45,7 +45,7 @@ returns : tie.Need-returns
 returns c =
     let start = c .before .before .before .before .before .before .before .before in
     let earlier-spn-call = c .before .before .earlier-spn in
-    rw (alone (packOf (now (start .args .s)) .pgns-j1939) (start .args .spn) (earlier-spn-call .result .given) (earlier-spn-call .result .value)
+    rw (alone (pack-of (now (start .args .s)) .pgns-j1939) (start .args .spn) (earlier-spn-call .result .given) (earlier-spn-call .result .value)
     (earlier-spn-call .ensures) (not-true (earlier-spn-call .result .given) (c .if1 .taken))) (emitted-none (now (start .args .out)) (start .args .n))
 
 spn-pgn-requires-2 : tie.Need-spn-pgn-requires-2
@@ -62,10 +62,10 @@ clash-at-requires c κs =
     let e = not-false (earlier-spn-call .result .given) (c .before .before .if1 .left) in
     let n : c .before .spn-pgn2 .result .given ≡ true = given-both s work (earlier-spn-call .result .value) (c .before .spn-pgn2 .result)
     (c .before .spn-pgn2 .ensures)
-    ∙ earlier-named (packOf s .pgns-j1939) spn (earlier-spn-call .result .value)
+    ∙ earlier-named (pack-of s .pgns-j1939) spn (earlier-spn-call .result .value)
     (sym (earlier-spn-call .ensures) ∙ ap (λ (b : Bool). optional b (earlier-spn-call .result .value)) e) in
     let m : spn-pgn-call .result .given ≡ true = given-both s work spn (spn-pgn-call .result) (spn-pgn-call .ensures) ∙ start .pre .4 in (
-      rw (paired (packOf s .pgns-j1939) spn (earlier-spn-call .result .given) (earlier-spn-call .result .value) (c .before .spn-pgn2 .result .pgn)
+      rw (paired (pack-of s .pgns-j1939) spn (earlier-spn-call .result .given) (earlier-spn-call .result .value) (c .before .spn-pgn2 .result .pgn)
           (spn-pgn-call .result .pgn) (earlier-spn-call .ensures) e
           (pgn-is s work (earlier-spn-call .result .value) (c .before .spn-pgn2 .result) (c .before .spn-pgn2 .ensures) n)
           (pgn-is s work spn (spn-pgn-call .result) (spn-pgn-call .ensures) m)) at (start .pre .0),
@@ -87,10 +87,10 @@ returns-2 c =
     let s = now (start .args .s) in let work = now (start .args .work) in let spn = start .args .spn in
     let e = not-false (earlier-spn-call .result .given) (if1 .left) in
     let n : spn-pgn2 .result .given ≡ true = given-both s work (earlier-spn-call .result .value) (spn-pgn2 .result) (spn-pgn2 .ensures)
-    ∙ earlier-named (packOf s .pgns-j1939) spn (earlier-spn-call .result .value)
+    ∙ earlier-named (pack-of s .pgns-j1939) spn (earlier-spn-call .result .value)
     (sym (earlier-spn-call .ensures) ∙ ap (λ (b : Bool). optional b (earlier-spn-call .result .value)) e) in
     let m : spn-pgn-call .result .given ≡ true = given-both s work spn (spn-pgn-call .result) (spn-pgn-call .ensures) ∙ start .pre .4 in
-    rw (paired (packOf s .pgns-j1939) spn (earlier-spn-call .result .given) (earlier-spn-call .result .value) (spn-pgn2 .result .pgn)
+    rw (paired (pack-of s .pgns-j1939) spn (earlier-spn-call .result .given) (earlier-spn-call .result .value) (spn-pgn2 .result .pgn)
     (spn-pgn-call .result .pgn) (earlier-spn-call .ensures) e (pgn-is s work (earlier-spn-call .result .value) (spn-pgn2 .result) (spn-pgn2 .ensures) n)
     (pgn-is s work spn (spn-pgn-call .result) (spn-pgn-call .ensures) m)) (c .before .before .clash-at .ensures)
 

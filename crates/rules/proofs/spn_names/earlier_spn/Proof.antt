@@ -1,5 +1,5 @@
 use borrow.Author.Tests.{not-true, not-false}
-use Rattle.pack.specs.Items.{bytesOf}
+use Rattle.pack.specs.Items.{bytes-of}
 use Rattle.pack.specs.Value.{Bytes}
 use Rattle.rules.proofs.Candidates.{upto, upto-earlier, candidate-none, candidate-met, candidate-named, candidate-other}
 use Rattle.rules.specs.Namers.{candidate}
@@ -10,17 +10,17 @@ use mathlib.Core.Bool.{Bool, true, false}
 use mathlib.Core.List.{List}
 use denote.Ref.{now}
 use Rattle.pack.specs.Notation.{optional}
-use Rattle.pack.specs.Meaning.{packOf}
+use Rattle.pack.specs.Meaning.{pack-of}
 use Rattle.rules.proofs.spn_names.earlier_spn.Statement.{statement}
 use Rattle.rules.proofs.spn_names.earlier_spn.Tie as tie
 
 -- the candidate, as the code found it
-told : (s : List ℕ) (name : Bytes) (b : ℕ) (g d : Bool) (v : ℕ) → optional g v ≡ candidate (packOf s .pgns-j1939) name b → g ≡ d
-    → candidate (packOf s .pgns-j1939) name b ≡ optional d v
+told : (s : List ℕ) (name : Bytes) (b : ℕ) (g d : Bool) (v : ℕ) → optional g v ≡ candidate (pack-of s .pgns-j1939) name b → g ≡ d
+    → candidate (pack-of s .pgns-j1939) name b ≡ optional d v
 told s name b g d v h e = sym h ∙ ap (λ (x : Bool). optional x v) e
 
 abbrev Inv-loop : tie.InvT-loop
-Inv-loop s work tree spn name b₀ b = upto (packOf s .pgns-j1939) (bytesOf s name) b ≡ earlier-spn (packOf s .pgns-j1939) spn
+Inv-loop s work tree spn name b₀ b = upto (pack-of s .pgns-j1939) (bytes-of s name) b ≡ earlier-spn (pack-of s .pgns-j1939) spn
 
 abbrev μ-loop : tie.MeasureT-loop
 μ-loop s work tree spn name b₀ b = b
@@ -29,7 +29,7 @@ loop-holds : tie.Need-loop-holds Inv-loop μ-loop
 loop-holds c =
     let start = c .before .before in
     let s = now (start .args .s) in let spn = start .args .spn in
-    ap (λ (t : Bytes). upto (packOf s .pgns-j1939) t spn) (start .pre .3) ∙ sym (upto-earlier (packOf s .pgns-j1939) spn)
+    ap (λ (t : Bytes). upto (pack-of s .pgns-j1939) t spn) (start .pre .3) ∙ sym (upto-earlier (pack-of s .pgns-j1939) spn)
 
 candidate-requires : tie.Need-candidate-requires Inv-loop μ-loop
 candidate-requires c κs =
@@ -42,8 +42,8 @@ returns c =
     let loop = c .before .before .before .loop in
     let candidate-call = c .before .before .candidate in
     let s = now (start .args .s) in
-    let P = packOf s .pgns-j1939 in
-    let n = bytesOf s (start .args .name) in
+    let P = pack-of s .pgns-j1939 in
+    let n = bytes-of s (start .args .name) in
     let e = told s n (loop .b) (candidate-call .result .given) false (candidate-call .result .value) (candidate-call .ensures)
     (not-true (candidate-call .result .given) (c .if1 .taken)) in
     candidate-call .ensures ∙ e ∙ sym (candidate-none P n (loop .b) e) ∙ loop .inv
@@ -54,8 +54,8 @@ has-name-requires c κs =
     let loop = c .before .before .before .loop in
     let candidate-call = c .before .before .candidate in
     let s = now (start .args .s) in
-    let P = packOf s .pgns-j1939 in
-    let n = bytesOf s (start .args .name) in
+    let P = pack-of s .pgns-j1939 in
+    let n = bytes-of s (start .args .name) in
     let e = told s n (loop .b) (candidate-call .result .given) true (candidate-call .result .value) (candidate-call .ensures)
     (not-false (candidate-call .result .given) (c .if1 .left)) in
     (start .pre .0, start .pre .1, start .pre .2, candidate-met P n (loop .b) (candidate-call .result .value) e .1)
@@ -66,8 +66,8 @@ returns-2 c =
     let loop = c .before .before .before .before .before .loop in
     let candidate-call = c .before .before .before .before .candidate in
     let s = now (start .args .s) in
-    let P = packOf s .pgns-j1939 in
-    let n = bytesOf s (start .args .name) in
+    let P = pack-of s .pgns-j1939 in
+    let n = bytes-of s (start .args .name) in
     let e = told s n (loop .b) (candidate-call .result .given) true (candidate-call .result .value) (candidate-call .ensures)
     (not-false (candidate-call .result .given) (c .before .before .if1 .left)) in
     candidate-call .ensures
@@ -81,8 +81,8 @@ loop-less c =
     let loop = c .before .before .before .before .before .loop in
     let candidate-call = c .before .before .before .before .candidate in
     let s = now (start .args .s) in
-    let P = packOf s .pgns-j1939 in
-    let n = bytesOf s (start .args .name) in
+    let P = pack-of s .pgns-j1939 in
+    let n = bytes-of s (start .args .name) in
     let e = told s n (loop .b) (candidate-call .result .given) true (candidate-call .result .value) (candidate-call .ensures)
     (not-false (candidate-call .result .given) (c .before .before .if1 .left)) in
     candidate-met P n (loop .b) (candidate-call .result .value) e .0
@@ -93,8 +93,8 @@ loop-again c =
     let loop = c .before .before .before .before .before .loop in
     let candidate-call = c .before .before .before .before .candidate in
     let s = now (start .args .s) in
-    let P = packOf s .pgns-j1939 in
-    let n = bytesOf s (start .args .name) in
+    let P = pack-of s .pgns-j1939 in
+    let n = bytes-of s (start .args .name) in
     let e = told s n (loop .b) (candidate-call .result .given) true (candidate-call .result .value) (candidate-call .ensures)
     (not-false (candidate-call .result .given) (c .before .before .if1 .left)) in
     sym (candidate-other P n (loop .b) (candidate-call .result .value) e (sym (c .before .has-name .ensures) ∙ c .if2 .left)) ∙ loop .inv

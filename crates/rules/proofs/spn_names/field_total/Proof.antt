@@ -1,29 +1,29 @@
-use Rattle.pack.specs.Ready.{pgnPlace, pgnRecordsBelow}
+use Rattle.pack.specs.Ready.{place-of-pgn, pgn-records-below}
 use Rattle.pack.proofs.Positions.{pgn-place-next}
 use Rattle.rules.proofs.Sizes.{at-pgn, fields-few, pgns-few}
-use Rattle.pack.specs.Value.{Pgn, noPgn}
+use Rattle.pack.specs.Value.{Pgn, no-pgn}
 use Prim.Native.Nat.{zero, suc, ℕ, _-_, _≤_}
 use Rattle.rules.specs.SearchLaws.{sum-turn}
-use Rattle.rules.specs.Search.{sumBelow}
+use Rattle.rules.specs.Search.{sum-below}
 use native.Mathlib.Omega.{arith}
 use mathlib.Core.Path.{_≡_, refl, sym, _∙_, ap}
 use mathlib.Core.List.{List}
 use lib.ListN.{length, getD}
 use denote.Ref.{now}
-use Rattle.pack.specs.Meaning.{packOf}
+use Rattle.pack.specs.Meaning.{pack-of}
 use Rattle.rules.proofs.spn_names.field_total.Statement.{statement}
 use Rattle.rules.proofs.spn_names.field_total.Tie as tie
 
 abbrev fields-in : List Pgn → ℕ → ℕ
-fields-in pgns i = length (getD pgns i noPgn .fields)
+fields-in pgns i = length (getD pgns i no-pgn .fields)
 
 -- fields are records
-total-few : (pgns : List Pgn) (i : ℕ) → sumBelow (fields-in pgns) i ≤ pgnRecordsBelow pgns i
+total-few : (pgns : List Pgn) (i : ℕ) → sum-below (fields-in pgns) i ≤ pgn-records-below pgns i
 total-few pgns zero = omega arith
 total-few pgns (suc i) = omega (arith, total-few pgns i)
 
 abbrev Inv-loop : tie.InvT-loop
-Inv-loop s work count total₀ p₀ i₀ total p i = (i ≤ count) × (p ≡ pgnPlace (packOf s) 1 i) × (total ≡ sumBelow (fields-in (packOf s .pgns-j1939)) i)
+Inv-loop s work count total₀ p₀ i₀ total p i = (i ≤ count) × (p ≡ place-of-pgn (pack-of s) 1 i) × (total ≡ sum-below (fields-in (pack-of s .pgns-j1939)) i)
 
 abbrev μ-loop : tie.MeasureT-loop
 μ-loop s work count total₀ p₀ i₀ total p i = count - i
@@ -46,7 +46,7 @@ add-total c =
       c .before .pgn-of .ensures .fields,
       loop .inv .1,
       loop .inv .2,
-      total-few (packOf (now (start .args .s)) .pgns-j1939) (loop .i),
+      total-few (pack-of (now (start .args .s)) .pgns-j1939) (loop .i),
     )
 
 add-p : tie.Need-add-p Inv-loop μ-loop
@@ -98,16 +98,16 @@ loop-again c =
     let pgn-of = c .before .before .pgn-of in
     let s = now (start .args .s) in (
       omega (arith, loop-test .taken),
-      omega (arith, pgn-place-next (packOf s) 1 (loop .i), pgn-of .ensures .fields, loop .inv .1),
-      omega (arith, sum-turn (fields-in (packOf s .pgns-j1939)) (loop .i), pgn-of .ensures .fields, loop .inv .2),
+      omega (arith, pgn-place-next (pack-of s) 1 (loop .i), pgn-of .ensures .fields, loop .inv .1),
+      omega (arith, sum-turn (fields-in (pack-of s .pgns-j1939)) (loop .i), pgn-of .ensures .fields, loop .inv .2),
     )
 
 returns : tie.Need-returns Inv-loop μ-loop
 returns c =
     let start = c .before .before .before .before in
     let s = now (start .args .s) in
-    let e : length (packOf s .pgns-j1939) ≡ c .before .loop .i = omega (arith, start .pre .1, c .before .loop .inv .0, c .loop-test .left) in
-    c .before .loop .inv .2 ∙ ap (sumBelow (fields-in (packOf s .pgns-j1939))) (sym e)
+    let e : length (pack-of s .pgns-j1939) ≡ c .before .loop .i = omega (arith, start .pre .1, c .before .loop .inv .0, c .loop-test .left) in
+    c .before .loop .inv .2 ∙ ap (sum-below (fields-in (pack-of s .pgns-j1939))) (sym e)
 
 pub field-total-spec : {M : Type 1} → statement M
 field-total-spec =

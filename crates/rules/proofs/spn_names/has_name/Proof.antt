@@ -1,4 +1,4 @@
-use Rattle.pack.specs.Items.{bytesOf}
+use Rattle.pack.specs.Items.{bytes-of}
 use Rattle.rules.proofs.SpnLaws.{given-both}
 use Prim.Native.Nat.{ℕ}
 use mathlib.Core.Path.{_∙_, ap}
@@ -27,7 +27,7 @@ same-text-requires c κs = search needs
 returns : tie.Need-returns
 returns c =
     let start = c .before .before .before .before .before in
-    c .same-text .ensures ∙ ap (λ (t : List ℕ). t ≐ bytesOf (now (start .args .s)) (start .args .name)) (c .before .spn-name .ensures)
+    c .same-text .ensures ∙ ap (λ (t : List ℕ). t ≐ bytes-of (now (start .args .s)) (start .args .name)) (c .before .spn-name .ensures)
 
 pub has-name-spec : {M : Type 1} → statement M
 has-name-spec = tie.close (tie.spec spn-pgn-requires spn-name-requires same-text-requires returns)

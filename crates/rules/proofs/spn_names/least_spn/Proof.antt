@@ -1,9 +1,9 @@
-use Rattle.pack.specs.Ready.{pgnPlace}
+use Rattle.pack.specs.Ready.{place-of-pgn}
 use Rattle.pack.proofs.Positions.{pgn-place-next}
 use Rattle.rules.proofs.Sizes.{at-pgn, fields-few, pgns-few}
 use Rattle.rules.specs.SpnNames.{least-spn-in, least-spn}
 use Rattle.rules.specs.SearchLaws.{min-turn}
-use Rattle.rules.specs.Search.{minBelow, smaller}
+use Rattle.rules.specs.Search.{min-below, smaller}
 use borrow.Author.Needs.{needs}
 use native.Mathlib.Omega.{arith}
 use Prim.Native.Nat.{ℕ, _-_, _≤_}
@@ -11,13 +11,13 @@ use mathlib.Core.Path.{_≡_, refl, sym, _∙_, ap}
 use mathlib.Core.Option.{Option}
 use lib.ListN.{length}
 use denote.Ref.{now}
-use Rattle.pack.specs.Meaning.{packOf, optNumber}
+use Rattle.pack.specs.Meaning.{pack-of, optional-number}
 use Rattle.rules.proofs.spn_names.least_spn.Statement.{statement}
 use Rattle.rules.proofs.spn_names.least_spn.Tie as tie
 
 abbrev Inv-loop : tie.InvT-loop
 Inv-loop s work b count found₀ p₀ i₀ found p i =
-    (i ≤ count) × (p ≡ pgnPlace (packOf s) 1 i) × (optNumber found ≡ minBelow (least-spn-in (packOf s .pgns-j1939) b) i)
+    (i ≤ count) × (p ≡ place-of-pgn (pack-of s) 1 i) × (optional-number found ≡ min-below (least-spn-in (pack-of s .pgns-j1939) b) i)
 
 abbrev μ-loop : tie.MeasureT-loop
 μ-loop s work b count found₀ p₀ i₀ found p i = count - i
@@ -91,12 +91,12 @@ loop-again c =
     let pgn-of = c .before .before .before .pgn-of in
     let least-spn-in-call = c .before .before .least-spn-in in
     let s = now (start .args .s) in
-    let f = least-spn-in (packOf s .pgns-j1939) (start .args .b) in (
+    let f = least-spn-in (pack-of s .pgns-j1939) (start .args .b) in (
       omega (arith, loop-test .taken),
-      omega (arith, pgn-place-next (packOf s) 1 (loop .i), pgn-of .ensures .fields, loop .inv .1),
+      omega (arith, pgn-place-next (pack-of s) 1 (loop .i), pgn-of .ensures .fields, loop .inv .1),
       c .before .smaller .ensures
-          ∙ ap (λ (x : Option ℕ). smaller x (optNumber (least-spn-in-call .result))) (loop .inv .2)
-          ∙ ap (smaller (minBelow f (loop .i))) (least-spn-in-call .ensures)
+          ∙ ap (λ (x : Option ℕ). smaller x (optional-number (least-spn-in-call .result))) (loop .inv .2)
+          ∙ ap (smaller (min-below f (loop .i))) (least-spn-in-call .ensures)
           ∙ sym (min-turn f (loop .i)),
     )
 
@@ -105,8 +105,8 @@ unfolding least-spn
 returns c =
     let start = c .before .before .before .before in
     let s = now (start .args .s) in
-    let e : length (packOf s .pgns-j1939) ≡ c .before .loop .i = omega (arith, start .pre .1, c .before .loop .inv .0, c .loop-test .left) in
-    c .before .loop .inv .2 ∙ ap (minBelow (least-spn-in (packOf s .pgns-j1939) (start .args .b))) (sym e)
+    let e : length (pack-of s .pgns-j1939) ≡ c .before .loop .i = omega (arith, start .pre .1, c .before .loop .inv .0, c .loop-test .left) in
+    c .before .loop .inv .2 ∙ ap (min-below (least-spn-in (pack-of s .pgns-j1939) (start .args .b))) (sym e)
 
 pub least-spn-spec : {M : Type 1} → statement M
 least-spn-spec =

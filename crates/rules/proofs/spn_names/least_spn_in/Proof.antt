@@ -2,7 +2,7 @@ use Rattle.pack.specs.declared.field.FieldView.{FieldView}
 use Rattle.pack.specs.Value.{Pgn, Field, pgn-at, field-at}
 use Rattle.rules.specs.SpnNames.{spn-from, least-spn-in}
 use Rattle.rules.specs.SearchLaws.{min-turn}
-use Rattle.rules.specs.Search.{minBelow, smaller}
+use Rattle.rules.specs.Search.{min-below, smaller}
 use borrow.Author.Needs.{needs}
 use native.Mathlib.Omega.{arith}
 use Prim.Native.Nat.{ℕ, _-_, _≤_}
@@ -13,25 +13,25 @@ use mathlib.Core.Option.{Option}
 use lib.ListN.{length}
 use denote.Ref.{now}
 use Rattle.pack.specs.Notation.{optional, _≤ᵇ_}
-use Rattle.pack.specs.Meaning.{packOf, fieldMeaning, optNumber}
+use Rattle.pack.specs.Meaning.{pack-of, field-meaning, optional-number}
 use Rattle.rules.proofs.spn_names.least_spn_in.Statement.{statement}
 use Rattle.rules.proofs.spn_names.least_spn_in.Tie as tie
 
 abbrev from : List ℕ → ℕ → ℕ → ℕ → Option ℕ
-from s b i k = spn-from (packOf s .pgns-j1939) b (field-at (pgn-at (packOf s) 1 i) k .spn)
+from s b i k = spn-from (pack-of s .pgns-j1939) b (field-at (pgn-at (pack-of s) 1 i) k .spn)
 
 both : (pgns : List Pgn) (b : ℕ) (g : Bool) (v : ℕ) → optional (g && (b ≤ᵇ v)) v ≡ spn-from pgns b (optional g v)
 both pgns b true v = refl
 both pgns b false v = refl
 
-said : (s : List ℕ) (b i k : ℕ) (v : FieldView) (h : Bool) → fieldMeaning s v ≡ field-at (pgn-at (packOf s) 1 i) k
+said : (s : List ℕ) (b i k : ℕ) (v : FieldView) (h : Bool) → field-meaning s v ≡ field-at (pgn-at (pack-of s) 1 i) k
     → h ≡ (v .authored .spn .given && (b ≤ᵇ v .authored .spn .value)) → optional h (v .authored .spn .value) ≡ from s b i k
 said s b i k v h is e =
-    ap (λ (x : Bool). optional x (v .authored .spn .value)) e ∙ both (packOf s .pgns-j1939) b (v .authored .spn .given) (v .authored .spn .value)
-    ∙ ap (λ (F : Field). spn-from (packOf s .pgns-j1939) b (F .spn)) is
+    ap (λ (x : Bool). optional x (v .authored .spn .value)) e ∙ both (pack-of s .pgns-j1939) b (v .authored .spn .given) (v .authored .spn .value)
+    ∙ ap (λ (F : Field). spn-from (pack-of s .pgns-j1939) b (F .spn)) is
 
 abbrev Inv-loop : tie.InvT-loop
-Inv-loop s work b i p fields found₀ k₀ found k = (k ≤ fields) × (optNumber found ≡ minBelow (from s b i) k)
+Inv-loop s work b i p fields found₀ k₀ found k = (k ≤ fields) × (optional-number found ≡ min-below (from s b i) k)
 
 abbrev μ-loop : tie.MeasureT-loop
 μ-loop s work b i p fields found₀ k₀ found k = fields - k
@@ -69,7 +69,7 @@ loop-again c =
       omega (arith, loop-test .taken),
       c .smaller .ensures
           ∙ ap (λ (x : Option ℕ). smaller x (optional (c .before .is-from .result) (field-of .result .authored .spn .value))) (loop .inv .1)
-          ∙ ap (smaller (minBelow f (loop .k)))
+          ∙ ap (smaller (min-below f (loop .k)))
           (said s b i (loop .k) (field-of .result) (c .before .is-from .result) (field-of .ensures) (c .before .is-from .ensures))
           ∙ sym (min-turn f (loop .k)),
     )
@@ -79,8 +79,8 @@ unfolding least-spn-in
 returns c =
     let start = c .before .before .before .before in
     let s = now (start .args .s) in let i = start .args .i in
-    let e : length (pgn-at (packOf s) 1 i .fields) ≡ c .before .loop .k = omega (arith, start .pre .1, c .before .loop .inv .0, c .loop-test .left) in
-    c .before .loop .inv .1 ∙ ap (minBelow (from s (start .args .b) i)) (sym e)
+    let e : length (pgn-at (pack-of s) 1 i .fields) ≡ c .before .loop .k = omega (arith, start .pre .1, c .before .loop .inv .0, c .loop-test .left) in
+    c .before .loop .inv .1 ∙ ap (min-below (from s (start .args .b) i)) (sym e)
 
 pub least-spn-in-spec : {M : Type 1} → statement M
 least-spn-in-spec =

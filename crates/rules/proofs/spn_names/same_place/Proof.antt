@@ -1,6 +1,6 @@
 use Rattle.pack.specs.declared.pgn.PgnView.{PgnView}
-use Rattle.pack.specs.Items.{bytesOf}
-use Rattle.pack.specs.Meaning.{pgnMeaning}
+use Rattle.pack.specs.Items.{bytes-of}
+use Rattle.pack.specs.Meaning.{pgn-meaning}
 use Rattle.rules.specs.PlaceText.{pgn-loc}
 use Rattle.rules.specs.PlaceLaws.{same-place}
 use borrow.Author.Tests.{eq-eqb, ne-eqb}
@@ -16,8 +16,8 @@ use Rattle.rules.proofs.spn_names.same_place.Statement.{statement}
 use Rattle.rules.proofs.spn_names.same_place.Tie as tie
 
 placed : (s : List ℕ) (a b : PgnView) → a .pgn < 10000000000 → b .pgn < 10000000000
-    → (pgn-loc 1 (pgnMeaning s a []) ≐ pgn-loc 1 (pgnMeaning s b [])) ≡ ((a .pgn == b .pgn) && (bytesOf s (a .id) ≐ bytesOf s (b .id)))
-placed s a b u v = same-place 1 (pgnMeaning s a []) (pgnMeaning s b []) u v
+    → (pgn-loc 1 (pgn-meaning s a []) ≐ pgn-loc 1 (pgn-meaning s b [])) ≡ ((a .pgn == b .pgn) && (bytes-of s (a .id) ≐ bytes-of s (b .id)))
+placed s a b u v = same-place 1 (pgn-meaning s a []) (pgn-meaning s b []) u v
 
 same-text-requires : tie.Need-same-text-requires
 same-text-requires c κs = search needs
@@ -29,14 +29,14 @@ returns c =
     let s = now (start .args .s) in
     c .same-text .ensures
     ∙ sym (placed s (start .args .a) (start .args .b) (omega (arith, struct-known .given)) (omega (arith, c .before .before .struct-known2 .given))
-    ∙ ap (λ (x : Bool). x && (bytesOf s (start .args .a .id) ≐ bytesOf s (start .args .b .id))) (eq-eqb _ _ (c .before .if1 .taken)))
+    ∙ ap (λ (x : Bool). x && (bytes-of s (start .args .a .id) ≐ bytes-of s (start .args .b .id))) (eq-eqb _ _ (c .before .if1 .taken)))
 
 returns-2 : tie.Need-returns-2
 returns-2 c =
     let start = c .before .before .before .before in
     let s = now (start .args .s) in
     sym (placed s (start .args .a) (start .args .b) (omega (arith, c .before .before .struct-known .given)) (omega (arith, c .before .struct-known2 .given))
-    ∙ ap (λ (x : Bool). x && (bytesOf s (start .args .a .id) ≐ bytesOf s (start .args .b .id))) (ne-eqb _ _ (c .if1 .left)))
+    ∙ ap (λ (x : Bool). x && (bytes-of s (start .args .a .id) ≐ bytes-of s (start .args .b .id))) (ne-eqb _ _ (c .if1 .left)))
 
 pub same-place-spec : {M : Type 1} → statement M
 same-place-spec = tie.close (tie.spec same-text-requires returns returns-2)

@@ -14,34 +14,34 @@ use mathlib.Core.List.{List}
 use mathlib.Core.Option.{none}
 use lib.ListN.{length}
 use denote.Ref.{now}
-use Rattle.pack.specs.Notation.{concatBelow, optional}
-use Rattle.pack.specs.Meaning.{packOf}
+use Rattle.pack.specs.Notation.{concat-below, optional}
+use Rattle.pack.specs.Meaning.{pack-of}
 use Rattle.rules.specs.declared.Finding.{Finding}
 use Rattle.rules.specs.Emit.{Emitted}
 use Rattle.rules.proofs.spn_names.spn_clashes.Statement.{statement}
 use Rattle.rules.proofs.spn_names.spn_clashes.Tie as tie
 
 abbrev of-rank : List ℕ → ℕ → List Finding
-of-rank s r = clash-of (packOf s .pgns-j1939) (ranked (least-spn (packOf s .pgns-j1939)) r)
+of-rank s r = clash-of (pack-of s .pgns-j1939) (ranked (least-spn (pack-of s .pgns-j1939)) r)
 
 -- after the last SPN nothing follows
-ended : (s : List ℕ) (r n : ℕ) → r ≤ n → ranked (least-spn (packOf s .pgns-j1939)) r ≡ none → concatBelow (of-rank s) n ≡ concatBelow (of-rank s) r
+ended : (s : List ℕ) (r n : ℕ) → r ≤ n → ranked (least-spn (pack-of s .pgns-j1939)) r ≡ none → concat-below (of-rank s) n ≡ concat-below (of-rank s) r
 ended s r n h e =
     let q : n ≡ r + (n - r) = omega arith in
-    ap (concatBelow (of-rank s)) q
-    ∙ concat-ends (of-rank s) r (n - r) (λ k. ap (clash-of (packOf s .pgns-j1939)) (ranked-ends (least-spn (packOf s .pgns-j1939)) r k e))
+    ap (concat-below (of-rank s)) q
+    ∙ concat-ends (of-rank s) r (n - r) (λ k. ap (clash-of (pack-of s .pgns-j1939)) (ranked-ends (least-spn (pack-of s .pgns-j1939)) r k e))
 
 -- the SPN of a rank, as the code found it
-rank-is : (s : List ℕ) (r b : ℕ) (g d : Bool) (v : ℕ) → ranked (least-spn (packOf s .pgns-j1939)) r ≡ least-spn (packOf s .pgns-j1939) b
-    → optional g v ≡ least-spn (packOf s .pgns-j1939) b → g ≡ d → ranked (least-spn (packOf s .pgns-j1939)) r ≡ optional d v
+rank-is : (s : List ℕ) (r b : ℕ) (g d : Bool) (v : ℕ) → ranked (least-spn (pack-of s .pgns-j1939)) r ≡ least-spn (pack-of s .pgns-j1939) b
+    → optional g v ≡ least-spn (pack-of s .pgns-j1939) b → g ≡ d → ranked (least-spn (pack-of s .pgns-j1939)) r ≡ optional d v
 rank-is s r b g d v e h q = e ∙ sym h ∙ ap (λ (x : Bool). optional x v) q
 
 abbrev Inv-loop : tie.InvT-loop
 Inv-loop out₀ n s work j1939 total m₀ b₀ rank₀ out m b rank =
     (rank ≤ total)
-    × (ranked (least-spn (packOf s .pgns-j1939)) rank ≡ least-spn (packOf s .pgns-j1939) b)
+    × (ranked (least-spn (pack-of s .pgns-j1939)) rank ≡ least-spn (pack-of s .pgns-j1939) b)
     × (length out ≡ length out₀)
-    × Emitted out₀ n (concatBelow (of-rank s) rank) out m
+    × Emitted out₀ n (concat-below (of-rank s) rank) out m
 
 abbrev μ-loop : tie.MeasureT-loop
 μ-loop out₀ n s work j1939 total m₀ b₀ rank₀ out m b rank = total - rank
@@ -93,7 +93,7 @@ clash-of-requires c κs =
       start .pre .1,
       start .pre .2,
       start .pre .3,
-      least-named (packOf s .pgns-j1939) (loop .b) (least-spn-call .result .value)
+      least-named (pack-of s .pgns-j1939) (loop .b) (least-spn-call .result .value)
           (sym (least-spn-call .ensures) ∙ ap (λ (x : Bool). optional x (least-spn-call .result .value)) g),
     )
 
@@ -127,7 +127,7 @@ loop-again c =
     let e = rank-is s (loop .rank) (loop .b) (least-spn-call .result .given) true (least-spn-call .result .value) (loop .inv .1) (least-spn-call .ensures)
     (not-false (least-spn-call .result .given) (if1 .left)) in (
       omega (arith, loop-test .taken),
-      ranked-turn (least-spn (packOf s .pgns-j1939)) (loop .rank) ∙ ap (next-rank (least-spn (packOf s .pgns-j1939))) e,
+      ranked-turn (least-spn (pack-of s .pgns-j1939)) (loop .rank) ∙ ap (next-rank (least-spn (pack-of s .pgns-j1939))) e,
       clash-of-call .kept .0 ∙ loop .inv .2,
       emitted-turn (of-rank s) (loop .rank) (loop .inv .3) (rw e (clash-of-call .ensures)),
     )

@@ -1,7 +1,7 @@
 use Rattle.pack.specs.declared.field.FieldView.{FieldView}
 use Rattle.pack.specs.Value.{Field, pgn-at, field-at}
 use Rattle.rules.specs.SpnNames.{is-number, spn-field}
-use Rattle.rules.specs.Search.{firstBelow}
+use Rattle.rules.specs.Search.{first-below}
 use Rattle.rules.specs.SearchLaws.{first-turn, first-hit}
 use borrow.Author.Needs.{needs}
 use native.Mathlib.Omega.{arith}
@@ -12,20 +12,20 @@ use mathlib.Core.List.{List}
 use mathlib.Core.Option.{none}
 use lib.ListN.{length}
 use denote.Ref.{now}
-use Rattle.pack.specs.Meaning.{packOf, fieldMeaning, optNumber}
+use Rattle.pack.specs.Meaning.{pack-of, field-meaning, optional-number}
 use Rattle.rules.proofs.spn_names.spn_field.Statement.{statement}
 use Rattle.rules.proofs.spn_names.spn_field.Tie as tie
 
 -- whether field k carries the SPN
 abbrev carries : List ℕ → ℕ → ℕ → ℕ → Bool
-carries s spn j k = is-number (field-at (pgn-at (packOf s) 1 j) k .spn) spn
+carries s spn j k = is-number (field-at (pgn-at (pack-of s) 1 j) k .spn) spn
 
-told : (s : List ℕ) (spn j k : ℕ) (v : FieldView) (b d : Bool) → fieldMeaning s v ≡ field-at (pgn-at (packOf s) 1 j) k
-    → b ≡ is-number (optNumber (v .authored .spn)) spn → b ≡ d → carries s spn j k ≡ d
+told : (s : List ℕ) (spn j k : ℕ) (v : FieldView) (b d : Bool) → field-meaning s v ≡ field-at (pgn-at (pack-of s) 1 j) k
+    → b ≡ is-number (optional-number (v .authored .spn)) spn → b ≡ d → carries s spn j k ≡ d
 told s spn j k v b d is e t = ap (λ (F : Field). is-number (F .spn) spn) (sym is) ∙ sym e ∙ t
 
 abbrev Inv-loop : tie.InvT-loop
-Inv-loop s work j p fields spn k₀ k = (k ≤ fields) × (firstBelow (carries s spn j) k ≡ none)
+Inv-loop s work j p fields spn k₀ k = (k ≤ fields) × (first-below (carries s spn j) k ≡ none)
 
 abbrev μ-loop : tie.MeasureT-loop
 μ-loop s work j p fields spn k₀ k = fields - k
@@ -49,7 +49,7 @@ returns c =
     let loop-test = c .before .before .before .loop-test in
     let field-of = c .before .before .field-of in
     let s = now (start .args .s) in let spn = start .args .spn in let j = start .args .j in
-    sym (first-hit (carries s spn j) (length (pgn-at (packOf s) 1 j .fields)) (loop .k) (omega (arith, loop-test .taken, start .pre .1)) (loop .inv .1)
+    sym (first-hit (carries s spn j) (length (pgn-at (pack-of s) 1 j .fields)) (loop .k) (omega (arith, loop-test .taken, start .pre .1)) (loop .inv .1)
     (told s spn j (loop .k) (field-of .result) (c .before .is-number .result) true (field-of .ensures) (c .before .is-number .ensures) (c .if1 .taken)))
 
 add-k : tie.Need-add-k Inv-loop μ-loop
@@ -75,8 +75,8 @@ unfolding spn-field
 returns-2 c =
     let start = c .before .before .before .before in
     let s = now (start .args .s) in let j = start .args .j in
-    let e : length (pgn-at (packOf s) 1 j .fields) ≡ c .before .loop .k = omega (arith, start .pre .1, c .before .loop .inv .0, c .loop-test .left) in
-    sym (ap (firstBelow (carries s (start .args .spn) j)) e ∙ c .before .loop .inv .1)
+    let e : length (pgn-at (pack-of s) 1 j .fields) ≡ c .before .loop .k = omega (arith, start .pre .1, c .before .loop .inv .0, c .loop-test .left) in
+    sym (ap (first-below (carries s (start .args .spn) j)) e ∙ c .before .loop .inv .1)
 
 pub spn-field-spec : {M : Type 1} → statement M
 spn-field-spec =

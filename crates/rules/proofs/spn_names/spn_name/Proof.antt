@@ -7,14 +7,14 @@ use mathlib.Core.List.{List}
 use mathlib.Core.Option.{some}
 use lib.ListN.{length}
 use denote.Ref.{now}
-use Rattle.pack.specs.Meaning.{packOf}
+use Rattle.pack.specs.Meaning.{pack-of}
 use Rattle.pack.specs.Value.{pgn-at, field-at}
 use Rattle.rules.proofs.spn_names.spn_name.Statement.{statement}
 use Rattle.rules.proofs.spn_names.spn_name.Tie as tie
 
-field-in : (s : List ℕ) (spn j h : ℕ) → spn-field (pgn-at (packOf s) 1 j) spn ≡ some h → h < length (pgn-at (packOf s) 1 j .fields)
+field-in : (s : List ℕ) (spn j h : ℕ) → spn-field (pgn-at (pack-of s) 1 j) spn ≡ some h → h < length (pgn-at (pack-of s) 1 j .fields)
 unfolding spn-field
-field-in s spn j h e = first-is (λ k. is-number (field-at (pgn-at (packOf s) 1 j) k .spn) spn) (length (pgn-at (packOf s) 1 j .fields)) h e .0
+field-in s spn j h e = first-is (λ k. is-number (field-at (pgn-at (pack-of s) 1 j) k .spn) spn) (length (pgn-at (pack-of s) 1 j .fields)) h e .0
 
 field-of-requires : tie.Need-field-of-requires
 field-of-requires c κs =

@@ -1,4 +1,4 @@
-use Rattle.pack.specs.Ready.{pgnPlace}
+use Rattle.pack.specs.Ready.{place-of-pgn}
 use Rattle.pack.proofs.Positions.{pgn-place-next}
 use Rattle.rules.proofs.Sizes.{at-pgn, fields-few, pgns-few}
 use mathlib.Core.Bool.{false≢true}
@@ -8,12 +8,12 @@ use Prim.Native.Nat.{_-_, _≤_}
 use mathlib.Core.Path.{_≡_, refl}
 use lib.ListN.{length}
 use denote.Ref.{now}
-use Rattle.pack.specs.Meaning.{packOf}
+use Rattle.pack.specs.Meaning.{pack-of}
 use Rattle.rules.proofs.spn_names.spn_pgn.Statement.{statement}
 use Rattle.rules.proofs.spn_names.spn_pgn.Tie as tie
 
 abbrev Inv-loop : tie.InvT-loop
-Inv-loop s work spn count best₀ p₀ j₀ best p j = (j ≤ count) × (p ≡ pgnPlace (packOf s) 1 j) × NamesAmong s work spn j best
+Inv-loop s work spn count best₀ p₀ j₀ best p j = (j ≤ count) × (p ≡ place-of-pgn (pack-of s) 1 j) × NamesAmong s work spn j best
 
 abbrev μ-loop : tie.MeasureT-loop
 μ-loop s work spn count best₀ p₀ j₀ best p j = count - j
@@ -86,14 +86,14 @@ loop-again c =
     let loop = c .before .before .before .before .loop in
     let loop-test = c .before .before .before .loop-test in (
       omega (arith, loop-test .taken),
-      omega (arith, pgn-place-next (packOf (now (start .args .s))) 1 (loop .j), c .before .before .pgn-of .ensures .fields, loop .inv .1),
+      omega (arith, pgn-place-next (pack-of (now (start .args .s))) 1 (loop .j), c .before .before .pgn-of .ensures .fields, loop .inv .1),
       c .before .better .ensures,
     )
 
 returns : tie.Need-returns Inv-loop μ-loop
 returns c =
     let start = c .before .before .before .before in
-    let e : length (packOf (now (start .args .s)) .pgns-j1939) ≡ c .before .loop .j =
+    let e : length (pack-of (now (start .args .s)) .pgns-j1939) ≡ c .before .loop .j =
     omega (arith, start .pre .1, c .before .loop .inv .0, c .loop-test .left) in
     rw e (c .before .loop .inv .2)
 

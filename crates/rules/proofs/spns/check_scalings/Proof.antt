@@ -7,8 +7,8 @@ use mathlib.Core.Path.{_≡_, refl, _∙_}
 use mathlib.Core.List.{List}
 use lib.ListN.{length}
 use denote.Ref.{now}
-use Rattle.pack.specs.Notation.{concatBelow}
-use Rattle.pack.specs.Meaning.{packOf}
+use Rattle.pack.specs.Notation.{concat-below}
+use Rattle.pack.specs.Meaning.{pack-of}
 use Rattle.pack.specs.Value.{pgns-of, pgn-at, field-at}
 use Rattle.rules.specs.declared.Finding.{Finding}
 use Rattle.rules.specs.Emit.{Emitted}
@@ -17,10 +17,10 @@ use Rattle.rules.proofs.spns.check_scalings.Statement.{statement}
 use Rattle.rules.proofs.spns.check_scalings.Tie as tie
 
 abbrev of-field : List ℕ → ℕ → ℕ → List Finding
-of-field s i k = spn-at (pgns-of (packOf s) 1) i k (field-at (pgn-at (packOf s) 1 i) k .spn)
+of-field s i k = spn-at (pgns-of (pack-of s) 1) i k (field-at (pgn-at (pack-of s) 1 i) k .spn)
 
 abbrev Inv-loop : tie.InvT-loop
-Inv-loop out₀ n s work first i p g m₀ k₀ out m k = (k ≤ g .fields) × (length out ≡ length out₀) × Emitted out₀ n (concatBelow (of-field s i) k) out m
+Inv-loop out₀ n s work first i p g m₀ k₀ out m k = (k ≤ g .fields) × (length out ≡ length out₀) × Emitted out₀ n (concat-below (of-field s i) k) out m
 
 abbrev μ-loop : tie.MeasureT-loop
 μ-loop out₀ n s work first i p g m₀ k₀ out m k = g .fields - k
@@ -75,7 +75,7 @@ unfolding check-scalings
 returns c =
     let start = c .before .before .before .before .before .before in
     let loop = c .before .before .loop in
-    let e : loop .k ≡ length (pgn-at (packOf (now (start .args .s))) 1 (start .args .i) .fields) = omega (arith, start .pre .3 .fields) in
+    let e : loop .k ≡ length (pgn-at (pack-of (now (start .args .s))) 1 (start .args .i) .fields) = omega (arith, start .pre .3 .fields) in
     rw (← e) (loop .inv .2)
 
 pub check-scalings-spec : {M : Type 1} → statement M

@@ -8,8 +8,8 @@ use mathlib.Core.Path.{_∙_, ap}
 use mathlib.Core.List.{List, _++_}
 use lib.ListN.{length}
 use denote.Ref.{now}
-use Rattle.pack.specs.Notation.{concatBelow}
-use Rattle.pack.specs.Meaning.{packOf}
+use Rattle.pack.specs.Notation.{concat-below}
+use Rattle.pack.specs.Meaning.{pack-of}
 use Rattle.rules.specs.declared.Finding.{Finding}
 use Rattle.rules.proofs.Emits.{emitted-append, fits-left, fits-right}
 use borrow.Author.Needs.{needs}
@@ -17,10 +17,10 @@ use Rattle.rules.proofs.spns.check_spns.Statement.{statement}
 use Rattle.rules.proofs.spns.check_spns.Tie as tie
 
 abbrev elsewhere-in : Pack → ℕ → List Finding
-elsewhere-in P t = concatBelow (λ i. spns-elsewhere t i (pgn-at P t i)) (length (pgns-of P t))
+elsewhere-in P t = concat-below (λ i. spns-elsewhere t i (pgn-at P t i)) (length (pgns-of P t))
 
 abbrev scalings-in : Pack → List Finding
-scalings-in P = concatBelow (λ i. check-scalings (pgns-of P 1) i (pgn-at P 1 i)) (length (pgns-of P 1))
+scalings-in P = concat-below (λ i. check-scalings (pgns-of P 1) i (pgn-at P 1 i)) (length (pgns-of P 1))
 
 section-requires : tie.Need-section-requires
 section-requires c κs = search needs
@@ -29,7 +29,7 @@ elsewhere-requires : tie.Need-elsewhere-requires
 unfolding check-spns
 elsewhere-requires c κs =
     let start = c .before .before .before .before .before in
-    let P = packOf (now (start .args .s)) in (
+    let P = pack-of (now (start .args .s)) in (
       fits-left (elsewhere-in P 0) (elsewhere-in P 2) (fits-left (elsewhere-in P 0 ++ elsewhere-in P 2) (scalings-in P) (start .pre .0)),
       start .pre .1,
       omega (arith, c),
@@ -45,7 +45,7 @@ unfolding check-spns
 elsewhere-requires-2 c κs =
     let start = c .before .before .before .before .before .before .before .before .before .before in
     let elsewhere = c .before .before .before .before .elsewhere in
-    let P = packOf (now (start .args .s)) in (
+    let P = pack-of (now (start .args .s)) in (
       fits-right (elsewhere-in P 0) (elsewhere-in P 2) (fits-left (elsewhere-in P 0 ++ elsewhere-in P 2) (scalings-in P) (start .pre .0)) (elsewhere .ensures),
       start .pre .1,
       omega (arith, c),
@@ -63,7 +63,7 @@ scalings-requires c κs =
     let start = back12 .before .before .before in
     let elsewhere = c .before .before .before .before .before .before .before .before .before .elsewhere in
     let elsewhere2 = c .before .before .before .before .elsewhere2 in
-    let P = packOf (now (start .args .s)) in (
+    let P = pack-of (now (start .args .s)) in (
       fits-right (elsewhere-in P 0 ++ elsewhere-in P 2) (scalings-in P) (start .pre .0)
           (emitted-append {xs = elsewhere-in P 0} {ys = elsewhere-in P 2} (elsewhere .ensures) (elsewhere2 .ensures)),
       start .pre .1,
@@ -81,7 +81,7 @@ returns c =
     let start = back12 .before .before .before .before .before .before in
     let elsewhere = c .before .before .before .before .before .before .before .before .before .before .before .before .elsewhere in
     let elsewhere2 = c .before .before .before .before .before .before .before .elsewhere2 in
-    let P = packOf (now (start .args .s)) in
+    let P = pack-of (now (start .args .s)) in
     emitted-append {xs = elsewhere-in P 0 ++ elsewhere-in P 2} {ys = scalings-in P}
     (emitted-append {xs = elsewhere-in P 0} {ys = elsewhere-in P 2} (elsewhere .ensures) (elsewhere2 .ensures)) (c .before .before .scalings .ensures)
 

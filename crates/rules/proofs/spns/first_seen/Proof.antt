@@ -5,12 +5,12 @@ use native.Mathlib.Decide.{ℕ-discrete}
 use Rattle.rules.proofs.Sizes.{fields-few, pgns-few}
 use Rattle.pack.proofs.Positions.{pgn-place-next}
 use Rattle.pack.specs.declared.field.FieldView.{FieldView}
-use Rattle.pack.specs.Ready.{pgnPlace, Ready, PgnAt}
-use Rattle.pack.specs.Value.{Pack, Field, pgns-of, noPgn, pgn-at, field-at}
+use Rattle.pack.specs.Ready.{place-of-pgn, Ready, PgnAt}
+use Rattle.pack.specs.Value.{Pack, Field, pgns-of, no-pgn, pgn-at, field-at}
 use Rattle.rules.specs.Model.{given}
 use Rattle.rules.specs.Spns.{first-seen}
 use Rattle.rules.specs.SpnNames.{is-number, spn-field}
-use Rattle.rules.specs.Search.{firstBelow}
+use Rattle.rules.specs.Search.{first-below}
 use Rattle.rules.specs.SearchLaws.{first-turn, first-hit, first-misses}
 use borrow.Author.Needs.{needs}
 use native.Mathlib.Omega.{arith}
@@ -20,7 +20,7 @@ use mathlib.Core.List.{List}
 use mathlib.Core.Option.{Option, none, some}
 use lib.ListN.{length, getD}
 use denote.Ref.{now}
-use Rattle.pack.specs.Meaning.{packOf, fieldMeaning, optNumber}
+use Rattle.pack.specs.Meaning.{pack-of, field-meaning, optional-number}
 use Rattle.rules.proofs.spns.first_seen.Statement.{statement}
 use Rattle.rules.proofs.spns.first_seen.Tie as tie
 
@@ -28,16 +28,16 @@ abbrev carries : Pack → ℕ → ℕ → ℕ → Bool
 carries P spn j h = is-number (field-at (pgn-at P 1 j) h .spn) spn
 
 abbrev carried : Pack → ℕ → ℕ → Bool
-carried P spn j = given (spn-field (getD (pgns-of P 1) j noPgn) spn)
+carried P spn j = given (spn-field (getD (pgns-of P 1) j no-pgn) spn)
 
-told : (P : Pack) (s : List ℕ) (spn j h : ℕ) (v : FieldView) (b d : Bool) → fieldMeaning s v ≡ field-at (pgn-at P 1 j) h
-    → b ≡ is-number (optNumber (v .authored .spn)) spn → b ≡ d → carries P spn j h ≡ d
+told : (P : Pack) (s : List ℕ) (spn j h : ℕ) (v : FieldView) (b d : Bool) → field-meaning s v ≡ field-at (pgn-at P 1 j) h
+    → b ≡ is-number (optional-number (v .authored .spn)) spn → b ≡ d → carries P spn j h ≡ d
 told P s spn j h v b d is e t = ap (λ (F : Field). is-number (F .spn) spn) (sym is) ∙ sym e ∙ t
 
-missed : (P : Pack) (spn j n h : ℕ) → n ≡ length (pgn-at P 1 j .fields) → h ≤ n → n ≤ h → firstBelow (carries P spn j) h ≡ none
+missed : (P : Pack) (spn j n h : ℕ) → n ≡ length (pgn-at P 1 j .fields) → h ≤ n → n ≤ h → first-below (carries P spn j) h ≡ none
     → spn-field (pgn-at P 1 j) spn ≡ none
 unfolding spn-field
-missed P spn j n h e u v m = let q : length (pgn-at P 1 j .fields) ≡ h = omega arith in ap (firstBelow (carries P spn j)) q ∙ m
+missed P spn j n h e u v m = let q : length (pgn-at P 1 j .fields) ≡ h = omega arith in ap (first-below (carries P spn j)) q ∙ m
 
 -- PGN i carries it, so the search does not go beyond
 before : (P : Pack) (spn i k j : ℕ) → k < length (pgn-at P 1 i .fields) → field-at (pgn-at P 1 i) k .spn ≡ some spn → j ≤ i
@@ -47,33 +47,33 @@ before P spn i k j h e l m = go (ℕ-discrete j i)
   where
     go : Dec (j ≡ i) → j < i
     go (yes q) =
-        let u : firstBelow (carries P spn i) (length (pgn-at P 1 i .fields)) ≡ none = ap (λ (x : ℕ). spn-field (pgn-at P 1 x) spn) (sym q) ∙ m in
+        let u : first-below (carries P spn i) (length (pgn-at P 1 i .fields)) ≡ none = ap (λ (x : ℕ). spn-field (pgn-at P 1 x) spn) (sym q) ∙ m in
         let hit : carries P spn i k ≡ true = ap (λ (x : Option ℕ). is-number x spn) e ∙ eq-eqb spn spn refl in
         absurd (false≢true (sym (first-misses (carries P spn i) (length (pgn-at P 1 i .fields)) u k h) ∙ hit))
     go (no q) = omega arith
 
-found : (P : Pack) (spn j h n : ℕ) → n ≡ length (pgn-at P 1 j .fields) → h < n → firstBelow (carries P spn j) h ≡ none → carries P spn j h ≡ true
+found : (P : Pack) (spn j h n : ℕ) → n ≡ length (pgn-at P 1 j .fields) → h < n → first-below (carries P spn j) h ≡ none → carries P spn j h ≡ true
     → spn-field (pgn-at P 1 j) spn ≡ some h
 unfolding spn-field
 found P spn j h n e l m t = first-hit (carries P spn j) (length (pgn-at P 1 j .fields)) h (omega arith) m t
 
-seen-first : (P : Pack) (spn j h : ℕ) → j < length (pgns-of P 1) → firstBelow (carried P spn) j ≡ none → spn-field (pgn-at P 1 j) spn ≡ some h
+seen-first : (P : Pack) (spn j h : ℕ) → j < length (pgns-of P 1) → first-below (carried P spn) j ≡ none → spn-field (pgn-at P 1 j) spn ≡ some h
     → first-seen (pgns-of P 1) spn ≡ some j
 unfolding first-seen
 seen-first P spn j h l m e = first-hit (carried P spn) (length (pgns-of P 1)) j l m (ap given e)
 
-here : {s w : List ℕ} {i j p : ℕ} → Ready s w → i < length (pgns-of (packOf s) 1) → j ≤ i → p ≡ pgnPlace (packOf s) 1 j → PgnAt s w 1 j p
+here : {s w : List ℕ} {i j p : ℕ} → Ready s w → i < length (pgns-of (pack-of s) 1) → j ≤ i → p ≡ place-of-pgn (pack-of s) 1 j → PgnAt s w 1 j p
 here r h l e = record { ready = r; tree = omega arith; pgn = omega arith; place = e }
 
 abbrev Inv-loop : tie.InvT-loop
-Inv-loop s work first i k spn pgn place field₀ g field = (field ≤ g .fields) × (firstBelow (carries (packOf s) spn pgn) field ≡ none)
+Inv-loop s work first i k spn pgn place field₀ g field = (field ≤ g .fields) × (first-below (carries (pack-of s) spn pgn) field ≡ none)
 
 abbrev μ-loop : tie.MeasureT-loop
 μ-loop s work first i k spn pgn place field₀ g field = g .fields - field
 
 abbrev Inv-search : tie.InvT-search
 Inv-search s work first i k spn pgn₀ place₀ field₀ pgn place field =
-    (field ≡ 0) × (pgn ≤ i) × (place ≡ pgnPlace (packOf s) 1 pgn) × (firstBelow (carried (packOf s) spn) pgn ≡ none)
+    (field ≡ 0) × (pgn ≤ i) × (place ≡ place-of-pgn (pack-of s) 1 pgn) × (first-below (carried (pack-of s) spn) pgn ≡ none)
 
 abbrev μ-search : tie.MeasureT-search
 μ-search s work first i k spn pgn₀ place₀ field₀ pgn place field = i - pgn
@@ -115,7 +115,7 @@ loop-again c =
     let if1 = c .before .before .before .if1 in
     let field-of = c .before .before .field-of in
     let s = now (start .args .s) in let spn = start .args .spn in
-    let P = packOf s in
+    let P = pack-of s in
     let e = told P s spn (search-here .pgn) (loop .field) (field-of .result) (c .before .is-number .result) false (field-of .ensures)
     (c .before .is-number .ensures) (c .if2 .left) in
     (omega (arith, if1 .taken), first-turn (carries P spn (search-here .pgn)) (loop .field) ∙ (rw (loop .inv .1, e)))
@@ -153,7 +153,7 @@ search-less c =
     let pgn-of = c .before .before .before .before .pgn-of in
     let loop = c .before .before .before .loop in
     let spn = start .args .spn in
-    let P = packOf (now (start .args .s)) in
+    let P = pack-of (now (start .args .s)) in
     let e =
     missed P spn (search-here .pgn) (pgn-of .result .fields) (loop .field) (pgn-of .ensures .fields) (loop .inv .0) (c .before .if1 .left) (loop .inv .1) in
     omega (arith, before P spn (start .args .i) (start .args .k) (search-here .pgn) (start .pre .3) (start .pre .4) (search-here .inv .1) e)
@@ -165,7 +165,7 @@ search-again c =
     let pgn-of = c .before .before .before .before .pgn-of in
     let loop = c .before .before .before .loop in
     let spn = start .args .spn in
-    let P = packOf (now (start .args .s)) in
+    let P = pack-of (now (start .args .s)) in
     let e =
     missed P spn (search-here .pgn) (pgn-of .result .fields) (loop .field) (pgn-of .ensures .fields) (loop .inv .0) (c .before .if1 .left) (loop .inv .1) in (
       refl,
@@ -183,7 +183,7 @@ returns c =
     let if1 = c .before .before .before .if1 in
     let field-of = c .before .before .field-of in
     let s = now (start .args .s) in let spn = start .args .spn in
-    let P = packOf s in
+    let P = pack-of s in
     let hit = told P s spn (search-here .pgn) (loop .field) (field-of .result) (c .before .is-number .result) true (field-of .ensures)
     (c .before .is-number .ensures) (c .if2 .taken) in
     let e = found P spn (search-here .pgn) (loop .field) (pgn-of .result .fields) (pgn-of .ensures .fields) (if1 .taken) (loop .inv .1) hit in

@@ -2,7 +2,7 @@ use Rattle.rules.specs.Spns.{same-unit}
 use Rattle.rules.specs.Floats.{float-eq}
 use Rattle.rules.specs.declared.spns.Scaling.{Scaling}
 use Rattle.pack.specs.declared.field.ScalingView.{ScalingView}
-use Rattle.pack.specs.Meaning.{optBytes}
+use Rattle.pack.specs.Meaning.{optional-bytes}
 use Rattle.pack.specs.Notation.{_==_}
 use borrow.Author.Tests.{eq-eqb, ne-eqb}
 use denote.Ref.{now}
@@ -18,7 +18,7 @@ use Rattle.rules.proofs.spns.same_scaling.Tie as tie
 -- scalings compared as the code does
 abbrev compared : List ℕ → Scaling → Scaling → Bool
 compared s x y =
-    (x .width == y .width) && eq (x .resolution) (y .resolution) && eq (x .offset) (y .offset) && same-unit (optBytes s (x .unit)) (optBytes s (y .unit))
+    (x .width == y .width) && eq (x .resolution) (y .resolution) && eq (x .offset) (y .offset) && same-unit (optional-bytes s (x .unit)) (optional-bytes s (y .unit))
 
 abbrev scaling : ScalingView → Scaling
 scaling v = record { width = v .bits; resolution = ofBits binary64 (v .resolution); offset = ofBits binary64 (v .offset); unit = v .unit }
@@ -29,7 +29,7 @@ of-views : (s : List ℕ) (v w : ScalingView) (a b : Scaling) → a ≡ scaling 
     ≡ ((v .bits == w .bits)
     && float-eq (v .resolution) (w .resolution)
     && float-eq (v .offset) (w .offset)
-    && same-unit (optBytes s (v .unit)) (optBytes s (w .unit)))
+    && same-unit (optional-bytes s (v .unit)) (optional-bytes s (w .unit)))
 unfolding float-eq
 of-views s v w a b p q r e = e ∙ (λ j. compared s (p j) (q j))
 
@@ -46,7 +46,7 @@ module _ (s : List ℕ) (a b : Scaling) where
     other-offset r o = rw (eq-eqb _ _ w, r, o)
 
     by-unit : eq (a .resolution) (b .resolution) ≡ true → eq (a .offset) (b .offset) ≡ true
-        → (u : Bool) → u ≡ same-unit (optBytes s (a .unit)) (optBytes s (b .unit)) → u ≡ compared s a b
+        → (u : Bool) → u ≡ same-unit (optional-bytes s (a .unit)) (optional-bytes s (b .unit)) → u ≡ compared s a b
     by-unit r o u e = rw (eq-eqb _ _ w, r, o) e
 
 scaling-of-requires : tie.Need-scaling-of-requires

@@ -1,4 +1,4 @@
-use Rattle.pack.specs.Items.{bytesOf}
+use Rattle.pack.specs.Items.{bytes-of}
 use Rattle.rules.specs.Spns.{same-unit}
 use Prim.Native.Nat.{ℕ}
 use mathlib.Core.Path.{_≡_, refl}
@@ -27,7 +27,7 @@ returns-2 c = search needs
 returns-3 : tie.Need-returns-3
 returns-3 c =
     let start = c .before .before .before in
-    rw (c .before .if1 .left) (neither (start .args .b .given) (bytesOf (now (start .args .s)) (start .args .b .text)))
+    rw (c .before .if1 .left) (neither (start .args .b .given) (bytes-of (now (start .args .s)) (start .args .b .text)))
 
 pub same-unit-spec : {M : Type 1} → statement M
 same-unit-spec = tie.close (tie.spec same-text-requires returns returns-2 returns-3)

@@ -1,5 +1,5 @@
 -- the findings of PGN i
-use Rattle.pack.specs.Ready.{pgnPlace}
+use Rattle.pack.specs.Ready.{place-of-pgn}
 use Rattle.pack.proofs.Positions.{pgn-place-next}
 use Rattle.rules.proofs.Sizes.{at-pgn, fields-few, pgns-few}
 use Rattle.rules.specs.Spns.{check-scalings}
@@ -10,8 +10,8 @@ use mathlib.Core.Path.{_≡_, refl, _∙_}
 use mathlib.Core.List.{List}
 use lib.ListN.{length}
 use denote.Ref.{now}
-use Rattle.pack.specs.Notation.{concatBelow}
-use Rattle.pack.specs.Meaning.{packOf}
+use Rattle.pack.specs.Notation.{concat-below}
+use Rattle.pack.specs.Meaning.{pack-of}
 use Rattle.pack.specs.Value.{pgns-of, pgn-at}
 use Rattle.rules.specs.declared.Finding.{Finding}
 use Rattle.rules.specs.Emit.{Emitted}
@@ -20,11 +20,11 @@ use Rattle.rules.proofs.spns.scalings.Statement.{statement}
 use Rattle.rules.proofs.spns.scalings.Tie as tie
 
 abbrev of-pgn : List ℕ → ℕ → List Finding
-of-pgn s i = check-scalings (pgns-of (packOf s) 1) i (pgn-at (packOf s) 1 i)
+of-pgn s i = check-scalings (pgns-of (pack-of s) 1) i (pgn-at (pack-of s) 1 i)
 
 abbrev Inv-loop : tie.InvT-loop
 Inv-loop out₀ n s work count first m₀ p₀ i₀ out m p i =
-    (i ≤ count) × (p ≡ pgnPlace (packOf s) 1 i) × (length out ≡ length out₀) × Emitted out₀ n (concatBelow (of-pgn s) i) out m
+    (i ≤ count) × (p ≡ place-of-pgn (pack-of s) 1 i) × (length out ≡ length out₀) × Emitted out₀ n (concat-below (of-pgn s) i) out m
 
 abbrev μ-loop : tie.MeasureT-loop
 μ-loop out₀ n s work count first m₀ p₀ i₀ out m p i = count - i
@@ -101,7 +101,7 @@ loop-again c =
     let check-scalings-call = c .before .before .before .check-scalings in
     let s = now (start .args .s) in (
       omega (arith, loop-test .taken),
-      omega (arith, pgn-place-next (packOf s) 1 (loop .i), pgn-of .ensures .fields, loop .inv .1),
+      omega (arith, pgn-place-next (pack-of s) 1 (loop .i), pgn-of .ensures .fields, loop .inv .1),
       check-scalings-call .kept .0 ∙ loop .inv .2,
       emitted-turn (of-pgn s) (loop .i) (loop .inv .3) (check-scalings-call .ensures),
     )

@@ -8,7 +8,7 @@ use mathlib.Core.Path.{_≡_}
 use mathlib.Core.Bool.{true, false}
 use mathlib.Core.List.{List, [], _∷_}
 use denote.Ref.{now}
-use Rattle.pack.specs.Meaning.{packOf, fieldMeaning}
+use Rattle.pack.specs.Meaning.{pack-of, field-meaning}
 use Rattle.rules.specs.declared.Finding.{Finding}
 use Rattle.rules.specs.Findings.{pgn-error}
 use Rattle.rules.proofs.Emits.{emitted-none}
@@ -16,7 +16,7 @@ use borrow.Author.Needs.{needs}
 use Rattle.rules.proofs.spns.spn_at.Statement.{statement}
 use Rattle.rules.proofs.spns.spn_at.Tie as tie
 
-module _ (s : List ℕ) (pgns : List Pgn) (i k : ℕ) (F : Field) (f : FieldView) (is : fieldMeaning s f ≡ F) where
+module _ (s : List ℕ) (pgns : List Pgn) (i k : ℕ) (F : Field) (f : FieldView) (is : field-meaning s f ≡ F) where
   absent : f .authored .spn .given ≡ false → spn-at pgns i k (F .spn) ≡ []
   unfolding spn-at
   absent e = rw (← is, e)
@@ -38,7 +38,7 @@ put-requires c κs =
     let start = c .before .before .before .before .before .before .before .before .before in
     let if1 = c .before .before .before .before .if1 in
     let s = now (start .args .s) in
-    rw (beyond s (pgns-of (packOf s) 1) (start .args .i) (start .args .k) _ (start .args .f) (start .pre .5) (if1 .taken) (c .before .before .if2 .taken)
+    rw (beyond s (pgns-of (pack-of s) 1) (start .args .i) (start .args .k) _ (start .args .f) (start .pre .5) (if1 .taken) (c .before .before .if2 .taken)
     (c .pgn-error .result) (c .pgn-error .ensures)) at (start .pre .0)
 
 same-length : tie.Need-same-length
@@ -51,7 +51,7 @@ returns c =
     let if2 = c .before .before .before .before .before .if2 in
     let pgn-error-call = c .before .before .before .pgn-error in
     let s = now (start .args .s) in
-    rw (beyond s (pgns-of (packOf s) 1) (start .args .i) (start .args .k) _ (start .args .f) (start .pre .5) (if1 .taken) (if2 .taken) (pgn-error-call .result)
+    rw (beyond s (pgns-of (pack-of s) 1) (start .args .i) (start .args .k) _ (start .args .f) (start .pre .5) (if1 .taken) (if2 .taken) (pgn-error-call .result)
     (pgn-error-call .ensures)) (c .before .before .put .ensures)
 
 unlike-first-requires : tie.Need-unlike-first-requires
@@ -59,7 +59,7 @@ unlike-first-requires c κs =
     let start = c .before .before .before .before .before .before .before .before in
     let if1 = c .before .before .before .if1 in
     let s = now (start .args .s) in (
-      rw (within s (pgns-of (packOf s) 1) (start .args .i) (start .args .k) _ (start .args .f) (start .pre .5) (if1 .taken) (c .before .if2 .left)) at
+      rw (within s (pgns-of (pack-of s) 1) (start .args .i) (start .args .k) _ (start .args .f) (start .pre .5) (if1 .taken) (c .before .if2 .left)) at
           (start .pre .0),
       start .pre .1,
       start .pre .2,
@@ -78,14 +78,14 @@ returns-2 c =
     let if1 = c .before .before .before .before .before .before .if1 in
     let if2 = c .before .before .before .before .if2 in
     let s = now (start .args .s) in
-    rw (within s (pgns-of (packOf s) 1) (start .args .i) (start .args .k) _ (start .args .f) (start .pre .5) (if1 .taken) (if2 .left))
+    rw (within s (pgns-of (pack-of s) 1) (start .args .i) (start .args .k) _ (start .args .f) (start .pre .5) (if1 .taken) (if2 .left))
     (c .before .before .unlike-first .ensures)
 
 returns-3 : tie.Need-returns-3
 returns-3 c =
     let start = c .before .before .before .before .before in
     let s = now (start .args .s) in
-    rw (absent s (pgns-of (packOf s) 1) (start .args .i) (start .args .k) _ (start .args .f) (start .pre .5) (c .if1 .left))
+    rw (absent s (pgns-of (pack-of s) 1) (start .args .i) (start .args .k) _ (start .args .f) (start .pre .5) (c .if1 .left))
     (emitted-none (now (start .args .out)) (start .args .n))
 
 pub spn-at-spec : {M : Type 1} → statement M

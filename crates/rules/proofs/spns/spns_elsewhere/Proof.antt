@@ -11,8 +11,8 @@ use mathlib.Core.Path.{_≡_, refl, sym, _∙_, ap}
 use mathlib.Core.List.{List}
 use lib.ListN.{length}
 use denote.Ref.{now}
-use Rattle.pack.specs.Notation.{concatBelow}
-use Rattle.pack.specs.Meaning.{packOf, fieldMeaning}
+use Rattle.pack.specs.Notation.{concat-below}
+use Rattle.pack.specs.Meaning.{pack-of, field-meaning}
 use Rattle.rules.specs.declared.Finding.{Finding}
 use Rattle.rules.specs.Emit.{Emitted}
 use Rattle.rules.specs.Findings.{report-if, pgn-error}
@@ -21,17 +21,17 @@ use Rattle.rules.proofs.spns.spns_elsewhere.Statement.{statement}
 use Rattle.rules.proofs.spns.spns_elsewhere.Tie as tie
 
 abbrev of-field : List ℕ → ℕ → ℕ → ℕ → List Finding
-of-field s t i k = report-if (given (field-at (pgn-at (packOf s) t i) k .spn)) (pgn-error 42 1 t i k 0)
+of-field s t i k = report-if (given (field-at (pgn-at (pack-of s) t i) k .spn)) (pgn-error 42 1 t i k 0)
 
-said : (s : List ℕ) (t i k : ℕ) (f : FieldView) (F : Finding) → fieldMeaning s f ≡ field-at (pgn-at (packOf s) t i) k → F ≡ pgn-error 42 1 t i k 0
+said : (s : List ℕ) (t i k : ℕ) (f : FieldView) (F : Finding) → field-meaning s f ≡ field-at (pgn-at (pack-of s) t i) k → F ≡ pgn-error 42 1 t i k 0
     → of-field s t i k ≡ report-if (f .authored .spn .given) F
 said s t i k f F is q =
-    let e : given (field-at (pgn-at (packOf s) t i) k .spn) ≡ f .authored .spn .given =
+    let e : given (field-at (pgn-at (pack-of s) t i) k .spn) ≡ f .authored .spn .given =
     ap (λ (X : Field). given (X .spn)) (sym is) ∙ given-is (f .authored .spn .given) (f .authored .spn .value) in
     rw (q, e)
 
 abbrev Inv-loop : tie.InvT-loop
-Inv-loop out₀ n s work t i p g m₀ k₀ out m k = (k ≤ g .fields) × (length out ≡ length out₀) × Emitted out₀ n (concatBelow (of-field s t i) k) out m
+Inv-loop out₀ n s work t i p g m₀ k₀ out m k = (k ≤ g .fields) × (length out ≡ length out₀) × Emitted out₀ n (concat-below (of-field s t i) k) out m
 
 abbrev μ-loop : tie.MeasureT-loop
 μ-loop out₀ n s work t i p g m₀ k₀ out m k = g .fields - k
@@ -89,7 +89,7 @@ unfolding spns-elsewhere
 returns c =
     let start = c .before .before .before .before .before .before in
     let loop = c .before .before .loop in
-    let e : loop .k ≡ length (pgn-at (packOf (now (start .args .s))) (start .args .t) (start .args .i) .fields) = omega (arith, start .pre .2 .fields) in
+    let e : loop .k ≡ length (pgn-at (pack-of (now (start .args .s))) (start .args .t) (start .args .i) .fields) = omega (arith, start .pre .2 .fields) in
     rw (← e) (loop .inv .2)
 
 pub spns-elsewhere-spec : {M : Type 1} → statement M

@@ -16,7 +16,7 @@ use Rattle.rules.specs.Floats.{float-eq}
 use Rattle.pack.specs.declared.field.ScalingView.{ScalingView}
 use Rattle.pack.specs.declared.field.FieldView.{FieldView}
 use Rattle.pack.specs.Value.{Pack, Field, pgns-of, pgn-at, field-at}
-use Rattle.pack.specs.Meaning.{optBytes, packOf, fieldMeaning}
+use Rattle.pack.specs.Meaning.{optional-bytes, pack-of, field-meaning}
 use borrow.Author.Needs.{needs}
 use Rattle.rules.proofs.spns.unlike_first.Statement.{statement}
 use Rattle.rules.proofs.spns.unlike_first.Tie as tie
@@ -45,15 +45,15 @@ compared s v w =
     (v .bits == w .bits)
     && float-eq (v .resolution) (w .resolution)
     && float-eq (v .offset) (w .offset)
-    && same-unit (optBytes s (v .unit)) (optBytes s (w .unit))
+    && same-unit (optional-bytes s (v .unit)) (optional-bytes s (w .unit))
 
-alike : (s : List ℕ) (g f : FieldView) (G F : Field) → fieldMeaning s g ≡ G → fieldMeaning s f ≡ F
+alike : (s : List ℕ) (g f : FieldView) (G F : Field) → field-meaning s g ≡ G → field-meaning s f ≡ F
     → (a : Bool) → a ≡ compared s (g .scaling) (f .scaling) → a ≡ same-scaling G F
 unfolding same-scaling
 alike s g f G F p q a h = h ∙ (λ j. same-scaling (p j) (q j))
 
 -- the field's SPN, read
-carried : (s : List ℕ) (f : FieldView) (F : Field) → fieldMeaning s f ≡ F → f .authored .spn .given ≡ true → F .spn ≡ some (f .authored .spn .value)
+carried : (s : List ℕ) (f : FieldView) (F : Field) → field-meaning s f ≡ F → f .authored .spn .given ≡ true → F .spn ≡ some (f .authored .spn .value)
 carried s f F is e = ap (λ (X : Field). X .spn) (sym is) ∙ ap (λ (b : Bool). optional b (f .authored .spn .value)) e
 
 first-seen-requires : tie.Need-first-seen-requires
@@ -68,7 +68,7 @@ returns : tie.Need-returns
 returns c =
     let start = c .before .before .before .before .before .before in
     let first-seen-call = c .before .before .first-seen in
-    rw (itself (packOf (now (start .args .s))) (start .args .i) (start .args .k) (start .args .f .authored .spn .value) (first-seen-call .result .pgn)
+    rw (itself (pack-of (now (start .args .s))) (start .args .i) (start .args .k) (start .args .f .authored .spn .value) (first-seen-call .result .pgn)
     (first-seen-call .result .field) (first-seen-call .ensures .0) (first-seen-call .ensures .1) (c .before .is-at .result) (c .before .is-at .ensures)
     (c .if1 .taken)) (emitted-none (now (start .args .out)) (start .args .n))
 
@@ -77,7 +77,7 @@ field-of-requires c κs =
     let start = c .before .before .before .before .before .before in
     let first-seen-call = c .before .before .first-seen in (
       first-seen-call .ensures .2,
-      field-of-it (packOf (now (start .args .s))) (start .args .i) (start .args .k) (start .args .f .authored .spn .value) (first-seen-call .result .pgn)
+      field-of-it (pack-of (now (start .args .s))) (start .args .i) (start .args .k) (start .args .f .authored .spn .value) (first-seen-call .result .pgn)
           (first-seen-call .result .field) (first-seen-call .ensures .0) (first-seen-call .ensures .1) (c .before .is-at .result) (c .before .is-at .ensures),
     )
 
@@ -97,7 +97,7 @@ put-if-requires c κs =
     let same-scaling-call = c .before .before .same-scaling in
     let s = now (start .args .s) in
     let same = alike s (field-of .result) (start .args .f) _ _ (field-of .ensures) (start .pre .5) (same-scaling-call .result) (same-scaling-call .ensures) in
-    let reported = another (packOf s) (start .args .i) (start .args .k) (start .args .f .authored .spn .value) (first-seen-call .result .pgn)
+    let reported = another (pack-of s) (start .args .i) (start .args .k) (start .args .f .authored .spn .value) (first-seen-call .result .pgn)
     (first-seen-call .result .field) (first-seen-call .ensures .0) (first-seen-call .ensures .1) (is-at .result) (is-at .ensures) (if1 .left)
     (same-scaling-call .result) same (c .pgn-error .result) (c .pgn-error .ensures) in
     rw reported at (start .pre .0)
@@ -117,7 +117,7 @@ returns-2 c =
     let pgn-error-call = c .before .before .before .pgn-error in
     let s = now (start .args .s) in
     let same = alike s (field-of .result) (start .args .f) _ _ (field-of .ensures) (start .pre .5) (same-scaling-call .result) (same-scaling-call .ensures) in
-    let reported = another (packOf s) (start .args .i) (start .args .k) (start .args .f .authored .spn .value) (first-seen-call .result .pgn)
+    let reported = another (pack-of s) (start .args .i) (start .args .k) (start .args .f .authored .spn .value) (first-seen-call .result .pgn)
     (first-seen-call .result .field) (first-seen-call .ensures .0) (first-seen-call .ensures .1) (is-at .result) (is-at .ensures) (if1 .left)
     (same-scaling-call .result) same (pgn-error-call .result) (pgn-error-call .ensures) in
     rw reported (c .before .before .put-if .ensures)

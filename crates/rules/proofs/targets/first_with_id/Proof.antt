@@ -1,7 +1,7 @@
 use Rattle.rules.specs.SearchLaws.{first-turn, first-hit}
-use Rattle.rules.specs.Search.{firstBelow}
-use Rattle.pack.specs.Meaning.{packOf}
-use Rattle.pack.specs.Items.{bytesOf}
+use Rattle.rules.specs.Search.{first-below}
+use Rattle.pack.specs.Meaning.{pack-of}
+use Rattle.pack.specs.Items.{bytes-of}
 use Rattle.pack.specs.Notation.{_≐_}
 use Rattle.pack.specs.Value.{pgn-at, field-at}
 use mathlib.Core.Option.{none}
@@ -17,10 +17,10 @@ use Rattle.rules.proofs.targets.first_with_id.Tie as tie
 
 -- whether field j has the id
 abbrev has : List ℕ → ℕ → ℕ → List ℕ → ℕ → Bool
-has s t i id j = field-at (pgn-at (packOf s) t i) j .id ≐ id
+has s t i id j = field-at (pgn-at (pack-of s) t i) j .id ≐ id
 
 abbrev Inv-loop : tie.InvT-loop
-Inv-loop s work t i p n id j₀ j = (j ≤ n) × (firstBelow (has s t i (bytesOf s id)) j ≡ none)
+Inv-loop s work t i p n id j₀ j = (j ≤ n) × (first-below (has s t i (bytes-of s id)) j ≡ none)
 
 abbrev μ-loop : tie.MeasureT-loop
 μ-loop s work t i p n id j₀ j = n - j
@@ -42,7 +42,7 @@ returns c =
     let loop = c .before .before .before .before .loop in
     let loop-test = c .before .before .before .loop-test in
     let s = now (start .args .s) in
-    sym (first-hit (has s (start .args .t) (start .args .i) (bytesOf s (start .args .id))) (start .args .n) (loop .j) (loop-test .taken) (loop .inv .1)
+    sym (first-hit (has s (start .args .t) (start .args .i) (bytes-of s (start .args .id))) (start .args .n) (loop .j) (loop-test .taken) (loop .inv .1)
     (rw (← c .before .before .field-id-of .ensures, ← c .before .same-text .ensures) (c .if1 .taken)))
 
 add-j : tie.Need-add-j Inv-loop μ-loop
@@ -56,8 +56,8 @@ loop-again c =
     let start = c .before .before .before .before .before .before .before in
     let loop = c .before .before .before .before .loop in
     let s = now (start .args .s) in let t = start .args .t in let i = start .args .i in let id = start .args .id in
-    let e : has s t i (bytesOf s id) (loop .j) ≡ false = rw (← c .before .before .field-id-of .ensures, ← c .before .same-text .ensures) (c .if1 .left) in
-    (omega (arith, c), first-turn (has s t i (bytesOf s id)) (loop .j) ∙ (rw (loop .inv .1, e)))
+    let e : has s t i (bytes-of s id) (loop .j) ≡ false = rw (← c .before .before .field-id-of .ensures, ← c .before .same-text .ensures) (c .if1 .left) in
+    (omega (arith, c), first-turn (has s t i (bytes-of s id)) (loop .j) ∙ (rw (loop .inv .1, e)))
 
 returns-2 : tie.Need-returns-2 Inv-loop μ-loop
 returns-2 c =

@@ -1,6 +1,6 @@
 use Rattle.rules.specs.SearchLaws.{any-turn, any-hit}
-use Rattle.rules.specs.Search.{anyBelow}
-use Rattle.pack.specs.Meaning.{packOf}
+use Rattle.rules.specs.Search.{any-below}
+use Rattle.pack.specs.Meaning.{pack-of}
 use Rattle.pack.specs.Notation.{_==_}
 use Rattle.pack.specs.Value.{pgn-at, field-at}
 use mathlib.Core.Bool.{_||_, Bool, false}
@@ -15,10 +15,10 @@ use Rattle.rules.proofs.trailing_zero.any_moves.Tie as tie
 
 -- whether field k moves what follows it
 abbrev moving : List ℕ → ℕ → ℕ → ℕ → Bool
-moving s t i k = (field-at (pgn-at (packOf s) t i) k .res-bits == 0) || field-at (pgn-at (packOf s) t i) k .proprietary
+moving s t i k = (field-at (pgn-at (pack-of s) t i) k .res-bits == 0) || field-at (pgn-at (pack-of s) t i) k .proprietary
 
 abbrev Inv-loop : tie.InvT-loop
-Inv-loop s work t i p n k₀ k = (k ≤ n) × (anyBelow (moving s t i) k ≡ false)
+Inv-loop s work t i p n k₀ k = (k ≤ n) × (any-below (moving s t i) k ≡ false)
 
 abbrev μ-loop : tie.MeasureT-loop
 μ-loop s work t i p n k₀ k = n - k

@@ -5,8 +5,8 @@ use Rattle.rules.proofs.Emits.{emitted-none}
 use Rattle.rules.specs.Findings.{pgn-error}
 use Rattle.rules.specs.declared.Finding.{Finding}
 use Rattle.pack.specs.declared.field.FieldView.{FieldView}
-use Rattle.pack.specs.Meaning.{optNumber, fieldMeaning, packOf}
-use Rattle.pack.specs.Items.{bytesOf}
+use Rattle.pack.specs.Meaning.{optional-number, field-meaning, pack-of}
+use Rattle.pack.specs.Items.{bytes-of}
 use Rattle.pack.specs.Value.{FieldType, Pgn, pgn-at, field-at}
 use Rattle.pack.specs.Notation.{_≐_}
 use mathlib.Core.Option.{Option}
@@ -20,17 +20,17 @@ use denote.Ref.{now}
 use Rattle.rules.proofs.trailing_zero.trailing_zero_at.Statement.{statement}
 use Rattle.rules.proofs.trailing_zero.trailing_zero_at.Tie as tie
 
-module _ (s : List ℕ) (fts : List FieldType) (t i k : ℕ) (p : Pgn) (f : FieldView) (is : fieldMeaning s f ≡ field-at p k) where
+module _ (s : List ℕ) (fts : List FieldType) (t i k : ℕ) (p : Pgn) (f : FieldView) (is : field-meaning s f ≡ field-at p k) where
   without : f .links .trailing .given ≡ false → trailing-zero-at fts t i p k (field-at p k .trailing-zero) ≡ []
   unfolding trailing-zero-at
   without h = rw (← is, h)
 
-  module _ (h : f .links .trailing .given ≡ true) (b : Bool) (z : b ≡ (bytesOf s (f .names .kind) ≐ DECIMAL)) where
+  module _ (h : f .links .trailing .given ≡ true) (b : Bool) (z : b ≡ (bytes-of s (f .names .kind) ≐ DECIMAL)) where
     other : b ≡ false → (F : Finding) → F ≡ pgn-error 44 1 t i k 0 → trailing-zero-at fts t i p k (field-at p k .trailing-zero) ≡ F ∷ []
     unfolding trailing-zero-at
     other x F y = rw (← is, h, ← is, ← z, x, y)
 
-    with-target : b ≡ true → (o : Option ℕ) → o ≡ target p (bytesOf s (f .links .trailing .text))
+    with-target : b ≡ true → (o : Option ℕ) → o ≡ target p (bytes-of s (f .links .trailing .text))
         → trailing-zero-at fts t i p k (field-at p k .trailing-zero) ≡ trailing-zero-target-at fts t i p k o
     unfolding trailing-zero-at
     with-target x o y = rw (← is, h, ← is, ← z, x, y)
@@ -39,7 +39,7 @@ returns : tie.Need-returns
 returns c =
     let start = c .before .before .before .before .before in
     let s = now (start .args .s) in let t = start .args .t in let i = start .args .i in
-    rw (without s (packOf s .fieldtypes) t i (start .args .k) (pgn-at (packOf s) t i) (start .args .f) (start .pre .4)
+    rw (without s (pack-of s .fieldtypes) t i (start .args .k) (pgn-at (pack-of s) t i) (start .args .f) (start .pre .4)
     (not-true (start .args .f .links .trailing .given) (c .if1 .taken))) (emitted-none (now (start .args .out)) (start .args .n))
 
 slice-aggregate-text-is : tie.Need-slice-aggregate-text-is
@@ -57,7 +57,7 @@ put-requires c κs =
     let if1 = c .before .before .before .before .before .if1 in
     let text-is = c .before .before .before .text-is in
     let s = now (start .args .s) in let t = start .args .t in let i = start .args .i in
-    rw (other s (packOf s .fieldtypes) t i (start .args .k) (pgn-at (packOf s) t i) (start .args .f) (start .pre .4)
+    rw (other s (pack-of s .fieldtypes) t i (start .args .k) (pgn-at (pack-of s) t i) (start .args .f) (start .pre .4)
     (not-false (start .args .f .links .trailing .given) (if1 .left)) (text-is .result) (text-is .ensures)
     (not-true (text-is .result) (c .before .before .if2 .taken)) (c .pgn-error .result) (c .pgn-error .ensures)) at (start .pre .0)
 
@@ -73,7 +73,7 @@ returns-2 c =
     let if2 = c .before .before .before .before .before .if2 in
     let pgn-error-call = c .before .before .before .pgn-error in
     let s = now (start .args .s) in let t = start .args .t in let i = start .args .i in
-    rw (other s (packOf s .fieldtypes) t i (start .args .k) (pgn-at (packOf s) t i) (start .args .f) (start .pre .4)
+    rw (other s (pack-of s .fieldtypes) t i (start .args .k) (pgn-at (pack-of s) t i) (start .args .f) (start .pre .4)
     (not-false (start .args .f .links .trailing .given) (if1 .left)) (text-is .result) (text-is .ensures) (not-true (text-is .result) (if2 .taken))
     (pgn-error-call .result) (pgn-error-call .ensures)) (c .before .before .put .ensures)
 
@@ -88,9 +88,9 @@ trailing-zero-target-at-requires c κs =
     let if1 = c .before .before .before .before .before .if1 in
     let text-is = c .before .before .before .text-is in
     let s = now (start .args .s) in let t = start .args .t in let i = start .args .i in (
-      (rw (with-target s (packOf s .fieldtypes) t i (start .args .k) (pgn-at (packOf s) t i) (start .args .f) (start .pre .4)
+      (rw (with-target s (pack-of s .fieldtypes) t i (start .args .k) (pgn-at (pack-of s) t i) (start .args .f) (start .pre .4)
           (not-false (start .args .f .links .trailing .given) (if1 .left)) (text-is .result) (text-is .ensures)
-          (not-false (text-is .result) (c .before .before .if2 .left)) (optNumber (c .before .target .result)) (c .before .target .ensures)) at
+          (not-false (text-is .result) (c .before .before .if2 .left)) (optional-number (c .before .target .result)) (c .before .target .ensures)) at
           (start .pre .0)),
       start .pre .1,
       start .pre .2,
@@ -109,9 +109,9 @@ returns-3 c =
     let if2 = c .before .before .before .before .before .if2 in
     let target-call = c .before .before .before .before .target in
     let s = now (start .args .s) in let t = start .args .t in let i = start .args .i in
-    rw (with-target s (packOf s .fieldtypes) t i (start .args .k) (pgn-at (packOf s) t i) (start .args .f) (start .pre .4)
+    rw (with-target s (pack-of s .fieldtypes) t i (start .args .k) (pgn-at (pack-of s) t i) (start .args .f) (start .pre .4)
     (not-false (start .args .f .links .trailing .given) (if1 .left)) (text-is .result) (text-is .ensures) (not-false (text-is .result) (if2 .left))
-    (optNumber (target-call .result)) (target-call .ensures)) (c .before .before .trailing-zero-target-at .ensures)
+    (optional-number (target-call .result)) (target-call .ensures)) (c .before .before .trailing-zero-target-at .ensures)
 
 pub trailing-zero-at-spec : {M : Type 1} → statement M
 trailing-zero-at-spec =

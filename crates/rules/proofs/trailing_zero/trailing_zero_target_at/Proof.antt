@@ -5,7 +5,7 @@ use Rattle.rules.specs.Model.{given}
 use Rattle.rules.specs.Findings.{report-if, pgn-error}
 use Rattle.rules.specs.declared.Finding.{Finding}
 use Rattle.pack.specs.declared.field.FieldView.{FieldView}
-use Rattle.pack.specs.Meaning.{optNumber, fieldMeaning, packOf}
+use Rattle.pack.specs.Meaning.{optional-number, field-meaning, pack-of}
 use Rattle.pack.specs.Value.{FieldType, Field, Pgn, pgn-at, field-at}
 use mathlib.Core.Bool.{not, Bool, true, false}
 use Prim.Native.Nat.{ℕ, _≤_, _<_}
@@ -19,21 +19,21 @@ use Rattle.rules.proofs.trailing_zero.trailing_zero_target_at.Statement
 use Rattle.rules.proofs.trailing_zero.trailing_zero_target_at.Tie as tie
 
 module _ (s : List ℕ) (fts : List FieldType) (t i k : ℕ) (p : Pgn) (j : OptNumber) where
-  absent : j .given ≡ false → (F : Finding) → F ≡ pgn-error 44 2 t i k 0 → trailing-zero-target-at fts t i p k (optNumber j) ≡ F ∷ []
+  absent : j .given ≡ false → (F : Finding) → F ≡ pgn-error 44 2 t i k 0 → trailing-zero-target-at fts t i p k (optional-number j) ≡ F ∷ []
   unfolding trailing-zero-target-at
   absent h F y = rw (h, y)
 
-  later : j .given ≡ true → k ≤ j .value → (F : Finding) → F ≡ pgn-error 44 3 t i k (j .value) → trailing-zero-target-at fts t i p k (optNumber j) ≡ F ∷ []
+  later : j .given ≡ true → k ≤ j .value → (F : Finding) → F ≡ pgn-error 44 3 t i k (j .value) → trailing-zero-target-at fts t i p k (optional-number j) ≡ F ∷ []
   unfolding trailing-zero-target-at
   later h l F y = rw (h, le-leb k (j .value) l, y)
 
   module _ (h : j .given ≡ true) (l : j .value < k) (b : Bool) (z : b ≡ fixed p (j .value)) where
-    loose : b ≡ false → (F : Finding) → F ≡ pgn-error 44 3 t i k (j .value) → trailing-zero-target-at fts t i p k (optNumber j) ≡ F ∷ []
+    loose : b ≡ false → (F : Finding) → F ≡ pgn-error 44 3 t i k (j .value) → trailing-zero-target-at fts t i p k (optional-number j) ≡ F ∷ []
     unfolding trailing-zero-target-at
     loose x F y = rw (h, lt-leb k (j .value) l, ← z, x, y)
 
-    earlier : b ≡ true → (f : FieldView) → fieldMeaning s f ≡ field-at p (j .value) → (r : Bool) → r ≡ unsigned-integer fts (fieldMeaning s f)
-        → (F : Finding) → F ≡ pgn-error 44 4 t i k (j .value) → trailing-zero-target-at fts t i p k (optNumber j) ≡ report-if (not r) F
+    earlier : b ≡ true → (f : FieldView) → field-meaning s f ≡ field-at p (j .value) → (r : Bool) → r ≡ unsigned-integer fts (field-meaning s f)
+        → (F : Finding) → F ≡ pgn-error 44 4 t i k (j .value) → trailing-zero-target-at fts t i p k (optional-number j) ≡ report-if (not r) F
     unfolding trailing-zero-target-at
     earlier x f is r w F y = rw (h, lt-leb k (j .value) l, ← z, x, ← is, ← w, y)
 
@@ -44,7 +44,7 @@ put-requires : tie.Need-put-requires
 put-requires c κs =
     let start = c .before .before .before .before .before .before .before in
     let s = now (start .args .s) in let t = start .args .t in let i = start .args .i in
-    rw (absent s (packOf s .fieldtypes) t i (start .args .k) (pgn-at (packOf s) t i) (start .args .j)
+    rw (absent s (pack-of s .fieldtypes) t i (start .args .k) (pgn-at (pack-of s) t i) (start .args .j)
     (not-true (start .args .j .given) (c .before .before .if1 .taken)) (c .pgn-error .result) (c .pgn-error .ensures)) at (start .pre .0)
 
 same-length : tie.Need-same-length
@@ -56,7 +56,7 @@ returns c =
     let if1 = c .before .before .before .before .before .if1 in
     let pgn-error-call = c .before .before .before .pgn-error in
     let s = now (start .args .s) in let t = start .args .t in let i = start .args .i in
-    rw (absent s (packOf s .fieldtypes) t i (start .args .k) (pgn-at (packOf s) t i) (start .args .j) (not-true (start .args .j .given) (if1 .taken))
+    rw (absent s (pack-of s .fieldtypes) t i (start .args .k) (pgn-at (pack-of s) t i) (start .args .j) (not-true (start .args .j .given) (if1 .taken))
     (pgn-error-call .result) (pgn-error-call .ensures)) (c .before .before .put .ensures)
 
 pgn-error-requires-2 : tie.Need-pgn-error-requires-2
@@ -67,7 +67,7 @@ put-requires-2 c κs =
     let start = c .before .before .before .before .before .before .before .before .before in
     let if1 = c .before .before .before .before .if1 in
     let s = now (start .args .s) in let t = start .args .t in let i = start .args .i in
-    rw (later s (packOf s .fieldtypes) t i (start .args .k) (pgn-at (packOf s) t i) (start .args .j) (not-false (start .args .j .given) (if1 .left))
+    rw (later s (pack-of s .fieldtypes) t i (start .args .k) (pgn-at (pack-of s) t i) (start .args .j) (not-false (start .args .j .given) (if1 .left))
     (c .before .before .if2 .taken) (c .pgn-error2 .result) (c .pgn-error2 .ensures)) at (start .pre .0)
 
 same-length-2 : tie.Need-same-length-2
@@ -80,7 +80,7 @@ returns-2 c =
     let if2 = c .before .before .before .before .before .if2 in
     let pgn-error2 = c .before .before .before .pgn-error2 in
     let s = now (start .args .s) in let t = start .args .t in let i = start .args .i in
-    rw (later s (packOf s .fieldtypes) t i (start .args .k) (pgn-at (packOf s) t i) (start .args .j) (not-false (start .args .j .given) (if1 .left))
+    rw (later s (pack-of s .fieldtypes) t i (start .args .k) (pgn-at (pack-of s) t i) (start .args .j) (not-false (start .args .j .given) (if1 .left))
     (if2 .taken) (pgn-error2 .result) (pgn-error2 .ensures)) (c .before .before .put2 .ensures)
 
 fixed-requires : tie.Need-fixed-requires
@@ -98,7 +98,7 @@ put-requires-3 c κs =
     let if2 = c .before .before .before .before .if2 in
     let fixed-call = c .before .before .before .fixed in
     let s = now (start .args .s) in let t = start .args .t in let i = start .args .i in
-    rw (loose s (packOf s .fieldtypes) t i (start .args .k) (pgn-at (packOf s) t i) (start .args .j) (not-false (start .args .j .given) (if1 .left)) (if2 .left)
+    rw (loose s (pack-of s .fieldtypes) t i (start .args .k) (pgn-at (pack-of s) t i) (start .args .j) (not-false (start .args .j .given) (if1 .left)) (if2 .left)
     (fixed-call .result) (fixed-call .ensures) (not-true (fixed-call .result) (c .before .before .if3 .taken)) (c .pgn-error3 .result)
     (c .pgn-error3 .ensures)) at (start .pre .0)
 
@@ -115,7 +115,7 @@ returns-3 c =
     let if3 = c .before .before .before .before .before .if3 in
     let pgn-error3 = c .before .before .before .pgn-error3 in
     let s = now (start .args .s) in let t = start .args .t in let i = start .args .i in
-    rw (loose s (packOf s .fieldtypes) t i (start .args .k) (pgn-at (packOf s) t i) (start .args .j) (not-false (start .args .j .given) (if1 .left)) (if2 .left)
+    rw (loose s (pack-of s .fieldtypes) t i (start .args .k) (pgn-at (pack-of s) t i) (start .args .j) (not-false (start .args .j .given) (if1 .left)) (if2 .left)
     (fixed-call .result) (fixed-call .ensures) (not-true (fixed-call .result) (if3 .taken)) (pgn-error3 .result) (pgn-error3 .ensures))
     (c .before .before .put3 .ensures)
 
@@ -150,7 +150,7 @@ put-if-requires c κs =
     let field-of = c .before .before .before .field-of in
     let unsigned-integer-call = c .before .before .unsigned-integer in
     let s = now (start .args .s) in let t = start .args .t in let i = start .args .i in
-    rw (earlier s (packOf s .fieldtypes) t i (start .args .k) (pgn-at (packOf s) t i) (start .args .j) (not-false (start .args .j .given) (if1 .left))
+    rw (earlier s (pack-of s .fieldtypes) t i (start .args .k) (pgn-at (pack-of s) t i) (start .args .j) (not-false (start .args .j .given) (if1 .left))
     (if2 .left) (fixed-call .result) (fixed-call .ensures) (not-false (fixed-call .result) (if3 .left)) (field-of .result) (field-of .ensures)
     (unsigned-integer-call .result) (unsigned-integer-call .ensures) (c .pgn-error4 .result) (c .pgn-error4 .ensures)) at (start .pre .0)
 
@@ -169,7 +169,7 @@ returns-4 c =
     let unsigned-integer-call = c .before .before .before .before .before .unsigned-integer in
     let pgn-error4 = c .before .before .before .pgn-error4 in
     let s = now (start .args .s) in let t = start .args .t in let i = start .args .i in
-    rw (earlier s (packOf s .fieldtypes) t i (start .args .k) (pgn-at (packOf s) t i) (start .args .j) (not-false (start .args .j .given) (if1 .left))
+    rw (earlier s (pack-of s .fieldtypes) t i (start .args .k) (pgn-at (pack-of s) t i) (start .args .j) (not-false (start .args .j .given) (if1 .left))
     (if2 .left) (fixed-call .result) (fixed-call .ensures) (not-false (fixed-call .result) (if3 .left)) (field-of .result) (field-of .ensures)
     (unsigned-integer-call .result) (unsigned-integer-call .ensures) (pgn-error4 .result) (pgn-error4 .ensures)) (c .before .before .put-if .ensures)
 

@@ -1,8 +1,8 @@
 use Rattle.rules.proofs.Types.{integer-is}
 use Rattle.pack.specs.declared.field_type.FieldTypeView.{FieldTypeView}
 use Rattle.pack.specs.declared.field.FieldView.{FieldView}
-use Rattle.pack.specs.Meaning.{packOf, fieldMeaning, typeMeaning}
-use Rattle.pack.specs.Items.{bytesOf}
+use Rattle.pack.specs.Meaning.{pack-of, field-meaning, type-meaning}
+use Rattle.pack.specs.Items.{bytes-of}
 use Rattle.rules.specs.Model.{fieldtype-of}
 use Rattle.rules.specs.TrailingZero.{unsigned-integer}
 use Rattle.rules.specs.Continues.{integer}
@@ -21,10 +21,10 @@ use Rattle.rules.proofs.trailing_zero.unsigned_integer.Statement.{state
 use Rattle.rules.proofs.trailing_zero.unsigned_integer.Tie as tie
 
 -- said of the views
-said : (s : List ℕ) (fts : List FieldType) (f : FieldView) (v : FieldTypeView) → typeMeaning s v ≡ fieldtype-of fts (fieldMeaning s f) → (a b c : Bool)
-    → a ≡ ((bytesOf s (v .root) ≐ NUMBER) || (bytesOf s (v .root) ≐ LOOKUP)) → b ≡ float-eq (f .scaling .resolution) ONE
+said : (s : List ℕ) (fts : List FieldType) (f : FieldView) (v : FieldTypeView) → type-meaning s v ≡ fieldtype-of fts (field-meaning s f) → (a b c : Bool)
+    → a ≡ ((bytes-of s (v .root) ≐ NUMBER) || (bytes-of s (v .root) ≐ LOOKUP)) → b ≡ float-eq (f .scaling .resolution) ONE
     → c ≡ float-eq (f .scaling .offset) ZERO
-    → unsigned-integer fts (fieldMeaning s f) ≡ (a && not (v .signed) && b && c && not (f .scaling .bits == 0) && (f .scaling .bits ≤ᵇ 63))
+    → unsigned-integer fts (field-meaning s f) ≡ (a && not (v .signed) && b && c && not (f .scaling .bits == 0) && (f .scaling .bits ≤ᵇ 63))
 unfolding unsigned-integer
 said s fts f v is a b c x y z = rw (integer-is s fts f v is, ← is, x, y, z)
 
@@ -40,7 +40,7 @@ returns c =
     let type-of = c .before .before .type-of in
     let s = now (start .args .s) in
     rw (
-      said s (packOf s .fieldtypes) (start .args .f) (type-of .result) (type-of .ensures) (c .before .integer .result) _ _ (c .before .integer .ensures) refl
+      said s (pack-of s .fieldtypes) (start .args .f) (type-of .result) (type-of .ensures) (c .before .integer .result) _ _ (c .before .integer .ensures) refl
           refl,
       not-true (c .before .integer .result) (c .if1 .taken),
     )
@@ -52,7 +52,7 @@ returns-2 c =
     let integer-call = c .before .before .integer in
     let s = now (start .args .s) in
     rw (
-      said s (packOf s .fieldtypes) (start .args .f) (type-of .result) (type-of .ensures) (integer-call .result) _ _ (integer-call .ensures) refl refl,
+      said s (pack-of s .fieldtypes) (start .args .f) (type-of .result) (type-of .ensures) (integer-call .result) _ _ (integer-call .ensures) refl refl,
       (not-false (integer-call .result) (c .before .if1 .left)),
       c .if2 .taken,
     )
@@ -68,7 +68,7 @@ returns-3 c =
     let if1 = c .before .before .before .if1 in
     let s = now (start .args .s) in
     rw (
-      said s (packOf s .fieldtypes) (start .args .f) (type-of .result) (type-of .ensures) (integer-call .result) (c .before .float-eq .result) _
+      said s (pack-of s .fieldtypes) (start .args .f) (type-of .result) (type-of .ensures) (integer-call .result) (c .before .float-eq .result) _
           (integer-call .ensures) (c .before .float-eq .ensures) refl,
       (not-false (integer-call .result) (if1 .left)),
       c .before .before .if2 .left,
@@ -88,7 +88,7 @@ returns-4 c =
     let float-eq-call = c .before .before .before .float-eq in
     let s = now (start .args .s) in
     rw (
-      said s (packOf s .fieldtypes) (start .args .f) (type-of .result) (type-of .ensures) (integer-call .result) (float-eq-call .result)
+      said s (pack-of s .fieldtypes) (start .args .f) (type-of .result) (type-of .ensures) (integer-call .result) (float-eq-call .result)
           (c .before .float-eq2 .result) (integer-call .ensures) (float-eq-call .ensures) (c .before .float-eq2 .ensures),
       (not-false (integer-call .result) (if1 .left)),
       if2 .left,
@@ -108,7 +108,7 @@ returns-5 c =
     let float-eq2 = c .before .before .before .float-eq2 in
     let s = now (start .args .s) in
     rw (
-      said s (packOf s .fieldtypes) (start .args .f) (type-of .result) (type-of .ensures) (integer-call .result) (float-eq-call .result) (float-eq2 .result)
+      said s (pack-of s .fieldtypes) (start .args .f) (type-of .result) (type-of .ensures) (integer-call .result) (float-eq-call .result) (float-eq2 .result)
           (integer-call .ensures) (float-eq-call .ensures) (float-eq2 .ensures),
       (not-false (integer-call .result) (if1 .left)),
       if2 .left,
@@ -131,7 +131,7 @@ returns-6 c =
     let if4 = c .before .before .before .if4 in
     let s = now (start .args .s) in
     rw (
-      said s (packOf s .fieldtypes) (start .args .f) (type-of .result) (type-of .ensures) (integer-call .result) (float-eq-call .result) (float-eq2 .result)
+      said s (pack-of s .fieldtypes) (start .args .f) (type-of .result) (type-of .ensures) (integer-call .result) (float-eq-call .result) (float-eq2 .result)
           (integer-call .ensures) (float-eq-call .ensures) (float-eq2 .ensures),
       (not-false (integer-call .result) (if1 .left)),
       if2 .left,

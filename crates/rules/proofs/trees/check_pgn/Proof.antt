@@ -19,7 +19,7 @@ use native.Mathlib.Omega.{arith}
 use Prim.Native.Nat.{ℕ, _+_}
 use mathlib.Core.Path.{_≡_, _∙_}
 use denote.Ref.{now}
-use Rattle.pack.specs.Meaning.{packOf}
+use Rattle.pack.specs.Meaning.{pack-of}
 use Rattle.rules.proofs.Emits.{emitted-append}
 use Rattle.rules.proofs.trees.check_pgn.Statement.{statement}
 use Rattle.rules.proofs.trees.check_pgn.Tie as tie
@@ -60,14 +60,14 @@ check-pgn-range-requires : tie.Need-check-pgn-range-requires
 check-pgn-range-requires c κs =
     let start = c .before .before .before .before in
     let s = now (start .args .s) in let t = start .args .t in let i = start .args .i in
-    (record { small = omega (arith, start .pre .0 .small, parts (packOf s) t i (pgn-at (packOf s) t i)) }, start .pre .2, start .pre .1 .tree)
+    (record { small = omega (arith, start .pre .0 .small, parts (pack-of s) t i (pgn-at (pack-of s) t i)) }, start .pre .2, start .pre .1 .tree)
 
 check-frame-length-requires : tie.Need-check-frame-length-requires
 check-frame-length-requires c κs =
     let start = c .before .before .before .before .before .before .before .before in
     let check-pgn-range-call = c .before .before .before .check-pgn-range in
     let s = now (start .args .s) in let t = start .args .t in let i = start .args .i in
-    (record { small = omega (arith, start .pre .0 .small, parts (packOf s) t i (pgn-at (packOf s) t i), check-pgn-range-call .ensures .count) }, start .pre .2)
+    (record { small = omega (arith, start .pre .0 .small, parts (pack-of s) t i (pgn-at (pack-of s) t i), check-pgn-range-call .ensures .count) }, start .pre .2)
 
 check-repeating-requires : tie.Need-check-repeating-requires
 check-repeating-requires c κs =
@@ -79,7 +79,7 @@ check-repeating-requires c κs =
         small = omega (
           arith,
           start .pre .0 .small,
-          parts (packOf s) t i (pgn-at (packOf s) t i),
+          parts (pack-of s) t i (pgn-at (pack-of s) t i),
           check-pgn-range-call .ensures .count,
           check-frame-length-call .ensures .count,
         );
@@ -99,7 +99,7 @@ check-dynamic-length-requires c κs =
         small = omega (
           arith,
           start .pre .0 .small,
-          parts (packOf s) t i (pgn-at (packOf s) t i),
+          parts (pack-of s) t i (pgn-at (pack-of s) t i),
           check-pgn-range-call .ensures .count,
           check-frame-length-call .ensures .count,
           check-repeating-call .ensures .count,
@@ -122,7 +122,7 @@ check-proprietary-requires c κs =
         small = omega (
           arith,
           start .pre .0 .small,
-          parts (packOf s) t i (pgn-at (packOf s) t i),
+          parts (pack-of s) t i (pgn-at (pack-of s) t i),
           check-pgn-range-call .ensures .count,
           check-frame-length-call .ensures .count,
           check-repeating-call .ensures .count,
@@ -147,7 +147,7 @@ check-special-values-requires c κs =
         small = omega (
           arith,
           start .pre .0 .small,
-          parts (packOf s) t i (pgn-at (packOf s) t i),
+          parts (pack-of s) t i (pgn-at (pack-of s) t i),
           check-pgn-range-call .ensures .count,
           check-frame-length-call .ensures .count,
           check-repeating-call .ensures .count,
@@ -175,7 +175,7 @@ check-field-count-requires c κs =
         small = omega (
           arith,
           start .pre .0 .small,
-          parts (packOf s) t i (pgn-at (packOf s) t i),
+          parts (pack-of s) t i (pgn-at (pack-of s) t i),
           check-pgn-range-call .ensures .count,
           check-frame-length-call .ensures .count,
           check-repeating-call .ensures .count,
@@ -204,7 +204,7 @@ check-reserved-ids-requires c κs =
         small = omega (
           arith,
           start .pre .0 .small,
-          parts (packOf s) t i (pgn-at (packOf s) t i),
+          parts (pack-of s) t i (pgn-at (pack-of s) t i),
           check-pgn-range-call .ensures .count,
           check-frame-length-call .ensures .count,
           check-repeating-call .ensures .count,
@@ -236,7 +236,7 @@ check-match-values-requires c κs =
         small = omega (
           arith,
           start .pre .0 .small,
-          parts (packOf s) t i (pgn-at (packOf s) t i),
+          parts (pack-of s) t i (pgn-at (pack-of s) t i),
           check-pgn-range-call .ensures .count,
           check-frame-length-call .ensures .count,
           check-repeating-call .ensures .count,
@@ -273,7 +273,7 @@ check-field-type-overrides-requires c κs =
         small = omega (
           arith,
           start .pre .0 .small,
-          parts (packOf s) t i (pgn-at (packOf s) t i),
+          parts (pack-of s) t i (pgn-at (pack-of s) t i),
           check-pgn-range-call .ensures .count,
           check-frame-length-call .ensures .count,
           check-repeating-call .ensures .count,
@@ -310,7 +310,7 @@ check-bit-length-field-requires c κs =
         small = omega (
           arith,
           start .pre .0 .small,
-          parts (packOf s) t i (pgn-at (packOf s) t i),
+          parts (pack-of s) t i (pgn-at (pack-of s) t i),
           check-pgn-range-call .ensures .count,
           check-frame-length-call .ensures .count,
           check-repeating-call .ensures .count,
@@ -349,7 +349,7 @@ check-trailing-zero-is-digit-requires c κs =
         small = omega (
           arith,
           start .pre .0 .small,
-          parts (packOf s) t i (pgn-at (packOf s) t i),
+          parts (pack-of s) t i (pgn-at (pack-of s) t i),
           check-pgn-range-call .ensures .count,
           check-frame-length-call .ensures .count,
           check-repeating-call .ensures .count,
@@ -392,7 +392,7 @@ check-min-length-requires c κs =
         small = omega (
           arith,
           start .pre .0 .small,
-          parts (packOf s) t i (pgn-at (packOf s) t i),
+          parts (pack-of s) t i (pgn-at (pack-of s) t i),
           check-pgn-range-call .ensures .count,
           check-frame-length-call .ensures .count,
           check-repeating-call .ensures .count,

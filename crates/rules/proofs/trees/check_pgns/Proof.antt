@@ -1,6 +1,6 @@
 -- the findings of PGN i
 use Rattle.rules.specs.Check.{check-pgn}
-use Rattle.pack.specs.Ready.{pgnPlace}
+use Rattle.pack.specs.Ready.{place-of-pgn}
 use Rattle.pack.proofs.Positions.{pgn-place-next}
 use Rattle.rules.proofs.Sizes.{at-pgn, fields-few, pgns-few}
 use borrow.Author.Needs.{needs}
@@ -10,8 +10,8 @@ use mathlib.Core.Path.{_≡_, refl, _∙_}
 use mathlib.Core.List.{List}
 use lib.ListN.{length}
 use denote.Ref.{now}
-use Rattle.pack.specs.Notation.{concatBelow}
-use Rattle.pack.specs.Meaning.{packOf}
+use Rattle.pack.specs.Notation.{concat-below}
+use Rattle.pack.specs.Meaning.{pack-of}
 use Rattle.pack.specs.Value.{pgn-at}
 use Rattle.rules.specs.declared.Finding.{Finding}
 use Rattle.rules.specs.Emit.{Emitted}
@@ -20,11 +20,11 @@ use Rattle.rules.proofs.trees.check_pgns.Statement.{statement}
 use Rattle.rules.proofs.trees.check_pgns.Tie as tie
 
 abbrev of-pgn : List ℕ → ℕ → ℕ → List Finding
-of-pgn s t i = check-pgn (packOf s) t i (pgn-at (packOf s) t i)
+of-pgn s t i = check-pgn (pack-of s) t i (pgn-at (pack-of s) t i)
 
 abbrev Inv-loop : tie.InvT-loop
 Inv-loop out₀ n s work lookups t count m₀ p₀ i₀ out m p i =
-    (i ≤ count) × (p ≡ pgnPlace (packOf s) t i) × (length out ≡ length out₀) × Emitted out₀ n (concatBelow (of-pgn s t) i) out m
+    (i ≤ count) × (p ≡ place-of-pgn (pack-of s) t i) × (length out ≡ length out₀) × Emitted out₀ n (concat-below (of-pgn s t) i) out m
 
 abbrev μ-loop : tie.MeasureT-loop
 μ-loop out₀ n s work lookups t count m₀ p₀ i₀ out m p i = count - i
@@ -93,7 +93,7 @@ loop-again c =
     let check-pgn-call = c .before .before .before .check-pgn in
     let s = now (start .args .s) in let t = start .args .t in (
       omega (arith, c),
-      omega (arith, pgn-place-next (packOf s) t (loop .i), pgn-of .ensures .fields, loop .inv .1),
+      omega (arith, pgn-place-next (pack-of s) t (loop .i), pgn-of .ensures .fields, loop .inv .1),
       check-pgn-call .kept .0 ∙ loop .inv .2,
       emitted-turn (of-pgn s t) (loop .i) (loop .inv .3) (check-pgn-call .ensures),
     )

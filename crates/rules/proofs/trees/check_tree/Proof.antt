@@ -7,8 +7,8 @@ use mathlib.Core.Path.{_∙_}
 use mathlib.Core.List.{_++_}
 use lib.ListN.{length}
 use denote.Ref.{now}
-use Rattle.pack.specs.Notation.{concatBelow}
-use Rattle.pack.specs.Meaning.{packOf}
+use Rattle.pack.specs.Notation.{concat-below}
+use Rattle.pack.specs.Meaning.{pack-of}
 use Rattle.rules.proofs.Emits.{emitted-append, fits-left, fits-right}
 use borrow.Author.Needs.{needs}
 use Rattle.rules.proofs.trees.check_tree.Statement.{statement}
@@ -26,15 +26,15 @@ check-pgns-requires c κs =
     let start = c .before .before .before .before .before .before in
     let of-tree = c .before .before .of-tree in
     let s = now (start .args .s) in let t = start .args .t in let index = start .args .index in (
-      fits-left (concatBelow (λ i. check-pgn (packOf s) t i (pgn-at (packOf s) t i)) (length (pgns-of (packOf s) t))) (check-variants t (pgns-of (packOf s) t))
+      fits-left (concat-below (λ i. check-pgn (pack-of s) t i (pgn-at (pack-of s) t i)) (length (pgns-of (pack-of s) t))) (check-variants t (pgns-of (pack-of s) t))
           (fits-left
-          ((concatBelow (λ i. check-pgn (packOf s) t i (pgn-at (packOf s) t i)) (length (pgns-of (packOf s) t))) ++ (check-variants t (pgns-of (packOf s) t)))
-          (check-unique-ids t (pgns-of (packOf s) t)) (start .pre .0)),
+          ((concat-below (λ i. check-pgn (pack-of s) t i (pgn-at (pack-of s) t i)) (length (pgns-of (pack-of s) t))) ++ (check-variants t (pgns-of (pack-of s) t)))
+          (check-unique-ids t (pgns-of (pack-of s) t)) (start .pre .0)),
       start .pre .1,
       start .pre .3,
-      (at-tree (packOf s) index (start .pre .2) t (start .pre .3) (of-tree .result) (c .before .section .result) (of-tree .ensures)
+      (at-tree (pack-of s) index (start .pre .2) t (start .pre .3) (of-tree .result) (c .before .section .result) (of-tree .ensures)
           (c .before .section .ensures)) .0,
-      (at-tree (packOf s) index (start .pre .2) t (start .pre .3) (of-tree .result) (c .before .section .result) (of-tree .ensures)
+      (at-tree (pack-of s) index (start .pre .2) t (start .pre .3) (of-tree .result) (c .before .section .result) (of-tree .ensures)
           (c .before .section .ensures)) .1,
       start .pre .2 .lookups,
       start .pre .2 .lookups-place,
@@ -48,14 +48,14 @@ check-variants-requires c κs =
     let section = c .before .before .before .before .before .section in
     let check-pgns = c .before .before .before .check-pgns in
     let s = now (start .args .s) in let t = start .args .t in let index = start .args .index in (
-      fits-right (concatBelow (λ i. check-pgn (packOf s) t i (pgn-at (packOf s) t i)) (length (pgns-of (packOf s) t))) (check-variants t (pgns-of (packOf s) t))
+      fits-right (concat-below (λ i. check-pgn (pack-of s) t i (pgn-at (pack-of s) t i)) (length (pgns-of (pack-of s) t))) (check-variants t (pgns-of (pack-of s) t))
           (fits-left
-          ((concatBelow (λ i. check-pgn (packOf s) t i (pgn-at (packOf s) t i)) (length (pgns-of (packOf s) t))) ++ (check-variants t (pgns-of (packOf s) t)))
-          (check-unique-ids t (pgns-of (packOf s) t)) (start .pre .0)) (check-pgns .ensures),
+          ((concat-below (λ i. check-pgn (pack-of s) t i (pgn-at (pack-of s) t i)) (length (pgns-of (pack-of s) t))) ++ (check-variants t (pgns-of (pack-of s) t)))
+          (check-unique-ids t (pgns-of (pack-of s) t)) (start .pre .0)) (check-pgns .ensures),
       start .pre .1,
       start .pre .3,
-      (at-tree (packOf s) index (start .pre .2) t (start .pre .3) (of-tree .result) (section .result) (of-tree .ensures) (section .ensures)) .0,
-      (at-tree (packOf s) index (start .pre .2) t (start .pre .3) (of-tree .result) (section .result) (of-tree .ensures) (section .ensures)) .1,
+      (at-tree (pack-of s) index (start .pre .2) t (start .pre .3) (of-tree .result) (section .result) (of-tree .ensures) (section .ensures)) .0,
+      (at-tree (pack-of s) index (start .pre .2) t (start .pre .3) (of-tree .result) (section .result) (of-tree .ensures) (section .ensures)) .1,
     )
 
 check-unique-ids-requires : tie.Need-check-unique-ids-requires
@@ -69,12 +69,12 @@ check-unique-ids-requires c κs =
     let check-variants-call = c .before .before .before .check-variants in
     let s = now (start .args .s) in let t = start .args .t in let index = start .args .index in (
       fits-right
-          ((concatBelow (λ i. check-pgn (packOf s) t i (pgn-at (packOf s) t i)) (length (pgns-of (packOf s) t))) ++ (check-variants t (pgns-of (packOf s) t)))
-          (check-unique-ids t (pgns-of (packOf s) t)) (start .pre .0) (emitted-append (check-pgns .ensures) (check-variants-call .ensures)),
+          ((concat-below (λ i. check-pgn (pack-of s) t i (pgn-at (pack-of s) t i)) (length (pgns-of (pack-of s) t))) ++ (check-variants t (pgns-of (pack-of s) t)))
+          (check-unique-ids t (pgns-of (pack-of s) t)) (start .pre .0) (emitted-append (check-pgns .ensures) (check-variants-call .ensures)),
       start .pre .1,
       start .pre .3,
-      (at-tree (packOf s) index (start .pre .2) t (start .pre .3) (of-tree .result) (section .result) (of-tree .ensures) (section .ensures)) .0,
-      (at-tree (packOf s) index (start .pre .2) t (start .pre .3) (of-tree .result) (section .result) (of-tree .ensures) (section .ensures)) .1,
+      (at-tree (pack-of s) index (start .pre .2) t (start .pre .3) (of-tree .result) (section .result) (of-tree .ensures) (section .ensures)) .0,
+      (at-tree (pack-of s) index (start .pre .2) t (start .pre .3) (of-tree .result) (section .result) (of-tree .ensures) (section .ensures)) .1,
     )
 
 same-length : tie.Need-same-length

@@ -2,7 +2,7 @@ use Rattle.rules.specs.Check.{check-tree}
 use native.Mathlib.Omega.{arith}
 use mathlib.Core.Path.{_∙_}
 use denote.Ref.{now}
-use Rattle.pack.specs.Meaning.{packOf}
+use Rattle.pack.specs.Meaning.{pack-of}
 use Rattle.rules.proofs.Emits.{emitted-none, emitted-turn, fits-turn}
 use Rattle.rules.proofs.trees.check_trees.Statement.{statement}
 use Rattle.rules.proofs.trees.check_trees.Tie as tie
@@ -10,7 +10,7 @@ use Rattle.rules.proofs.trees.check_trees.Tie as tie
 check-tree-requires : tie.Need-check-tree-requires
 check-tree-requires c κs =
     let start = c .before .before .before .before in (
-      fits-turn (check-tree (packOf (now (start .args .s)))) 3 0 (omega (arith, c)) (start .pre .0) (emitted-none (now (start .args .out)) (start .args .n)),
+      fits-turn (check-tree (pack-of (now (start .args .s)))) 3 0 (omega (arith, c)) (start .pre .0) (emitted-none (now (start .args .out)) (start .args .n)),
       start .pre .1,
       start .pre .2,
       omega (arith, c),
@@ -21,8 +21,8 @@ check-tree-requires-2 c κs =
     let start = c .before .before .before .before .before .before .before .before in
     let check-tree-call = c .before .before .before .check-tree in
     let s = now (start .args .s) in (
-      fits-turn (check-tree (packOf s)) 3 1 (omega (arith, c)) (start .pre .0)
-          (emitted-turn (check-tree (packOf s)) 0 (emitted-none (now (start .args .out)) (start .args .n)) (check-tree-call .ensures)),
+      fits-turn (check-tree (pack-of s)) 3 1 (omega (arith, c)) (start .pre .0)
+          (emitted-turn (check-tree (pack-of s)) 0 (emitted-none (now (start .args .out)) (start .args .n)) (check-tree-call .ensures)),
       start .pre .1,
       start .pre .2,
       omega (arith, c),
@@ -34,9 +34,9 @@ check-tree-requires-3 c κs =
     let check-tree-call = c .before .before .before .before .before .before .before .check-tree in
     let check-tree2 = c .before .before .before .check-tree2 in
     let s = now (start .args .s) in (
-      fits-turn (check-tree (packOf s)) 3 2 (omega (arith, c)) (start .pre .0)
-          (emitted-turn (check-tree (packOf s)) 1
-          (emitted-turn (check-tree (packOf s)) 0 (emitted-none (now (start .args .out)) (start .args .n)) (check-tree-call .ensures)) (check-tree2 .ensures)),
+      fits-turn (check-tree (pack-of s)) 3 2 (omega (arith, c)) (start .pre .0)
+          (emitted-turn (check-tree (pack-of s)) 1
+          (emitted-turn (check-tree (pack-of s)) 0 (emitted-none (now (start .args .out)) (start .args .n)) (check-tree-call .ensures)) (check-tree2 .ensures)),
       start .pre .1,
       start .pre .2,
       omega (arith, c),
@@ -55,8 +55,8 @@ returns c =
     let check-tree-call = c .before .before .before .before .before .before .before .before .before .before .check-tree in
     let check-tree2 = c .before .before .before .before .before .before .check-tree2 in
     let s = now (start .args .s) in
-    emitted-turn (check-tree (packOf s)) 2 (emitted-turn (check-tree (packOf s)) 1
-    (emitted-turn (check-tree (packOf s)) 0 (emitted-none (now (start .args .out)) (start .args .n)) (check-tree-call .ensures)) (check-tree2 .ensures))
+    emitted-turn (check-tree (pack-of s)) 2 (emitted-turn (check-tree (pack-of s)) 1
+    (emitted-turn (check-tree (pack-of s)) 0 (emitted-none (now (start .args .out)) (start .args .n)) (check-tree-call .ensures)) (check-tree2 .ensures))
     (c .before .before .check-tree3 .ensures)
 
 pub check-trees-spec : {M : Type 1} → statement M

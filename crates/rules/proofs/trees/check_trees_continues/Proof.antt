@@ -2,7 +2,7 @@ use Rattle.rules.specs.Check.{check-tree-continues}
 use native.Mathlib.Omega.{arith}
 use mathlib.Core.Path.{_∙_}
 use denote.Ref.{now}
-use Rattle.pack.specs.Meaning.{packOf}
+use Rattle.pack.specs.Meaning.{pack-of}
 use Rattle.rules.proofs.Emits.{emitted-none, emitted-turn, fits-turn}
 use Rattle.rules.proofs.trees.check_trees_continues.Statement.{statement}
 use Rattle.rules.proofs.trees.check_trees_continues.Tie as tie
@@ -10,7 +10,7 @@ use Rattle.rules.proofs.trees.check_trees_continues.Tie as tie
 check-tree-continues-requires : tie.Need-check-tree-continues-requires
 check-tree-continues-requires c κs =
     let start = c .before .before .before .before in (
-      fits-turn (check-tree-continues (packOf (now (start .args .s)))) 3 0 (omega (arith, c)) (start .pre .0)
+      fits-turn (check-tree-continues (pack-of (now (start .args .s)))) 3 0 (omega (arith, c)) (start .pre .0)
           (emitted-none (now (start .args .out)) (start .args .n)),
       start .pre .1,
       omega (arith, c),
@@ -23,8 +23,8 @@ check-tree-continues-requires-2 c κs =
     let start = c .before .before .before .before .before .before .before .before in
     let check-tree-continues-call = c .before .before .before .check-tree-continues in
     let s = now (start .args .s) in (
-      fits-turn (check-tree-continues (packOf s)) 3 1 (omega (arith, c)) (start .pre .0)
-          (emitted-turn (check-tree-continues (packOf s)) 0 (emitted-none (now (start .args .out)) (start .args .n)) (check-tree-continues-call .ensures)),
+      fits-turn (check-tree-continues (pack-of s)) 3 1 (omega (arith, c)) (start .pre .0)
+          (emitted-turn (check-tree-continues (pack-of s)) 0 (emitted-none (now (start .args .out)) (start .args .n)) (check-tree-continues-call .ensures)),
       start .pre .1,
       omega (arith, c),
       start .pre .2 .trees 1 (omega (arith, c)),
@@ -37,9 +37,9 @@ check-tree-continues-requires-3 c κs =
     let check-tree-continues-call = c .before .before .before .before .before .before .before .check-tree-continues in
     let check-tree-continues2 = c .before .before .before .check-tree-continues2 in
     let s = now (start .args .s) in (
-      fits-turn (check-tree-continues (packOf s)) 3 2 (omega (arith, c)) (start .pre .0)
-          (emitted-turn (check-tree-continues (packOf s)) 1
-          (emitted-turn (check-tree-continues (packOf s)) 0 (emitted-none (now (start .args .out)) (start .args .n)) (check-tree-continues-call .ensures))
+      fits-turn (check-tree-continues (pack-of s)) 3 2 (omega (arith, c)) (start .pre .0)
+          (emitted-turn (check-tree-continues (pack-of s)) 1
+          (emitted-turn (check-tree-continues (pack-of s)) 0 (emitted-none (now (start .args .out)) (start .args .n)) (check-tree-continues-call .ensures))
           (check-tree-continues2 .ensures)),
       start .pre .1,
       omega (arith, c),
@@ -60,8 +60,8 @@ returns c =
     let check-tree-continues-call = c .before .before .before .before .before .before .before .before .before .before .check-tree-continues in
     let check-tree-continues2 = c .before .before .before .before .before .before .check-tree-continues2 in
     let s = now (start .args .s) in
-    emitted-turn (check-tree-continues (packOf s)) 2 (emitted-turn (check-tree-continues (packOf s)) 1
-    (emitted-turn (check-tree-continues (packOf s)) 0 (emitted-none (now (start .args .out)) (start .args .n)) (check-tree-continues-call .ensures))
+    emitted-turn (check-tree-continues (pack-of s)) 2 (emitted-turn (check-tree-continues (pack-of s)) 1
+    (emitted-turn (check-tree-continues (pack-of s)) 0 (emitted-none (now (start .args .out)) (start .args .n)) (check-tree-continues-call .ensures))
     (check-tree-continues2 .ensures)) (c .before .before .check-tree-continues3 .ensures)
 
 pub check-trees-continues-spec : {M : Type 1} → statement M

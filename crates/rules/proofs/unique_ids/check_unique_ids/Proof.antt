@@ -1,13 +1,13 @@
 use Rattle.rules.proofs.Sizes.{at-pgn, fields-few, pgns-few}
 use Rattle.rules.specs.UniqueIds.{same-id-as, unique-field-ids, check-unique-ids}
-use Rattle.rules.specs.Search.{latestBelow}
+use Rattle.rules.specs.Search.{latest-below}
 use Rattle.pack.proofs.Positions.{pgn-place-next}
-use Rattle.pack.specs.Ready.{pgnPlace}
+use Rattle.pack.specs.Ready.{place-of-pgn}
 use Rattle.rules.proofs.Emits.{emitted-none, emitted-turn, fits-turn}
 use Rattle.rules.specs.Emit.{Emitted}
 use Rattle.rules.specs.declared.Finding.{Finding}
-use Rattle.pack.specs.Meaning.{packOf}
-use Rattle.pack.specs.Notation.{_≐_, concatBelow}
+use Rattle.pack.specs.Meaning.{pack-of}
+use Rattle.pack.specs.Notation.{_≐_, concat-below}
 use Rattle.pack.specs.Value.{pgn-at}
 use Prim.Native.Nat.{ℕ, _-_, _≤_}
 use native.Mathlib.Omega.{arith}
@@ -21,11 +21,11 @@ use Rattle.rules.proofs.unique_ids.check_unique_ids.Tie as tie
 
 -- the findings of PGN i
 abbrev of-pgn : List ℕ → ℕ → ℕ → List Finding
-of-pgn s t i = same-id-as t i (latestBelow (λ j. pgn-at (packOf s) t j .id ≐ pgn-at (packOf s) t i .id) i) ++ unique-field-ids t i (pgn-at (packOf s) t i)
+of-pgn s t i = same-id-as t i (latest-below (λ j. pgn-at (pack-of s) t j .id ≐ pgn-at (pack-of s) t i .id) i) ++ unique-field-ids t i (pgn-at (pack-of s) t i)
 
 abbrev Inv-loop : tie.InvT-loop
 Inv-loop out₀ n s work t count first m₀ p₀ i₀ out m p i =
-    (i ≤ count) × (p ≡ pgnPlace (packOf s) t i) × (length out ≡ length out₀) × Emitted out₀ n (concatBelow (of-pgn s t) i) out m
+    (i ≤ count) × (p ≡ place-of-pgn (pack-of s) t i) × (length out ≡ length out₀) × Emitted out₀ n (concat-below (of-pgn s t) i) out m
 
 abbrev μ-loop : tie.MeasureT-loop
 μ-loop out₀ n s work t count first m₀ p₀ i₀ out m p i = count - i
@@ -94,7 +94,7 @@ loop-again c =
     let unique-ids-at = c .before .before .before .unique-ids-at in
     let s = now (start .args .s) in let t = start .args .t in (
       omega (arith, c),
-      omega (arith, pgn-place-next (packOf s) t (loop .i), pgn-of .ensures .fields, loop .inv .1),
+      omega (arith, pgn-place-next (pack-of s) t (loop .i), pgn-of .ensures .fields, loop .inv .1),
       unique-ids-at .kept .0 ∙ loop .inv .2,
       emitted-turn (of-pgn s t) (loop .i) (loop .inv .3) (unique-ids-at .ensures),
     )

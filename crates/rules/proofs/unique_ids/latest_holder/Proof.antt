@@ -1,10 +1,10 @@
 use Rattle.rules.proofs.Sizes.{at-pgn, fields-few}
 use Rattle.rules.specs.SearchLaws.{latest-turn}
-use Rattle.rules.specs.Search.{latestBelow}
+use Rattle.rules.specs.Search.{latest-below}
 use Rattle.pack.proofs.Positions.{pgn-room, pgn-place-next}
-use Rattle.pack.specs.Ready.{pgnPlace}
-use Rattle.pack.specs.Meaning.{optNumber, packOf}
-use Rattle.pack.specs.Items.{bytesOf}
+use Rattle.pack.specs.Ready.{place-of-pgn}
+use Rattle.pack.specs.Meaning.{optional-number, pack-of}
+use Rattle.pack.specs.Items.{bytes-of}
 use Rattle.pack.specs.Value.{Pgn, pgn-at}
 use Rattle.pack.specs.Notation.{_≐_}
 use mathlib.Core.Bool.{Bool}
@@ -19,10 +19,10 @@ use Rattle.rules.proofs.unique_ids.latest_holder.Tie as tie
 
 -- whether PGN j has the id
 abbrev has : List ℕ → ℕ → List ℕ → ℕ → Bool
-has s t id j = pgn-at (packOf s) t j .id ≐ id
+has s t id j = pgn-at (pack-of s) t j .id ≐ id
 
 abbrev Inv-loop : tie.InvT-loop
-Inv-loop s work t first n id found₀ p₀ j₀ found p j = (j ≤ n) × (p ≡ pgnPlace (packOf s) t j) × (optNumber found ≡ latestBelow (has s t (bytesOf s id)) j)
+Inv-loop s work t first n id found₀ p₀ j₀ found p j = (j ≤ n) × (p ≡ place-of-pgn (pack-of s) t j) × (optional-number found ≡ latest-below (has s t (bytes-of s id)) j)
 
 abbrev μ-loop : tie.MeasureT-loop
 μ-loop s work t first n id found₀ p₀ j₀ found p j = n - j
@@ -77,10 +77,10 @@ loop-again c =
     let pgn-of = c .before .before .before .pgn-of in
     let same-text = c .before .before .same-text in
     let s = now (start .args .s) in let t = start .args .t in let id = start .args .id in
-    let e : has s t (bytesOf s id) (loop .j) ≡ same-text .result = rw (← ap (λ (x : Pgn). x .id) (pgn-of .ensures .means)) (sym (same-text .ensures)) in (
+    let e : has s t (bytes-of s id) (loop .j) ≡ same-text .result = rw (← ap (λ (x : Pgn). x .id) (pgn-of .ensures .means)) (sym (same-text .ensures)) in (
       omega (arith, c),
-      omega (arith, pgn-place-next (packOf s) t (loop .j), pgn-of .ensures .fields, loop .inv .1),
-      c .before .latest .ensures ∙ (rw (latest-turn (has s t (bytesOf s id)) (loop .j), e, loop .inv .2)),
+      omega (arith, pgn-place-next (pack-of s) t (loop .j), pgn-of .ensures .fields, loop .inv .1),
+      c .before .latest .ensures ∙ (rw (latest-turn (has s t (bytes-of s id)) (loop .j), e, loop .inv .2)),
     )
 
 returns : tie.Need-returns Inv-loop μ-loop

@@ -1,11 +1,11 @@
 use Rattle.rules.specs.UniqueIds.{same-id-as}
-use Rattle.rules.specs.Search.{latestBelow}
+use Rattle.rules.specs.Search.{latest-below}
 use Rattle.rules.proofs.Emits.{emitted-none}
 use Rattle.rules.specs.Model.{given}
 use Rattle.rules.specs.Findings.{pgn-error}
 use Rattle.rules.specs.declared.Finding.{Finding}
-use Rattle.pack.specs.Meaning.{packOf}
-use Rattle.pack.specs.Items.{bytesOf}
+use Rattle.pack.specs.Meaning.{pack-of}
+use Rattle.pack.specs.Items.{bytes-of}
 use Rattle.pack.specs.Value.{Pgn, pgn-at}
 use Rattle.pack.specs.Notation.{_≐_, optional}
 use mathlib.Core.Option.{Option}
@@ -29,9 +29,9 @@ module _ (t i : ℕ) (o : Option ℕ) (b : Bool) (v : ℕ) (e : optional b v ≡
   other h F y = rw (← e, h, y)
 
 -- the latest earlier holder of the id, said of the view
-held : (s : List ℕ) (t i : ℕ) (id : List ℕ) → id ≡ pgn-at (packOf s) t i .id
-    → latestBelow (λ j. pgn-at (packOf s) t j .id ≐ id) i ≡ latestBelow (λ j. pgn-at (packOf s) t j .id ≐ pgn-at (packOf s) t i .id) i
-held s t i id e = ap (λ (x : List ℕ). latestBelow (λ j. pgn-at (packOf s) t j .id ≐ x) i) e
+held : (s : List ℕ) (t i : ℕ) (id : List ℕ) → id ≡ pgn-at (pack-of s) t i .id
+    → latest-below (λ j. pgn-at (pack-of s) t j .id ≐ id) i ≡ latest-below (λ j. pgn-at (pack-of s) t j .id ≐ pgn-at (pack-of s) t i .id) i
+held s t i id e = ap (λ (x : List ℕ). latest-below (λ j. pgn-at (pack-of s) t j .id ≐ x) i) e
 
 latest-holder-requires : tie.Need-latest-holder-requires
 latest-holder-requires c κs =
@@ -44,7 +44,7 @@ returns c =
     let latest-holder = c .before .before .latest-holder in
     let t = start .args .t in let i = start .args .i in let s = now (start .args .s) in
     rw (no-other t i _ (latest-holder .result .given) (latest-holder .result .value)
-    (latest-holder .ensures ∙ held s t i (bytesOf s (start .args .g .id)) (ap (λ (x : Pgn). x .id) (start .pre .5 .means)))
+    (latest-holder .ensures ∙ held s t i (bytes-of s (start .args .g .id)) (ap (λ (x : Pgn). x .id) (start .pre .5 .means)))
     (not-true (latest-holder .result .given) (c .if1 .taken))) (emitted-none (now (start .args .out)) (start .args .n))
 
 pgn-error-requires : tie.Need-pgn-error-requires
@@ -56,7 +56,7 @@ put-requires c κs =
     let latest-holder = c .before .before .before .before .latest-holder in
     let t = start .args .t in let i = start .args .i in let s = now (start .args .s) in
     rw (other t i _ (latest-holder .result .given) (latest-holder .result .value)
-    (latest-holder .ensures ∙ held s t i (bytesOf s (start .args .g .id)) (ap (λ (x : Pgn). x .id) (start .pre .5 .means)))
+    (latest-holder .ensures ∙ held s t i (bytes-of s (start .args .g .id)) (ap (λ (x : Pgn). x .id) (start .pre .5 .means)))
     (not-false (latest-holder .result .given) (c .before .before .if1 .left)) (c .pgn-error .result) (c .pgn-error .ensures)) at (start .pre .0)
 
 same-length : tie.Need-same-length
@@ -70,7 +70,7 @@ returns-2 c =
     let pgn-error-call = c .before .before .before .pgn-error in
     let t = start .args .t in let i = start .args .i in let s = now (start .args .s) in
     rw (other t i _ (latest-holder .result .given) (latest-holder .result .value)
-    (latest-holder .ensures ∙ held s t i (bytesOf s (start .args .g .id)) (ap (λ (x : Pgn). x .id) (start .pre .5 .means)))
+    (latest-holder .ensures ∙ held s t i (bytes-of s (start .args .g .id)) (ap (λ (x : Pgn). x .id) (start .pre .5 .means)))
     (not-false (latest-holder .result .given) (if1 .left)) (pgn-error-call .result) (pgn-error-call .ensures)) (c .before .before .put .ensures)
 
 pub same-id-spec : {M : Type 1} → statement M

@@ -1,14 +1,14 @@
 use Rattle.rules.proofs.Sizes.{fields-few}
 use Rattle.rules.specs.UniqueIds.{unique-field-ids}
-use Rattle.rules.specs.Search.{or-else, anyBelow, firstBelow}
+use Rattle.rules.specs.Search.{or-else, any-below, first-below}
 use Rattle.rules.proofs.Emits.{emitted-none, emitted-turn, fits-turn}
 use Rattle.rules.specs.Model.{given}
 use Rattle.rules.specs.Findings.{report-if, pgn-error}
 use Rattle.rules.specs.Emit.{Emitted}
 use Rattle.rules.specs.declared.Finding.{Finding}
-use Rattle.pack.specs.Meaning.{packOf}
-use Rattle.pack.specs.Items.{bytesOf}
-use Rattle.pack.specs.Notation.{_≐_, optional, concatBelow}
+use Rattle.pack.specs.Meaning.{pack-of}
+use Rattle.pack.specs.Items.{bytes-of}
+use Rattle.pack.specs.Notation.{_≐_, optional, concat-below}
 use Rattle.pack.specs.Value.{pgn-at, field-at}
 use mathlib.Core.Option.{Option, none, some}
 use mathlib.Core.Bool.{_||_, Bool, true, false}
@@ -22,9 +22,9 @@ use lib.ListN.{length}
 use Rattle.rules.proofs.unique_ids.unique_field_ids.Statement.{statement}
 use Rattle.rules.proofs.unique_ids.unique_field_ids.Tie as tie
 
-any-first : (q : ℕ → Bool) (n : ℕ) → anyBelow q n ≡ given (firstBelow q n)
+any-first : (q : ℕ → Bool) (n : ℕ) → any-below q n ≡ given (first-below q n)
 any-first q zero = refl
-any-first q (suc n) = rw (any-first q n) (go (firstBelow q n) (q n))
+any-first q (suc n) = rw (any-first q n) (go (first-below q n) (q n))
   where
     go : (o : Option ℕ) (b : Bool) → (given o || b) ≡ given (or-else o (optional b n))
     go none true = refl
@@ -37,14 +37,14 @@ given-is false a = refl
 
 -- the findings of field k
 abbrev of-field : List ℕ → ℕ → ℕ → ℕ → List Finding
-of-field s t i k = report-if (anyBelow (λ j. field-at (pgn-at (packOf s) t i) j .id ≐ field-at (pgn-at (packOf s) t i) k .id) k) (pgn-error 21 2 t i k 0)
+of-field s t i k = report-if (any-below (λ j. field-at (pgn-at (pack-of s) t i) j .id ≐ field-at (pgn-at (pack-of s) t i) k .id) k) (pgn-error 21 2 t i k 0)
 
-said : (s : List ℕ) (t i k : ℕ) (id : List ℕ) (b : Bool) (v : ℕ) (F : Finding) → id ≡ field-at (pgn-at (packOf s) t i) k .id
-    → optional b v ≡ firstBelow (λ j. field-at (pgn-at (packOf s) t i) j .id ≐ id) k → F ≡ pgn-error 21 2 t i k 0 → of-field s t i k ≡ report-if b F
-said s t i k id b v F x y z = rw (z, ← x, any-first (λ j. field-at (pgn-at (packOf s) t i) j .id ≐ id) k, ← y, given-is b v)
+said : (s : List ℕ) (t i k : ℕ) (id : List ℕ) (b : Bool) (v : ℕ) (F : Finding) → id ≡ field-at (pgn-at (pack-of s) t i) k .id
+    → optional b v ≡ first-below (λ j. field-at (pgn-at (pack-of s) t i) j .id ≐ id) k → F ≡ pgn-error 21 2 t i k 0 → of-field s t i k ≡ report-if b F
+said s t i k id b v F x y z = rw (z, ← x, any-first (λ j. field-at (pgn-at (pack-of s) t i) j .id ≐ id) k, ← y, given-is b v)
 
 abbrev Inv-loop : tie.InvT-loop
-Inv-loop out₀ n s work t i p fields m₀ k₀ out m k = (k ≤ fields) × (length out ≡ length out₀) × Emitted out₀ n (concatBelow (of-field s t i) k) out m
+Inv-loop out₀ n s work t i p fields m₀ k₀ out m k = (k ≤ fields) × (length out ≡ length out₀) × Emitted out₀ n (concat-below (of-field s t i) k) out m
 
 abbrev μ-loop : tie.MeasureT-loop
 μ-loop out₀ n s work t i p fields m₀ k₀ out m k = fields - k
@@ -76,7 +76,7 @@ put-if-requires c κs =
     let field-id-of = c .before .before .before .field-id-of in
     let first-with-id = c .before .before .first-with-id in
     let s = now (start .args .s) in let t = start .args .t in let i = start .args .i in
-    rw (said s t i (loop .k) (bytesOf s (field-id-of .result)) (first-with-id .result .given) (first-with-id .result .value) (c .pgn-error .result)
+    rw (said s t i (loop .k) (bytes-of s (field-id-of .result)) (first-with-id .result .given) (first-with-id .result .value) (c .pgn-error .result)
     (field-id-of .ensures) (first-with-id .ensures) (c .pgn-error .ensures)) at
     (fits-turn (of-field s t i) (start .args .fields) (loop .k) (loop-test .taken) (rw (← start .pre .2) at (start .pre .0)) (loop .inv .2))
 
@@ -100,7 +100,7 @@ loop-again c =
     let s = now (start .args .s) in let t = start .args .t in let i = start .args .i in (
       omega (arith, c),
       put-if .kept .0 ∙ loop .inv .1,
-      emitted-turn (of-field s t i) (loop .k) (loop .inv .2) (rw (said s t i (loop .k) (bytesOf s (field-id-of .result)) (first-with-id .result .given)
+      emitted-turn (of-field s t i) (loop .k) (loop .inv .2) (rw (said s t i (loop .k) (bytes-of s (field-id-of .result)) (first-with-id .result .given)
           (first-with-id .result .value) (pgn-error-call .result) (field-id-of .ensures) (first-with-id .ensures) (pgn-error-call .ensures))
           (put-if .ensures)),
     )
@@ -112,7 +112,7 @@ returns : tie.Need-returns Inv-loop μ-loop
 unfolding unique-field-ids
 returns c =
     let start = c .before .before .before .before .before in
-    let e : length (pgn-at (packOf (now (start .args .s))) (start .args .t) (start .args .i) .fields) ≡ c .before .loop .k =
+    let e : length (pgn-at (pack-of (now (start .args .s))) (start .args .t) (start .args .i) .fields) ≡ c .before .loop .k =
     omega (arith, start .pre .2, c .before .loop .inv .0, c .loop-test .left) in
     rw e (c .before .loop .inv .2)
 

@@ -11,8 +11,8 @@ use mathlib.Core.List.{List, []}
 use mathlib.Core.Option.{Option, none, some}
 use lib.ListN.{length}
 use denote.Ref.{now}
-use Rattle.pack.specs.Notation.{concatBelow, optional}
-use Rattle.pack.specs.Meaning.{packOf}
+use Rattle.pack.specs.Notation.{concat-below, optional}
+use Rattle.pack.specs.Meaning.{pack-of}
 use Rattle.pack.specs.Value.{pgns-of}
 use Rattle.rules.specs.declared.Finding.{Finding}
 use Rattle.rules.specs.Emit.{Emitted}
@@ -21,18 +21,18 @@ use Rattle.rules.proofs.variants.check_variants.Statement.{statement}
 use Rattle.rules.proofs.variants.check_variants.Tie as tie
 
 abbrev least : List ℕ → ℕ → ℕ → Option ℕ
-least s t = least-group t (pgns-of (packOf s) t)
+least s t = least-group t (pgns-of (pack-of s) t)
 
 -- the findings of the group of a rank
 abbrev of-rank : List ℕ → ℕ → ℕ → List Finding
-of-rank s t r = group-findings t (pgns-of (packOf s) t) (ranked (least s t) r)
+of-rank s t r = group-findings t (pgns-of (pack-of s) t) (ranked (least s t) r)
 
-no-group : (s : List ℕ) (t : ℕ) (o : Option ℕ) → o ≡ none → group-findings t (pgns-of (packOf s) t) o ≡ []
+no-group : (s : List ℕ) (t : ℕ) (o : Option ℕ) → o ≡ none → group-findings t (pgns-of (pack-of s) t) o ≡ []
 unfolding group-findings
 no-group s t o e = rw e
 
 -- after the last group nothing follows
-over : (s : List ℕ) (t r n : ℕ) → r ≤ n → ranked (least s t) r ≡ none → concatBelow (of-rank s t) n ≡ concatBelow (of-rank s t) r
+over : (s : List ℕ) (t r n : ℕ) → r ≤ n → ranked (least s t) r ≡ none → concat-below (of-rank s t) n ≡ concat-below (of-rank s t) r
 over s t r n h e =
     let q : r + (n - r) ≡ n = omega arith in
     rw q at (concat-ends (of-rank s t) r (n - r) (λ k. no-group s t (ranked (least s t) (r + k)) (ranked-ends (least s t) r k e)))
@@ -47,12 +47,12 @@ module _ (s : List ℕ) (t r b : ℕ) (e : ranked (least s t) r ≡ least s t b)
   rank-next : g ≡ true → ranked (least s t) (r + 1) ≡ least s t (v + 1)
   rank-next h = ranked-turn (least s t) r ∙ ap (next-rank (least s t)) (rank-some h)
 
-  of-some : g ≡ true → of-rank s t r ≡ group-findings t (pgns-of (packOf s) t) (some v)
-  of-some h = ap (group-findings t (pgns-of (packOf s) t)) (rank-some h)
+  of-some : g ≡ true → of-rank s t r ≡ group-findings t (pgns-of (pack-of s) t) (some v)
+  of-some h = ap (group-findings t (pgns-of (pack-of s) t)) (rank-some h)
 
 abbrev Inv-loop : tie.InvT-loop
 Inv-loop out₀ n s work t tree count m₀ b₀ r₀ out m b r =
-    (r ≤ count) × (length out ≡ length out₀) × (ranked (least s t) r ≡ least s t b) × Emitted out₀ n (concatBelow (of-rank s t) r) out m
+    (r ≤ count) × (length out ≡ length out₀) × (ranked (least s t) r ≡ least s t b) × Emitted out₀ n (concat-below (of-rank s t) r) out m
 
 abbrev μ-loop : tie.MeasureT-loop
 μ-loop out₀ n s work t tree count m₀ b₀ r₀ out m b r = count - r
@@ -79,7 +79,7 @@ returns c =
     let loop = c .before .before .before .before .loop in
     let least-group-call = c .before .before .least-group in
     let s = now (start .args .s) in let t = start .args .t in
-    rw (over s t (loop .r) (length (pgns-of (packOf s) t)) (omega (arith, loop .inv .0, start .pre .3))
+    rw (over s t (loop .r) (length (pgns-of (pack-of s) t)) (omega (arith, loop .inv .0, start .pre .3))
     (rank-none s t (loop .r) (loop .b) (loop .inv .2) (least-group-call .result .given) (least-group-call .result .value) (least-group-call .ensures)
     (not-true (least-group-call .result .given) (c .if1 .taken)))) (loop .inv .3)
 
@@ -137,7 +137,7 @@ returns-2 : tie.Need-returns-2 Inv-loop μ-loop
 unfolding check-variants
 returns-2 c =
     let start = c .before .before .before .before .before in
-    let e : length (pgns-of (packOf (now (start .args .s))) (start .args .t)) ≡ c .before .loop .r =
+    let e : length (pgns-of (pack-of (now (start .args .s))) (start .args .t)) ≡ c .before .loop .r =
     omega (arith, start .pre .3, c .before .loop .inv .0, c .loop-test .left) in
     rw e (c .before .loop .inv .3)
 

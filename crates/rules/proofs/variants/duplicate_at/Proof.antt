@@ -3,7 +3,7 @@ use Rattle.rules.specs.Variants.{in-group, duplicates}
 use Rattle.rules.proofs.Groups.{in-group-is, outside, within}
 use mathlib.Core.Path.{sym, _∙_}
 use denote.Ref.{now}
-use Rattle.pack.specs.Meaning.{packOf}
+use Rattle.pack.specs.Meaning.{pack-of}
 use Rattle.pack.specs.Value.{pgns-of, pgn-at}
 use borrow.Author.Needs.{needs}
 use Rattle.rules.proofs.variants.duplicate_at.Statement.{statement}
@@ -16,7 +16,7 @@ returns : tie.Need-returns
 returns c =
     let start = c .before .before .before .before in
     let t = start .args .t in let s = now (start .args .s) in let number = start .args .number in let j = start .args .j in
-    outside (in-group t (pgns-of (packOf s) t) number j) (duplicates (pgn-at (packOf s) t j) (pgn-at (packOf s) t (start .args .i)))
+    outside (in-group t (pgns-of (pack-of s) t) number j) (duplicates (pgn-at (pack-of s) t j) (pgn-at (pack-of s) t (start .args .i)))
     (in-group-is s t number j (start .args .g) (start .pre .1) ∙ sym (c .before .in-group .ensures) ∙ not-true (c .before .in-group .result) (c .if1 .taken))
 
 duplicates-requires : tie.Need-duplicates-requires
@@ -29,7 +29,7 @@ returns-2 c =
     let start = c .before .before .before .before .before in
     let in-group-call = c .before .before .in-group in
     let t = start .args .t in let s = now (start .args .s) in let number = start .args .number in let j = start .args .j in
-    within (in-group t (pgns-of (packOf s) t) number j) (duplicates (pgn-at (packOf s) t j) (pgn-at (packOf s) t (start .args .i))) (c .duplicates .result)
+    within (in-group t (pgns-of (pack-of s) t) number j) (duplicates (pgn-at (pack-of s) t j) (pgn-at (pack-of s) t (start .args .i))) (c .duplicates .result)
     (in-group-is s t number j (start .args .g) (start .pre .1) ∙ sym (in-group-call .ensures) ∙ not-false (in-group-call .result) (c .before .if1 .left))
     (c .duplicates .ensures)
 

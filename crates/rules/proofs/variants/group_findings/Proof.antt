@@ -1,7 +1,7 @@
-use Rattle.pack.specs.Ready.{pgnPlace}
+use Rattle.pack.specs.Ready.{place-of-pgn}
 use Rattle.pack.proofs.Positions.{pgn-place-next}
 use Rattle.rules.specs.Variants.{in-group, has-match, variant-at, matchless, group-findings}
-use Rattle.rules.specs.Search.{countBelow}
+use Rattle.rules.specs.Search.{count-below}
 use Rattle.rules.specs.SearchLaws.{count-turn}
 use Rattle.rules.proofs.Sizes.{at-pgn, fields-few, pgns-few, hits-few}
 use borrow.Author.Needs.{needs}
@@ -13,8 +13,8 @@ use mathlib.Core.List.{List, _++_}
 use mathlib.Core.Option.{some}
 use lib.ListN.{length}
 use denote.Ref.{now}
-use Rattle.pack.specs.Notation.{concatBelow, _<ᵇ_}
-use Rattle.pack.specs.Meaning.{packOf}
+use Rattle.pack.specs.Notation.{concat-below, _<ᵇ_}
+use Rattle.pack.specs.Meaning.{pack-of}
 use Rattle.pack.specs.Value.{pgns-of, pgn-at}
 use Rattle.rules.specs.declared.Finding.{Finding}
 use Rattle.rules.specs.Emit.{Emitted}
@@ -25,25 +25,25 @@ use Rattle.rules.proofs.variants.group_findings.Tie as tie
 
 -- the findings of PGN i
 abbrev of-pgn : List ℕ → ℕ → ℕ → ℕ → List Finding
-of-pgn s t number = variant-at t (pgns-of (packOf s) t) number
+of-pgn s t number = variant-at t (pgns-of (pack-of s) t) number
 
 -- whether PGN i is of the group and has no match
 abbrev lacks : List ℕ → ℕ → ℕ → ℕ → Bool
-lacks s t number i = in-group t (pgns-of (packOf s) t) number i && not (has-match (pgn-at (packOf s) t i) (length (pgn-at (packOf s) t i .fields)))
+lacks s t number i = in-group t (pgns-of (pack-of s) t) number i && not (has-match (pgn-at (pack-of s) t i) (length (pgn-at (pack-of s) t i .fields)))
 
-whole : (s : List ℕ) (t number i w : ℕ) (F : Finding) → length (pgns-of (packOf s) t) ≡ i → w ≡ countBelow (lacks s t number) i
-    → F ≡ group-error 20 2 t number w → group-findings t (pgns-of (packOf s) t) (some number) ≡ concatBelow (of-pgn s t number) i ++ report-if (1 <ᵇ w) F
+whole : (s : List ℕ) (t number i w : ℕ) (F : Finding) → length (pgns-of (pack-of s) t) ≡ i → w ≡ count-below (lacks s t number) i
+    → F ≡ group-error 20 2 t number w → group-findings t (pgns-of (pack-of s) t) (some number) ≡ concat-below (of-pgn s t number) i ++ report-if (1 <ᵇ w) F
 unfolding group-findings matchless
 whole s t number i w F e c y = rw (e, ← c, y)
 
 abbrev Inv-loop : tie.InvT-loop
 Inv-loop out₀ n s work t number count first m₀ without₀ p₀ i₀ out m without p i =
     (i ≤ count)
-    × (p ≡ pgnPlace (packOf s) t i)
+    × (p ≡ place-of-pgn (pack-of s) t i)
     × (length out ≡ length out₀)
     × (without ≤ i)
-    × (without ≡ countBelow (lacks s t number) i)
-    × Emitted out₀ n (concatBelow (of-pgn s t number) i) out m
+    × (without ≡ count-below (lacks s t number) i)
+    × Emitted out₀ n (concat-below (of-pgn s t number) i) out m
 
 abbrev μ-loop : tie.MeasureT-loop
 μ-loop out₀ n s work t number count first m₀ without₀ p₀ i₀ out m without p i = count - i
@@ -66,7 +66,7 @@ variant-at-requires c κs =
     let loop-test = c .before .before .loop-test in
     let s = now (start .args .s) in let t = start .args .t in let number = start .args .number in (
       fits-turn (of-pgn s t number) (start .args .tree .count) (loop .i) (loop-test .taken)
-          (rw (← start .pre .3) at (fits-left (concatBelow (of-pgn s t number) (length (pgns-of (packOf s) t))) _ (start .pre .0))) (loop .inv .5),
+          (rw (← start .pre .3) at (fits-left (concat-below (of-pgn s t number) (length (pgns-of (pack-of s) t))) _ (start .pre .0))) (loop .inv .5),
       (at-pgn (start .pre .1) (start .pre .2) (omega (arith, start .pre .3)) (loop-test .taken) (loop .inv .1)),
       c .before .pgn-of .ensures,
       start .pre .4,
@@ -133,7 +133,7 @@ loop-again c =
     let matchless-at = c .before .before .matchless-at in
     let s = now (start .args .s) in let t = start .args .t in let number = start .args .number in (
       omega (arith, c),
-      omega (arith, pgn-place-next (packOf s) t (loop .i), pgn-of .ensures .fields, loop .inv .1),
+      omega (arith, pgn-place-next (pack-of s) t (loop .i), pgn-of .ensures .fields, loop .inv .1),
       variant-at-call .kept .0 ∙ loop .inv .2,
       (rw (c .before .counted .ensures) (hits-few (matchless-at .result) (loop .without) (loop .i) (loop .inv .3))),
       c .before .counted .ensures ∙ (rw (count-turn (lacks s t number) (loop .i), ← matchless-at .ensures, ← loop .inv .4)),
@@ -148,7 +148,7 @@ put-if-requires c κs =
     let start = c .before .before .before .before .before .before .before in
     let loop = c .before .before .before .loop in
     let s = now (start .args .s) in let t = start .args .t in let number = start .args .number in
-    fits-right (concatBelow (of-pgn s t number) (loop .i)) (report-if (1 <ᵇ loop .without) (c .group-error .result))
+    fits-right (concat-below (of-pgn s t number) (loop .i)) (report-if (1 <ᵇ loop .without) (c .group-error .result))
     (rw (whole s t number (loop .i) (loop .without) (c .group-error .result) (omega (arith, start .pre .3, loop .inv .0, c .before .before .loop-test .left))
     (loop .inv .4) (c .group-error .ensures)) at (start .pre .0)) (loop .inv .5)
 

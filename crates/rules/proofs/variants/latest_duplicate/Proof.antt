@@ -1,7 +1,7 @@
-use Rattle.pack.specs.Ready.{pgnPlace}
+use Rattle.pack.specs.Ready.{place-of-pgn}
 use Rattle.pack.proofs.Positions.{pgn-place-next}
 use Rattle.rules.specs.Variants.{in-group, duplicates}
-use Rattle.rules.specs.Search.{latestBelow}
+use Rattle.rules.specs.Search.{latest-below}
 use Rattle.rules.specs.SearchLaws.{latest-turn}
 use Rattle.rules.proofs.Sizes.{at-pgn, fields-few}
 use borrow.Author.Needs.{needs}
@@ -11,17 +11,17 @@ use mathlib.Core.Path.{_≡_, refl, sym, _∙_, ap}
 use mathlib.Core.Bool.{Bool, _&&_}
 use mathlib.Core.List.{List}
 use denote.Ref.{now}
-use Rattle.pack.specs.Meaning.{packOf, optNumber}
+use Rattle.pack.specs.Meaning.{pack-of, optional-number}
 use Rattle.pack.specs.Value.{pgns-of, pgn-at}
 use Rattle.rules.proofs.variants.latest_duplicate.Statement.{statement}
 use Rattle.rules.proofs.variants.latest_duplicate.Tie as tie
 
 -- whether PGN j is of the group and a duplicate of PGN i
 abbrev copies : List ℕ → ℕ → ℕ → ℕ → ℕ → Bool
-copies s t number i j = in-group t (pgns-of (packOf s) t) number j && duplicates (pgn-at (packOf s) t j) (pgn-at (packOf s) t i)
+copies s t number i j = in-group t (pgns-of (pack-of s) t) number j && duplicates (pgn-at (pack-of s) t j) (pgn-at (pack-of s) t i)
 
 abbrev Inv-loop : tie.InvT-loop
-Inv-loop s work t first number i p n found₀ q₀ j₀ found q j = (j ≤ i) × (q ≡ pgnPlace (packOf s) t j) × (optNumber found ≡ latestBelow (copies s t number i) j)
+Inv-loop s work t first number i p n found₀ q₀ j₀ found q j = (j ≤ i) × (q ≡ place-of-pgn (pack-of s) t j) × (optional-number found ≡ latest-below (copies s t number i) j)
 
 abbrev μ-loop : tie.MeasureT-loop
 μ-loop s work t first number i p n found₀ q₀ j₀ found q j = i - j
@@ -91,7 +91,7 @@ loop-again c =
     let pgn-of = c .before .before .before .pgn-of in
     let s = now (start .args .s) in let t = start .args .t in (
       omega (arith, c),
-      omega (arith, pgn-place-next (packOf s) t (loop .j), pgn-of .ensures .fields, loop .inv .1),
+      omega (arith, pgn-place-next (pack-of s) t (loop .j), pgn-of .ensures .fields, loop .inv .1),
       c .before .latest .ensures
           ∙ (rw (latest-turn (copies s t (start .args .number) (start .args .i)) (loop .j), ← c .before .before .duplicate-at .ensures, loop .inv .2)),
     )
@@ -100,7 +100,7 @@ returns : tie.Need-returns Inv-loop μ-loop
 returns c =
     let start = c .before .before .before .before in
     let e : start .args .i ≡ c .before .loop .j = omega (arith, c .before .loop .inv .0, c .loop-test .left) in
-    c .before .loop .inv .2 ∙ ap (latestBelow (copies (now (start .args .s)) (start .args .t) (start .args .number) (start .args .i))) (sym e)
+    c .before .loop .inv .2 ∙ ap (latest-below (copies (now (start .args .s)) (start .args .t) (start .args .number) (start .args .i))) (sym e)
 
 pub latest-duplicate-spec : {M : Type 1} → statement M
 latest-duplicate-spec =

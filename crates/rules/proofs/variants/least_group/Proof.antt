@@ -1,9 +1,9 @@
 use Rattle.pack.specs.declared.pgn.PgnView.{PgnView}
 use Rattle.pack.specs.Value.{Pgn, pgns-of, pgn-at}
-use Rattle.pack.specs.Ready.{pgnPlace, PgnIs}
+use Rattle.pack.specs.Ready.{place-of-pgn, PgnIs}
 use Rattle.pack.proofs.Positions.{pgn-place-next}
 use Rattle.rules.specs.Variants.{least-group}
-use Rattle.rules.specs.Search.{minBelow}
+use Rattle.rules.specs.Search.{min-below}
 use Rattle.rules.specs.SearchLaws.{min-turn}
 use Rattle.rules.proofs.Sizes.{at-pgn, fields-few, pgns-few}
 use borrow.Author.Needs.{needs}
@@ -16,7 +16,7 @@ use mathlib.Core.Option.{Option}
 use lib.ListN.{length}
 use denote.Ref.{now}
 use Rattle.pack.specs.Notation.{optional, _≤ᵇ_}
-use Rattle.pack.specs.Meaning.{packOf, optNumber}
+use Rattle.pack.specs.Meaning.{pack-of, optional-number}
 use Rattle.rules.proofs.variants.least_group.Statement.{statement}
 use Rattle.rules.proofs.variants.least_group.Tie as tie
 
@@ -30,7 +30,7 @@ said s p b g hit is e = ap (λ (x : Pgn). counts x b) (sym (is .means)) ∙ ap (
 
 abbrev Inv-loop : tie.InvT-loop
 Inv-loop s work t b count found₀ p₀ i₀ found p i =
-    (i ≤ count) × (p ≡ pgnPlace (packOf s) t i) × (optNumber found ≡ minBelow (λ i. counts (pgn-at (packOf s) t i) b) i)
+    (i ≤ count) × (p ≡ place-of-pgn (pack-of s) t i) × (optional-number found ≡ min-below (λ i. counts (pgn-at (pack-of s) t i) b) i)
 
 abbrev μ-loop : tie.MeasureT-loop
 μ-loop s work t b count found₀ p₀ i₀ found p i = count - i
@@ -90,11 +90,11 @@ loop-again c =
     let from-number = c .before .before .from-number in
     let s = now (start .args .s) in let t = start .args .t in let b = start .args .b in (
       omega (arith, c),
-      omega (arith, pgn-place-next (packOf s) t (loop .i), pgn-of .ensures .fields, loop .inv .1),
+      omega (arith, pgn-place-next (pack-of s) t (loop .i), pgn-of .ensures .fields, loop .inv .1),
       c .before .smaller .ensures
           ∙ (rw (
-            min-turn (λ i. counts (pgn-at (packOf s) t i) b) (loop .i),
-            said s (pgn-at (packOf s) t (loop .i)) b (pgn-of .result) (from-number .result) (pgn-of .ensures) (from-number .ensures),
+            min-turn (λ i. counts (pgn-at (pack-of s) t i) b) (loop .i),
+            said s (pgn-at (pack-of s) t (loop .i)) b (pgn-of .result) (from-number .result) (pgn-of .ensures) (from-number .ensures),
             loop .inv .2,
           )),
     )
@@ -103,7 +103,7 @@ returns : tie.Need-returns Inv-loop μ-loop
 unfolding least-group
 returns c =
     let start = c .before .before .before .before in
-    let e : length (pgns-of (packOf (now (start .args .s))) (start .args .t)) ≡ c .before .loop .i =
+    let e : length (pgns-of (pack-of (now (start .args .s))) (start .args .t)) ≡ c .before .loop .i =
     omega (arith, start .pre .2, c .before .loop .inv .0, c .loop-test .left) in
     rw e (c .before .loop .inv .2)
 

@@ -5,7 +5,7 @@ use mathlib.Core.Path.{sym, _∙_, ap}
 use mathlib.Core.Bool.{not}
 use lib.ListN.{length}
 use denote.Ref.{now}
-use Rattle.pack.specs.Meaning.{packOf}
+use Rattle.pack.specs.Meaning.{pack-of}
 use Rattle.pack.specs.Value.{pgns-of, pgn-at}
 use borrow.Author.Needs.{needs}
 use Rattle.rules.proofs.variants.matchless_at.Statement.{statement}
@@ -18,7 +18,7 @@ returns : tie.Need-returns
 returns c =
     let start = c .before .before .before .before in
     let t = start .args .t in let s = now (start .args .s) in let number = start .args .number in let i = start .args .i in
-    outside (in-group t (pgns-of (packOf s) t) number i) (not (has-match (pgn-at (packOf s) t i) (length (pgn-at (packOf s) t i .fields))))
+    outside (in-group t (pgns-of (pack-of s) t) number i) (not (has-match (pgn-at (pack-of s) t i) (length (pgn-at (pack-of s) t i .fields))))
     (in-group-is s t number i (start .args .g) (start .pre .1) ∙ sym (c .before .in-group .ensures) ∙ not-true (c .before .in-group .result) (c .if1 .taken))
 
 has-match-requires : tie.Need-has-match-requires
@@ -31,10 +31,10 @@ returns-2 c =
     let start = c .before .before .before .before .before in
     let in-group-call = c .before .before .in-group in
     let t = start .args .t in let s = now (start .args .s) in let number = start .args .number in let i = start .args .i in
-    within (in-group t (pgns-of (packOf s) t) number i) (not (has-match (pgn-at (packOf s) t i) (length (pgn-at (packOf s) t i .fields))))
+    within (in-group t (pgns-of (pack-of s) t) number i) (not (has-match (pgn-at (pack-of s) t i) (length (pgn-at (pack-of s) t i .fields))))
     (not (c .has-match .result))
     (in-group-is s t number i (start .args .g) (start .pre .1) ∙ sym (in-group-call .ensures) ∙ not-false (in-group-call .result) (c .before .if1 .left))
-    (ap not (c .has-match .ensures ∙ ap (has-match (pgn-at (packOf s) t i)) (start .pre .1 .fields)))
+    (ap not (c .has-match .ensures ∙ ap (has-match (pgn-at (pack-of s) t i)) (start .pre .1 .fields)))
 
 pub matchless-at-spec : {M : Type 1} → statement M
 matchless-at-spec = tie.close (tie.spec in-group-requires returns has-match-requires returns-2)

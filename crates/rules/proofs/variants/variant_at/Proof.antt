@@ -1,7 +1,7 @@
 use borrow.Author.Tests.{not-true, not-false}
-use Rattle.pack.specs.Value.{Pgn, pgns-of, noPgn}
+use Rattle.pack.specs.Value.{Pgn, pgns-of, no-pgn}
 use Rattle.rules.specs.SearchLaws.{latest-none}
-use Rattle.rules.specs.Search.{latestBelow}
+use Rattle.rules.specs.Search.{latest-below}
 use Rattle.rules.specs.Variants.{has-match, match-key, in-group, duplicates, duplicate-of, variant-at}
 use Rattle.rules.proofs.Groups.{in-group-is}
 use Prim.Native.Nat.{ℕ}
@@ -12,7 +12,7 @@ use mathlib.Core.Option.{none}
 use lib.ListN.{length, getD}
 use denote.Ref.{now}
 use Rattle.pack.specs.Notation.{optional, _≐_}
-use Rattle.pack.specs.Meaning.{packOf}
+use Rattle.pack.specs.Meaning.{pack-of}
 use Rattle.rules.specs.declared.Finding.{Finding}
 use Rattle.rules.specs.Findings.{pgn-error}
 use Rattle.rules.proofs.Emits.{emitted-none}
@@ -31,15 +31,15 @@ module _ (t : ℕ) (pgns : List Pgn) (number i : ℕ) where
   never false x y k e = refl
 
   -- what has no match duplicates none
-  unmatched : (n : ℕ) → n ≡ length (getD pgns i noPgn .fields) → has-match (getD pgns i noPgn) n ≡ false
-      → latestBelow (λ j. in-group t pgns number j && duplicates (getD pgns j noPgn) (getD pgns i noPgn)) i ≡ none
+  unmatched : (n : ℕ) → n ≡ length (getD pgns i no-pgn .fields) → has-match (getD pgns i no-pgn) n ≡ false
+      → latest-below (λ j. in-group t pgns number j && duplicates (getD pgns j no-pgn) (getD pgns i no-pgn)) i ≡ none
   unfolding duplicates
   unmatched n e h =
-      latest-none (λ j. in-group t pgns number j && duplicates (getD pgns j noPgn) (getD pgns i noPgn)) i
-      (λ j. never (in-group t pgns number j) (has-match (getD pgns j noPgn) (length (getD pgns j noPgn .fields)))
-      (has-match (getD pgns i noPgn) (length (getD pgns i noPgn .fields))) (match-key (getD pgns j noPgn) ≐ match-key (getD pgns i noPgn)) (rw e at h))
+      latest-none (λ j. in-group t pgns number j && duplicates (getD pgns j no-pgn) (getD pgns i no-pgn)) i
+      (λ j. never (in-group t pgns number j) (has-match (getD pgns j no-pgn) (length (getD pgns j no-pgn .fields)))
+      (has-match (getD pgns i no-pgn) (length (getD pgns i no-pgn .fields))) (match-key (getD pgns j no-pgn) ≐ match-key (getD pgns i no-pgn)) (rw e at h))
 
-  module _ (h : in-group t pgns number i ≡ true) (b : Bool) (v : ℕ) (e : optional b v ≡ latestBelow (λ j. in-group t pgns number j && duplicates (getD pgns j noPgn) (getD pgns i noPgn)) i) where
+  module _ (h : in-group t pgns number i ≡ true) (b : Bool) (v : ℕ) (e : optional b v ≡ latest-below (λ j. in-group t pgns number j && duplicates (getD pgns j no-pgn) (getD pgns i no-pgn)) i) where
     alone : b ≡ false → variant-at t pgns number i ≡ []
     unfolding variant-at duplicate-of
     alone k = rw (h, ← e, k)
@@ -55,7 +55,7 @@ returns : tie.Need-returns
 returns c =
     let start = c .before .before .before .before .before in
     let t = start .args .t in let s = now (start .args .s) in let number = start .args .number in let i = start .args .i in
-    rw (outside t (pgns-of (packOf s) t) number i
+    rw (outside t (pgns-of (pack-of s) t) number i
     (in-group-is s t number i (start .args .g) (start .pre .2) ∙ sym (c .before .in-group .ensures) ∙ not-true (c .before .in-group .result) (c .if1 .taken)))
     (emitted-none (now (start .args .out)) (start .args .n))
 
@@ -69,10 +69,10 @@ returns-2 c =
     let start = c .before .before .before .before .before .before .before in
     let in-group-call = c .before .before .before .in-group in
     let t = start .args .t in let s = now (start .args .s) in let number = start .args .number in let i = start .args .i in
-    rw (alone t (pgns-of (packOf s) t) number i (in-group-is s t number i (start .args .g) (start .pre .2)
+    rw (alone t (pgns-of (pack-of s) t) number i (in-group-is s t number i (start .args .g) (start .pre .2)
     ∙ sym (in-group-call .ensures)
     ∙ not-false (in-group-call .result) (c .before .before .if1 .left)) false 0
-    (sym (unmatched t (pgns-of (packOf s) t) number i (start .args .g .fields) (start .pre .2 .fields)
+    (sym (unmatched t (pgns-of (pack-of s) t) number i (start .args .g .fields) (start .pre .2 .fields)
     (sym (c .before .has-match .ensures) ∙ not-true (c .before .has-match .result) (c .if2 .taken)))) refl)
     (emitted-none (now (start .args .out)) (start .args .n))
 
@@ -88,7 +88,7 @@ returns-3 c =
     let if1 = c .before .before .before .before .before .if1 in
     let latest-duplicate = c .before .before .latest-duplicate in
     let t = start .args .t in let s = now (start .args .s) in let number = start .args .number in let i = start .args .i in
-    rw (alone t (pgns-of (packOf s) t) number i
+    rw (alone t (pgns-of (pack-of s) t) number i
     (in-group-is s t number i (start .args .g) (start .pre .2) ∙ sym (in-group-call .ensures) ∙ not-false (in-group-call .result) (if1 .left))
     (latest-duplicate .result .given) (latest-duplicate .result .value) (latest-duplicate .ensures)
     (not-true (latest-duplicate .result .given) (c .if3 .taken))) (emitted-none (now (start .args .out)) (start .args .n))
@@ -103,7 +103,7 @@ put-requires c κs =
     let if1 = c .before .before .before .before .before .before .before .if1 in
     let latest-duplicate = c .before .before .before .before .latest-duplicate in
     let t = start .args .t in let s = now (start .args .s) in let number = start .args .number in let i = start .args .i in
-    rw (other t (pgns-of (packOf s) t) number i
+    rw (other t (pgns-of (pack-of s) t) number i
     (in-group-is s t number i (start .args .g) (start .pre .2) ∙ sym (in-group-call .ensures) ∙ not-false (in-group-call .result) (if1 .left))
     (latest-duplicate .result .given) (latest-duplicate .result .value) (latest-duplicate .ensures)
     (not-false (latest-duplicate .result .given) (c .before .before .if3 .left)) (c .pgn-error .result) (c .pgn-error .ensures)) at (start .pre .0)
@@ -121,7 +121,7 @@ returns-4 c =
     let if3 = c .before .before .before .before .before .if3 in
     let pgn-error-call = c .before .before .before .pgn-error in
     let t = start .args .t in let s = now (start .args .s) in let number = start .args .number in let i = start .args .i in
-    rw (other t (pgns-of (packOf s) t) number i
+    rw (other t (pgns-of (pack-of s) t) number i
     (in-group-is s t number i (start .args .g) (start .pre .2) ∙ sym (in-group-call .ensures) ∙ not-false (in-group-call .result) (if1 .left))
     (latest-duplicate .result .given) (latest-duplicate .result .value) (latest-duplicate .ensures) (not-false (latest-duplicate .result .given) (if3 .left))
     (pgn-error-call .result) (pgn-error-call .ensures)) (c .before .before .put .ensures)

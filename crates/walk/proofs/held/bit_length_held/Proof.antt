@@ -3,7 +3,7 @@ use Rattle.walk.specs.Held.{bit-length-held}
 use Rattle.walk.specs.Layout.{layout, sets-hold}
 use Rattle.rules.specs.Model.{target}
 use Rattle.rules.proofs.Sizes.{fields-few}
-use Rattle.pack.specs.Items.{bytesOf}
+use Rattle.pack.specs.Items.{bytes-of}
 use Rattle.pack.specs.Value.{Bytes, Field, Pgn, pgn-at, field-at}
 use native.Mathlib.Numerals.{add-one}
 use borrow.Author.Tests.{not-true, not-false}
@@ -14,7 +14,7 @@ use mathlib.Core.Bool.{Bool, true}
 use mathlib.Core.Option.{Option, none, some}
 use denote.Ref.{now}
 use Rattle.pack.specs.Notation.{optional}
-use Rattle.pack.specs.Meaning.{packOf, fieldMeaning}
+use Rattle.pack.specs.Meaning.{pack-of, field-meaning}
 use borrow.Author.Needs.{needs}
 use Rattle.walk.proofs.held.bit_length_held.Statement.{statement}
 use Rattle.walk.proofs.held.bit_length_held.Tie as tie
@@ -40,8 +40,8 @@ returns : tie.Need-returns
 returns c =
     let start = c .before .before .before .before .before in
     let s = now (start .args .s) in
-    sym (nothing (pgn-at (packOf s) (start .args .t) (start .args .i)) (start .args .k) (fieldMeaning s (start .args .f)) (start .pre .3)
-    (ap (λ (b : Bool). optional b (bytesOf s (start .args .f .links .length .text))) (not-true (start .args .f .links .length .given) (c .if1 .taken))))
+    sym (nothing (pgn-at (pack-of s) (start .args .t) (start .args .i)) (start .args .k) (field-meaning s (start .args .f)) (start .pre .3)
+    (ap (λ (b : Bool). optional b (bytes-of s (start .args .f .links .length .text))) (not-true (start .args .f .links .length .given) (c .if1 .taken))))
 
 target-requires : tie.Need-target-requires
 target-requires c κs = search needs
@@ -52,8 +52,8 @@ returns-2 c =
     let if1 = c .before .before .before .if1 in
     let target-call = c .before .before .target in
     let s = now (start .args .s) in
-    let id = bytesOf s (start .args .f .links .length .text) in
-    sym (unknown (pgn-at (packOf s) (start .args .t) (start .args .i)) (start .args .k) (fieldMeaning s (start .args .f)) (start .pre .3) id
+    let id = bytes-of s (start .args .f .links .length .text) in
+    sym (unknown (pgn-at (pack-of s) (start .args .t) (start .args .i)) (start .args .k) (field-meaning s (start .args .f)) (start .pre .3) id
     (ap (λ (b : Bool). optional b id) (not-false (start .args .f .links .length .given) (if1 .left)))
     (sym (target-call .ensures) ∙ ap (λ (b : Bool). optional b (target-call .result .value)) (not-true (target-call .result .given) (c .if2 .taken))))
 
@@ -71,7 +71,7 @@ order-requires-2 c κs =
     sym (target-call .ensures) ∙ ap (λ (b : Bool). optional b (target-call .result .value)) (not-false (target-call .result .given) (c .before .if2 .left)) in
     omega (
       arith,
-      target-below (pgn-at (packOf s) (start .args .t) (start .args .i)) (bytesOf s (start .args .f .links .length .text)) (target-call .result .value) e,
+      target-below (pgn-at (pack-of s) (start .args .t) (start .args .i)) (bytes-of s (start .args .f .links .length .text)) (target-call .result .value) e,
       fields-few (start .pre .0),
     )
 
@@ -85,12 +85,12 @@ returns-3 c =
     let target-call = c .before .before .before .before .before .target in
     let if2 = c .before .before .before .if2 in
     let s = now (start .args .s) in let t = start .args .t in let i = start .args .i in let k = start .args .k in
-    let L = layout (pgn-at (packOf s) t i) in
-    let id = bytesOf s (start .args .f .links .length .text) in
+    let L = layout (pgn-at (pack-of s) t i) in
+    let id = bytes-of s (start .args .f .links .length .text) in
     let e = sym (target-call .ensures) ∙ ap (λ (b : Bool). optional b (target-call .result .value)) (not-false (target-call .result .given) (if2 .left)) in
     c .sets-hold .ensures L (start .pre .1)
     ∙ (λ j. sets-hold L ((c .before .order2 .ensures ∙ add-one (target-call .result .value)) j) ((c .before .before .order .ensures ∙ add-one k) j))
-    ∙ sym (known (pgn-at (packOf s) t i) k (fieldMeaning s (start .args .f)) (start .pre .3) id
+    ∙ sym (known (pgn-at (pack-of s) t i) k (field-meaning s (start .args .f)) (start .pre .3) id
     (ap (λ (b : Bool). optional b id) (not-false (start .args .f .links .length .given) (if1 .left))) (target-call .result .value) e)
 
 pub bit-length-held-spec : {M : Type 1} → statement M

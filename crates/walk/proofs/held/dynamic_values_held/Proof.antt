@@ -5,7 +5,7 @@ use Rattle.walk.specs.Stops.{lacks-length}
 use Rattle.walk.specs.Layout.{layout}
 use Rattle.walk.specs.ByPlace.{placed}
 use Rattle.rules.proofs.Sizes.{fields-few}
-use Rattle.rules.specs.Search.{everyBelow}
+use Rattle.rules.specs.Search.{every-below}
 use Rattle.pack.specs.Value.{Pgn, Pack, pgn-at}
 use borrow.Author.Needs.{needs}
 use native.Mathlib.Omega.{arith}
@@ -14,7 +14,7 @@ use mathlib.Core.Path.{_≡_, refl, sym, _∙_, ap}
 use mathlib.Core.Bool.{Bool, true, false, not}
 use lib.ListN.{length}
 use denote.Ref.{now}
-use Rattle.pack.specs.Meaning.{packOf}
+use Rattle.pack.specs.Meaning.{pack-of}
 use Rattle.walk.proofs.held.dynamic_values_held.Statement.{statement}
 use Rattle.walk.proofs.held.dynamic_values_held.Tie as tie
 
@@ -23,7 +23,7 @@ unfolding dynamic-value-held
 said P p k r b e h = value-held P p (layout p) k ∙ ap not (sym e ∙ h)
 
 abbrev Inv-loop : tie.InvT-loop
-Inv-loop s work t i p sets fields k₀ k = (k ≤ fields) × (everyBelow (dynamic-value-held (packOf s) (pgn-at (packOf s) t i)) k ≡ true)
+Inv-loop s work t i p sets fields k₀ k = (k ≤ fields) × (every-below (dynamic-value-held (pack-of s) (pgn-at (pack-of s) t i)) k ≡ true)
 
 abbrev μ-loop : tie.MeasureT-loop
 μ-loop s work t i p sets fields k₀ k = fields - k
@@ -47,9 +47,9 @@ returns c =
     let loop = c .before .before .before .before .loop in
     let loop-test = c .before .before .before .loop-test in
     let s = now (start .args .s) in let t = start .args .t in let i = start .args .i in
-    sym (every-missed (dynamic-value-held (packOf s) (pgn-at (packOf s) t i)) (length (pgn-at (packOf s) t i .fields)) (loop .k)
+    sym (every-missed (dynamic-value-held (pack-of s) (pgn-at (pack-of s) t i)) (length (pgn-at (pack-of s) t i .fields)) (loop .k)
     (omega (arith, start .pre .1 .fields, loop-test .taken))
-    (said (packOf s) (pgn-at (packOf s) t i) (loop .k) (c .before .lacks-length .result) true (c .before .lacks-length .ensures) (c .if1 .taken)))
+    (said (pack-of s) (pgn-at (pack-of s) t i) (loop .k) (c .before .lacks-length .result) true (c .before .lacks-length .ensures) (c .if1 .taken)))
 
 add-k : tie.Need-add-k Inv-loop μ-loop
 add-k c =
@@ -66,17 +66,17 @@ loop-again c =
     let loop = c .before .before .before .before .loop in
     let s = now (start .args .s) in let t = start .args .t in let i = start .args .i in (
       omega (arith, c),
-      every-turn (dynamic-value-held (packOf s) (pgn-at (packOf s) t i)) (loop .k)
+      every-turn (dynamic-value-held (pack-of s) (pgn-at (pack-of s) t i)) (loop .k)
           ∙ (rw (loop .inv .1)
-          (said (packOf s) (pgn-at (packOf s) t i) (loop .k) (c .before .lacks-length .result) false (c .before .lacks-length .ensures) (c .if1 .left))),
+          (said (pack-of s) (pgn-at (pack-of s) t i) (loop .k) (c .before .lacks-length .result) false (c .before .lacks-length .ensures) (c .if1 .left))),
     )
 
 returns-2 : tie.Need-returns-2 Inv-loop μ-loop
 returns-2 c =
     let start = c .before .before .before .before in
     let s = now (start .args .s) in let t = start .args .t in let i = start .args .i in
-    let q : length (pgn-at (packOf s) t i .fields) ≡ c .before .loop .k = omega (arith, start .pre .1 .fields, c .before .loop .inv .0, c .loop-test .left) in
-    sym (ap (everyBelow (dynamic-value-held (packOf s) (pgn-at (packOf s) t i))) q ∙ c .before .loop .inv .1)
+    let q : length (pgn-at (pack-of s) t i .fields) ≡ c .before .loop .k = omega (arith, start .pre .1 .fields, c .before .loop .inv .0, c .loop-test .left) in
+    sym (ap (every-below (dynamic-value-held (pack-of s) (pgn-at (pack-of s) t i))) q ∙ c .before .loop .inv .1)
 
 pub dynamic-values-held-spec : {M : Type 1} → statement M
 dynamic-values-held-spec =

@@ -7,11 +7,11 @@ use mathlib.Core.Path.{_≡_, sym, _∙_, ap}
 use mathlib.Core.Bool.{Bool, true, false, not}
 use lib.ListN.{length}
 use denote.Ref.{now}
-use Rattle.pack.specs.Meaning.{packOf}
+use Rattle.pack.specs.Meaning.{pack-of}
 use borrow.Author.Needs.{needs}
 use Rattle.walk.proofs.held.held_at.Statement.{statement}
 use Rattle.walk.proofs.held.held_at.Tie as tie
-use Rattle.rules.specs.Search.{everyBelow}
+use Rattle.rules.specs.Search.{every-below}
 
 module _ (P : Pack) (p : Pgn) (a : Bool) (ea : shares-held (layout p) ≡ not a) where
   shared : a ≡ true → false ≡ held P p
@@ -23,12 +23,12 @@ module _ (P : Pack) (p : Pgn) (a : Bool) (ea : shares-held (layout p) ≡ not a)
     unfolding held
     uncounted h = rw (ea, na, ← eb, h)
 
-    module _ (yb : b ≡ true) (c : Bool) (ec : c ≡ everyBelow (λ k. bit-length-held p k) (length (p .fields))) where
+    module _ (yb : b ≡ true) (c : Bool) (ec : c ≡ every-below (λ k. bit-length-held p k) (length (p .fields))) where
       unmeasured : c ≡ false → false ≡ held P p
       unfolding held
       unmeasured h = rw (ea, na, ← eb, yb, ← ec, h)
 
-      measured : c ≡ true → (d : Bool) → d ≡ everyBelow (λ k. dynamic-value-held P p k) (length (p .fields)) → d ≡ held P p
+      measured : c ≡ true → (d : Bool) → d ≡ every-below (λ k. dynamic-value-held P p k) (length (p .fields)) → d ≡ held P p
       unfolding held
       measured h d e = rw (ea, na, ← eb, yb, ← ec, h) e
 
@@ -39,8 +39,8 @@ returns : tie.Need-returns
 returns c =
     let start = c .before .before .before .before in
     let s = now (start .args .s) in let t = start .args .t in let i = start .args .i in
-    shared (packOf s) (pgn-at (packOf s) t i) (c .before .clash .result)
-    (shares-two (start .pre .1) ∙ ap not (sym (c .before .clash .ensures (layout (pgn-at (packOf s) t i)) (start .pre .1)))) (c .if1 .taken)
+    shared (pack-of s) (pgn-at (pack-of s) t i) (c .before .clash .result)
+    (shares-two (start .pre .1) ∙ ap not (sym (c .before .clash .ensures (layout (pgn-at (pack-of s) t i)) (start .pre .1)))) (c .if1 .taken)
 
 count-fields-held-requires : tie.Need-count-fields-held-requires
 count-fields-held-requires c κs = search needs
@@ -50,9 +50,9 @@ returns-2 c =
     let start = c .before .before .before .before .before .before in
     let clash = c .before .before .before .clash in
     let s = now (start .args .s) in let t = start .args .t in let i = start .args .i in
-    uncounted (packOf s) (pgn-at (packOf s) t i) (clash .result)
-    (shares-two (start .pre .1) ∙ ap not (sym (clash .ensures (layout (pgn-at (packOf s) t i)) (start .pre .1)))) (c .before .before .if1 .left)
-    (c .before .count-fields-held .result) (c .before .count-fields-held .ensures (layout (pgn-at (packOf s) t i)) (start .pre .1))
+    uncounted (pack-of s) (pgn-at (pack-of s) t i) (clash .result)
+    (shares-two (start .pre .1) ∙ ap not (sym (clash .ensures (layout (pgn-at (pack-of s) t i)) (start .pre .1)))) (c .before .before .if1 .left)
+    (c .before .count-fields-held .result) (c .before .count-fields-held .ensures (layout (pgn-at (pack-of s) t i)) (start .pre .1))
     (not-true (c .before .count-fields-held .result) (c .if2 .taken))
 
 bit-lengths-held-requires : tie.Need-bit-lengths-held-requires
@@ -65,9 +65,9 @@ returns-3 c =
     let if1 = c .before .before .before .before .if1 in
     let count-fields-held-call = c .before .before .before .count-fields-held in
     let s = now (start .args .s) in let t = start .args .t in let i = start .args .i in
-    unmeasured (packOf s) (pgn-at (packOf s) t i) (clash .result)
-    (shares-two (start .pre .1) ∙ ap not (sym (clash .ensures (layout (pgn-at (packOf s) t i)) (start .pre .1)))) (if1 .left) (count-fields-held-call .result)
-    (count-fields-held-call .ensures (layout (pgn-at (packOf s) t i)) (start .pre .1))
+    unmeasured (pack-of s) (pgn-at (pack-of s) t i) (clash .result)
+    (shares-two (start .pre .1) ∙ ap not (sym (clash .ensures (layout (pgn-at (pack-of s) t i)) (start .pre .1)))) (if1 .left) (count-fields-held-call .result)
+    (count-fields-held-call .ensures (layout (pgn-at (pack-of s) t i)) (start .pre .1))
     (not-false (count-fields-held-call .result) (c .before .before .if2 .left)) (c .before .bit-lengths-held .result) (c .before .bit-lengths-held .ensures)
     (not-true (c .before .bit-lengths-held .result) (c .if3 .taken))
 
@@ -83,9 +83,9 @@ returns-4 c =
     let if2 = c .before .before .before .if2 in
     let bit-lengths-held = c .before .before .bit-lengths-held in
     let s = now (start .args .s) in let t = start .args .t in let i = start .args .i in
-    measured (packOf s) (pgn-at (packOf s) t i) (clash .result)
-    (shares-two (start .pre .1) ∙ ap not (sym (clash .ensures (layout (pgn-at (packOf s) t i)) (start .pre .1)))) (if1 .left) (count-fields-held-call .result)
-    (count-fields-held-call .ensures (layout (pgn-at (packOf s) t i)) (start .pre .1)) (not-false (count-fields-held-call .result) (if2 .left))
+    measured (pack-of s) (pgn-at (pack-of s) t i) (clash .result)
+    (shares-two (start .pre .1) ∙ ap not (sym (clash .ensures (layout (pgn-at (pack-of s) t i)) (start .pre .1)))) (if1 .left) (count-fields-held-call .result)
+    (count-fields-held-call .ensures (layout (pgn-at (pack-of s) t i)) (start .pre .1)) (not-false (count-fields-held-call .result) (if2 .left))
     (bit-lengths-held .result) (bit-lengths-held .ensures) (not-false (bit-lengths-held .result) (c .before .if3 .left)) (c .dynamic-values-held .result)
     (c .dynamic-values-held .ensures)
 

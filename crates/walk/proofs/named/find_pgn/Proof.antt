@@ -1,7 +1,7 @@
 use Rattle.walk.proofs.WalkCalls.{named-refused, named-found}
 use Rattle.pack.specs.declared.load.Refusal.the-variants.{Absent}
 use Rattle.pack.specs.Value.{pgns-of}
-use Rattle.pack.specs.Meaning.{packOf}
+use Rattle.pack.specs.Meaning.{pack-of}
 use denote.Ref.{now}
 use lib.ListN.{length}
 use mathlib.Core.Path.{refl}
@@ -32,8 +32,8 @@ returns-2 c =
     let section = c .before .before .section in
     let s = now (start .args .s) in let tree = start .args .tree in let pgn = start .args .pgn in
     let a =
-    at-tree (packOf s) (start .args .index) (start .pre .1) tree (if1 .left) (of-tree .result) (section .result) (of-tree .ensures) (section .ensures) in
-    let outside = le-ltb pgn (length (pgns-of (packOf s) tree)) (omega (arith, a .0, c .if2 .taken)) in
+    at-tree (pack-of s) (start .args .index) (start .pre .1) tree (if1 .left) (of-tree .result) (section .result) (of-tree .ensures) (section .ensures) in
+    let outside = le-ltb pgn (length (pgns-of (pack-of s) tree)) (omega (arith, a .0, c .if2 .taken)) in
     named-refused s (now (start .args .work)) tree pgn _ Absent (rw (lt-ltb tree 3 (if1 .left), outside))
 
 pgn-position-requires : tie.Need-pgn-position-requires
@@ -42,7 +42,7 @@ pgn-position-requires c κs =
     let if1 = c .before .before .before .before .if1 in
     let of-tree = c .before .before .before .of-tree in
     let section = c .before .before .section in
-    let a = at-tree (packOf (now (start .args .s))) (start .args .index) (start .pre .1) (start .args .tree) (if1 .left) (of-tree .result) (section .result)
+    let a = at-tree (pack-of (now (start .args .s))) (start .args .index) (start .pre .1) (start .args .tree) (if1 .left) (of-tree .result) (section .result)
     (of-tree .ensures) (section .ensures) in
     (start .pre .0, if1 .left, a .1, omega (arith, a .0, c .if2 .left))
 
@@ -61,8 +61,8 @@ returns-3 c =
     let if2 = c .before .before .before .if2 in
     let s = now (start .args .s) in let tree = start .args .tree in let pgn = start .args .pgn in
     let a =
-    at-tree (packOf s) (start .args .index) (start .pre .1) tree (if1 .left) (of-tree .result) (section .result) (of-tree .ensures) (section .ensures) in
-    let inside = lt-ltb pgn (length (pgns-of (packOf s) tree)) (omega (arith, a .0, if2 .left)) in
+    at-tree (pack-of s) (start .args .index) (start .pre .1) tree (if1 .left) (of-tree .result) (section .result) (of-tree .ensures) (section .ensures) in
+    let inside = lt-ltb pgn (length (pgns-of (pack-of s) tree)) (omega (arith, a .0, if2 .left)) in
     named-found s (now (start .args .work)) tree pgn _ _ (rw (lt-ltb tree 3 (if1 .left), inside)) refl refl
     (record { index = start .pre .1; place = c .before .before .pgn-position .ensures; sets = c .sets-of .ensures })
 

@@ -1,6 +1,6 @@
 use Rattle.pack.proofs.SetSums.{SetFits, pgn-sets-law}
 use Rattle.pack.specs.declared.pgn.OptRepeating.{OptRepeating}
-use Rattle.pack.specs.Meaning.{repeatingMeaning, optRepeating}
+use Rattle.pack.specs.Meaning.{repeating-meaning, optional-repeating}
 use Rattle.pack.specs.Value.{Repeating, Pgn}
 use native.Mathlib.Omega.{arith}
 use Prim.Native.Nat.{_+_, _<_}
@@ -10,8 +10,8 @@ use mathlib.Core.Option.{Option, some}
 use Rattle.walk.proofs.sets.sets_of.Statement.{statement}
 use Rattle.walk.proofs.sets.sets_of.Tie as tie
 
-fits : (o : OptRepeating) (G : Option Repeating) → optRepeating o ≡ G → SetFits G → o .given ≡ true → o .set .start + o .set .count < 4294967296
-fits o G e f h = let q : optRepeating o ≡ some (repeatingMeaning (o .set)) = rw h in omega (arith, f (repeatingMeaning (o .set)) (sym e ∙ q))
+fits : (o : OptRepeating) (G : Option Repeating) → optional-repeating o ≡ G → SetFits G → o .given ≡ true → o .set .start + o .set .count < 4294967296
+fits o G e f h = let q : optional-repeating o ≡ some (repeating-meaning (o .set)) = rw h in omega (arith, f (repeating-meaning (o .set)) (sym e ∙ q))
 
 set-of-requires : tie.Need-set-of-requires
 set-of-requires c κs =

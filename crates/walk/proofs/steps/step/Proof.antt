@@ -3,7 +3,7 @@ use Rattle.walk.specs.Layout.{layout}
 use Rattle.walk.specs.State.{memory-of}
 use Rattle.walk.proofs.Walks.{step-finished, due-within}
 use denote.Ref.{now}
-use Rattle.pack.specs.Meaning.{packOf}
+use Rattle.pack.specs.Meaning.{pack-of}
 use Rattle.pack.specs.Value.{pgn-at}
 use borrow.Author.Needs.{needs}
 use Rattle.walk.proofs.steps.step.Statement.{statement}
@@ -12,7 +12,7 @@ use Rattle.walk.proofs.steps.step.Tie as tie
 step-at-requires : tie.Need-step-at-requires
 step-at-requires c κs =
     let start = c .before .before .before .before .before .before in
-    let d = due-within (layout (pgn-at (packOf (now (start .args .s))) (start .args .found .tree) (start .args .found .pgn))) (start .args .state .settling)
+    let d = due-within (layout (pgn-at (pack-of (now (start .args .s))) (start .args .found .tree) (start .args .found .pgn))) (start .args .state .settling)
     (memory-of (start .args .state .counts)) (c .before .if1 .taken) (start .pre .2) in
     (start .pre .0, start .pre .1, d .0, d .1)
 
@@ -32,8 +32,8 @@ returns-2 : tie.Need-returns-2
 returns-2 c =
     let start = c .before .before .before .before .before .before in
     let s = now (start .args .s) in (
-      step-finished (layout (pgn-at (packOf s) (start .args .found .tree) (start .args .found .pgn)))
-          (stop-at (packOf s) (pgn-at (packOf s) (start .args .found .tree) (start .args .found .pgn))) (start .args .state .settling)
+      step-finished (layout (pgn-at (pack-of s) (start .args .found .tree) (start .args .found .pgn)))
+          (stop-at (pack-of s) (pgn-at (pack-of s) (start .args .found .tree) (start .args .found .pgn))) (start .args .state .settling)
           (memory-of (start .args .state .counts)) (start .args .reading) (c .before .if1 .left) (c .finished .result) (c .finished .ensures),
       start .pre .1,
     )

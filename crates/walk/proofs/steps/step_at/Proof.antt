@@ -1,4 +1,4 @@
-use Rattle.pack.specs.Meaning.{packOf}
+use Rattle.pack.specs.Meaning.{pack-of}
 use Rattle.pack.specs.Value.{pgn-at}
 use denote.Ref.{now}
 use Prim.Native.Nat.{_-_}
@@ -32,7 +32,7 @@ returns c =
     let s = now (start .args .s) in
     let t = start .args .found .tree in
     let i = start .args .found .pgn in (
-      step-stops (layout (pgn-at (packOf s) t i)) (stop-at (packOf s) (pgn-at (packOf s) t i)) (place-of (start .args .spot)) (memory-of (start .args .counts))
+      step-stops (layout (pgn-at (pack-of s) t i)) (stop-at (pack-of s) (pgn-at (pack-of s) t i)) (place-of (start .args .spot)) (memory-of (start .args .counts))
           (start .args .reading) (index-of .result .0) (index-of .ensures) (start .pre .2) (stop-at-call .result) (stop-at-call .ensures .0) (c .if1 .taken),
       stop-at-call .ensures .1,
     )
@@ -53,9 +53,9 @@ returns-2 c =
     let s = now (start .args .s) in
     let t = start .args .found .tree in
     let i = start .args .found .pgn in (
-      step-visits (layout (pgn-at (packOf s) t i)) (stop-at (packOf s) (pgn-at (packOf s) t i)) (place-of (start .args .spot)) (memory-of (start .args .counts))
+      step-visits (layout (pgn-at (pack-of s) t i)) (stop-at (pack-of s) (pgn-at (pack-of s) t i)) (place-of (start .args .spot)) (memory-of (start .args .counts))
           (start .args .reading) (index-of .result .0) (index-of .ensures) (start .pre .2) (stop-at-call .result) (stop-at-call .ensures .0)
-          (c .before .if1 .left) (state-of (c .onward .result)) (c .onward .ensures (layout (pgn-at (packOf s) t i)) (start .pre .0 .sets)),
+          (c .before .if1 .left) (state-of (c .onward .result)) (c .onward .ensures (layout (pgn-at (pack-of s) t i)) (start .pre .0 .sets)),
       stop-at-call .ensures .1,
     )
 

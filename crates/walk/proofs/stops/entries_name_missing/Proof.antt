@@ -1,7 +1,7 @@
 use Rattle.walk.specs.Stops.{names-missing, entries-name-missing}
 use Rattle.rules.specs.SearchLaws.{any-turn, any-hit}
-use Rattle.rules.specs.Search.{anyBelow}
-use Rattle.pack.specs.Meaning.{entryMeaning, packOf}
+use Rattle.rules.specs.Search.{any-below}
+use Rattle.pack.specs.Meaning.{entry-meaning, pack-of}
 use Rattle.pack.specs.declared.entry.EntryView.{EntryView}
 use borrow.Author.Needs.{needs}
 use native.Mathlib.Omega.{arith}
@@ -12,22 +12,22 @@ use mathlib.Core.List.{List}
 use lib.ListN.{length, getD}
 use denote.Ref.{now}
 use Rattle.pack.specs.Notation.{_==_}
-use Rattle.pack.specs.Value.{noEntry, lookup-at}
+use Rattle.pack.specs.Value.{no-entry, lookup-at}
 use Rattle.walk.proofs.stops.entries_name_missing.Statement.{statement}
 use Rattle.walk.proofs.stops.entries_name_missing.Tie as tie
 
 -- whether entry e of lookup l is for the reading and names something missing
 abbrev hits : List ℕ → ℕ → ℕ → ℕ → Bool
 hits s l reading e =
-    (getD (lookup-at (packOf s .lookups) l .entries) e noEntry .value == reading)
-    && names-missing (packOf s) (getD (lookup-at (packOf s .lookups) l .entries) e noEntry)
+    (getD (lookup-at (pack-of s .lookups) l .entries) e no-entry .value == reading)
+    && names-missing (pack-of s) (getD (lookup-at (pack-of s .lookups) l .entries) e no-entry)
 
-said : (s : List ℕ) (l reading e : ℕ) (v : EntryView) (r : Bool) → entryMeaning s v ≡ getD (lookup-at (packOf s .lookups) l .entries) e noEntry
-    → r ≡ ((v .value == reading) && names-missing (packOf s) (entryMeaning s v)) → hits s l reading e ≡ r
-said s l reading e v r y h = sym (h ∙ (λ j. (y j .value == reading) && names-missing (packOf s) (y j)))
+said : (s : List ℕ) (l reading e : ℕ) (v : EntryView) (r : Bool) → entry-meaning s v ≡ getD (lookup-at (pack-of s .lookups) l .entries) e no-entry
+    → r ≡ ((v .value == reading) && names-missing (pack-of s) (entry-meaning s v)) → hits s l reading e ≡ r
+said s l reading e v r y h = sym (h ∙ (λ j. (y j .value == reading) && names-missing (pack-of s) (y j)))
 
 abbrev Inv-loop : tie.InvT-loop
-Inv-loop s work index l p entries reading e₀ e = (e ≤ entries) × (anyBelow (hits s l reading) e ≡ false)
+Inv-loop s work index l p entries reading e₀ e = (e ≤ entries) × (any-below (hits s l reading) e ≡ false)
 
 abbrev μ-loop : tie.MeasureT-loop
 μ-loop s work index l p entries reading e₀ e = entries - e
@@ -55,7 +55,7 @@ returns c =
     let s = now (start .args .s) in let l = start .args .l in let reading = start .args .reading in
     let h =
     said s l reading (loop .e) (entry-of .result) (c .before .entry-names-missing .result) (entry-of .ensures) (c .before .entry-names-missing .ensures) in
-    sym (any-hit (hits s l reading) (length (lookup-at (packOf s .lookups) l .entries)) (loop .e) (omega (arith, start .pre .2, loop-test .taken))
+    sym (any-hit (hits s l reading) (length (lookup-at (pack-of s .lookups) l .entries)) (loop .e) (omega (arith, start .pre .2, loop-test .taken))
     (h ∙ c .if1 .taken))
 
 add-e : tie.Need-add-e Inv-loop μ-loop
@@ -78,7 +78,7 @@ returns-2 : tie.Need-returns-2 Inv-loop μ-loop
 unfolding entries-name-missing
 returns-2 c =
     let start = c .before .before .before .before in
-    let q : length (lookup-at (packOf (now (start .args .s)) .lookups) (start .args .l) .entries) ≡ c .before .loop .e =
+    let q : length (lookup-at (pack-of (now (start .args .s)) .lookups) (start .args .l) .entries) ≡ c .before .loop .e =
     omega (arith, start .pre .2, c .before .loop .inv .0, c .loop-test .left) in
     rw (q, c .before .loop .inv .1)
 

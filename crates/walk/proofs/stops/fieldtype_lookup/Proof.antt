@@ -2,8 +2,8 @@ use Rattle.pack.specs.declared.lookup.LookupView.{LookupView}
 use Rattle.walk.specs.StopParts.{Named}
 use Rattle.walk.specs.Stops.{entries-name-missing, lookup-names-missing, reference-names-missing}
 use Rattle.rules.specs.Model.{find-lookup, fieldtypes}
-use Rattle.pack.specs.Meaning.{optReference, packOf}
-use Rattle.pack.specs.Items.{bytesOf}
+use Rattle.pack.specs.Meaning.{optional-reference, pack-of}
+use Rattle.pack.specs.Items.{bytes-of}
 use Rattle.pack.specs.Value.{Lookup, Reference, Pack, lookup-at}
 use mathlib.Core.Bool.{false≢true, Bool, true, false}
 use borrow.Author.Tests.{not-true, not-false, eq-eqb, ne-eqb}
@@ -18,7 +18,7 @@ use borrow.Author.Needs.{needs}
 use Rattle.walk.proofs.stops.fieldtype_lookup.Statement.{statement}
 use Rattle.walk.proofs.stops.fieldtype_lookup.Tie as tie
 
-nobody : (s w : List ℕ) (r : Option Reference) → ((reading : ℕ) → reference-names-missing (packOf s) r reading ≡ false)
+nobody : (s w : List ℕ) (r : Option Reference) → ((reading : ℕ) → reference-names-missing (pack-of s) r reading ≡ false)
     → Named s w r (record { given = false; index = 0; place = 0; entries = 0 })
 nobody s w r h =
     record {
@@ -55,8 +55,8 @@ returns : tie.Need-returns
 returns c =
     let start = c .before .before .before .before in
     let s = now (start .args .s) in
-    nobody s (now (start .args .work)) (optReference s (start .args .r))
-    (no-reference (packOf s) (record { kind = start .args .r .kind; name = bytesOf s (start .args .r .name) }) (start .args .r .given)
+    nobody s (now (start .args .work)) (optional-reference s (start .args .r))
+    (no-reference (pack-of s) (record { kind = start .args .r .kind; name = bytes-of s (start .args .r .name) }) (start .args .r .given)
     (not-true (start .args .r .given) (c .if1 .taken)))
 
 find-lookup-requires : tie.Need-find-lookup-requires
@@ -68,8 +68,8 @@ returns-2 c =
     let if1 = c .before .before .before .if1 in
     let find-lookup-call = c .before .before .find-lookup in
     let s = now (start .args .s) in
-    nobody s (now (start .args .work)) (optReference s (start .args .r))
-    (unknown (packOf s) (record { kind = start .args .r .kind; name = bytesOf s (start .args .r .name) }) (start .args .r .given)
+    nobody s (now (start .args .work)) (optional-reference s (start .args .r))
+    (unknown (pack-of s) (record { kind = start .args .r .kind; name = bytes-of s (start .args .r .name) }) (start .args .r .given)
     (not-false (start .args .r .given) (if1 .left)) (find-lookup-call .result .given) (find-lookup-call .result .index) (find-lookup-call .ensures .0)
     (not-true (find-lookup-call .result .given) (c .if2 .taken)))
 
@@ -86,8 +86,8 @@ returns-3 c =
     let if2 = c .before .before .before .if2 in
     let lookup-of = c .before .before .lookup-of in
     let s = now (start .args .s) in
-    nobody s (now (start .args .work)) (optReference s (start .args .r))
-    (others (packOf s) (record { kind = start .args .r .kind; name = bytesOf s (start .args .r .name) }) (start .args .r .given)
+    nobody s (now (start .args .work)) (optional-reference s (start .args .r))
+    (others (pack-of s) (record { kind = start .args .r .kind; name = bytes-of s (start .args .r .name) }) (start .args .r .given)
     (not-false (start .args .r .given) (if1 .left)) (find-lookup-call .result .given) (find-lookup-call .result .index) (find-lookup-call .ensures .0)
     (not-false (find-lookup-call .result .given) (if2 .left)) s (lookup-of .result) (lookup-of .ensures) (c .if3 .taken))
 
@@ -105,7 +105,7 @@ returns-4 c =
       place = λ e. a;
       kind = λ e. sym (c .if3 .left) ∙ k;
       entries = λ e. lookup-of .ensures .entries;
-      decide = λ e. known (packOf s) (record { kind = start .args .r .kind; name = bytesOf s (start .args .r .name) }) (start .args .r .given)
+      decide = λ e. known (pack-of s) (record { kind = start .args .r .kind; name = bytes-of s (start .args .r .name) }) (start .args .r .given)
           (not-false (start .args .r .given) (if1 .left)) (find-lookup-call .result .given) (find-lookup-call .result .index) (find-lookup-call .ensures .0)
           (not-false (find-lookup-call .result .given) (if2 .left)) s (lookup-of .result) (lookup-of .ensures) (c .if3 .left);
       none = λ e. absurd (false≢true (sym e));

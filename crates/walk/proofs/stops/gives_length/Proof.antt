@@ -6,7 +6,7 @@ use Prim.Native.Nat.{ℕ, suc}
 use mathlib.Core.Path.{_≡_, sym, _∙_, ap}
 use mathlib.Core.Bool.{Bool, true, false, _&&_}
 use denote.Ref.{now}
-use Rattle.pack.specs.Meaning.{packOf}
+use Rattle.pack.specs.Meaning.{pack-of}
 use Rattle.pack.specs.Value.{pgn-at, field-at}
 use borrow.Author.Needs.{needs}
 use Rattle.walk.proofs.stops.gives_length.Statement.{statement}
@@ -32,23 +32,23 @@ returns c =
     let start = c .before .before .before .before .before .before in
     let order = c .before .before .before .order in
     let s = now (start .args .s) in let t = start .args .t in let i = start .args .i in let j = start .args .j in
-    let L = layout (pgn-at (packOf s) t i) in
+    let L = layout (pgn-at (pack-of s) t i) in
     let e : sets-hold L (suc j) (start .args .o .0) ≡ true = ap (λ (n : ℕ). sets-hold L n (start .args .o .0)) (sym (order .ensures ∙ add-one j))
     ∙ sym (c .before .before .sets-hold .ensures L (start .pre .1))
     ∙ c .before .if1 .taken in
-    both (length-source (packOf s .fieldtypes) (field-at (pgn-at (packOf s) t i) j)) (sets-hold L (suc j) (start .args .o .0)) (c .length-source-at .result) e
+    both (length-source (pack-of s .fieldtypes) (field-at (pgn-at (pack-of s) t i) j)) (sets-hold L (suc j) (start .args .o .0)) (c .length-source-at .result) e
     (c .length-source-at .ensures)
 
 returns-2 : tie.Need-returns-2
 returns-2 c =
     let start = c .before .before .before .before .before in
     let s = now (start .args .s) in let t = start .args .t in let i = start .args .i in let j = start .args .j in
-    let L = layout (pgn-at (packOf s) t i) in
+    let L = layout (pgn-at (pack-of s) t i) in
     let e : sets-hold L (suc j) (start .args .o .0) ≡ false = ap (λ (n : ℕ). sets-hold L n (start .args .o .0))
     (sym (c .before .before .order .ensures ∙ add-one j))
     ∙ sym (c .before .sets-hold .ensures L (start .pre .1))
     ∙ c .if1 .left in
-    off (length-source (packOf s .fieldtypes) (field-at (pgn-at (packOf s) t i) j)) (sets-hold L (suc j) (start .args .o .0)) e
+    off (length-source (pack-of s .fieldtypes) (field-at (pgn-at (pack-of s) t i) j)) (sets-hold L (suc j) (start .args .o .0)) e
 
 pub gives-length-spec : {M : Type 1} → statement M
 gives-length-spec =

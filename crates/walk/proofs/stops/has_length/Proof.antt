@@ -2,7 +2,7 @@ use Rattle.walk.proofs.Parts.{gives}
 use Rattle.walk.specs.Layout.{layout, sets-hold}
 use Rattle.rules.specs.DynamicLength.{length-source}
 use Rattle.rules.specs.SearchLaws.{any-turn, any-hit}
-use Rattle.rules.specs.Search.{anyBelow}
+use Rattle.rules.specs.Search.{any-below}
 use Rattle.rules.proofs.Sizes.{fields-few}
 use native.Mathlib.Numerals.{add-one}
 use borrow.Author.Needs.{needs}
@@ -12,24 +12,24 @@ use mathlib.Core.Path.{_≡_, refl, sym, _∙_, ap}
 use mathlib.Core.Bool.{Bool, false, _&&_}
 use mathlib.Core.List.{List}
 use denote.Ref.{now}
-use Rattle.pack.specs.Meaning.{packOf}
+use Rattle.pack.specs.Meaning.{pack-of}
 use Rattle.pack.specs.Value.{pgn-at, field-at}
 use Rattle.walk.proofs.stops.has_length.Statement.{statement}
 use Rattle.walk.proofs.stops.has_length.Tie as tie
 
 abbrev found : List ℕ → ℕ → ℕ → ℕ → ℕ → Bool
-found s t i k = gives (packOf s) (pgn-at (packOf s) t i) (layout (pgn-at (packOf s) t i)) k
+found s t i k = gives (pack-of s) (pgn-at (pack-of s) t i) (layout (pgn-at (pack-of s) t i)) k
 
 said : (s : List ℕ) (t i k j own : ℕ) (r : Bool) → own ≡ k + 1
-    → r ≡ (length-source (packOf s .fieldtypes) (field-at (pgn-at (packOf s) t i) j) && sets-hold (layout (pgn-at (packOf s) t i)) (suc j) own)
+    → r ≡ (length-source (pack-of s .fieldtypes) (field-at (pgn-at (pack-of s) t i) j) && sets-hold (layout (pgn-at (pack-of s) t i)) (suc j) own)
     → found s t i k j ≡ r
 said s t i k j own r o h =
     sym (h
-    ∙ ap (λ (n : ℕ). length-source (packOf s .fieldtypes) (field-at (pgn-at (packOf s) t i) j) && sets-hold (layout (pgn-at (packOf s) t i)) (suc j) n)
+    ∙ ap (λ (n : ℕ). length-source (pack-of s .fieldtypes) (field-at (pgn-at (pack-of s) t i) j) && sets-hold (layout (pgn-at (pack-of s) t i)) (suc j) n)
     (o ∙ add-one k))
 
 abbrev Inv-loop : tie.InvT-loop
-Inv-loop s work t i p sets k own j₀ j = (j ≤ k) × (anyBelow (found s t i k) j ≡ false)
+Inv-loop s work t i p sets k own j₀ j = (j ≤ k) × (any-below (found s t i k) j ≡ false)
 
 abbrev μ-loop : tie.MeasureT-loop
 μ-loop s work t i p sets k own j₀ j = k - j
@@ -75,7 +75,7 @@ returns-2 : tie.Need-returns-2 Inv-loop μ-loop
 returns-2 c =
     let start = c .before .before .before .before .before in
     let q : c .before .loop .j ≡ start .args .k = omega (arith, c .before .loop .inv .0, c .loop-test .left) in
-    sym (ap (anyBelow (found (now (start .args .s)) (start .args .t) (start .args .i) (start .args .k))) (sym q) ∙ c .before .loop .inv .1)
+    sym (ap (any-below (found (now (start .args .s)) (start .args .t) (start .args .i) (start .args .k))) (sym q) ∙ c .before .loop .inv .1)
 
 pub has-length-spec : {M : Type 1} → statement M
 has-length-spec =

@@ -8,7 +8,7 @@ use borrow.Author.Tests.{eqb-true}
 use Prim.Native.Nat.{suc}
 use mathlib.Core.Path.{refl, sym, _∙_, ap}
 use denote.Ref.{now}
-use Rattle.pack.specs.Meaning.{packOf, fieldMeaning}
+use Rattle.pack.specs.Meaning.{pack-of, field-meaning}
 use Rattle.pack.specs.Value.{pgn-at}
 use borrow.Author.Needs.{needs}
 use Rattle.walk.proofs.stops.judge.Statement.{statement}
@@ -25,9 +25,9 @@ returns c =
     let start = c .before .before .before .before .before in
     let field-of = c .before .before .field-of in
     let s = now (start .args .s) in let k = start .args .k in (
-      by-field (packOf s) (pgn-at (packOf s) (start .args .found .tree) (start .args .found .pgn))
-          (placed (layout (pgn-at (packOf s) (start .args .found .tree) (start .args .found .pgn))) (suc k)) k (start .args .reading)
-          (fieldMeaning s (field-of .result)) (field-of .ensures) (c .before .field-stop .result) (c .if1 .taken) (c .before .field-stop .ensures),
+      by-field (pack-of s) (pgn-at (pack-of s) (start .args .found .tree) (start .args .found .pgn))
+          (placed (layout (pgn-at (pack-of s) (start .args .found .tree) (start .args .found .pgn))) (suc k)) k (start .args .reading)
+          (field-meaning s (field-of .result)) (field-of .ensures) (c .before .field-stop .result) (c .if1 .taken) (c .before .field-stop .ensures),
       λ h. absurd (false≢true h),
     )
 
@@ -44,8 +44,8 @@ returns-2 c =
     let field-stop = c .before .before .before .before .field-stop in
     let if1 = c .before .before .before .if1 in
     let s = now (start .args .s) in let k = start .args .k in let reading = start .args .reading in (
-      by-reading (packOf s) (pgn-at (packOf s) (start .args .found .tree) (start .args .found .pgn))
-          (placed (layout (pgn-at (packOf s) (start .args .found .tree) (start .args .found .pgn))) (suc k)) k reading (fieldMeaning s (field-of .result))
+      by-reading (pack-of s) (pgn-at (pack-of s) (start .args .found .tree) (start .args .found .pgn))
+          (placed (layout (pgn-at (pack-of s) (start .args .found .tree) (start .args .found .pgn))) (suc k)) k reading (field-meaning s (field-of .result))
           (field-of .ensures) (field-stop .result) (if1 .left) (field-stop .ensures) (c .before .lookup-names-missing .result)
           (named-reading (c .before .before .fieldtype-lookup .ensures) reading (c .before .lookup-names-missing .result)
           (c .before .lookup-names-missing .ensures)) (c .if2 .taken),
@@ -68,14 +68,14 @@ returns-3 c =
     let lookup-names-missing = c .before .before .before .lookup-names-missing in
     let s = now (start .args .s) in let k = start .args .k in let reading = start .args .reading in
     let q = and-not-parts (c .before .need-stop .result == 0) (fieldtype-lookup .result .given) in (
-      by-need (packOf s) (pgn-at (packOf s) (start .args .found .tree) (start .args .found .pgn))
-          (placed (layout (pgn-at (packOf s) (start .args .found .tree) (start .args .found .pgn))) (suc k)) k reading (fieldMeaning s (field-of .result))
+      by-need (pack-of s) (pgn-at (pack-of s) (start .args .found .tree) (start .args .found .pgn))
+          (placed (layout (pgn-at (pack-of s) (start .args .found .tree) (start .args .found .pgn))) (suc k)) k reading (field-meaning s (field-of .result))
           (field-of .ensures) (field-stop .result) (if1 .left) (field-stop .ensures) (lookup-names-missing .result)
           (named-reading (fieldtype-lookup .ensures) reading (lookup-names-missing .result) (lookup-names-missing .ensures)) (c .before .before .if2 .left)
           (c .before .need-stop .result) (c .before .need-stop .ensures),
       λ h other. let a = q (sym (c .and-not .ensures) ∙ h) in
-          sym (by-need (packOf s) (pgn-at (packOf s) (start .args .found .tree) (start .args .found .pgn))
-          (placed (layout (pgn-at (packOf s) (start .args .found .tree) (start .args .found .pgn))) (suc k)) k other (fieldMeaning s (field-of .result))
+          sym (by-need (pack-of s) (pgn-at (pack-of s) (start .args .found .tree) (start .args .found .pgn))
+          (placed (layout (pgn-at (pack-of s) (start .args .found .tree) (start .args .found .pgn))) (suc k)) k other (field-meaning s (field-of .result))
           (field-of .ensures) (field-stop .result) (if1 .left) (field-stop .ensures) false (sym (fieldtype-lookup .ensures .none (a .1) other)) refl
           (c .before .need-stop .result) (c .before .need-stop .ensures))
           ∙ ap stop-number (eqb-true (c .before .need-stop .result) 0 (a .0)),

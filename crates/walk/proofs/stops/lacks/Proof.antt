@@ -3,14 +3,14 @@ use Rattle.walk.specs.Stops.{lacks}
 use Rattle.walk.specs.ByPlace.{placed}
 use Rattle.walk.specs.Layout.{layout}
 use Rattle.rules.proofs.Sizes.{fields-few}
-use Rattle.pack.specs.Items.{bytesOf}
+use Rattle.pack.specs.Items.{bytes-of}
 use borrow.Author.Tests.{not-true, not-false}
 use native.Mathlib.Omega.{arith}
 use mathlib.Core.Path.{sym, _∙_, ap}
 use mathlib.Core.Bool.{Bool, not}
 use denote.Ref.{now}
 use Rattle.pack.specs.Notation.{optional}
-use Rattle.pack.specs.Meaning.{packOf}
+use Rattle.pack.specs.Meaning.{pack-of}
 use Rattle.pack.specs.Value.{pgn-at}
 use borrow.Author.Needs.{needs}
 use Rattle.walk.proofs.stops.lacks.Statement.{statement}
@@ -31,8 +31,8 @@ returns-2 c =
     let if1 = c .before .before .before .if1 in
     let target = c .before .before .target in
     let s = now (start .args .s) in let t = start .args .t in let i = start .args .i in
-    rw (not-false (start .args .id .given) (if1 .left)) (sym (lacks-unknown (pgn-at (packOf s) t i)
-    (placed (layout (pgn-at (packOf s) t i)) (start .args .o .0)) (bytesOf s (start .args .id .text)) (target .result .value) (target .result .given)
+    rw (not-false (start .args .id .given) (if1 .left)) (sym (lacks-unknown (pgn-at (pack-of s) t i)
+    (placed (layout (pgn-at (pack-of s) t i)) (start .args .o .0)) (bytes-of s (start .args .id .text)) (target .result .value) (target .result .given)
     (target .ensures) (not-true (target .result .given) (c .if2 .taken))))
 
 placed-requires : tie.Need-placed-requires
@@ -44,7 +44,7 @@ placed-requires c κs =
     let e = ap (λ (b : Bool). optional b (target .result .value)) (sym h) ∙ target .ensures in
     omega (
       arith,
-      target-below (pgn-at (packOf s) (start .args .t) (start .args .i)) (bytesOf s (start .args .id .text)) (target .result .value) (sym e),
+      target-below (pgn-at (pack-of s) (start .args .t) (start .args .i)) (bytes-of s (start .args .id .text)) (target .result .value) (sym e),
       fields-few (start .pre .0),
     )
 
@@ -54,8 +54,8 @@ returns-3 c =
     let if1 = c .before .before .before .before .if1 in
     let target = c .before .before .before .target in
     let s = now (start .args .s) in let t = start .args .t in let i = start .args .i in
-    rw (not-false (start .args .id .given) (if1 .left)) (ap not (c .placed .ensures (layout (pgn-at (packOf s) t i)) (start .pre .1))
-    ∙ sym (lacks-known (pgn-at (packOf s) t i) (placed (layout (pgn-at (packOf s) t i)) (start .args .o .0)) (bytesOf s (start .args .id .text))
+    rw (not-false (start .args .id .given) (if1 .left)) (ap not (c .placed .ensures (layout (pgn-at (pack-of s) t i)) (start .pre .1))
+    ∙ sym (lacks-known (pgn-at (pack-of s) t i) (placed (layout (pgn-at (pack-of s) t i)) (start .args .o .0)) (bytes-of s (start .args .id .text))
     (target .result .value) (target .result .given) (target .ensures) (not-false (target .result .given) (c .before .if2 .left))))
 
 pub lacks-spec : {M : Type 1} → statement M

@@ -1,12 +1,12 @@
 use Rattle.walk.proofs.Parts.{no-value, a-value}
 use Rattle.walk.specs.Layout.{layout}
 use Rattle.pack.proofs.Positions.{field-ft-law}
-use Rattle.pack.specs.Items.{bytesOf}
+use Rattle.pack.specs.Items.{bytes-of}
 use Rattle.pack.specs.Value.{Field, pgn-at, field-at}
 use native.Mathlib.Omega.{arith}
 use mathlib.Core.Path.{_≡_, sym, ap}
 use denote.Ref.{now}
-use Rattle.pack.specs.Meaning.{packOf, fieldMeaning}
+use Rattle.pack.specs.Meaning.{pack-of, field-meaning}
 use borrow.Author.Needs.{needs}
 use Rattle.walk.proofs.stops.lacks_length.Statement.{statement}
 use Rattle.walk.proofs.stops.lacks_length.Tie as tie
@@ -15,7 +15,7 @@ root-of-requires : tie.Need-root-of-requires
 root-of-requires c κs =
     let start = c .before .before in
     let k = start .args .k in
-    let e : start .args .f .ft ≡ field-at (pgn-at (packOf (now (start .args .s))) (start .args .t) (start .args .i)) k .ft =
+    let e : start .args .f .ft ≡ field-at (pgn-at (pack-of (now (start .args .s))) (start .args .t) (start .args .i)) k .ft =
     ap (λ (F : Field). F .ft) (start .pre .3) in
     (start .pre .0 .ready, omega (arith, e, field-ft-law (start .pre .0) k (start .pre .2)))
 
@@ -34,8 +34,8 @@ returns c =
     let root-of = c .before .before .before .before .root-of in
     let text-is = c .before .before .text-is in
     let s = now (start .args .s) in let t = start .args .t in let i = start .args .i in
-    sym (a-value (packOf s) (pgn-at (packOf s) t i) (layout (pgn-at (packOf s) t i)) (start .args .k) (fieldMeaning s (start .args .f)) (start .pre .3)
-    (bytesOf s (root-of .result)) (root-of .ensures) (text-is .result) (text-is .ensures) (c .before .if1 .taken) (c .has-length .result)
+    sym (a-value (pack-of s) (pgn-at (pack-of s) t i) (layout (pgn-at (pack-of s) t i)) (start .args .k) (field-meaning s (start .args .f)) (start .pre .3)
+    (bytes-of s (root-of .result)) (root-of .ensures) (text-is .result) (text-is .ensures) (c .before .if1 .taken) (c .has-length .result)
     (c .has-length .ensures))
 
 returns-2 : tie.Need-returns-2
@@ -43,8 +43,8 @@ returns-2 c =
     let start = c .before .before .before .before .before .before in
     let root-of = c .before .before .before .root-of in
     let s = now (start .args .s) in let t = start .args .t in let i = start .args .i in
-    sym (no-value (packOf s) (pgn-at (packOf s) t i) (layout (pgn-at (packOf s) t i)) (start .args .k) (fieldMeaning s (start .args .f)) (start .pre .3)
-    (bytesOf s (root-of .result)) (root-of .ensures) (c .before .text-is .result) (c .before .text-is .ensures) (c .if1 .left))
+    sym (no-value (pack-of s) (pgn-at (pack-of s) t i) (layout (pgn-at (pack-of s) t i)) (start .args .k) (field-meaning s (start .args .f)) (start .pre .3)
+    (bytes-of s (root-of .result)) (root-of .ensures) (c .before .text-is .result) (c .before .text-is .ensures) (c .if1 .left))
 
 pub lacks-length-spec : {M : Type 1} → statement M
 lacks-length-spec =

@@ -4,7 +4,7 @@ use Rattle.pack.specs.Value.{Field, pgn-at, field-at}
 use native.Mathlib.Omega.{arith}
 use mathlib.Core.Path.{_≡_, ap}
 use denote.Ref.{now}
-use Rattle.pack.specs.Meaning.{packOf}
+use Rattle.pack.specs.Meaning.{pack-of}
 use borrow.Author.Needs.{needs}
 use Rattle.walk.proofs.stops.length_source_at.Statement.{statement}
 use Rattle.walk.proofs.stops.length_source_at.Tie as tie
@@ -16,7 +16,7 @@ root-of-requires : tie.Need-root-of-requires
 root-of-requires c κs =
     let start = c .before .before .before in
     let j = start .args .j in
-    let e : c .field-of .result .ft ≡ field-at (pgn-at (packOf (now (start .args .s))) (start .args .t) (start .args .i)) j .ft =
+    let e : c .field-of .result .ft ≡ field-at (pgn-at (pack-of (now (start .args .s))) (start .args .t) (start .args .i)) j .ft =
     ap (λ (F : Field). F .ft) (c .field-of .ensures) in
     (start .pre .0 .ready, omega (arith, e, field-ft-law (start .pre .0) j (start .pre .1)))
 

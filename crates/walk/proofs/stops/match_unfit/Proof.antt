@@ -1,10 +1,10 @@
 use Rattle.walk.proofs.Parts.{unresolved, resolved}
 use Rattle.walk.specs.Stops.{match-unfit}
-use Rattle.pack.specs.Items.{bytesOf}
+use Rattle.pack.specs.Items.{bytes-of}
 use borrow.Author.Tests.{not-true, not-false}
 use mathlib.Core.Path.{refl, sym, _∙_}
 use denote.Ref.{now}
-use Rattle.pack.specs.Meaning.{packOf, fieldMeaning}
+use Rattle.pack.specs.Meaning.{pack-of, field-meaning}
 use borrow.Author.Needs.{needs}
 use Rattle.walk.proofs.stops.match_unfit.Statement.{statement}
 use Rattle.walk.proofs.stops.match_unfit.Tie as tie
@@ -24,8 +24,8 @@ returns-2 c =
     let if1 = c .before .before .before .if1 in
     let resolve-match = c .before .before .resolve-match in
     let s = now (start .args .s) in
-    sym (unresolved (packOf s) (fieldMeaning s (start .args .f)) (resolve-match .result .given) (resolve-match .result .value) (resolve-match .ensures)
-    (start .args .f .authored .matched .given) (bytesOf s (start .args .f .authored .matched .text)) refl
+    sym (unresolved (pack-of s) (field-meaning s (start .args .f)) (resolve-match .result .given) (resolve-match .result .value) (resolve-match .ensures)
+    (start .args .f .authored .matched .given) (bytes-of s (start .args .f .authored .matched .text)) refl
     (not-false (start .args .f .authored .matched .given) (if1 .left)) (not-true (resolve-match .result .given) (c .if2 .taken)))
 
 exceeds-requires : tie.Need-exceeds-requires
@@ -38,8 +38,8 @@ returns-3 c =
     let resolve-match = c .before .before .before .resolve-match in
     let s = now (start .args .s) in
     c .exceeds .ensures
-    ∙ sym (resolved (packOf s) (fieldMeaning s (start .args .f)) (resolve-match .result .given) (resolve-match .result .value) (resolve-match .ensures)
-    (start .args .f .authored .matched .given) (bytesOf s (start .args .f .authored .matched .text)) refl
+    ∙ sym (resolved (pack-of s) (field-meaning s (start .args .f)) (resolve-match .result .given) (resolve-match .result .value) (resolve-match .ensures)
+    (start .args .f .authored .matched .given) (bytes-of s (start .args .f .authored .matched .text)) refl
     (not-false (start .args .f .authored .matched .given) (if1 .left)) (not-false (resolve-match .result .given) (c .before .if2 .left)))
 
 pub match-unfit-spec : {M : Type 1} → statement M

@@ -6,7 +6,7 @@ use mathlib.Core.Path.{sym, _∙_}
 use mathlib.Core.Bool.{false}
 use lib.ListN.{replicate}
 use denote.Ref.{now}
-use Rattle.pack.specs.Meaning.{packOf}
+use Rattle.pack.specs.Meaning.{pack-of}
 use Rattle.pack.specs.Value.{pgn-at}
 use borrow.Author.Needs.{needs}
 use Rattle.walk.proofs.walk.walk_at.Statement.{statement}
@@ -18,7 +18,7 @@ stop-1-requires c κs = search needs
 returns : tie.Need-returns
 returns c =
     let start = c .before .before .before .before .before .before in
-    let P = packOf (now (start .args .s)) in
+    let P = pack-of (now (start .args .s)) in
     let p = pgn-at P (start .args .found .tree) (start .args .found .pgn) in
     let a = stopped-1 P p (now (start .args .readings)) (now (start .args .visits))
     (sym (c .before .stop-1 .ensures (layout p) (start .pre .0 .sets)) ∙ c .if1 .taken) in
@@ -31,7 +31,7 @@ walk-on-requires : tie.Need-walk-on-requires
 walk-on-requires c κs =
     let start = c .before .before .before .before .before .before .before .before in
     let stop-1 = c .before .before .before .stop-1 in
-    let P = packOf (now (start .args .s)) in
+    let P = pack-of (now (start .args .s)) in
     let p = pgn-at P (start .args .found .tree) (start .args .found .pgn) in (
       start .pre .0,
       harmless-clear P p (replicate 256 false) (clear-replicate 256),

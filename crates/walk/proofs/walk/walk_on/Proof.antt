@@ -1,6 +1,6 @@
 use borrow.Author.Needs.{needs}
 use Rattle.walk.proofs.Walks.{Going, start-going, due-within, going-within, going-used, going-ended, going-on, going-run}
-use Rattle.pack.specs.Meaning.{packOf}
+use Rattle.pack.specs.Meaning.{pack-of}
 use Rattle.pack.specs.Value.{pgn-at}
 use denote.Ref.{now}
 use mathlib.Core.Path.{_≡_, refl, _∙_, ap}
@@ -20,10 +20,10 @@ abbrev Inv-loop : tie.InvT-loop
 Inv-loop s work found harmless₀ readings visits₀ sets state₀ n₀ harmless visits state n =
     (n ≤ length readings)
     × (length visits ≡ length visits₀)
-    × Going (layout (pgn-at (packOf s) (found .tree) (found .pgn))) (stop-at (packOf s) (pgn-at (packOf s) (found .tree) (found .pgn)))
-    (walk (packOf s) (pgn-at (packOf s) (found .tree) (found .pgn)) readings) readings visits₀ visits n (state-of state)
+    × Going (layout (pgn-at (pack-of s) (found .tree) (found .pgn))) (stop-at (pack-of s) (pgn-at (pack-of s) (found .tree) (found .pgn)))
+    (walk (pack-of s) (pgn-at (pack-of s) (found .tree) (found .pgn)) readings) readings visits₀ visits n (state-of state)
     × (length harmless ≡ length harmless₀)
-    × Harmless (packOf s) (pgn-at (packOf s) (found .tree) (found .pgn)) harmless
+    × Harmless (pack-of s) (pgn-at (pack-of s) (found .tree) (found .pgn)) harmless
 
 abbrev μ-loop : tie.MeasureT-loop
 μ-loop s work found harmless₀ readings visits₀ sets state₀ n₀ harmless visits state n = length readings - n
@@ -37,9 +37,9 @@ loop-holds c =
     let s = now (start .args .s) in (
       omega (arith, c),
       refl,
-      start-going (packOf s) (pgn-at (packOf s) (start .args .found .tree) (start .args .found .pgn)) (now (start .args .readings)) (now (start .args .visits))
+      start-going (pack-of s) (pgn-at (pack-of s) (start .args .found .tree) (start .args .found .pgn)) (now (start .args .readings)) (now (start .args .visits))
           (start .pre .2) (state-of (c .begin .result))
-          (c .begin .ensures (layout (pgn-at (packOf s) (start .args .found .tree) (start .args .found .pgn))) (start .pre .0 .sets)),
+          (c .begin .ensures (layout (pgn-at (pack-of s) (start .args .found .tree) (start .args .found .pgn))) (start .pre .0 .sets)),
       refl,
       start .pre .1,
     )
@@ -58,7 +58,7 @@ step-requires c κs =
     let loop = c .before .before .before .loop in (
       start .pre .0,
       loop .inv .4,
-      going-within (layout (pgn-at (packOf (now (start .args .s))) (start .args .found .tree) (start .args .found .pgn))) (start .pre .2) _ _ _ _ _ _
+      going-within (layout (pgn-at (pack-of (now (start .args .s))) (start .args .found .tree) (start .args .found .pgn))) (start .pre .2) _ _ _ _ _ _
           (state-of (loop .state)) (loop .inv .2),
     )
 
@@ -78,7 +78,7 @@ returns c =
     let loop = c .before .before .before .before .before .before .before .before .before .loop in
     let loop-test = c .before .before .before .before .before .before .before .before .loop-test in
     let step = c .before .before .before .before .before .step in
-    let a = going-ended (layout (pgn-at (packOf (now (start .args .s))) (start .args .found .tree) (start .args .found .pgn))) (start .pre .2) _ _ _ _ _ _
+    let a = going-ended (layout (pgn-at (pack-of (now (start .args .s))) (start .args .found .tree) (start .args .found .pgn))) (start .pre .2) _ _ _ _ _ _
     (state-of (loop .state)) (loop .inv .2) (loop-test .taken) (step-of (step .result)) (step .ensures .0) (c .before .end .given .0 .0)
     (ap step-of (c .before .end .given .1)) (omega (arith, loop .inv .0, start .pre .3)) in
     (a .answer, a .out)
@@ -111,12 +111,12 @@ run-on-requires c κs =
     let field = c .before .before .before .before .before .before .before .field in
     let write-visit = c .before .before .before .before .write-visit in
     let s = now (start .args .s) in
-    let g = going-on (layout (pgn-at (packOf s) (start .args .found .tree) (start .args .found .pgn))) (start .pre .2) _ _ _ _ _ _ (state-of (loop .state))
+    let g = going-on (layout (pgn-at (pack-of s) (start .args .found .tree) (start .args .found .pgn))) (start .pre .2) _ _ _ _ _ _ (state-of (loop .state))
     (loop .inv .2) (loop-test .taken) (step-of (step .result)) (step .ensures .0) (field .given .0 .0 .0) (state-of (field .given .0 .1 .0))
     (ap step-of (field .given .1)) in
-    let w = going-within (layout (pgn-at (packOf s) (start .args .found .tree) (start .args .found .pgn))) (start .pre .2) _ _ _ _ _ _
+    let w = going-within (layout (pgn-at (pack-of s) (start .args .found .tree) (start .args .found .pgn))) (start .pre .2) _ _ _ _ _ _
     (state-of (field .given .0 .1 .0)) g in (
-      λ d. let b = due-within (layout (pgn-at (packOf s) (start .args .found .tree) (start .args .found .pgn))) (field .given .0 .1 .0 .settling)
+      λ d. let b = due-within (layout (pgn-at (pack-of s) (start .args .found .tree) (start .args .found .pgn))) (field .given .0 .1 .0 .settling)
           (memory-of (field .given .0 .1 .0 .counts)) d w in
           (b .0, omega (arith, b .1, start .pre .0 .sets .fields)),
       omega (arith, loop-test .taken),
@@ -144,12 +144,12 @@ loop-again c =
     let s = now (start .args .s) in let readings = now (start .args .readings) in (
       run-on .ensures .0 .1,
       run-on .kept .1 .1 .1 .1 .0 ∙ write-visit .kept .0 ∙ loop .inv .1,
-      going-run (layout (pgn-at (packOf s) (start .args .found .tree) (start .args .found .pgn))) (start .pre .2)
-          (stop-at (packOf s) (pgn-at (packOf s) (start .args .found .tree) (start .args .found .pgn)))
-          (walk (packOf s) (pgn-at (packOf s) (start .args .found .tree) (start .args .found .pgn)) readings) readings (now (start .args .visits))
-          (run-on .ensures .1 (layout (pgn-at (packOf s) (start .args .found .tree) (start .args .found .pgn))) (start .pre .0 .sets)
-          (stop-at (packOf s) (pgn-at (packOf s) (start .args .found .tree) (start .args .found .pgn))) (step .ensures .1 .never))
-          (rw (write-visit .ensures) (going-on (layout (pgn-at (packOf s) (start .args .found .tree) (start .args .found .pgn))) (start .pre .2) _ _ _ _ _ _
+      going-run (layout (pgn-at (pack-of s) (start .args .found .tree) (start .args .found .pgn))) (start .pre .2)
+          (stop-at (pack-of s) (pgn-at (pack-of s) (start .args .found .tree) (start .args .found .pgn)))
+          (walk (pack-of s) (pgn-at (pack-of s) (start .args .found .tree) (start .args .found .pgn)) readings) readings (now (start .args .visits))
+          (run-on .ensures .1 (layout (pgn-at (pack-of s) (start .args .found .tree) (start .args .found .pgn))) (start .pre .0 .sets)
+          (stop-at (pack-of s) (pgn-at (pack-of s) (start .args .found .tree) (start .args .found .pgn))) (step .ensures .1 .never))
+          (rw (write-visit .ensures) (going-on (layout (pgn-at (pack-of s) (start .args .found .tree) (start .args .found .pgn))) (start .pre .2) _ _ _ _ _ _
           (state-of (loop .state)) (loop .inv .2) (loop-test .taken) (step-of (step .result)) (step .ensures .0) (field .given .0 .0 .0)
           (state-of (field .given .0 .1 .0)) (ap step-of (field .given .1)))),
       step .kept .1 .1 .1 .0 ∙ loop .inv .3,
@@ -169,7 +169,7 @@ returns-2 : tie.Need-returns-2 Inv-loop μ-loop
 returns-2 c =
     let start = c .before .before .before .before .before .before .before .before .before .before in
     let loop = c .before .before .loop in
-    let a = going-used (layout (pgn-at (packOf (now (start .args .s))) (start .args .found .tree) (start .args .found .pgn))) (start .pre .2) _ _ _ _ _ _
+    let a = going-used (layout (pgn-at (pack-of (now (start .args .s))) (start .args .found .tree) (start .args .found .pgn))) (start .pre .2) _ _ _ _ _ _
     (state-of (loop .state)) (loop .inv .2) (c .before .loop-test .left) (omega (arith, loop .inv .0, start .pre .3)) (c .used .result) (c .used .ensures) in
     (a .answer, a .out)
 

@@ -1,4 +1,4 @@
-use Rattle.pack.specs.Records.{authoredAt}
+use Rattle.pack.specs.Records.{read-authored}
 use borrow.Author.Needs.{needs}
 use Rattle.pack.proofs.cursor.Cursor.authored.Statement.{statement}
 use Rattle.pack.proofs.cursor.Cursor.authored.Tie as tie
@@ -19,7 +19,7 @@ opt-text-requires-2 : tie.Need-opt-text-requires-2
 opt-text-requires-2 c κs = search needs
 
 returns : tie.Need-returns
-unfolding authoredAt
+unfolding read-authored
 returns c = cc
 
 pub authored-spec : {M : Type 1} → statement M

@@ -1,4 +1,4 @@
-use Rattle.pack.specs.Items.{bytesAt}
+use Rattle.pack.specs.Items.{read-bytes}
 use borrow.Author.Needs.{needs}
 use Rattle.pack.proofs.cursor.Cursor.bytes.Statement.{statement}
 use Rattle.pack.proofs.cursor.Cursor.bytes.Tie as tie
@@ -16,7 +16,7 @@ judged-requires : tie.Need-judged-requires
 judged-requires c κs = search needs
 
 returns : tie.Need-returns
-unfolding bytesAt
+unfolding read-bytes
 returns c = cc
 
 pub bytes-spec : {M : Type 1} → statement M

@@ -1,4 +1,4 @@
-use Rattle.pack.specs.Items.{codeAt}
+use Rattle.pack.specs.Items.{read-code}
 use borrow.Author.Needs.{needs}
 use Rattle.pack.proofs.cursor.Cursor.code.Statement.{statement}
 use Rattle.pack.proofs.cursor.Cursor.code.Tie as tie
@@ -10,7 +10,7 @@ judged-requires : tie.Need-judged-requires
 judged-requires c κs = search needs
 
 returns : tie.Need-returns
-unfolding codeAt
+unfolding read-code
 returns c = cc
 
 pub code-spec : {M : Type 1} → statement M

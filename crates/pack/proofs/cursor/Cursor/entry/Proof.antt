@@ -1,4 +1,4 @@
-use Rattle.pack.specs.Records.{entryAt}
+use Rattle.pack.specs.Records.{read-entry}
 use borrow.Author.Needs.{needs}
 use Rattle.pack.proofs.cursor.Cursor.entry.Statement.{statement}
 use Rattle.pack.proofs.cursor.Cursor.entry.Tie as tie
@@ -16,7 +16,7 @@ kind-part-requires : tie.Need-kind-part-requires
 kind-part-requires c κs = search needs
 
 returns : tie.Need-returns
-unfolding entryAt
+unfolding read-entry
 returns c = cc
 
 pub entry-spec : {M : Type 1} → statement M

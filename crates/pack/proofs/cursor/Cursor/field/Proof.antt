@@ -6,8 +6,8 @@ use Rattle.pack.specs.declared.field.FieldFlags.{FieldFlags}
 use Rattle.pack.specs.declared.field.NamesItem.{NamesItem}
 use Rattle.pack.specs.declared.cursor.NumberItem.{NumberItem}
 use Rattle.pack.specs.declared.cursor.Cursor.{Cursor}
-use Rattle.pack.specs.Records.{namesAt, fieldFlags, scalingAt, authoredAt, linksAt, fieldAt}
-use Rattle.pack.specs.Items.{indexAt, codeAt}
+use Rattle.pack.specs.Records.{read-names, field-flags-of, read-scaling, read-authored, read-links, read-field}
+use Rattle.pack.specs.Items.{read-index, read-code}
 use Prim.Native.Nat.{ℕ}
 use mathlib.Core.Path.{_≡_}
 use mathlib.Core.List.{List}
@@ -17,12 +17,12 @@ use Rattle.pack.proofs.cursor.Cursor.field.Tie as tie
 
 -- the record that the six reads give, over variables: `cc` at the function's own context is too dear
 joined : (types total : ℕ) (s : List ℕ) (c : Cursor) (n : NamesItem) (ft fl : NumberItem) (sc : ScalingItem) (au : AuthoredItem) (li : LinksItem)
-    (ff : FieldFlags) → n ≡ namesAt s c → ft ≡ indexAt types s (n .next) → fl ≡ codeAt 63 s (ft .next) → sc ≡ scalingAt total s (fl .next)
-    → au ≡ authoredAt s (sc .next) → li ≡ linksAt (sc .value .bits) s (au .next) → ff ≡ fieldFlags (fl .value)
+    (ff : FieldFlags) → n ≡ read-names s c → ft ≡ read-index types s (n .next) → fl ≡ read-code 63 s (ft .next) → sc ≡ read-scaling total s (fl .next)
+    → au ≡ read-authored s (sc .next) → li ≡ read-links (sc .value .bits) s (au .next) → ff ≡ field-flags-of (fl .value)
     → _≡_ {A = FieldItem}
     (record { value = record { names = n .value; ft = ft .value; flags = ff; scaling = sc .value; authored = au .value; links = li .value }; next = li .next })
-    (fieldAt types total s c)
-unfolding fieldAt
+    (read-field types total s c)
+unfolding read-field
 joined types total s c n ft fl sc au li ff e1 e2 e3 e4 e5 e6 e7 = rw (e7, e6, e5, e4, e3, e2, e1)
 
 names-requires : tie.Need-names-requires

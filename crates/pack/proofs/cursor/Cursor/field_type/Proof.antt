@@ -1,4 +1,4 @@
-use Rattle.pack.specs.Records.{typeAt}
+use Rattle.pack.specs.Records.{read-type}
 use borrow.Author.Needs.{needs}
 use Rattle.pack.proofs.cursor.Cursor.field_type.Statement.{statement}
 use Rattle.pack.proofs.cursor.Cursor.field_type.Tie as tie
@@ -19,7 +19,7 @@ text-requires-2 : tie.Need-text-requires-2
 text-requires-2 c κs = search needs
 
 returns : tie.Need-returns
-unfolding typeAt
+unfolding read-type
 returns c = cc
 
 pub field-type-spec : {M : Type 1} → statement M

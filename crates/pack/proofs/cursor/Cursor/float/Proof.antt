@@ -1,4 +1,4 @@
-use Rattle.pack.specs.Items.{floatAt}
+use Rattle.pack.specs.Items.{read-float}
 use Prim.Native.Nat.{_+_}
 use native.Mathlib.Omega.{arith}
 use mathlib.Core.Path.{_∙_, sym}
@@ -10,7 +10,7 @@ use Rattle.pack.proofs.cursor.Cursor.float.Statement.{statement}
 use Rattle.pack.proofs.cursor.Cursor.float.Tie as tie
 
 returns : tie.Need-returns
-unfolding floatAt
+unfolding read-float
 returns c = simp (ne-eqb _ _ (c .if1 .taken))
 
 within-requires : tie.Need-within-requires
@@ -47,14 +47,14 @@ refuse-requires : tie.Need-refuse-requires
 refuse-requires c κs = search needs
 
 returns-2 : tie.Need-returns-2
-unfolding floatAt
+unfolding read-float
 returns-2 c =
     let if1 = c .before .before .before .before .if1 in
     let within = c .before .before .before .within in
     simp (eq-eqb _ _ (if1 .left), ← within .ensures, c .before .before .if2 .taken, c .before .four-bytes .ensures .0, c .four-bytes2 .ensures .0)
 
 returns-3 : tie.Need-returns-3
-unfolding floatAt
+unfolding read-float
 returns-3 c =
     let if1 = c .before .before .before .if1 in
     simp (c .refuse .ensures, eq-eqb _ _ (if1 .left), ← c .before .before .within .ensures, c .before .if2 .left)

@@ -1,4 +1,4 @@
-use Rattle.pack.specs.Items.{indexAt}
+use Rattle.pack.specs.Items.{read-index}
 use borrow.Author.Needs.{needs}
 use Rattle.pack.proofs.cursor.Cursor.index.Statement.{statement}
 use Rattle.pack.proofs.cursor.Cursor.index.Tie as tie
@@ -13,7 +13,7 @@ judged-requires : tie.Need-judged-requires
 judged-requires c κs = search needs
 
 returns : tie.Need-returns
-unfolding indexAt
+unfolding read-index
 returns c = cc
 
 pub index-spec : {M : Type 1} → statement M

@@ -1,4 +1,4 @@
-use Rattle.pack.specs.Records.{kindPartAt}
+use Rattle.pack.specs.Records.{read-kind-part}
 use borrow.Author.Needs.{needs}
 use borrow.Author.Tests.{eq-eqb, ne-eqb}
 use Rattle.pack.proofs.cursor.Cursor.kind_part.Statement.{statement}
@@ -11,7 +11,7 @@ opt-text-requires : tie.Need-opt-text-requires
 opt-text-requires c κs = search needs
 
 returns : tie.Need-returns
-unfolding kindPartAt
+unfolding read-kind-part
 returns c =
     let if1 = c .before .before .before .before .before .if1 in
     let text = c .before .before .before .before .text in
@@ -19,7 +19,7 @@ returns c =
     simp (eq-eqb _ _ (if1 .taken), ← text .ensures, ← opt-text .ensures)
 
 returns-2 : tie.Need-returns-2
-unfolding kindPartAt
+unfolding read-kind-part
 returns-2 c = simp (ne-eqb _ _ (c .if1 .left))
 
 pub kind-part-spec : {M : Type 1} → statement M

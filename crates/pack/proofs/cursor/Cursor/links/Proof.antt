@@ -1,4 +1,4 @@
-use Rattle.pack.specs.Records.{linksAt}
+use Rattle.pack.specs.Records.{read-links}
 use borrow.Author.Needs.{needs}
 use Rattle.pack.proofs.cursor.Cursor.links.Statement.{statement}
 use Rattle.pack.proofs.cursor.Cursor.links.Tie as tie
@@ -19,7 +19,7 @@ opt-sum-requires : tie.Need-opt-sum-requires
 opt-sum-requires c κs = search needs
 
 returns : tie.Need-returns
-unfolding linksAt
+unfolding read-links
 returns c = cc
 
 pub links-spec : {M : Type 1} → statement M

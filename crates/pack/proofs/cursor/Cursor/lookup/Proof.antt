@@ -1,4 +1,4 @@
-use Rattle.pack.specs.Records.{lookupAt}
+use Rattle.pack.specs.Records.{read-lookup}
 use borrow.Author.Needs.{needs}
 use Rattle.pack.proofs.cursor.Cursor.lookup.Statement.{statement}
 use Rattle.pack.proofs.cursor.Cursor.lookup.Tie as tie
@@ -16,7 +16,7 @@ number-requires-2 : tie.Need-number-requires-2
 number-requires-2 c κs = search needs
 
 returns : tie.Need-returns
-unfolding lookupAt
+unfolding read-lookup
 returns c = cc
 
 pub lookup-spec : {M : Type 1} → statement M

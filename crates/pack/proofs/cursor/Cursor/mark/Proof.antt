@@ -1,4 +1,4 @@
-use Rattle.pack.specs.Items.{markAt}
+use Rattle.pack.specs.Items.{read-mark}
 use borrow.Author.Needs.{needs}
 use Rattle.pack.proofs.cursor.Cursor.mark.Statement.{statement}
 use Rattle.pack.proofs.cursor.Cursor.mark.Tie as tie
@@ -7,7 +7,7 @@ code-requires : tie.Need-code-requires
 code-requires c κs = search needs
 
 returns : tie.Need-returns
-unfolding markAt
+unfolding read-mark
 returns c = cc
 
 pub mark-spec : {M : Type 1} → statement M

@@ -1,4 +1,4 @@
-use Rattle.pack.specs.Items.{nameAt}
+use Rattle.pack.specs.Items.{read-name}
 use borrow.Author.Needs.{needs}
 use borrow.Author.Tests.{eq-eqb, ne-eqb, not-true, not-false}
 use Rattle.pack.proofs.cursor.Cursor.name.Statement.{statement}
@@ -8,13 +8,13 @@ text-requires : tie.Need-text-requires
 text-requires c κs = search needs
 
 returns : tie.Need-returns
-unfolding nameAt
+unfolding read-name
 returns c =
     let text = c .before .before .before .text in
     simp (← text .ensures, ne-eqb _ _ (c .if1 .taken))
 
 returns-2 : tie.Need-returns-2
-unfolding nameAt
+unfolding read-name
 returns-2 c =
     let start = c .before .before .before .before .before .before .before in
     let text = c .before .before .before .before .before .text in
@@ -24,7 +24,7 @@ text-precedes-requires : tie.Need-text-precedes-requires
 text-precedes-requires c κs = search needs
 
 returns-3 : tie.Need-returns-3
-unfolding nameAt
+unfolding read-name
 returns-3 c =
     let start = c .before .before .before .before .before .before .before .before .before .before .before in
     let text = c .before .before .before .before .before .before .before .before .before .text in
@@ -36,7 +36,7 @@ refuse-requires : tie.Need-refuse-requires
 refuse-requires c κs = search needs
 
 returns-4 : tie.Need-returns-4
-unfolding nameAt
+unfolding read-name
 returns-4 c =
     let start = c .before .before .before .before .before .before .before .before .before .before .before .before in
     let text = c .before .before .before .before .before .before .before .before .before .before .text in

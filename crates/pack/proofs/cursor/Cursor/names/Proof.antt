@@ -1,4 +1,4 @@
-use Rattle.pack.specs.Records.{namesAt}
+use Rattle.pack.specs.Records.{read-names}
 use borrow.Author.Needs.{needs}
 use Rattle.pack.proofs.cursor.Cursor.names.Statement.{statement}
 use Rattle.pack.proofs.cursor.Cursor.names.Tie as tie
@@ -13,7 +13,7 @@ text-requires-3 : tie.Need-text-requires-3
 text-requires-3 c κs = search needs
 
 returns : tie.Need-returns
-unfolding namesAt
+unfolding read-names
 returns c = cc
 
 pub names-spec : {M : Type 1} → statement M

@@ -1,4 +1,4 @@
-use Rattle.pack.specs.Items.{numberAt}
+use Rattle.pack.specs.Items.{read-number}
 use borrow.Author.Needs.{needs}
 use Rattle.pack.proofs.cursor.Cursor.number.Statement.{statement}
 use Rattle.pack.proofs.cursor.Cursor.number.Tie as tie
@@ -10,7 +10,7 @@ cast-t5 : tie.Need-cast-t5
 cast-t5 c = search needs
 
 returns : tie.Need-returns
-unfolding numberAt
+unfolding read-number
 returns c = cc
 
 pub number-spec : {M : Type 1} → statement M

@@ -1,4 +1,4 @@
-use Rattle.pack.specs.Items.{optFloatAt}
+use Rattle.pack.specs.Items.{read-opt-float}
 use borrow.Author.Needs.{needs}
 use Rattle.pack.proofs.cursor.Cursor.opt_float.Statement.{statement}
 use Rattle.pack.proofs.cursor.Cursor.opt_float.Tie as tie
@@ -10,13 +10,13 @@ float-requires : tie.Need-float-requires
 float-requires c κs = search needs
 
 returns : tie.Need-returns
-unfolding optFloatAt
+unfolding read-opt-float
 returns c =
     let mark = c .before .before .before .before .mark in
     simp (← mark .ensures, c .before .before .if1 .taken, ← c .before .float .ensures)
 
 returns-2 : tie.Need-returns-2
-unfolding optFloatAt
+unfolding read-opt-float
 returns-2 c = simp (← c .before .before .mark .ensures, c .if1 .left)
 
 pub opt-float-spec : {M : Type 1} → statement M

@@ -1,4 +1,4 @@
-use Rattle.pack.specs.Items.{optNumberAt}
+use Rattle.pack.specs.Items.{read-opt-number}
 use borrow.Author.Needs.{needs}
 use Rattle.pack.proofs.cursor.Cursor.opt_number.Statement.{statement}
 use Rattle.pack.proofs.cursor.Cursor.opt_number.Tie as tie
@@ -13,7 +13,7 @@ some-number-requires : tie.Need-some-number-requires
 some-number-requires c κs = search needs
 
 returns : tie.Need-returns
-unfolding optNumberAt
+unfolding read-opt-number
 returns c =
     let mark = c .before .before .before .before .mark in
     simp (c .some-number .ensures, ← mark .ensures, c .before .before .if1 .taken, c .before .number .ensures)
@@ -22,7 +22,7 @@ no-number-requires : tie.Need-no-number-requires
 no-number-requires c κs = search needs
 
 returns-2 : tie.Need-returns-2
-unfolding optNumberAt
+unfolding read-opt-number
 returns-2 c =
     let mark = c .before .before .before .mark in
     simp (c .no-number .ensures, ← mark .ensures, c .before .if1 .left)

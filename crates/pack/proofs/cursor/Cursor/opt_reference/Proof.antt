@@ -1,4 +1,4 @@
-use Rattle.pack.specs.Records.{optReferenceAt}
+use Rattle.pack.specs.Records.{read-opt-reference}
 use borrow.Author.Needs.{needs}
 use Rattle.pack.proofs.cursor.Cursor.opt_reference.Statement.{statement}
 use Rattle.pack.proofs.cursor.Cursor.opt_reference.Tie as tie
@@ -13,7 +13,7 @@ text-requires : tie.Need-text-requires
 text-requires c κs = search needs
 
 returns : tie.Need-returns
-unfolding optReferenceAt
+unfolding read-opt-reference
 returns c =
     let mark = c .before .before .before .before .before .before .mark in
     let if1 = c .before .before .before .before .if1 in
@@ -21,7 +21,7 @@ returns c =
     simp (← mark .ensures, if1 .taken, ← code .ensures, ← c .before .before .text .ensures)
 
 returns-2 : tie.Need-returns-2
-unfolding optReferenceAt
+unfolding read-opt-reference
 returns-2 c = simp (← c .before .before .mark .ensures, c .if1 .left)
 
 pub opt-reference-spec : {M : Type 1} → statement M

@@ -1,4 +1,4 @@
-use Rattle.pack.specs.Records.{optRepeatingAt}
+use Rattle.pack.specs.Records.{read-opt-repeating}
 use borrow.Author.Needs.{needs}
 use Rattle.pack.proofs.cursor.Cursor.opt_repeating.Statement.{statement}
 use Rattle.pack.proofs.cursor.Cursor.opt_repeating.Tie as tie
@@ -10,14 +10,14 @@ repeating-requires : tie.Need-repeating-requires
 repeating-requires c κs = search needs
 
 returns : tie.Need-returns
-unfolding optRepeatingAt
+unfolding read-opt-repeating
 returns c =
     let mark = c .before .before .before .before .before .mark in
     let if1 = c .before .before .before .if1 in
     simp (← mark .ensures, if1 .taken, ← c .before .before .repeating .ensures)
 
 returns-2 : tie.Need-returns-2
-unfolding optRepeatingAt
+unfolding read-opt-repeating
 returns-2 c = simp (← c .before .before .mark .ensures, c .if1 .left)
 
 pub opt-repeating-spec : {M : Type 1} → statement M

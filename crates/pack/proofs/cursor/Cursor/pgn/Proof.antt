@@ -4,8 +4,8 @@ use Rattle.pack.specs.declared.optional.OptNumberItem.{OptNumberItem}
 use Rattle.pack.specs.declared.cursor.TextItem.{TextItem}
 use Rattle.pack.specs.declared.cursor.NumberItem.{NumberItem}
 use Rattle.pack.specs.declared.cursor.Cursor.{Cursor}
-use Rattle.pack.specs.Records.{optRepeatingAt, pgnAt}
-use Rattle.pack.specs.Items.{numberAt, textAt, codeAt, optBytesAt}
+use Rattle.pack.specs.Records.{read-opt-repeating, read-pgn}
+use Rattle.pack.specs.Items.{read-number, read-text, read-code, read-opt-bytes}
 use Rattle.pack.specs.Notation.{_==_}
 use Prim.Native.Nat.{ℕ, _/_, _%_}
 use mathlib.Core.Path.{_≡_}
@@ -17,8 +17,8 @@ use Rattle.pack.proofs.cursor.Cursor.pgn.Tie as tie
 
 -- the record that the nine reads give, over variables: `cc` at the function's own context is too dear
 joined : (s : List ℕ) (c : Cursor) (n : NumberItem) (i : TextItem) (k f l : NumberItem) (m : OptNumberItem) (a b : OptRepeatingItem) (d : NumberItem)
-    → n ≡ numberAt s c → i ≡ textAt s (n .next) → k ≡ codeAt 3 s (i .next) → f ≡ codeAt 7 s (k .next) → l ≡ numberAt s (f .next) → m ≡ optBytesAt s (l .next)
-    → a ≡ optRepeatingAt s (m .next) → b ≡ optRepeatingAt s (a .next) → d ≡ numberAt s (b .next)
+    → n ≡ read-number s c → i ≡ read-text s (n .next) → k ≡ read-code 3 s (i .next) → f ≡ read-code 7 s (k .next) → l ≡ read-number s (f .next) → m ≡ read-opt-bytes s (l .next)
+    → a ≡ read-opt-repeating s (m .next) → b ≡ read-opt-repeating s (a .next) → d ≡ read-number s (b .next)
     → _≡_ {A = PgnItem} (record {
       value = record {
         pgn = n .value;
@@ -32,8 +32,8 @@ joined : (s : List ℕ) (c : Cursor) (n : NumberItem) (i : TextItem) (k f l : Nu
         fields = d .value;
       };
       next = d .next;
-    }) (pgnAt s c)
-unfolding pgnAt
+    }) (read-pgn s c)
+unfolding read-pgn
 joined s c n i k f l m a b d e1 e2 e3 e4 e5 e6 e7 e8 e9 = rw (e9, e8, e7, e6, e5, e4, e3, e2, e1)
 
 number-requires : tie.Need-number-requires

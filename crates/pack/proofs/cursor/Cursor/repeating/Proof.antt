@@ -1,4 +1,4 @@
-use Rattle.pack.specs.Records.{repeatingAt}
+use Rattle.pack.specs.Records.{read-repeating}
 use borrow.Author.Needs.{needs}
 use Rattle.pack.proofs.cursor.Cursor.repeating.Statement.{statement}
 use Rattle.pack.proofs.cursor.Cursor.repeating.Tie as tie
@@ -16,7 +16,7 @@ mark-requires : tie.Need-mark-requires
 mark-requires c κs = search needs
 
 returns : tie.Need-returns
-unfolding repeatingAt
+unfolding read-repeating
 returns c = cc
 
 pub repeating-spec : {M : Type 1} → statement M

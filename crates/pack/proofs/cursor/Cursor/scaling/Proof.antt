@@ -1,4 +1,4 @@
-use Rattle.pack.specs.Records.{scalingAt}
+use Rattle.pack.specs.Records.{read-scaling}
 use borrow.Author.Needs.{needs}
 use Rattle.pack.proofs.cursor.Cursor.scaling.Statement.{statement}
 use Rattle.pack.proofs.cursor.Cursor.scaling.Tie as tie
@@ -16,7 +16,7 @@ opt-text-requires : tie.Need-opt-text-requires
 opt-text-requires c κs = search needs
 
 returns : tie.Need-returns
-unfolding scalingAt
+unfolding read-scaling
 returns c =
     let sum = c .before .before .before .before .before .sum in
     (cc, sum .ensures .1)

@@ -1,6 +1,6 @@
 use Rattle.pack.specs.declared.cursor.NumberItem.{NumberItem}
 use Rattle.pack.specs.declared.cursor.Cursor.{Cursor}
-use Rattle.pack.specs.Items.{sumAt, judged, largest32}
+use Rattle.pack.specs.Items.{read-sum, judged, largest32}
 use Rattle.pack.specs.Notation.{_≤ᵇ_}
 use Prim.Native.Nat.{ℕ, _+_, _≤_}
 use native.Mathlib.Omega.{arith}
@@ -36,7 +36,7 @@ judged-requires : tie.Need-judged-requires
 judged-requires c κs = search needs
 
 returns : tie.Need-returns
-unfolding sumAt
+unfolding read-sum
 returns c =
     let start = c .before .before .before .before in
     ((cc), (rw (c .judged .ensures) (fits (start .args .self) (c .before .before .number .result) (start .args .other) (omega (arith, start .fits .other)))))

@@ -1,4 +1,4 @@
-use Rattle.pack.specs.Items.{textAt}
+use Rattle.pack.specs.Items.{read-text}
 use Prim.Native.Nat.{_+_}
 use native.Mathlib.Omega.{arith}
 use mathlib.Core.Path.{_∙_, sym}
@@ -13,7 +13,7 @@ number-requires : tie.Need-number-requires
 number-requires c κs = search needs
 
 returns : tie.Need-returns
-unfolding textAt
+unfolding read-text
 returns c =
     let number = c .before .before .before .number in
     simp (← number .ensures, ne-eqb _ _ (c .if1 .taken))
@@ -35,14 +35,14 @@ refuse-requires : tie.Need-refuse-requires
 refuse-requires c κs = search needs
 
 returns-2 : tie.Need-returns-2
-unfolding textAt
+unfolding read-text
 returns-2 c =
     let number = c .before .before .before .before .before .before .number in
     let if1 = c .before .before .before .if1 in
     simp (← number .ensures, eq-eqb _ _ (if1 .left), ← c .before .within .ensures, c .if2 .taken)
 
 returns-3 : tie.Need-returns-3
-unfolding textAt
+unfolding read-text
 returns-3 c =
     let number = c .before .before .before .before .before .before .before .number in
     let if1 = c .before .before .before .before .if1 in

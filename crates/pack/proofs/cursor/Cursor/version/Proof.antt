@@ -1,4 +1,4 @@
-use Rattle.pack.specs.Items.{versionAt}
+use Rattle.pack.specs.Items.{read-version}
 use borrow.Author.Needs.{needs}
 use Rattle.pack.proofs.cursor.Cursor.version.Statement.{statement}
 use Rattle.pack.proofs.cursor.Cursor.version.Tie as tie
@@ -10,7 +10,7 @@ judged-requires : tie.Need-judged-requires
 judged-requires c κs = search needs
 
 returns : tie.Need-returns
-unfolding versionAt
+unfolding read-version
 returns c = cc
 
 pub version-spec : {M : Type 1} → statement M

@@ -1,12 +1,12 @@
 use native.Mathlib.Omega.{arith}
-use Rattle.pack.specs.Items.{wideAt}
+use Rattle.pack.specs.Items.{read-wide}
 use borrow.Author.Needs.{needs}
 use borrow.Author.Tests.{lt-ltb, le-ltb, eq-eqb, ne-eqb, not-true, not-false}
 use Rattle.pack.proofs.cursor.Cursor.wide.Statement.{statement}
 use Rattle.pack.proofs.cursor.Cursor.wide.Tie as tie
 
 returns : tie.Need-returns
-unfolding wideAt
+unfolding read-wide
 returns c = (simp (ne-eqb _ _ (c .if1 .taken)), search needs)
 
 last-byte-requires : tie.Need-last-byte-requires
@@ -16,7 +16,7 @@ refuse-requires : tie.Need-refuse-requires
 refuse-requires c κs = search needs
 
 returns-2 : tie.Need-returns-2
-unfolding wideAt
+unfolding read-wide
 returns-2 c =
     let if1 = c .before .before .before .if1 in
     (simp (c .refuse .ensures, eq-eqb _ _ (if1 .left), ← c .before .before .last-byte .ensures, le-ltb _ _ (c .before .if2 .taken)), omega (arith, c))
@@ -28,7 +28,7 @@ refuse-requires-2 : tie.Need-refuse-requires-2
 refuse-requires-2 c κs = search needs
 
 returns-3 : tie.Need-returns-3
-unfolding wideAt
+unfolding read-wide
 returns-3 c =
     let if1 = c .before .before .before .before .before .if1 in
     let last-byte = c .before .before .before .before .last-byte in
@@ -61,7 +61,7 @@ refuse-requires-3 : tie.Need-refuse-requires-3
 refuse-requires-3 c κs = search needs
 
 returns-4 : tie.Need-returns-4
-unfolding wideAt
+unfolding read-wide
 returns-4 c =
     let if1 = c .before .before .before .before .before .before .before .if1 in
     let last-byte = c .before .before .before .before .before .before .last-byte in
@@ -85,7 +85,7 @@ add-t14 : tie.Need-add-t14
 add-t14 c = search needs
 
 returns-5 : tie.Need-returns-5
-unfolding wideAt
+unfolding read-wide
 returns-5 c =
     let if1 = c .before .before .before .before .before .before .if1 in
     let last-byte = c .before .before .before .before .before .last-byte in
