@@ -46,7 +46,8 @@ pub extern "C" fn sarwymp_check(
     answer: &mut [u64; 2],
 ) -> u32
     ensures number { λ r. ⌜ r ≡ check-tells (now (pack .entry)) (length (now (work .entry))) (length (now (findings .entry))) .number ⌝ }
-    ensures numbers { λ r. ⌜ now (answer .exit) ≡ filled 2 (check-tells (now (pack .entry)) (length (now (work .entry))) (length (now (findings .entry))) .values) ⌝ }
+    ensures numbers { λ r. ⌜ now (answer .exit) ≡ filled 2
+        (check-tells (now (pack .entry)) (length (now (work .entry))) (length (now (findings .entry))) .values) ⌝ }
     ensures work { λ r. ⌜ now (work .exit) ≡ work-after (now (pack .entry)) (now (work .entry)) ⌝ }
     ensures findings { λ r. ⌜ now (findings .exit) ≡ findings-after (now (pack .entry)) (length (now (work .entry))) (now (findings .entry)) ⌝ }
 {
@@ -67,7 +68,8 @@ pub extern "C" fn sarwymp_place_text(
     answer: &mut [u64; 1],
 ) -> u32
     ensures number { λ r. ⌜ r ≡ place-tells (now (pack .entry)) (length (now (work .entry))) place tree item (length (now (text .entry))) .number ⌝ }
-    ensures numbers { λ r. ⌜ now (answer .exit) ≡ filled 1 (place-tells (now (pack .entry)) (length (now (work .entry))) place tree item (length (now (text .entry))) .values) ⌝ }
+    ensures numbers { λ r. ⌜ now (answer .exit) ≡ filled 1
+        (place-tells (now (pack .entry)) (length (now (work .entry))) place tree item (length (now (text .entry))) .values) ⌝ }
     ensures work { λ r. ⌜ now (work .exit) ≡ work-after (now (pack .entry)) (now (work .entry)) ⌝ }
     ensures text { λ r. ⌜ now (text .exit) ≡ text-after (now (pack .entry)) (length (now (work .entry))) place tree item (now (text .entry)) ⌝ }
 {
@@ -88,10 +90,14 @@ pub extern "C" fn sarwymp_walk(
     visits: &mut [u32],
     answer: &mut [u64; 2],
 ) -> u32
-    ensures number { λ r. ⌜ r ≡ walk-tells (now (pack .entry)) (length (now (work .entry))) tree pgn (now (readings .entry)) (length (now (visits .entry))) .number ⌝ }
-    ensures numbers { λ r. ⌜ now (answer .exit) ≡ filled 2 (walk-tells (now (pack .entry)) (length (now (work .entry))) tree pgn (now (readings .entry)) (length (now (visits .entry))) .values) ⌝ }
+    ensures number { λ r. ⌜ r ≡ walk-tells (now (pack .entry)) (length (now (work .entry))) tree pgn (now (readings .entry))
+        (length (now (visits .entry))) .number ⌝ }
+    ensures numbers { λ r. ⌜ now (answer .exit) ≡ filled 2
+        (walk-tells (now (pack .entry)) (length (now (work .entry))) tree pgn (now (readings .entry)) (length (now (visits .entry)))
+        .values) ⌝ }
     ensures work { λ r. ⌜ now (work .exit) ≡ work-after (now (pack .entry)) (now (work .entry)) ⌝ }
-    ensures visits { λ r. ⌜ now (visits .exit) ≡ visits-after (now (pack .entry)) (length (now (work .entry))) tree pgn (now (readings .entry)) (now (visits .entry)) ⌝ }
+    ensures visits { λ r. ⌜ now (visits .exit) ≡ visits-after (now (pack .entry)) (length (now (work .entry))) tree pgn
+        (now (readings .entry)) (now (visits .entry)) ⌝ }
 {
     let w = walk(pack, work, tree, pgn, readings, visits);
     *answer = walk_answer(w);

@@ -7,7 +7,7 @@ use mathlib.Core.Bool.{Bool, true, false}
 use lib.ListN.{length, drop}
 use lib.Seq.{take-append-seam}
 use Rattle.pack.specs.Notation.{_≤ᵇ_, if_then_else_}
-use Rattle.pack.specs.Value.{Pack, pgns-of}
+use Rattle.pack.specs.Value.{pgns-of}
 use Rattle.pack.specs.Format.{types, lookups, type-list, offsets}
 use Rattle.pack.specs.Load.{Verdict, refused, accepted, verdict, load-index, loaded, work-after}
 use Rattle.pack.specs.Meaning.{pack-of, Reading, refused-by, holds, read}
@@ -24,10 +24,8 @@ unfolding load-index
 index-law s =
     record {
       types = sym (types-are s);
-      lookups = sym (lookups-are s);
-      lookups-place = length-types s (type-list s .next) (type-list s .value) ∙ sym (types-are s);
-      trees = counts;
-      trees-place = places;
+      lookups = record { count = sym (lookups-are s); place = length-types s (type-list s .next) (type-list s .value) ∙ sym (types-are s) };
+      trees = λ t h. record { count = counts t h; place = places t h };
     }
   where
     counts : (t : ℕ) → t < 3 → section-of (protocol-of t) (load-index s) .count ≡ length (pgns-of (pack-of s) t)

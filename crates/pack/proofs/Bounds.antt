@@ -8,7 +8,8 @@ use Rattle.pack.specs.Notation.{_==_, _<ᵇ_, concat-below}
 use Rattle.pack.specs.Items.{fresh, finish}
 use Rattle.pack.specs.Records.{read-lookup, read-pgn}
 use Rattle.pack.specs.Format.{types, type-offsets, entries, entry-offsets, LookupState, lookup-next, lookups, lookup-records, lookup-offsets, FieldState}
-use Rattle.pack.specs.Format.{field-next, fields, field-offsets, pgn-next, pgns, pgn-records, pgn-offsets, type-list, lookup-list, tree-start, tree-list, type-part}
+use Rattle.pack.specs.Format.{field-next, fields, field-offsets, pgn-next, pgns, pgn-records, pgn-offsets, type-list, lookup-list, tree-start}
+use Rattle.pack.specs.Format.{tree-list, type-part}
 use Rattle.pack.specs.Format.{lookup-part, tree-part, before, offsets, pack-end, lookup-start, pgn-start}
 use Rattle.pack.specs.Load.{most-bytes}
 use Rattle.pack.specs.Ready.{Ready}
@@ -69,7 +70,12 @@ module _ (s : List ℕ) where
   unfolding pgns pgn-offsets
   pgns-advance k c zero e = omega arith
   pgns-advance k c (suc n) e =
-      omega (arith, pgns-advance k c n (back (pgn-next-reader s k) (pgns k s c n) e), pgn-advance k (pgns k s c n) e, length-append (pgn-offsets k s c n) (pgn-records k s (pgns k s c n)))
+      omega (
+        arith,
+        pgns-advance k c n (back (pgn-next-reader s k) (pgns k s c n) e),
+        pgn-advance k (pgns k s c n) e,
+        length-append (pgn-offsets k s c n) (pgn-records k s (pgns k s c n)),
+      )
 
   before-advance : pack-end s .refused ≡ 0 → (t : ℕ) → t ≤ 3 → length (before s t) ≤ tree-start s t .at
   unfolding before tree-start tree-list lookup-list
@@ -98,7 +104,9 @@ module _ (s : List ℕ) where
   tree-within : (t : ℕ) → tree-start s t .at ≤ length s
   unfolding tree-start tree-list lookup-list type-list
   tree-within zero =
-      lookups-reader s (lookup-list s .value) .within _ (number-reader s .within _ (types-reader s (type-list s .value) .within _ (number-reader s .within _ (version-reader s .within (fresh 0) (omega arith)))))
+      lookups-reader s (lookup-list s .value) .within _
+      (number-reader s .within _
+      (types-reader s (type-list s .value) .within _ (number-reader s .within _ (version-reader s .within (fresh 0) (omega arith)))))
   tree-within (suc t) = tree-reader s (type-list s .value) .within (tree-start s t) (tree-within t)
 
 -- an input refusal is one of 1 to 8, at an offset within the pack
@@ -106,7 +114,9 @@ module _ (s : List ℕ) where
   tree-numbered : (t : ℕ) → tree-start s t .refused ≤ 8
   unfolding tree-start tree-list lookup-list type-list
   tree-numbered zero =
-      lookups-reader s (lookup-list s .value) .numbered _ (number-reader s .numbered _ (types-reader s (type-list s .value) .numbered _ (number-reader s .numbered _ (version-reader s .numbered (fresh 0) (omega arith)))))
+      lookups-reader s (lookup-list s .value) .numbered _
+      (number-reader s .numbered _
+      (types-reader s (type-list s .value) .numbered _ (number-reader s .numbered _ (version-reader s .numbered (fresh 0) (omega arith)))))
   tree-numbered (suc t) = tree-reader s (type-list s .value) .numbered (tree-start s t) (tree-numbered t)
 
   pub input-bound : (pack-end s .refused ≤ 8) × (pack-end s .at ≤ length s)
@@ -171,7 +181,8 @@ module _ (s : List ℕ) where
   unfolding pgn-offsets tree-list
   tree-part-within t =
       let c = number-reader s .within (tree-start s t) (tree-within s t) in
-      all-concat (λ i. pgn-records-within (type-list s .value) (pgn-start s t i) (pgns-reader s (type-list s .value) i .within (tree-list s t .next) c)) (tree-list s t .value)
+      all-concat (λ i. pgn-records-within (type-list s .value) (pgn-start s t i) (pgns-reader s (type-list s .value) i .within (tree-list s t .next) c))
+      (tree-list s t .value)
 
   before-within : (t : ℕ) → AllWithin (length s) (before s t)
   unfolding before type-offsets lookup-offsets type-list lookup-list

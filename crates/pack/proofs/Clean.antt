@@ -9,7 +9,8 @@ use lib.ListN.{length}
 use Rattle.pack.specs.Notation.{_==_, _<ᵇ_}
 use Rattle.pack.specs.Items.{fresh}
 use Rattle.pack.specs.Records.{read-lookup, read-pgn}
-use Rattle.pack.specs.Format.{types, entries, lookup-next, lookups, no-text, fields, pgn-next, pgns, type-list, lookup-list, tree-start, tree-list, pack-end}
+use Rattle.pack.specs.Format.{types, entries, lookup-next, lookups, no-text, fields, pgn-next, pgns, type-list, lookup-list, tree-start}
+use Rattle.pack.specs.Format.{tree-list, pack-end}
 use Rattle.pack.specs.Format.{type-start, lookup-start, pgn-start}
 use Rattle.pack.specs.Load.{most-bytes, refused, accepted, verdict}
 use Rattle.pack.specs.declared.cursor.Cursor.{Cursor}
@@ -52,7 +53,8 @@ module _ (s : List ℕ) (a : pack-end s .refused ≡ 0) where
   unfolding tree-start tree-list pgns
   pgn-clean t i h l = clean (pgn-next-reader s k) (tree-list s t .next) i (tree-list s t .value) l (tree-clean (suc t) (omega arith))
 
-  pub field-clean : (t i j : ℕ) → t < 3 → i < tree-list s t .value → j ≤ read-pgn s (pgn-start s t i) .value .fields → fields k s (read-pgn s (pgn-start s t i) .next) j .next .refused ≡ 0
+  pub field-clean : (t i j : ℕ) → t < 3 → i < tree-list s t .value → j ≤ read-pgn s (pgn-start s t i) .value .fields
+      → fields k s (read-pgn s (pgn-start s t i) .next) j .next .refused ≡ 0
   unfolding fields pgn-next
   field-clean t i j h l m =
       let e : pgn-next k s (pgn-start s t i) .refused ≡ 0 = rw (← pgns-turn s (tree-list s t .next) k i) (pgn-clean t (i + 1) h (omega arith)) in
@@ -66,7 +68,8 @@ module _ (s : List ℕ) (a : pack-end s .refused ≡ 0) where
   lookup-next-clean i l = rw (← lookups-turn s (lookup-list s .next) i) (lookup-clean (i + 1) (omega arith))
 
   pub entry-clean : (i j : ℕ) → i < lookup-list s .value → j ≤ read-lookup (lookup-start s i .before) s (lookup-start s i .next) .value .entries
-      → entries (read-lookup (lookup-start s i .before) s (lookup-start s i .next) .value .kind) s (read-lookup (lookup-start s i .before) s (lookup-start s i .next) .next) j .refused ≡ 0
+      → entries (read-lookup (lookup-start s i .before) s (lookup-start s i .next) .value .kind) s
+      (read-lookup (lookup-start s i .before) s (lookup-start s i .next) .next) j .refused ≡ 0
   unfolding entries lookup-next
   entry-clean i j l m =
       clean (entry-reader s (read-lookup (lookup-start s i .before) s (lookup-start s i .next) .value .kind))

@@ -15,11 +15,13 @@ use Rattle.pack.specs.declared.cursor.NumberItem.{NumberItem}
 use Rattle.pack.proofs.Reading.{back, code-reader, number-reader, float-reader, opt-text-reader, scaling-reader, authored-reader, links-reader}
 
 -- what was judged and is not refused is the item itself, and good
-judged-clean : (c : Cursor) (item : NumberItem) (good : Bool) (n : ℕ) → judged c item good (suc n) .next .refused ≡ 0 → (judged c item good (suc n) ≡ item) × (good ≡ true) × ((item .next .refused == 0) ≡ true)
+judged-clean : (c : Cursor) (item : NumberItem) (good : Bool) (n : ℕ) → judged c item good (suc n) .next .refused ≡ 0
+    → (judged c item good (suc n) ≡ item) × (good ≡ true) × ((item .next .refused == 0) ≡ true)
 unfolding judged
 judged-clean c item good n e = go (item .next .refused == 0) refl good refl
   where
-    go : (a : Bool) → (item .next .refused == 0) ≡ a → (b : Bool) → good ≡ b → (judged c item good (suc n) ≡ item) × (good ≡ true) × ((item .next .refused == 0) ≡ true)
+    go : (a : Bool) → (item .next .refused == 0) ≡ a → (b : Bool) → good ≡ b
+        → (judged c item good (suc n) ≡ item) × (good ≡ true) × ((item .next .refused == 0) ≡ true)
     go true x true y = ((rw (x, y)), y, x)
     go true x false y = let z : suc n ≡ 0 = rw (x, y) at e in absurd (omega arith)
     go false x b y = let z : item .next .refused ≡ 0 = rw x at e in let w = eq-eqb _ _ z in let v : _≡_ {A = ℕ} 0 1 = cc in absurd (omega arith)
@@ -63,7 +65,8 @@ module _ (s : List ℕ) where
   unfolding read-name
   name-free c b e = go (read-text s c .next .refused == 0) refl (b .given) refl (bytes-of s (b .text) ≺ bytes-of s (read-text s c .value)) refl
     where
-      go : (x : Bool) → (read-text s c .next .refused == 0) ≡ x → (y : Bool) → b .given ≡ y → (z : Bool) → (bytes-of s (b .text) ≺ bytes-of s (read-text s c .value)) ≡ z → read-name b s c ≡ read-name no-text s c
+      go : (x : Bool) → (read-text s c .next .refused == 0) ≡ x → (y : Bool) → b .given ≡ y → (z : Bool)
+          → (bytes-of s (b .text) ≺ bytes-of s (read-text s c .value)) ≡ z → read-name b s c ≡ read-name no-text s c
       go true x true y true z = rw (x, y, z)
       go true x true y false z = let w : _≡_ {A = ℕ} 5 0 = rw (x, y, z) at e in absurd (omega arith)
       go true x false y z w = rw (x, y)
@@ -73,7 +76,8 @@ module _ (s : List ℕ) where
   unfolding read-lookup
   lookup-free c b e = rw (name-free c b (back (code-reader s 3) _ (back (number-reader s) _ (back (number-reader s) _ e))))
 
-  pub field-free : (c : Cursor) (k total : ℕ) → k ≤ 4294967296 → read-field k total s c .next .refused ≡ 0 → read-field k total s c ≡ read-field 4294967296 0 s c
+  pub field-free : (c : Cursor) (k total : ℕ) → k ≤ 4294967296 → read-field k total s c .next .refused ≡ 0
+      → read-field k total s c ≡ read-field 4294967296 0 s c
   unfolding read-field
   field-free c k total h e =
       let n = read-names s c .next in
@@ -81,5 +85,6 @@ module _ (s : List ℕ) where
       let a : sc .next .refused ≡ 0 = back (authored-reader s) (sc .next) (back (links-reader s (sc .value .bits)) (read-authored s (sc .next) .next) e) in
       let i : read-index k s n .next .refused ≡ 0 = back (code-reader s 63) _ (back (scaling-reader s total) _ a) in
       let x : read-index k s n ≡ read-index 4294967296 s n = index-free n k 4294967296 h i in
-      let y : read-scaling total s (read-code 63 s (read-index 4294967296 s n .next) .next) ≡ read-scaling 0 s (read-code 63 s (read-index 4294967296 s n .next) .next) = scaling-free _ total (rw x at a) in
+      let y : read-scaling total s (read-code 63 s (read-index 4294967296 s n .next) .next)
+      ≡ read-scaling 0 s (read-code 63 s (read-index 4294967296 s n .next) .next) = scaling-free _ total (rw x at a) in
       rw (x, y)

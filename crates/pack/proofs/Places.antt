@@ -8,7 +8,8 @@ use mathlib.Core.List.{List, [], _∷_, _++_}
 use borrow.Author.Tests.{eq-eqb, ne-eqb}
 use lib.ListN.{set}
 use Rattle.pack.specs.Records.{read-type, read-entry}
-use Rattle.pack.specs.Format.{types, type-offsets, entries, entry-offsets, lookup-next, lookup-records, lookups, lookup-offsets, no-text, field-next, fields}
+use Rattle.pack.specs.Format.{types, type-offsets, entries, entry-offsets, lookup-next, lookup-records, lookups, lookup-offsets, no-text}
+use Rattle.pack.specs.Format.{field-next, fields}
 use Rattle.pack.specs.Format.{field-offsets, pgn-next, pgn-records, pgns, pgn-offsets}
 use Rattle.pack.specs.Placing.{Room, PlacedTo, counted}
 use Rattle.pack.specs.declared.cursor.Cursor.{Cursor}
@@ -42,7 +43,8 @@ pub placed-append : {end : Cursor} {w : List ℕ} {p : ℕ} {xs w′ : List ℕ}
 placed-append a z b = record { next = b .next; few = b .few; stored = λ y. stored-append (a .stored z) (b .stored y) }
 
 -- a record whose head was refused: its parts are not reached
-pub placed-refused : {end : Cursor} {w w′ : List ℕ} {xs : List ℕ} (p q : ℕ) (d : Cursor) → d ≡ end → (d .refused ≡ 0 → ⊥) → q ≤ d .at → PlacedTo end w p xs w′ d q
+pub placed-refused : {end : Cursor} {w w′ : List ℕ} {xs : List ℕ} (p q : ℕ) (d : Cursor) → d ≡ end → (d .refused ≡ 0 → ⊥) → q ≤ d .at
+    → PlacedTo end w p xs w′ d q
 placed-refused p q d e n h = record { next = e; few = h; stored = λ z. absurd (n z) }
 
 -- a record with parts

@@ -11,7 +11,8 @@ use Rattle.pack.specs.Value.{Lookup, Field, Pgn, Pack, no-field-type, no
 use Rattle.pack.specs.Items.{fresh, bytes-of, read-number, read-text, read-name, read-index, read-code}
 use Rattle.pack.specs.Records.{read-type, read-entry, read-lookup, read-names, read-scaling, read-authored, read-pgn, read-field}
 use Rattle.pack.specs.Format.{types, type-offsets, entries, entry-offsets, lookup-records, lookup-offsets, no-text, FieldState, field-next, fields}
-use Rattle.pack.specs.Format.{field-offsets, pgn-records, pgn-offsets, type-list, lookup-list, tree-list, type-part, lookup-part, tree-part, before, offsets}
+use Rattle.pack.specs.Format.{field-offsets, pgn-records, pgn-offsets, type-list, lookup-list, tree-list, type-part, lookup-part, tree-part}
+use Rattle.pack.specs.Format.{before, offsets}
 use Rattle.pack.specs.Format.{type-start, lookup-start, pgn-start, pack-end}
 use Rattle.pack.specs.Load.{accepted}
 use Rattle.pack.specs.Meaning.{type-meaning, entry-meaning, field-meaning, type-of-pack, lookup-of-pack, pgn-of-pack, pack-of}
@@ -24,7 +25,7 @@ use Rattle.pack.proofs.Reading.{if-all, number-fits, back, code-reader,
 use Rattle.pack.proofs.Places.{fields-turn}
 use Rattle.pack.proofs.Free.{index-below, lookup-free, field-free}
 use Rattle.pack.proofs.Clean.{fresh-at, accepted-end, pgn-clean, field-clean, lookup-clean, entry-clean, type-clean}
-use Rattle.pack.proofs.Values.{types-are, type-is, lookups-are, lookup-is, pgns-are, pgn-is, lookupHead, pgnHead, entries-are, entry-is, fields-are}
+use Rattle.pack.proofs.Values.{types-are, type-is, lookups-are, lookup-is, pgns-are, pgn-is, lookup-head, pgn-head, entries-are, entry-is, fields-are}
 use Rattle.pack.proofs.Values.{field-is, length-types, length-lookup, length-pgn, lookup-place, pgns-below, tree-place}
 
 module _ (s : List ℕ) where
@@ -32,7 +33,8 @@ module _ (s : List ℕ) where
   before-grows : (d t : ℕ) → length (before s t) ≤ length (before s (d + t))
   unfolding before
   before-grows zero t = let e : 0 + t ≡ t = omega arith in rw e (omega arith)
-  before-grows (suc d) t = let e : suc d + t ≡ suc (d + t) = omega arith in rw e (omega (arith, before-grows d t, length-append (before s (d + t)) (tree-part s (d + t))))
+  before-grows (suc d) t = let e : suc d + t ≡ suc (d + t) = omega arith in rw e
+      (omega (arith, before-grows d t, length-append (before s (d + t)) (tree-part s (d + t))))
 
   in-before : (d t k : ℕ) → k < length (before s t) → getD (before s (d + t)) k 0 ≡ getD (before s t) k 0
   unfolding before
@@ -53,12 +55,16 @@ module _ (s : List ℕ) where
   unfolding before type-offsets
   type-offset i h =
       let l = length-types s (type-list s .next) (type-list s .value) in
-      let m = length-append (type-part s) (lookup-part s) in
-      (in-all 0 i (omega arith) (omega arith) ∙ List·getD-append (type-part s) (lookup-part s) 0 i (omega arith) ∙ getD-tab (λ j. types s (type-list s .next) j .at) 0 (type-list s .value) i h, omega (arith, all-of 0 (omega arith)))
+      let m = length-append (type-part s) (lookup-part s) in (
+        in-all 0 i (omega arith) (omega arith) ∙ List·getD-append (type-part s) (lookup-part s) 0 i (omega arith)
+            ∙ getD-tab (λ j. types s (type-list s .next) j .at) 0 (type-list s .value) i h,
+        omega (arith, all-of 0 (omega arith)),
+      )
 
   -- record j of lookup i with its entries
   lookup-offset : (i j : ℕ) → i < lookup-list s .value → j < length (lookup-records s (lookup-start s i))
-      → (getD (offsets s) (place-of-lookup (pack-of s) i + j) 0 ≡ getD (lookup-records s (lookup-start s i)) j 0) × (place-of-lookup (pack-of s) i + length (lookup-records s (lookup-start s i)) ≤ length (offsets s))
+      → (getD (offsets s) (place-of-lookup (pack-of s) i + j) 0 ≡ getD (lookup-records s (lookup-start s i)) j 0)
+      × (place-of-lookup (pack-of s) i + length (lookup-records s (lookup-start s i)) ≤ length (offsets s))
   unfolding before lookup-offsets
   lookup-offset i j h l =
       let f : ℕ → List ℕ = λ n. lookup-records s (lookup-start s n) in
@@ -102,12 +108,14 @@ module _ (s w : List ℕ) (r : Ready s w) where
   pub records-fit : length (offsets s) ≤ length w
   records-fit = let t : length (take (length (offsets s)) w) ≡ length (offsets s) = ap length (r .begins) in omega (arith, length-take (length (offsets s)) w)
 
-  pub type-law : (i : ℕ) → i < length (pack-of s .fieldtypes) → (i < length w) × (type-meaning s (read-type s (fresh (getD w i 0)) .value) ≡ getD (pack-of s .fieldtypes) i no-field-type)
+  pub type-law : (i : ℕ) → i < length (pack-of s .fieldtypes)
+      → (i < length w) × (type-meaning s (read-type s (fresh (getD w i 0)) .value) ≡ getD (pack-of s .fieldtypes) i no-field-type)
   unfolding type-of-pack
   type-law i h =
       let l : i < type-list s .value = omega (arith, types-are s) in
       let o = type-offset s i l in
-      let e : fresh (getD w i 0) ≡ type-start s i = ap fresh (at-work i (o .1) ∙ o .0) ∙ sym (fresh-at (type-start s i) (type-clean s clean-end i (omega arith))) in
+      let e : fresh (getD w i 0) ≡ type-start s i = ap fresh (at-work i (o .1) ∙ o .0)
+      ∙ sym (fresh-at (type-start s i) (type-clean s clean-end i (omega arith))) in
       (omega (arith, records-fit, o .1), (rw e (sym (type-is s i l))))
 
 -- a name with none before it
@@ -119,7 +127,7 @@ module _ {s w : List ℕ} {i p : ℕ} (a : LookupAt s w i p) where
   listed : i < lookup-list s .value
   listed = omega (arith, lookups-are s, a .lookup)
 
-  lookup-head-clean : lookupHead s i .next .refused ≡ 0
+  lookup-head-clean : lookup-head s i .next .refused ≡ 0
   unfolding entries
   lookup-head-clean = entry-clean s (clean-end s w (a .ready)) i 0 listed (omega arith)
 
@@ -132,7 +140,7 @@ module _ {s w : List ℕ} {i p : ℕ} (a : LookupAt s w i p) where
       let x : getD w p 0 ≡ lookup-start s i .next .at = at-work s w (a .ready) p (omega (arith, o .1)) ∙ (rw e at (o .0)) in
       ap fresh x ∙ sym (fresh-at (lookup-start s i .next) (lookup-clean s (clean-end s w (a .ready)) i (omega (arith, listed))))
 
-  lookup-view : read-lookup no-text s (fresh (getD w p 0)) ≡ lookupHead s i
+  lookup-view : read-lookup no-text s (fresh (getD w p 0)) ≡ lookup-head s i
   lookup-view = rw lookup-cursor (sym (lookup-free s (lookup-start s i .next) (lookup-start s i .before) lookup-head-clean))
 
   pub lookup-room : p + 1 + length (lookup-at (pack-of s .lookups) i .entries) ≤ length w
@@ -147,23 +155,26 @@ module _ {s w : List ℕ} {i p : ℕ} (a : LookupAt s w i p) where
   pub lookup-name-law : bytes-of s (read-text s (fresh (getD w p 0)) .value) ≡ lookup-at (pack-of s .lookups) i .name
   unfolding read-lookup
   lookup-name-law =
-      let e : bytes-of s (read-lookup no-text s (fresh (getD w p 0)) .value .name) ≡ lookup-at (pack-of s .lookups) i .name = ap (λ (L : Lookup). L .name) (lookup-law .means) in
+      let e : bytes-of s (read-lookup no-text s (fresh (getD w p 0)) .value .name) ≡ lookup-at (pack-of s .lookups) i .name
+      = ap (λ (L : Lookup). L .name) (lookup-law .means) in
       rw (← name-first s (fresh (getD w p 0))) e
 
-  kind-is : lookup-at (pack-of s .lookups) i .kind ≡ lookupHead s i .value .kind
+  kind-is : lookup-at (pack-of s .lookups) i .kind ≡ lookup-head s i .value .kind
   unfolding lookup-of-pack
   kind-is = rw (lookup-is s i listed)
 
   pub entry-law : (j : ℕ) → j < length (lookup-at (pack-of s .lookups) i .entries)
-      → entry-meaning s (read-entry (lookup-at (pack-of s .lookups) i .kind) s (fresh (getD w (p + 1 + j) 0)) .value) ≡ getD (lookup-at (pack-of s .lookups) i .entries) j no-entry
+      → entry-meaning s (read-entry (lookup-at (pack-of s .lookups) i .kind) s (fresh (getD w (p + 1 + j) 0)) .value)
+      ≡ getD (lookup-at (pack-of s .lookups) i .entries) j no-entry
   unfolding lookup-records entry-offsets
   entry-law j h =
-      let m : j < lookupHead s i .value .entries = omega (arith, entries-are s i listed) in
+      let m : j < lookup-head s i .value .entries = omega (arith, entries-are s i listed) in
       let l = length-lookup s (lookup-start s i) in
       let o = lookup-offset s i (suc j) listed (omega arith) in
       let e : place-of-lookup (pack-of s) i + suc j ≡ p + 1 + j = omega (arith, a .place) in
-      let x : getD w (p + 1 + j) 0 ≡ entries (lookupHead s i .value .kind) s (lookupHead s i .next) j .at =
-      at-work s w (a .ready) (p + 1 + j) (omega (arith, o .1)) ∙ (rw e at (o .0)) ∙ getD-tab (λ n. entries (lookupHead s i .value .kind) s (lookupHead s i .next) n .at) 0 (lookupHead s i .value .entries) j m in
+      let x : getD w (p + 1 + j) 0 ≡ entries (lookup-head s i .value .kind) s (lookup-head s i .next) j .at =
+      at-work s w (a .ready) (p + 1 + j) (omega (arith, o .1)) ∙ (rw e at (o .0))
+      ∙ getD-tab (λ n. entries (lookup-head s i .value .kind) s (lookup-head s i .next) n .at) 0 (lookup-head s i .value .entries) j m in
       let y = ap fresh x ∙ sym (fresh-at _ (entry-clean s (clean-end s w (a .ready)) i j listed (omega arith))) in
       rw (kind-is, y) (sym (entry-is s i j listed m))
 
@@ -179,14 +190,15 @@ module _ {s w : List ℕ} {t i p : ℕ} (a : PgnAt s w t i p) where
   counted-pgn : i < tree-list s t .value
   counted-pgn = omega (arith, pgns-are s t (a .tree), a .pgn)
 
-  pgn-view : read-pgn s (fresh (getD w p 0)) ≡ pgnHead s t i
+  pgn-view : read-pgn s (fresh (getD w p 0)) ≡ pgn-head s t i
   unfolding pgn-records
   pgn-view =
       let l = length-pgn s (type-list s .value) (pgn-start s t i) in
       let o = pgn-offset s t i 0 (a .tree) counted-pgn (omega arith) in
       let e : place-of-pgn (pack-of s) t i + 0 ≡ p = omega (arith, a .place) in
       let x : getD w p 0 ≡ pgn-start s t i .at = at-work s w (a .ready) p (omega (arith, o .1)) ∙ (rw e at (o .0)) in
-      let y : fresh (getD w p 0) ≡ pgn-start s t i = ap fresh x ∙ sym (fresh-at (pgn-start s t i) (pgn-clean s (clean-end s w (a .ready)) t i (a .tree) (omega (arith, counted-pgn)))) in
+      let y : fresh (getD w p 0) ≡ pgn-start s t i = ap fresh x ∙ sym
+      (fresh-at (pgn-start s t i) (pgn-clean s (clean-end s w (a .ready)) t i (a .tree) (omega (arith, counted-pgn)))) in
       rw y
 
   pub pgn-room : p + 1 + length (pgn-at (pack-of s) t i .fields) ≤ length w
@@ -207,17 +219,23 @@ module _ {s w : List ℕ} {t i p : ℕ} (a : PgnAt s w t i p) where
   unfolding pgn-records field-offsets
   field-law j h =
       let k = type-list s .value in
-      let m : j < pgnHead s t i .value .fields = omega (arith, fields-are s t i (a .tree) counted-pgn) in
+      let m : j < pgn-head s t i .value .fields = omega (arith, fields-are s t i (a .tree) counted-pgn) in
       let l = length-pgn s k (pgn-start s t i) in
       let o = pgn-offset s t i (suc j) (a .tree) counted-pgn (omega arith) in
       let e : place-of-pgn (pack-of s) t i + suc j ≡ p + 1 + j = omega (arith, a .place) in
-      let st = fields k s (pgnHead s t i .next) j in
-      let x : getD w (p + 1 + j) 0 ≡ st .next .at = at-work s w (a .ready) (p + 1 + j) (omega (arith, o .1)) ∙ (rw e at (o .0)) ∙ getD-tab (λ n. fields k s (pgnHead s t i .next) n .next .at) 0 (pgnHead s t i .value .fields) j m in
-      let y : fresh (getD w (p + 1 + j) 0) ≡ st .next = ap fresh x ∙ sym (fresh-at (st .next) (field-clean s (clean-end s w (a .ready)) t i j (a .tree) counted-pgn (omega arith))) in
-      let z : field-next k s st .next .refused ≡ 0 = rw (← fields-turn s (pgnHead s t i .next) k j) (field-clean s (clean-end s w (a .ready)) t i (j + 1) (a .tree) counted-pgn (omega arith)) in
-      rw y (ap (λ (f : FieldItem). field-meaning s (f .value)) (sym (field-free s (st .next) k (st .total) (omega (arith, types-fit s)) (step-clean s k st z))) ∙ sym (field-is s t i j (a .tree) counted-pgn m))
+      let st = fields k s (pgn-head s t i .next) j in
+      let x : getD w (p + 1 + j) 0 ≡ st .next .at = at-work s w (a .ready) (p + 1 + j) (omega (arith, o .1)) ∙ (rw e at (o .0))
+      ∙ getD-tab (λ n. fields k s (pgn-head s t i .next) n .next .at) 0 (pgn-head s t i .value .fields) j m in
+      let y : fresh (getD w (p + 1 + j) 0) ≡ st .next = ap fresh x ∙ sym
+      (fresh-at (st .next) (field-clean s (clean-end s w (a .ready)) t i j (a .tree) counted-pgn (omega arith))) in
+      let z : field-next k s st .next .refused ≡ 0 = rw (← fields-turn s (pgn-head s t i .next) k j)
+      (field-clean s (clean-end s w (a .ready)) t i (j + 1) (a .tree) counted-pgn (omega arith)) in
+      rw y
+      (ap (λ (f : FieldItem). field-meaning s (f .value)) (sym (field-free s (st .next) k (st .total) (omega (arith, types-fit s)) (step-clean s k st z)))
+      ∙ sym (field-is s t i j (a .tree) counted-pgn m))
 
-  pub field-id-law : (j : ℕ) → j < length (pgn-at (pack-of s) t i .fields) → bytes-of s (read-text s (fresh (getD w (p + 1 + j) 0)) .value) ≡ field-at (pgn-at (pack-of s) t i) j .id
+  pub field-id-law : (j : ℕ) → j < length (pgn-at (pack-of s) t i .fields)
+      → bytes-of s (read-text s (fresh (getD w (p + 1 + j) 0)) .value) ≡ field-at (pgn-at (pack-of s) t i) j .id
   unfolding read-field read-names
   field-id-law j h = ap (λ (f : Field). f .id) (field-law j h)
 
@@ -241,11 +259,13 @@ module _ {s w : List ℕ} {t i p : ℕ} (a : PgnAt s w t i p) where
   pub field-ft-law : (j : ℕ) → j < length (pgn-at (pack-of s) t i .fields) → field-at (pgn-at (pack-of s) t i) j .ft < length (pack-of s .fieldtypes)
   field-ft-law j h =
       let k = type-list s .value in
-      let m : j < pgnHead s t i .value .fields = omega (arith, fields-are s t i (a .tree) (counted-pgn a)) in
-      let st = fields k s (pgnHead s t i .next) j in
-      let z : field-next k s st .next .refused ≡ 0 = rw (← fields-turn s (pgnHead s t i .next) k j) (field-clean s (clean-end s w (a .ready)) t i (j + 1) (a .tree) (counted-pgn a) (omega arith)) in
+      let m : j < pgn-head s t i .value .fields = omega (arith, fields-are s t i (a .tree) (counted-pgn a)) in
+      let st = fields k s (pgn-head s t i .next) j in
+      let z : field-next k s st .next .refused ≡ 0 = rw (← fields-turn s (pgn-head s t i .next) k j)
+      (field-clean s (clean-end s w (a .ready)) t i (j + 1) (a .tree) (counted-pgn a) (omega arith)) in
       let b = field-type-below s k (st .total) (st .next) (step-clean s k st z) in
-      let e : field-at (pgn-at (pack-of s) t i) j .ft ≡ read-field k (st .total) s (st .next) .value .ft = ap (λ (f : Field). f .ft) (field-is s t i j (a .tree) (counted-pgn a) m) in
+      let e : field-at (pgn-at (pack-of s) t i) j .ft ≡ read-field k (st .total) s (st .next) .value .ft
+      = ap (λ (f : Field). f .ft) (field-is s t i j (a .tree) (counted-pgn a) m) in
       omega (arith, b, e, types-are s)
 
 -- the next record of its kind

@@ -8,9 +8,12 @@ use mathlib.Core.Bool.{Bool, true, false}
 use borrow.Author.Tests.{ne-eqb, eqb-false, ltb-true, leb-true}
 use lib.ListN.{length}
 use Rattle.pack.specs.Notation.{_==_, _<ᵇ_, _≤ᵇ_, if_then_else_}
-use Rattle.pack.specs.Items.{_≺_, bytes-of, refuse, moved, last-byte-at, shortest, capped, groups, largest32, largest64, read-wide, read-number, judged, read-version}
-use Rattle.pack.specs.Items.{read-code, read-index, read-sum, read-bytes, read-text, read-name, read-float, read-mark, read-opt-text, read-opt-number, read-opt-bytes, read-opt-sum, read-opt-float}
-use Rattle.pack.specs.Records.{read-type, read-first, read-kind-part, read-entry, read-lookup, read-repeating, read-opt-repeating, read-pgn, read-names, read-scaling, read-authored}
+use Rattle.pack.specs.Items.{_≺_, bytes-of, refuse, moved, last-byte-at, shortest, capped, groups, largest32, largest64, read-wide}
+use Rattle.pack.specs.Items.{read-number, judged, read-version}
+use Rattle.pack.specs.Items.{read-code, read-index, read-sum, read-bytes, read-text, read-name, read-float, read-mark, read-opt-text}
+use Rattle.pack.specs.Items.{read-opt-number, read-opt-bytes, read-opt-sum, read-opt-float}
+use Rattle.pack.specs.Records.{read-type, read-first, read-kind-part, read-entry, read-lookup, read-repeating, read-opt-repeating, read-pgn}
+use Rattle.pack.specs.Records.{read-names, read-scaling, read-authored}
 use Rattle.pack.specs.Records.{read-opt-reference, read-links, read-field}
 use Rattle.pack.specs.Format.{iter, types, entries, LookupState, lookup-next, lookups, no-text, FieldState, field-next, fields, pgn-next, pgns}
 use Rattle.pack.specs.declared.text.OptText.{OptText}
@@ -130,8 +133,10 @@ module _ {s : List ℕ} where
 
 module _ (s : List ℕ) where
   -- the ends of a number: left as it was, cut short, refused by 2, read
-  wide-all : (most : ℕ) (P : WideItem → Type 0) (c : Cursor) → ((c .refused == 0) ≡ false → P (record { value = 0; next = c })) → P (record { value = 0; next = refuse c 1 })
-      → P (record { value = 0; next = refuse c 2 }) → ((v : ℕ) → last-byte-at s (c .at) < length s → P (record { value = v; next = moved c (last-byte-at s (c .at) + 1) }))
+  wide-all : (most : ℕ) (P : WideItem → Type 0) (c : Cursor) → ((c .refused == 0) ≡ false → P (record { value = 0; next = c }))
+      → P (record { value = 0; next = refuse c 1 })
+      → P (record { value = 0; next = refuse c 2 }) →
+      ((v : ℕ) → last-byte-at s (c .at) < length s → P (record { value = v; next = moved c (last-byte-at s (c .at) + 1) }))
       → P (read-wide most s c)
   unfolding read-wide
   wide-all most P c a b d e =
@@ -159,7 +164,8 @@ module _ (s : List ℕ) where
 
   pub wide-moves : (most : ℕ) → Moves (λ c. read-wide most s c .next)
   wide-moves most c e =
-      wide-all most (λ w. w .next .refused ≡ 0 → c .at + 1 ≤ w .next .at) c (λ h z. absurd (eqb-false _ _ h z)) (λ z. absurd (omega arith)) (λ z. absurd (omega arith)) (λ v l z. omega arith) e
+      wide-all most (λ w. w .next .refused ≡ 0 → c .at + 1 ≤ w .next .at) c (λ h z. absurd (eqb-false _ _ h z)) (λ z. absurd (omega arith))
+      (λ z. absurd (omega arith)) (λ v l z. omega arith) e
 
   pub number-reader : Reader s (λ c. read-number s c .next)
   unfolding read-number
@@ -226,9 +232,11 @@ module _ (s : List ℕ) where
   mark-reader = code-reader 1
 
   -- the ends of a text: its length refused, cut short, read
-  text-all : (P : TextItem → Type 0) (c : Cursor) → ((read-number s c .next .refused == 0) ≡ false → P (record { value = record { start = 0; len = 0 }; next = read-number s c .next }))
+  text-all : (P : TextItem → Type 0) (c : Cursor)
+      → ((read-number s c .next .refused == 0) ≡ false → P (record { value = record { start = 0; len = 0 }; next = read-number s c .next }))
       → P (record { value = record { start = 0; len = 0 }; next = refuse c 1 })
-      → ((v : Text) (e : ℕ) → read-number s c .next .at ≤ e → e ≤ length s → P (record { value = v; next = moved (read-number s c .next) e })) → P (read-text s c)
+      → ((v : Text) (e : ℕ) → read-number s c .next .at ≤ e → e ≤ length s → P (record { value = v; next = moved (read-number s c .next) e }))
+      → P (read-text s c)
   unfolding read-text
   text-all P c a b d =
       let n = read-number s c in
@@ -249,9 +257,11 @@ module _ (s : List ℕ) where
 
   pub text-moves : Moves (λ c. read-text s c .next)
   text-moves c =
-      text-all (λ w. w .next .refused ≡ 0 → c .at + 1 ≤ w .next .at) c (λ h z. absurd (eqb-false _ _ h z)) (λ z. absurd (omega arith)) (λ v e k l z. omega (arith, number-moves c z))
+      text-all (λ w. w .next .refused ≡ 0 → c .at + 1 ≤ w .next .at) c (λ h z. absurd (eqb-false _ _ h z)) (λ z. absurd (omega arith))
+      (λ v e k l z. omega (arith, number-moves c z))
 
-  name-all : (before : OptText) (P : TextItem → Type 0) (c : Cursor) → P (read-text s c) → P (record { value = record { start = 0; len = 0 }; next = refuse c 5 }) → P (read-name before s c)
+  name-all : (before : OptText) (P : TextItem → Type 0) (c : Cursor) → P (read-text s c)
+      → P (record { value = record { start = 0; len = 0 }; next = refuse c 5 }) → P (read-name before s c)
   unfolding read-name
   name-all before P c a b =
       let t = read-text s c in
@@ -301,8 +311,10 @@ module _ (s : List ℕ) where
       stick c h = rw (ne-eqb _ _ h)
 
   -- an optional item: a mark, and then the item or nothing
-  optionally : {f g : Cursor → Cursor} → Reader s f → ((c : Cursor) → read-mark s c .value ≡ true → g c ≡ f (read-mark s c .next)) → ((c : Cursor) → read-mark s c .value ≡ false → g c ≡ read-mark s c .next) → Reader s g
-  optionally {f} {g} p t e = choose (λ c. read-mark s c .value) (λ c. f (read-mark s c .next)) (λ c. read-mark s c .next) g t e (followed mark-reader (λ c. p)) mark-reader
+  optionally : {f g : Cursor → Cursor} → Reader s f → ((c : Cursor) → read-mark s c .value ≡ true → g c ≡ f (read-mark s c .next))
+      → ((c : Cursor) → read-mark s c .value ≡ false → g c ≡ read-mark s c .next) → Reader s g
+  optionally {f} {g} p t e = choose (λ c. read-mark s c .value) (λ c. f (read-mark s c .next)) (λ c. read-mark s c .next) g t e
+      (followed mark-reader (λ c. p)) mark-reader
 
   pub opt-text-reader : Reader s (λ c. read-opt-text s c .next)
   unfolding read-opt-text
@@ -344,7 +356,8 @@ module _ (s : List ℕ) where
 
   kind-part-reader : (kind : ℕ) → Reader s (λ c. read-kind-part kind s c .next)
   unfolding read-kind-part
-  kind-part-reader kind = choose (λ c. kind == 3) (λ c. read-opt-text s (read-text s c .next) .next) (λ c. c) _ (λ c e. rw e) (λ c e. rw e) (text-reader ▸ opt-text-reader) stay
+  kind-part-reader kind = choose (λ c. kind == 3) (λ c. read-opt-text s (read-text s c .next) .next) (λ c. c) _ (λ c e. rw e) (λ c e. rw e)
+      (text-reader ▸ opt-text-reader) stay
 
   pub entry-reader : (kind : ℕ) → Reader s (λ c. read-entry kind s c .next)
   unfolding read-entry
@@ -372,11 +385,13 @@ module _ (s : List ℕ) where
 
   pub pgn-reader : Reader s (λ c. read-pgn s c .next)
   unfolding read-pgn
-  pgn-reader = number-reader ▸ text-reader ▸ code-reader 3 ▸ code-reader 7 ▸ number-reader ▸ opt-bytes-reader ▸ opt-repeating-reader ▸ opt-repeating-reader ▸ number-reader
+  pgn-reader = number-reader ▸ text-reader ▸ code-reader 3 ▸ code-reader 7 ▸ number-reader ▸ opt-bytes-reader ▸ opt-repeating-reader
+      ▸ opt-repeating-reader ▸ number-reader
 
   pub pgn-moves : Moves (λ c. read-pgn s c .next)
   unfolding read-pgn
-  pgn-moves = moves-then number-moves (λ c. text-reader ▸ code-reader 3 ▸ code-reader 7 ▸ number-reader ▸ opt-bytes-reader ▸ opt-repeating-reader ▸ opt-repeating-reader ▸ number-reader)
+  pgn-moves = moves-then number-moves
+      (λ c. text-reader ▸ code-reader 3 ▸ code-reader 7 ▸ number-reader ▸ opt-bytes-reader ▸ opt-repeating-reader ▸ opt-repeating-reader ▸ number-reader)
 
   pub names-reader : Reader s (λ c. read-names s c .next)
   unfolding read-names
@@ -403,13 +418,15 @@ module _ (s : List ℕ) where
   links-reader bits = opt-reference-reader ▸ opt-number-reader ▸ opt-text-reader ▸ opt-text-reader ▸ opt-sum-reader bits
 
   -- what follows a field's names
-  abbrev fieldRest : ℕ → ℕ → Cursor → Cursor
-  fieldRest k total c =
-      let scaling = read-scaling total s (read-code 63 s (read-index k s c .next) .next) in read-links (scaling .value .bits) s (read-authored s (scaling .next) .next) .next
+  abbrev field-rest : ℕ → ℕ → Cursor → Cursor
+  field-rest k total c =
+      let scaling = read-scaling total s (read-code 63 s (read-index k s c .next) .next) in read-links (scaling .value .bits) s
+      (read-authored s (scaling .next) .next) .next
 
-  field-rest-reader : (k total : ℕ) → Reader s (fieldRest k total)
+  field-rest-reader : (k total : ℕ) → Reader s (field-rest k total)
   field-rest-reader k total =
-      followed (index-reader k ▸ code-reader 63 ▸ scaling-reader total ▸ authored-reader) (λ c. links-reader (read-scaling total s (read-code 63 s (read-index k s c .next) .next) .value .bits))
+      followed (index-reader k ▸ code-reader 63 ▸ scaling-reader total ▸ authored-reader)
+      (λ c. links-reader (read-scaling total s (read-code 63 s (read-index k s c .next) .next) .value .bits))
 
   pub field-reader : (k total : ℕ) → Reader s (λ c. read-field k total s c .next)
   unfolding read-field
@@ -497,6 +514,7 @@ number-fits s c =
     let v = capped largest32 (groups s (l + 1) (l + 1 - c .at)) in
     if-all P (c .refused == 0) _ _
     (λ _. if-all P (l <ᵇ length s) _ _
-    (λ _. if-all P (shortest s (c .at) l) _ _ (λ _. if-all P (v .over) _ _ (λ _. omega arith) (λ _. capped-fits largest32 (groups s (l + 1) (l + 1 - c .at)))) (λ _. omega arith))
+    (λ _. if-all P (shortest s (c .at) l) _ _
+    (λ _. if-all P (v .over) _ _ (λ _. omega arith) (λ _. capped-fits largest32 (groups s (l + 1) (l + 1 - c .at)))) (λ _. omega arith))
     (λ _. omega arith))
     (λ _. omega arith)

@@ -41,7 +41,8 @@ module _ (s : List ℕ) where
           rw (← y) (set-fits (read-mark s c .next) (rw x at e))
       go false x = let q : none ≡ some r = rw x at h in let u : _≡_ {A = ℕ} 0 1 = cc in absurd (omega arith)
 
-  pgn-sets-fit : (c : Cursor) → read-pgn s c .next .refused ≡ 0 → SetFits (optional-repeating (read-pgn s c .value .repeating1)) × SetFits (optional-repeating (read-pgn s c .value .repeating2))
+  pgn-sets-fit : (c : Cursor) → read-pgn s c .next .refused ≡ 0
+      → SetFits (optional-repeating (read-pgn s c .value .repeating1)) × SetFits (optional-repeating (read-pgn s c .value .repeating2))
   unfolding read-pgn
   pgn-sets-fit c e =
       let b = back (number-reader s) _ e in

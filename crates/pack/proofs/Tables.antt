@@ -20,16 +20,19 @@ module _ {A : Type 0} where
       e : length (concat-below f n ++ f n) ≡ length (concat-below f n) + length (f n)
       e = length-append (concat-below f n) (f n)
 
-      go : Dec (g < n) → (g < n → length (concat-below f g) + length (f g) ≤ length (concat-below f n)) → length (concat-below f g) + length (f g) ≤ length (concat-below f n ++ f n)
+      go : Dec (g < n) → (g < n → length (concat-below f g) + length (f g) ≤ length (concat-below f n))
+          → length (concat-below f g) + length (f g) ≤ length (concat-below f n ++ f n)
       go (yes p) ih = omega (arith, e, ih p)
       go (no q) ih = let r : g ≡ n = omega arith in rw r (omega (arith, e))
 
   -- part g of n parts stands behind the parts before it
-  pub getD-concat-below : (f : ℕ → List A) (d : A) (n g j : ℕ) → g < n → j < length (f g) → getD (concat-below f n) (length (concat-below f g) + j) d ≡ getD (f g) j d
+  pub getD-concat-below : (f : ℕ → List A) (d : A) (n g j : ℕ) → g < n → j < length (f g)
+      → getD (concat-below f n) (length (concat-below f g) + j) d ≡ getD (f g) j d
   getD-concat-below f d zero g j h l = absurd (omega arith)
   getD-concat-below f d (suc n) g j h l = go (decLt g n) (getD-concat-below f d n g j)
     where
-      go : Dec (g < n) → (g < n → j < length (f g) → getD (concat-below f n) (length (concat-below f g) + j) d ≡ getD (f g) j d) → getD (concat-below f n ++ f n) (length (concat-below f g) + j) d ≡ getD (f g) j d
+      go : Dec (g < n) → (g < n → j < length (f g) → getD (concat-below f n) (length (concat-below f g) + j) d ≡ getD (f g) j d)
+          → getD (concat-below f n ++ f n) (length (concat-below f g) + j) d ≡ getD (f g) j d
       go (yes p) ih = List·getD-append (concat-below f n) (f n) d (length (concat-below f g) + j) (omega (arith, length-concat-below f n g p)) ∙ ih p l
       go (no q) ih = let e : g ≡ n = omega arith in rw e (getD-append-add (concat-below f n) (f n) j d)
 

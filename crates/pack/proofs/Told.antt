@@ -1,13 +1,13 @@
 -- What `load` answers, in 01's numbers; and what a call that goes on after it tells.
 use Prim.Native.Nat.{ℕ}
-use native.Mathlib.Omega.{arith}
 use mathlib.Core.Path.{_≡_, refl, sym, ap, _∙_}
 use mathlib.Core.Bool.{Bool, true, false}
 use mathlib.Core.List.{List}
 use lib.ListN.{length}
-use Rattle.pack.specs.Notation.{_<ᵇ_, _≤ᵇ_, _==_, if_then_else_}
+use Rattle.pack.specs.Notation.{_<ᵇ_, _≤ᵇ_, _==_}
 use Rattle.pack.specs.Format.{pack-end, offsets}
-use Rattle.pack.specs.Load.{Answer, refusal-answer, after, load-answer, most-bytes, verdict, load-index, loaded, load-tells, work-after, Loads, refusal-number}
+use Rattle.pack.specs.Load.{Answer, refusal-answer, after, load-answer, most-bytes, verdict, load-index, loaded, load-tells, work-after, Loads}
+use Rattle.pack.specs.Load.{refusal-number}
 use Rattle.pack.specs.declared.load.Index.{Index}
 use Rattle.pack.specs.declared.load.Refusal.{Refusal}
 use Rattle.pack.specs.declared.load.Loaded.{Loaded}

@@ -7,7 +7,8 @@ use lib.ListN.{length, getD, length-append}
 use Rattle.pack.specs.Value.{pgns-of, no-field-type, no-entry, no-lookup, no-field, no-pgn, pgn-at, field-at, lookup-at}
 use Rattle.pack.specs.Records.{read-entry, read-lookup, read-pgn, read-field}
 use Rattle.pack.specs.Format.{types, type-offsets, entries, entry-offsets, LookupState, lookups, lookup-records, lookup-offsets, fields, field-offsets}
-use Rattle.pack.specs.Format.{pgn-records, pgn-offsets, type-list, lookup-list, tree-list, type-part, lookup-part, tree-part, before, lookup-start, pgn-start}
+use Rattle.pack.specs.Format.{pgn-records, pgn-offsets, type-list, lookup-list, tree-list, type-part, lookup-part, tree-part, before}
+use Rattle.pack.specs.Format.{lookup-start, pgn-start}
 use Rattle.pack.specs.Meaning.{type-of-pack, lookup-of-pack, pgn-of-pack, tree-of-pack, pack-of, entry-meaning, field-meaning}
 use Rattle.pack.specs.Ready.{place-of-lookup, pgn-records-below, place-of-tree}
 use Rattle.pack.proofs.Tables.{length-tab, getD-tab}
@@ -48,29 +49,31 @@ module _ (s : List ℕ) where
   pgn-is t i h l = rw (tree-is t h) (getD-tab (pgn-of-pack s t) no-pgn (tree-list s t .value) i l)
 
   -- the head of lookup i, and of PGN i of tree t
-  abbrev pub lookupHead : ℕ → LookupItem
-  lookupHead i = read-lookup (lookup-start s i .before) s (lookup-start s i .next)
+  abbrev pub lookup-head : ℕ → LookupItem
+  lookup-head i = read-lookup (lookup-start s i .before) s (lookup-start s i .next)
 
-  abbrev pub pgnHead : ℕ → ℕ → PgnItem
-  pgnHead t i = read-pgn s (pgn-start s t i)
+  abbrev pub pgn-head : ℕ → ℕ → PgnItem
+  pgn-head t i = read-pgn s (pgn-start s t i)
 
-  pub entries-are : (i : ℕ) → i < lookup-list s .value → length (lookup-at (pack-of s .lookups) i .entries) ≡ lookupHead i .value .entries
+  pub entries-are : (i : ℕ) → i < lookup-list s .value → length (lookup-at (pack-of s .lookups) i .entries) ≡ lookup-head i .value .entries
   unfolding lookup-of-pack
-  entries-are i h = rw (lookup-is i h) (length-tab _ (lookupHead i .value .entries))
+  entries-are i h = rw (lookup-is i h) (length-tab _ (lookup-head i .value .entries))
 
-  pub entry-is : (i j : ℕ) → i < lookup-list s .value → j < lookupHead i .value .entries
-      → getD (lookup-at (pack-of s .lookups) i .entries) j no-entry ≡ entry-meaning s (read-entry (lookupHead i .value .kind) s (entries (lookupHead i .value .kind) s (lookupHead i .next) j) .value)
+  pub entry-is : (i j : ℕ) → i < lookup-list s .value → j < lookup-head i .value .entries
+      → getD (lookup-at (pack-of s .lookups) i .entries) j no-entry ≡ entry-meaning s
+      (read-entry (lookup-head i .value .kind) s (entries (lookup-head i .value .kind) s (lookup-head i .next) j) .value)
   unfolding lookup-of-pack
-  entry-is i j h l = rw (lookup-is i h) (getD-tab _ no-entry (lookupHead i .value .entries) j l)
+  entry-is i j h l = rw (lookup-is i h) (getD-tab _ no-entry (lookup-head i .value .entries) j l)
 
-  pub fields-are : (t i : ℕ) → t < 3 → i < tree-list s t .value → length (pgn-at (pack-of s) t i .fields) ≡ pgnHead t i .value .fields
+  pub fields-are : (t i : ℕ) → t < 3 → i < tree-list s t .value → length (pgn-at (pack-of s) t i .fields) ≡ pgn-head t i .value .fields
   unfolding pgn-of-pack
-  fields-are t i h l = rw (pgn-is t i h l) (length-tab _ (pgnHead t i .value .fields))
+  fields-are t i h l = rw (pgn-is t i h l) (length-tab _ (pgn-head t i .value .fields))
 
-  pub field-is : (t i j : ℕ) → t < 3 → i < tree-list s t .value → j < pgnHead t i .value .fields
-      → field-at (pgn-at (pack-of s) t i) j ≡ (let a = fields (type-list s .value) s (pgnHead t i .next) j in field-meaning s (read-field (type-list s .value) (a .total) s (a .next) .value))
+  pub field-is : (t i j : ℕ) → t < 3 → i < tree-list s t .value → j < pgn-head t i .value .fields
+      → field-at (pgn-at (pack-of s) t i) j ≡
+      (let a = fields (type-list s .value) s (pgn-head t i .next) j in field-meaning s (read-field (type-list s .value) (a .total) s (a .next) .value))
   unfolding pgn-of-pack
-  field-is t i j h l m = rw (pgn-is t i h l) (getD-tab _ no-field (pgnHead t i .value .fields) j m)
+  field-is t i j h l m = rw (pgn-is t i h l) (getD-tab _ no-field (pgn-head t i .value .fields) j m)
 
   -- ---- work positions
 
@@ -86,7 +89,8 @@ module _ (s : List ℕ) where
   unfolding pgn-records field-offsets
   length-pgn k c = ap suc (length-tab _ (read-pgn s c .value .fields))
 
-  pub lookup-place : (i : ℕ) → i ≤ lookup-list s .value → place-of-lookup (pack-of s) i ≡ length (type-part s) + length (lookup-offsets s (lookup-list s .next) i)
+  pub lookup-place : (i : ℕ) → i ≤ lookup-list s .value
+      → place-of-lookup (pack-of s) i ≡ length (type-part s) + length (lookup-offsets s (lookup-list s .next) i)
   unfolding lookup-offsets
   lookup-place zero h = omega (arith, types-are, length-types (type-list s .next) (type-list s .value))
   lookup-place (suc i) h =
@@ -98,7 +102,8 @@ module _ (s : List ℕ) where
         length-lookup (lookup-start s i),
       )
 
-  pub pgns-below : (t i : ℕ) → t < 3 → i ≤ tree-list s t .value → pgn-records-below (pgns-of (pack-of s) t) i ≡ length (pgn-offsets (type-list s .value) s (tree-list s t .next) i)
+  pub pgns-below : (t i : ℕ) → t < 3 → i ≤ tree-list s t .value
+      → pgn-records-below (pgns-of (pack-of s) t) i ≡ length (pgn-offsets (type-list s .value) s (tree-list s t .next) i)
   unfolding pgn-offsets
   pgns-below t zero h l = refl
   pgns-below t (suc i) h l =
@@ -116,5 +121,6 @@ module _ (s : List ℕ) where
       let e : place-of-lookup (pack-of s) (length (pack-of s .lookups)) ≡ place-of-lookup (pack-of s) (lookup-list s .value) = rw lookups-are in
       omega (arith, e, lookup-place (lookup-list s .value) (omega arith), length-append (type-part s) (lookup-part s))
   tree-place (suc t) h =
-      let e : pgn-records-below (pgns-of (pack-of s) t) (length (pgns-of (pack-of s) t)) ≡ pgn-records-below (pgns-of (pack-of s) t) (tree-list s t .value) = rw (pgns-are t h) in
+      let e : pgn-records-below (pgns-of (pack-of s) t) (length (pgns-of (pack-of s) t))
+      ≡ pgn-records-below (pgns-of (pack-of s) t) (tree-list s t .value) = rw (pgns-are t h) in
       omega (arith, e, tree-place t (omega arith), pgns-below t (tree-list s t .value) h (omega arith), length-append (before s t) (tree-part s t))

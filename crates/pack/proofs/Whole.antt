@@ -7,7 +7,8 @@ use mathlib.Core.List.{List}
 use borrow.Author.Tests.{ne-eqb}
 use lib.ListN.{length}
 use Rattle.pack.specs.Items.{fresh, read-number, read-version, finish}
-use Rattle.pack.specs.Format.{types, type-offsets, lookups, lookup-offsets, pgns, type-list, lookup-list, tree-start, tree-list, pack-end, type-part, lookup-part}
+use Rattle.pack.specs.Format.{types, type-offsets, lookups, lookup-offsets, pgns, type-list, lookup-list, tree-start, tree-list, pack-end}
+use Rattle.pack.specs.Format.{type-part, lookup-part}
 use Rattle.pack.specs.Format.{tree-part, before, offsets}
 use Rattle.pack.specs.Load.{load-index}
 use Rattle.pack.specs.Placing.{Stored, PlacedTo, TreePlacing, Walking}
@@ -38,7 +39,8 @@ module _ (s : List ℕ) where
 
   -- a tree placed behind what stands before tree t
   tree-step : (t : ℕ) {w w′ : List ℕ} {p : ℕ} (c : Cursor) (r : TreePlaced) (k : ℕ) → c ≡ tree-start s t → k ≡ type-list s .value → TreePlacing s k c w p w′ r
-      → (r .next ≡ tree-start s (suc t)) × (r .count ≡ tree-list s t .value) × (r .next .refused ≡ 0 → (c .refused ≡ 0) × Stored w p (tree-part s t) w′ (r .place))
+      → (r .next ≡ tree-start s (suc t)) × (r .count ≡ tree-list s t .value)
+      × (r .next .refused ≡ 0 → (c .refused ≡ 0) × Stored w p (tree-part s t) w′ (r .place))
   unfolding tree-start tree-list
   tree-step t {w} {w′} {p} c r k e f a =
       let q = a .placed in
@@ -50,7 +52,8 @@ module _ (s : List ℕ) where
       → PlacedTo (types s (n .next) (n .value)) w 0 (type-offsets s (n .next) (n .value)) w1 (t .next) (t .place)
       → m ≡ read-number s (t .next)
       → PlacedTo (lookups s (m .next) (m .value) .next) w1 (t .place) (lookup-offsets s (m .next) (m .value)) w2 (l .next) (l .place)
-      → TreePlacing s (n .value) (l .next) w2 (l .place) w3 a → TreePlacing s (n .value) (a .next) w3 (a .place) w4 b → TreePlacing s (n .value) (b .next) w4 (b .place) w5 d
+      → TreePlacing s (n .value) (l .next) w2 (l .place) w3 a → TreePlacing s (n .value) (a .next) w3 (a .place) w4 b
+      → TreePlacing s (n .value) (b .next) w4 (b .place) w5 d
       → e ≡ finish s (d .next)
       → Walking s w w5
       (record {
@@ -83,16 +86,20 @@ module _ (s : List ℕ) where
       k : n .value ≡ type-list s .value
       k = ap (λ (r : NumberItem). r .value) xn
 
-      xa : (a .next ≡ tree-start s 1) × (a .count ≡ tree-list s 0 .value) × (a .next .refused ≡ 0 → (l .next .refused ≡ 0) × Stored w2 (l .place) (tree-part s 0) w3 (a .place))
+      xa : (a .next ≡ tree-start s 1) × (a .count ≡ tree-list s 0 .value)
+          × (a .next .refused ≡ 0 → (l .next .refused ≡ 0) × Stored w2 (l .place) (tree-part s 0) w3 (a .place))
       xa = tree-step 0 (l .next) a (n .value) xl k pa
 
-      xb : (b .next ≡ tree-start s 2) × (b .count ≡ tree-list s 1 .value) × (b .next .refused ≡ 0 → (a .next .refused ≡ 0) × Stored w3 (a .place) (tree-part s 1) w4 (b .place))
+      xb : (b .next ≡ tree-start s 2) × (b .count ≡ tree-list s 1 .value)
+          × (b .next .refused ≡ 0 → (a .next .refused ≡ 0) × Stored w3 (a .place) (tree-part s 1) w4 (b .place))
       xb = tree-step 1 (a .next) b (n .value) (xa .0) k pb
 
-      xd : (d .next ≡ tree-start s 3) × (d .count ≡ tree-list s 2 .value) × (d .next .refused ≡ 0 → (b .next .refused ≡ 0) × Stored w4 (b .place) (tree-part s 2) w5 (d .place))
+      xd : (d .next ≡ tree-start s 3) × (d .count ≡ tree-list s 2 .value)
+          × (d .next .refused ≡ 0 → (b .next .refused ≡ 0) × Stored w4 (b .place) (tree-part s 2) w5 (d .place))
       xd = tree-step 2 (b .next) d (n .value) (xb .0) k pd
 
-      clean : pack-end s .refused ≡ 0 → (d .next .refused ≡ 0) × (b .next .refused ≡ 0) × (a .next .refused ≡ 0) × (l .next .refused ≡ 0) × (t .next .refused ≡ 0)
+      clean : pack-end s .refused ≡ 0
+          → (d .next .refused ≡ 0) × (b .next .refused ≡ 0) × (a .next .refused ≡ 0) × (l .next .refused ≡ 0) × (t .next .refused ≡ 0)
       clean z =
           let zd : d .next .refused ≡ 0 = rw (xd .0) (finish-back s (tree-start s 3) z) in
           let zb = xd .2 zd .0 in
@@ -102,7 +109,8 @@ module _ (s : List ℕ) where
           (zd, zb, za, zl, back lookups-after (t .next) zm)
 
       stored : pack-end s .refused ≡ 0
-          → Stored w 0 (type-part s) w1 (t .place) × Stored w 0 (before s 0) w2 (l .place) × Stored w 0 (before s 1) w3 (a .place) × Stored w 0 (before s 2) w4 (b .place) × Stored w 0 (before s 3) w5 (d .place)
+          → Stored w 0 (type-part s) w1 (t .place) × Stored w 0 (before s 0) w2 (l .place) × Stored w 0 (before s 1) w3 (a .place)
+          × Stored w 0 (before s 2) w4 (b .place) × Stored w 0 (before s 3) w5 (d .place)
       stored z =
           let y = clean z in
           let s0 : Stored w 0 (type-part s) w1 (t .place) = rw xn at (pt .stored (y .4)) in

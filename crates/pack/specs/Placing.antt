@@ -40,7 +40,8 @@ pub record LookupPlacing (s : List ℕ) (a : LookupState) (w : List ℕ) (p : �
 
 pub record TreePlacing (s : List ℕ) (k : ℕ) (c : Cursor) (w : List ℕ) (p : ℕ) (w′ : List ℕ) (r : TreePlaced) : Type 0 where
   pub count : r .count ≡ read-number s c .value
-  pub placed : PlacedTo (pgns k s (read-number s c .next) (read-number s c .value)) w p (pgn-offsets k s (read-number s c .next) (read-number s c .value)) w′ (r .next) (r .place)
+  pub placed : PlacedTo (pgns k s (read-number s c .next) (read-number s c .value)) w p
+      (pgn-offsets k s (read-number s c .next) (read-number s c .value)) w′ (r .next) (r .place)
 
 pub record Walking (s w w′ : List ℕ) (r : Walked) : Type 0 where
   pub end : r .end ≡ pack-end s

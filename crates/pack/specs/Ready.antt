@@ -3,14 +3,17 @@ use Prim.Native.Nat.{ℕ, zero, suc, _+_, _<_}
 use mathlib.Core.Path.{_≡_}
 use mathlib.Core.List.{List}
 use lib.ListN.{length, getD, take}
-use Rattle.pack.specs.Value.{Lookup, Pgn, Pack, pgns-of, no-pgn, lookup-at}
+use Rattle.pack.specs.Value.{Lookup, Pgn, Pack, pgns-of, no-pgn, lookup-at, pgn-at}
 use Rattle.pack.specs.Format.{offsets}
 use Rattle.pack.specs.Load.{accepted, verdict}
 use Rattle.pack.specs.Meaning.{lookup-meaning, pgn-meaning, pack-of}
 use Rattle.pack.specs.Trees.{protocol-of, section-of}
 use Rattle.pack.specs.declared.load.Index.{Index}
+use Rattle.pack.specs.declared.load.Section.{Section}
 use Rattle.pack.specs.declared.lookup.LookupView.{LookupView}
+use Rattle.pack.specs.declared.lookup.LookupRecord.{LookupRecord}
 use Rattle.pack.specs.declared.pgn.PgnView.{PgnView}
+use Rattle.pack.specs.declared.pgn.PgnRecord.{PgnRecord}
 
 -- accepted, and the work list begins with the record offsets
 pub record Ready (s w : List ℕ) : Type 0 where
@@ -37,13 +40,20 @@ place-of-tree P (suc t) = place-of-tree P t + pgn-records-below (pgns-of P t) (l
 abbrev pub place-of-pgn : Pack → ℕ → ℕ → ℕ
 place-of-pgn P t i = place-of-tree P t + pgn-records-below (pgns-of P t) i
 
+-- the count and place of the lookups, and of tree t
+pub record LookupsAre (P : Pack) (lookups : Section) : Type 0 where
+  pub count : lookups .count ≡ length (P .lookups)
+  pub place : lookups .place ≡ place-of-lookup P 0
+
+pub record TreeIs (P : Pack) (t : ℕ) (tree : Section) : Type 0 where
+  pub count : tree .count ≡ length (pgns-of P t)
+  pub place : tree .place ≡ place-of-tree P t
+
 -- The index of a pack: the counts and places of its lists. The field types begin at 0, and nothing above needs the number of records.
 pub record IndexIs (P : Pack) (i : Index) : Type 0 where
   pub types : i .types .count ≡ length (P .fieldtypes)
-  pub lookups : i .lookups .count ≡ length (P .lookups)
-  pub lookups-place : i .lookups .place ≡ place-of-lookup P 0
-  pub trees : (t : ℕ) → t < 3 → section-of (protocol-of t) i .count ≡ length (pgns-of P t)
-  pub trees-place : (t : ℕ) → t < 3 → section-of (protocol-of t) i .place ≡ place-of-tree P t
+  pub lookups : LookupsAre P (i .lookups)
+  pub trees : (t : ℕ) → t < 3 → TreeIs P t (section-of (protocol-of t) i)
 
 -- p is the work position of lookup i
 pub record LookupAt (s w : List ℕ) (i p : ℕ) : Type 0 where
@@ -69,3 +79,21 @@ pub record LookupIs (s : List ℕ) (L : Lookup) (v : LookupView) : Type 0 where
 pub record PgnIs (s : List ℕ) (G : Pgn) (v : PgnView) : Type 0 where
   pub means : pgn-meaning s v (G .fields) ≡ G
   pub fields : v .fields ≡ length (G .fields)
+
+-- the lookup that a lookup record is of
+abbrev pub lookup-in : List ℕ → LookupRecord → Lookup
+lookup-in s l = lookup-at (pack-of s .lookups) (l .item)
+
+-- a lookup record has its lookup's work position and view
+pub record LookupRecordIs (s w : List ℕ) (l : LookupRecord) : Type 0 where
+  pub at : LookupAt s w (l .item) (l .place)
+  pub is : LookupIs s (lookup-in s l) (l .view)
+
+-- the PGN that a PGN record is of
+abbrev pub pgn-in : List ℕ → PgnRecord → Pgn
+pgn-in s g = pgn-at (pack-of s) (g .tree) (g .item)
+
+-- a PGN record has its PGN's work position and view
+pub record PgnRecordIs (s w : List ℕ) (g : PgnRecord) : Type 0 where
+  pub at : PgnAt s w (g .tree) (g .item) (g .place)
+  pub is : PgnIs s (pgn-in s g) (g .view)

@@ -3,7 +3,8 @@ use Prim.Native.Nat.{ℕ, _/_, _%_}
 use mathlib.Core.List.{List}
 use mathlib.Core.Bool.{true, false}
 use Rattle.pack.specs.Notation.{_==_, if_then_else_}
-use Rattle.pack.specs.Items.{largest64, read-wide, read-number, read-code, read-index, read-sum, read-mark, read-text, read-name, read-float, read-opt-text, read-opt-number, read-opt-float}
+use Rattle.pack.specs.Items.{largest64, read-wide, read-number, read-code, read-index, read-sum, read-mark, read-text, read-name, read-float}
+use Rattle.pack.specs.Items.{read-opt-text, read-opt-number, read-opt-float}
 use Rattle.pack.specs.Items.{read-opt-bytes, read-opt-sum}
 use Rattle.pack.specs.declared.text.OptText.{OptText}
 use Rattle.pack.specs.declared.cursor.Cursor.{Cursor}

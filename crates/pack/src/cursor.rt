@@ -4,7 +4,8 @@ ghost use mathlib.Core.Path.{_≡_};
 ghost use Prim.Native.Nat.{_+_, _≤_, _<_, _^_};
 ghost use lib.ListN.{length, getD};
 ghost use lib.Dec.{leb};
-ghost use Rattle.pack.specs.Items.{refuse, judged, read-wide, read-number, read-code, read-version, read-index, read-sum, read-bytes, read-mark, read-text, read-name, four, read-float};
+ghost use Rattle.pack.specs.Items.{refuse, judged, read-wide, read-number, read-code, read-version, read-index, read-sum, read-bytes};
+ghost use Rattle.pack.specs.Items.{read-mark, read-text, read-name, four, read-float};
 ghost use Rattle.pack.specs.Items.{finish};
 use crate::number::decode;
 use crate::number::is_shortest;
@@ -48,16 +49,20 @@ fn within(at: usize, n: usize, len: usize) -> bool
 
 fn byte(s: &[u8], at: usize) -> u64
     requires { ⌜ at < length (now s) ⌝ }
-    ensures { λ r. ⌜ r ≡ getD (now (s .entry)) at 0 ⌝ }
-    ensures { λ r. ⌜ r < 256 ⌝ }
+    ensures { λ r. ⌜ record {
+      is : r ≡ getD (now (s .entry)) at 0;
+      small : r < 256;
+    } ⌝ }
 {
     s[at] as u64
 }
 
 fn four_bytes(s: &[u8], at: usize) -> u64
     requires { ⌜ at + 4 ≤ length (now s) ⌝ }
-    ensures { λ r. ⌜ r ≡ four (now (s .entry)) at ⌝ }
-    ensures { λ r. ⌜ r < 2 ^ 32 ⌝ }
+    ensures { λ r. ⌜ record {
+      is : r ≡ four (now (s .entry)) at;
+      small : r < 2 ^ 32;
+    } ⌝ }
 {
     let a = byte(s, at);
     let b = byte(s, at + 1);
@@ -77,8 +82,10 @@ impl Cursor {
     }
 
     pub fn wide(self, s: &[u8], most: u64) -> WideItem
-        ensures { λ r. ⌜ r ≡ read-wide most (now (s .entry)) self ⌝ }
-        ensures { λ r. ⌜ r .value ≤ most ⌝ }
+        ensures { λ r. ⌜ record {
+          is : r ≡ read-wide most (now (s .entry)) self;
+          bound : r .value ≤ most;
+        } ⌝ }
     {
         let at = self.at;
         if self.refused != 0 {
@@ -162,8 +169,10 @@ impl Cursor {
 
     // A number that completes a sum whose other part is `other`.
     pub fn sum(self, s: &[u8], other: u32) -> NumberItem
-        ensures { λ r. ⌜ r ≡ read-sum other (now (s .entry)) self ⌝ }
-        ensures { λ r. ⌜ other + r .value ≤ 4294967295 ⌝ }
+        ensures { λ r. ⌜ record {
+          is : r ≡ read-sum other (now (s .entry)) self;
+          bound : other + r .value ≤ 4294967295;
+        } ⌝ }
     {
         let n = self.number(s);
         let v = n.value as u64;

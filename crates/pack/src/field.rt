@@ -131,8 +131,10 @@ impl Cursor {
 
     // The scaling of a field, in a PGN whose fields before it have `total` bits.
     fn scaling(self, s: &[u8], total: u32) -> ScalingItem
-        ensures { λ r. ⌜ r ≡ read-scaling total (now (s .entry)) self ⌝ }
-        ensures { λ r. ⌜ total + r .value .bits ≤ 4294967295 ⌝ }
+        ensures { λ r. ⌜ record {
+          is : r ≡ read-scaling total (now (s .entry)) self;
+          bound : total + r .value .bits ≤ 4294967295;
+        } ⌝ }
     {
         let bits = self.sum(s, total);
         let resolution = bits.next.float(s);
@@ -235,8 +237,10 @@ impl Cursor {
 
     // A field, in a pack of `types` field types and a PGN whose fields before it have `total` bits.
     pub fn field(self, s: &[u8], types: u64, total: u32) -> FieldItem
-        ensures { λ r. ⌜ r ≡ read-field types total (now (s .entry)) self ⌝ }
-        ensures { λ r. ⌜ total + r .value .scaling .bits ≤ 4294967295 ⌝ }
+        ensures { λ r. ⌜ record {
+          is : r ≡ read-field types total (now (s .entry)) self;
+          bound : total + r .value .scaling .bits ≤ 4294967295;
+        } ⌝ }
     {
         let names = self.names(s);
         let ft = names.next.index(s, types);

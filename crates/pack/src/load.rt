@@ -1,9 +1,9 @@
 // `load`: every input refusal, then the offset of each record into the work buffer. One walk over the pack serves both: over an empty
 // part of the work buffer it only judges and counts.
 ghost use mathlib.Core.Path.{_≡_};
-ghost use Prim.Native.Nat.{_≤_, _<_};
+ghost use Prim.Native.Nat.{_<_};
 ghost use lib.ListN.{length, set};
-ghost use Rattle.pack.specs.Format.{types, type-offsets, entries, entry-offsets, lookup-next, lookup-records, lookups, lookup-offsets, fields, field-offsets};
+ghost use Rattle.pack.specs.Format.{types, type-offsets, entries, entry-offsets, lookups, lookup-offsets, fields, field-offsets};
 ghost use Rattle.pack.specs.Format.{pgn-next, pgn-records, pgns, pgn-offsets};
 ghost use Rattle.pack.specs.Load.{refusal-number, refusal-detail, Loads};
 ghost use Rattle.pack.specs.Placing.{Room, Placing, LookupPlacing, TreePlacing, Walking, counted};

@@ -13,6 +13,13 @@ pub struct LookupView {
     pub entries: u32,
 }
 
+// A lookup at hand: which one, the work position, and the view.
+pub struct LookupRecord {
+    pub item: u32,
+    pub place: usize,
+    pub view: LookupView,
+}
+
 pub struct LookupItem {
     pub value: LookupView,
     pub next: Cursor,

@@ -45,9 +45,11 @@ pub(crate) fn is_shortest(s: &[u8], at: usize, e: usize) -> bool
 
 // The value of the n groups before `end`, counted from the top, so that it can be left before it would wrap.
 pub(crate) fn decode(s: &[u8], end: usize, n: usize, most: u64) -> Value
-    requires { ⌜ (n ≤ end) × (end ≤ length (now s)) ⌝ }
-    ensures { λ r. ⌜ r ≡ capped most (groups (now (s .entry)) end n) ⌝ }
-    ensures { λ r. ⌜ r .value ≤ most ⌝ }
+    requires { ⌜ record { enough : n ≤ end; within : end ≤ length (now s) } ⌝ }
+    ensures { λ r. ⌜ record {
+      is : r ≡ capped most (groups (now (s .entry)) end n);
+      bound : r .value ≤ most;
+    } ⌝ }
 {
     let mut v: u64 = 0;
     let mut k: usize = 0;

@@ -31,7 +31,7 @@ fn offset(work: &[u32], p: usize) -> usize
 
 // Field type i.
 pub fn type_of(s: &[u8], work: &[u32], i: u32) -> FieldTypeView
-    requires { ⌜ Ready (now s) (now work) × (i < length (pack-of (now s) .fieldtypes)) ⌝ }
+    requires { ⌜ record { ready : Ready (now s) (now work); type : i < length (pack-of (now s) .fieldtypes) } ⌝ }
     ensures { λ r. ⌜ type-meaning (now (s .entry)) r ≡ getD (pack-of (now (s .entry)) .fieldtypes) i no-field-type ⌝ }
 {
     let p = i as usize;
@@ -59,7 +59,11 @@ pub fn lookup_name_of(s: &[u8], work: &[u32], i: u32, p: usize) -> Text
 
 // Entry j of lookup i, at p, which is of that kind.
 pub fn entry_of(s: &[u8], work: &[u32], i: u32, p: usize, kind: u32, j: u32) -> EntryView
-    requires { ⌜ LookupAt (now s) (now work) i p × (kind ≡ lookup-at (pack-of (now s) .lookups) i .kind) × (j < length (lookup-at (pack-of (now s) .lookups) i .entries)) ⌝ }
+    requires { ⌜ record {
+      at : LookupAt (now s) (now work) i p;
+      kind : kind ≡ lookup-at (pack-of (now s) .lookups) i .kind;
+      entry : j < length (lookup-at (pack-of (now s) .lookups) i .entries);
+    } ⌝ }
     ensures { λ r. ⌜ entry-meaning (now (s .entry)) r ≡ getD (lookup-at (pack-of (now (s .entry)) .lookups) i .entries) j no-entry ⌝ }
 {
     let q = p + 1 + j as usize;
@@ -78,7 +82,7 @@ pub fn pgn_of(s: &[u8], work: &[u32], t: u32, i: u32, p: usize) -> PgnView
 
 // Field j of PGN i of tree t, which is at p.
 pub fn field_of(s: &[u8], work: &[u32], t: u32, i: u32, p: usize, j: u32) -> FieldView
-    requires { ⌜ PgnAt (now s) (now work) t i p × (j < length (pgn-at (pack-of (now s)) t i .fields)) ⌝ }
+    requires { ⌜ record { at : PgnAt (now s) (now work) t i p; field : j < length (pgn-at (pack-of (now s)) t i .fields) } ⌝ }
     ensures { λ r. ⌜ field-meaning (now (s .entry)) r ≡ field-at (pgn-at (pack-of (now (s .entry))) t i) j ⌝ }
 {
     let q = p + 1 + j as usize;
@@ -88,7 +92,7 @@ pub fn field_of(s: &[u8], work: &[u32], t: u32, i: u32, p: usize, j: u32) -> Fie
 
 // The id of field j of PGN i of tree t, which is at p.
 pub fn field_id_of(s: &[u8], work: &[u32], t: u32, i: u32, p: usize, j: u32) -> Text
-    requires { ⌜ PgnAt (now s) (now work) t i p × (j < length (pgn-at (pack-of (now s)) t i .fields)) ⌝ }
+    requires { ⌜ record { at : PgnAt (now s) (now work) t i p; field : j < length (pgn-at (pack-of (now s)) t i .fields) } ⌝ }
     ensures { λ r. ⌜ bytes-of (now (s .entry)) r ≡ field-at (pgn-at (pack-of (now (s .entry))) t i) j .id ⌝ }
 {
     let q = p + 1 + j as usize;
@@ -98,7 +102,7 @@ pub fn field_id_of(s: &[u8], work: &[u32], t: u32, i: u32, p: usize, j: u32) -> 
 
 // Its name.
 pub fn field_name_of(s: &[u8], work: &[u32], t: u32, i: u32, p: usize, j: u32) -> Text
-    requires { ⌜ PgnAt (now s) (now work) t i p × (j < length (pgn-at (pack-of (now s)) t i .fields)) ⌝ }
+    requires { ⌜ record { at : PgnAt (now s) (now work) t i p; field : j < length (pgn-at (pack-of (now s)) t i .fields) } ⌝ }
     ensures { λ r. ⌜ bytes-of (now (s .entry)) r ≡ field-at (pgn-at (pack-of (now (s .entry))) t i) j .name ⌝ }
 {
     let q = p + 1 + j as usize;

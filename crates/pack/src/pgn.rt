@@ -46,6 +46,14 @@ pub struct PgnView {
     pub fields: u32,
 }
 
+// A PGN at hand: its tree, which one of it, the work position, and the view.
+pub struct PgnRecord {
+    pub tree: u32,
+    pub item: u32,
+    pub place: usize,
+    pub view: PgnView,
+}
+
 pub struct PgnItem {
     pub value: PgnView,
     pub next: Cursor,

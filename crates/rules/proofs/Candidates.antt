@@ -56,7 +56,8 @@ Bounded f n e = (k x : ℕ) → k < n → f k ≡ some x → x ≤ e
 
 max-bounds : (f : ℕ → Option ℕ) (n e : ℕ) → max-below f n ≡ some e → Bounded f n e
 max-bounds f zero e h k x l q = absurd (omega arith)
-max-bounds f (suc n) e h k x l q = below-suc k n l (λ y. go (max-below f n) refl h y (λ a. max-bounds f n a)) (λ y. larger-right (max-below f n) x e (ap (larger (max-below f n)) (sym (ap f (sym y) ∙ q)) ∙ h))
+max-bounds f (suc n) e h k x l q = below-suc k n l (λ y. go (max-below f n) refl h y (λ a. max-bounds f n a))
+    (λ y. larger-right (max-below f n) x e (ap (larger (max-below f n)) (sym (ap f (sym y) ∙ q)) ∙ h))
   where
     go : (o : Option ℕ) → max-below f n ≡ o → larger o (f n) ≡ some e → k < n → ((a : ℕ) → max-below f n ≡ some a → Bounded f n a) → x ≤ e
     go none u v y rec = absurd (Option·none-ne-some x (sym (max-none f n u k y) ∙ q))
@@ -188,14 +189,16 @@ module _ (pgns : List Pgn) (name : Bytes) where
       own : Bytes
       own = field-at (getD pgns i no-pgn) k .name
 
-      go : (o : Option ℕ) → field-at (getD pgns i no-pgn) k .spn ≡ o → candidate-at name b own o ≡ some x → (field-at (getD pgns i no-pgn) k .spn ≡ some x) × (x < b)
+      go : (o : Option ℕ) → field-at (getD pgns i no-pgn) k .spn ≡ o → candidate-at name b own o ≡ some x
+          → (field-at (getD pgns i no-pgn) k .spn ≡ some x) × (x < b)
       go none u w = absurd (Option·none-ne-some x w)
       go (some e) u w =
           let q = optional-is ((e <ᵇ b) && (own ≐ name)) e x w in
           let l : e < b = ltb-true e b (and-left (e <ᵇ b) (own ≐ name) (q .0)) in
           (u ∙ ap some (q .1), omega (arith, l, q .1))
 
-  all-bounded : (b e : ℕ) → candidate pgns name b ≡ some e → (i k x : ℕ) → i < length pgns → k < length (getD pgns i no-pgn .fields) → cand b i k ≡ some x → x ≤ e
+  all-bounded : (b e : ℕ) → candidate pgns name b ≡ some e → (i k x : ℕ) → i < length pgns → k < length (getD pgns i no-pgn .fields) → cand b i k ≡ some x
+      → x ≤ e
   unfolding candidate candidate-in
   all-bounded b e h i k x l m q = go (candidate-in pgns name b i) refl
     where
@@ -242,7 +245,8 @@ module _ (pgns : List Pgn) (name : Bytes) where
       let own : (field-at (getD pgns i no-pgn) k .name ≐ name) ≡ true = ap (λ (t : Bytes). t ≐ name) (sym (names-name pgns e i k (n .names))) ∙ s in
       let hit : up b i k ≡ some e = ap (upto-at b i k) (n .carries) ∙ (rw (lt-ltb e b (met .0), own, n .names)) in
       let inner : Bounded (up b i) (length (getD pgns i no-pgn .fields)) e = λ k x l q. all-bounded b e h i k x (n .in-tree) l (up-cand b i k x q) in
-      let outer : Bounded (upto-in b) (length pgns) e = λ i x l q. (let g = max-is (up b i) (length (getD pgns i no-pgn .fields)) x q in all-bounded b e h i (g .index) x l (g .below) (up-cand b i (g .index) x (g .is))) in
+      let outer : Bounded (upto-in b) (length pgns) e = λ i x l q.
+      (let g = max-is (up b i) (length (getD pgns i no-pgn .fields)) x q in all-bounded b e h i (g .index) x l (g .below) (up-cand b i (g .index) x (g .is))) in
       bounded-max (upto-in b) (length pgns) e i outer (n .in-tree) (bounded-max (up b i) (length (getD pgns i no-pgn .fields)) e k inner (n .in-pgn) hit)
 
   -- where it has not, nothing of the name lies between
@@ -260,7 +264,8 @@ module _ (pgns : List Pgn) (name : Bytes) where
           let own = field-at (getD pgns i no-pgn) k .name in
           let is : cand b i k ≡ some x = ap (candidate-at name b own) u ∙ (rw (t, q)) in
           let le : x ≤ e = all-bounded b e h i k x l m is in
-          let ne : x ≡ e → ⊥ = λ y. false≢true (sym s ∙ ap (λ (n : ℕ). spn-name pgns n ≐ name) (sym y) ∙ ap (λ (n : Bytes). n ≐ name) (names-name pgns x i k z) ∙ q) in
+          let ne : x ≡ e
+          → ⊥ = λ y. false≢true (sym s ∙ ap (λ (n : ℕ). spn-name pgns n ≐ name) (sym y) ∙ ap (λ (n : Bytes). n ≐ name) (names-name pgns x i k z) ∙ q) in
           let lt : x < e = strict x e le ne in
           sym (lt-ltb x e lt)
       same-test i k x l m u q z false t = sym (le-ltb x e (omega (arith, below, ltb-false x b t)))
@@ -271,11 +276,13 @@ module _ (pgns : List Pgn) (name : Bytes) where
       same-tests i k x l m u true false v w = and-false ((x <ᵇ b) && true) ∙ sym (and-false ((x <ᵇ e) && true))
       same-tests i k x l m u true true v w = ap (λ (t : Bool). t && true && true) (same-test i k x l m u v w (x <ᵇ b) refl)
 
-      same-at : (i k : ℕ) → i < length pgns → k < length (getD pgns i no-pgn .fields) → (o : Option ℕ) → field-at (getD pgns i no-pgn) k .spn ≡ o → up b i k ≡ up e i k
+      same-at : (i k : ℕ) → i < length pgns → k < length (getD pgns i no-pgn .fields) → (o : Option ℕ) → field-at (getD pgns i no-pgn) k .spn ≡ o
+          → up b i k ≡ up e i k
       same-at i k l m none u = ap (upto-at b i k) u ∙ sym (ap (upto-at e i k) u)
       same-at i k l m (some x) u =
           let own = field-at (getD pgns i no-pgn) k .name in
-          ap (upto-at b i k) u ∙ ap (λ (c : Bool). optional c x) (same-tests i k x l m u (own ≐ name) (names-spn pgns x i k) refl refl) ∙ sym (ap (upto-at e i k) u)
+          ap (upto-at b i k) u ∙ ap (λ (c : Bool). optional c x) (same-tests i k x l m u (own ≐ name) (names-spn pgns x i k) refl refl)
+          ∙ sym (ap (upto-at e i k) u)
 
 pub upto-earlier : (pgns : List Pgn) (s : ℕ) → earlier-spn pgns s ≡ upto pgns (spn-name pgns s) s
 unfolding earlier-spn earlier-in

@@ -49,10 +49,15 @@ marked-as {P} {m} q r e a = record { marks = λ l h. a .marks l h ∙ ap (λ (b 
 
 pub marked-then : {P : Pack} {m m′ m″ : List Bool} (q r : Bytes → Bool) → Marked P m q m′ → Marked P m′ r m″ → Marked P m (λ n. q n || r n) m″
 marked-then {P} {m} q r a b =
-    record { marks = λ l h. b .marks l h ∙ ap (λ (d : Bool). d || r (lookup-at (P .lookups) l .name)) (a .marks l h) ∙ or-regroup (getD m l false) (q (lookup-at (P .lookups) l .name)) (r (lookup-at (P .lookups) l .name)) }
+    record {
+      marks = λ l h. b .marks l h ∙ ap (λ (d : Bool). d || r (lookup-at (P .lookups) l .name)) (a .marks l h)
+          ∙ or-regroup (getD m l false) (q (lookup-at (P .lookups) l .name)) (r (lookup-at (P .lookups) l .name));
+    }
 
-pub marked-turn : {P : Pack} {m m′ m″ : List Bool} (f : Bytes → ℕ → Bool) (k : ℕ) → Marked P m (λ n. any-below (f n) k) m′ → Marked P m′ (λ n. f n k) m″ → Marked P m (λ n. any-below (f n) (k + 1)) m″
-marked-turn f k a b = marked-as (λ n. any-below (f n) k || f n k) (λ n. any-below (f n) (k + 1)) (λ n. sym (any-turn (f n) k)) (marked-then (λ n. any-below (f n) k) (λ n. f n k) a b)
+pub marked-turn : {P : Pack} {m m′ m″ : List Bool} (f : Bytes → ℕ → Bool) (k : ℕ) → Marked P m (λ n. any-below (f n) k) m′ → Marked P m′ (λ n. f n k) m″
+    → Marked P m (λ n. any-below (f n) (k + 1)) m″
+marked-turn f k a b = marked-as (λ n. any-below (f n) k || f n k) (λ n. any-below (f n) (k + 1)) (λ n. sym (any-turn (f n) k))
+    (marked-then (λ n. any-below (f n) k) (λ n. f n k) a b)
 
 -- ---- the lookups one after the other
 
@@ -69,7 +74,8 @@ pub marked-next : {P : Pack} {l : ℕ} {m m′ m″ : List Bool} {q : Bytes → 
 marked-next {P} {l} {m} {m′} {m″} {q} b a h e w =
     record {
       below = λ j k. low j (ℕ-discrete j l) k;
-      above = λ j k. ap (λ (x : List Bool). getD x j false) w ∙ getD-set-other m′ l j (getD m′ l false || b) false (λ d. absurd (omega arith)) ∙ a .above j (omega arith);
+      above = λ j k. ap (λ (x : List Bool). getD x j false) w ∙ getD-set-other m′ l j (getD m′ l false || b) false (λ d. absurd (omega arith))
+          ∙ a .above j (omega arith);
     }
   where
     low : (j : ℕ) → Dec (j ≡ l) → j < l + 1 → getD m″ j false ≡ (getD m j false || q (lookup-at (P .lookups) j .name))
@@ -86,7 +92,8 @@ marked-all e a = record { marks = λ j h. a .below j (omega arith) }
 
 -- ---- in the end
 
-pub marks-are : {P : Pack} {m m′ : List Bool} (q : Bytes → Bool) → Clear m → Marked P m q m′ → (l : ℕ) → l < length (P .lookups) → getD m′ l false ≡ q (lookup-at (P .lookups) l .name)
+pub marks-are : {P : Pack} {m m′ : List Bool} (q : Bytes → Bool) → Clear m → Marked P m q m′ → (l : ℕ) → l < length (P .lookups)
+    → getD m′ l false ≡ q (lookup-at (P .lookups) l .name)
 marks-are {P} q z a l h = a .marks l h ∙ ap (λ (b : Bool). b || q (lookup-at (P .lookups) l .name)) (z .none-set l)
 
 pub concat-same : {A : Type 0} (f g : ℕ → List A) (n : ℕ) → ((k : ℕ) → k < n → f k ≡ g k) → concat-below f n ≡ concat-below g n

@@ -18,7 +18,7 @@ use Rattle.rules.specs.declared.match_keys.MatchKey.{MatchKey}
 use Rattle.rules.specs.declared.match_keys.KeyByte.{KeyByte}
 use Rattle.rules.specs.Digits.{digits}
 use Rattle.rules.specs.Model.{given}
-use Rattle.rules.specs.MatchKeys.{piece, pieces-from, to-come, first-and}
+use Rattle.rules.specs.MatchKeys.{piece, pieces-from, to-come, first-and, Begun}
 use Rattle.rules.specs.Texts.{bytes}
 use Rattle.rules.specs.Variants.{has-match, match-key-at, match-key}
 
@@ -34,7 +34,8 @@ pieces-last : (p : Pgn) (k many : ℕ) → pieces-from p k (suc many) ≡ pieces
 pieces-last p k zero = let e : k + 0 ≡ k = omega arith in rw e (append-nil (piece k (field-at p k .match)))
 pieces-last p k (suc many) =
     let e : k + suc many ≡ suc k + many = omega arith in
-    rw (pieces-last p (suc k) many, e) (sym (append-assoc (piece k (field-at p k .match)) (pieces-from p (suc k) many) (piece (suc k + many) (field-at p (suc k + many) .match))))
+    rw (pieces-last p (suc k) many, e)
+    (sym (append-assoc (piece k (field-at p k .match)) (pieces-from p (suc k) many) (piece (suc k + many) (field-at p (suc k + many) .match))))
 
 all-pieces : (p : Pgn) (n : ℕ) → pieces-from p 0 n ≡ concat-below (λ k. piece k (field-at p k .match)) n
 all-pieces p zero = refl
@@ -59,7 +60,8 @@ unfolding has-match
 key-led p zero = (refl, λ _. refl)
 key-led p (suc n) =
     let r = key-led p n in
-    key-turn p n (has-match p n) (field-at p n .match) (concat-below (λ k. piece k (field-at p k .match)) n) (concat-below (λ k. match-key-at p k (field-at p k .match)) n) refl (r .0) (r .1)
+    key-turn p n (has-match p n) (field-at p n .match) (concat-below (λ k. piece k (field-at p k .match)) n)
+    (concat-below (λ k. match-key-at p k (field-at p k .match)) n) refl (r .0) (r .1)
 
 pub same-keys : (p q : Pgn) → has-match p (length (p .fields)) ≡ true → has-match q (length (q .fields)) ≡ true
     → (pieces-from p 0 (length (p .fields)) ≐ pieces-from q 0 (length (q .fields))) ≡ (match-key p ≐ match-key q)
@@ -79,7 +81,8 @@ text-split s a (suc n) h = go (decLt a (length s))
     go (no l) = absurd (h (rw (drop-of-length-le s {i = a} (omega arith))))
 
 module _ (s : List ℕ) (p : Pgn) where
-  pub nothing-before : (key : MatchKey) → drop (key .at) (key .head) ≡ [] → key .text .len ≡ 0 → key .field ≡ 0 → to-come s p key ≡ pieces-from p 0 (length (p .fields))
+  pub nothing-before : (key : MatchKey) → drop (key .at) (key .head) ≡ [] → key .text .len ≡ 0 → key .field ≡ 0
+      → to-come s p key ≡ pieces-from p 0 (length (p .fields))
   unfolding to-come
   nothing-before key d l f = let e : length (p .fields) - 0 ≡ length (p .fields) = omega arith in rw (d, l, f, e)
 
@@ -93,7 +96,8 @@ module _ (s : List ℕ) (p : Pgn) where
     unfolding to-come
     text-ended z = rw (drop-of-length-le (key .head) l, ← e) (go b z)
       where
-        go : (b : Bytes) → length b ≡ 0 → b ++ pieces-from p (key .field) (length (p .fields) - key .field) ≡ pieces-from p (key .field) (length (p .fields) - key .field)
+        go : (b : Bytes) → length b ≡ 0
+            → b ++ pieces-from p (key .field) (length (p .fields) - key .field) ≡ pieces-from p (key .field) (length (p .fields) - key .field)
         go [] z = refl
         go (x ∷ b) z = absurd (omega arith)
 
@@ -101,7 +105,8 @@ module _ (s : List ℕ) (p : Pgn) where
     text-there z = let t = text-split s (key .text .start) (key .text .len) (λ y. z (ap length e ∙ y)) in (t .0, t .1)
 
     pub text-byte : (length b ≡ 0 → ⊥)
-        → to-come s p key ≡ getD b 0 0 ∷ to-come s p (record { field = key .field; head = key .head; at = key .at; text = record { start = key .text .start + 1; len = key .text .len - 1 } })
+        → to-come s p key ≡ getD b 0 0 ∷ to-come s p
+        (record { field = key .field; head = key .head; at = key .at; text = record { start = key .text .start + 1; len = key .text .len - 1 } })
     unfolding to-come
     text-byte z =
         let t = text-split s (key .text .start) (key .text .len) (λ y. z (ap length e ∙ y)) in
@@ -109,11 +114,11 @@ module _ (s : List ℕ) (p : Pgn) where
 
   -- a piece that begins
   pub piece-begun : (k n : ℕ) (text : Text) (r : KeyByte) → k < n → n ≡ length (p .fields) → field-at p k .match ≡ some (bytes-of s text)
-      → (r .given ≡ true) × (r .byte ≡ 44) × (drop (r .after .at) (r .after .head) ≡ digits k ++ bytes "=") × (r .after .text ≡ text) × (r .after .field ≡ k + 1) × (length (r .after .head) ≡ 11)
+      → Begun k text r
       → pieces-from p k (n - k) ≡ first-and (r .given) (r .byte) (to-come s p (r .after))
   unfolding to-come
-  piece-begun k n text r h e m (g, b, d, t, f, _) =
-      rw (pieces-next p k n h, m, g, b, d, t, f, ← e)
+  piece-begun k n text r h e m b =
+      rw (pieces-next p k n h, m, b .given, b .byte, b .written, b .text, b .field, ← e)
       (ap (λ (x : Bytes). 44 ∷ x) (append-assoc (digits k ++ bytes "=") (bytes-of s text) (pieces-from p (k + 1) (n - (k + 1)))))
 
 -- ---- two streams, each a byte on

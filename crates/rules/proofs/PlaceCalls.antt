@@ -4,7 +4,7 @@ use Prim.Native.Nat.{ℕ, _+_, _≤_, _<_}
 use native.Mathlib.Omega.{arith}
 use mathlib.Core.Path.{_≡_, refl, ap, _∙_}
 use mathlib.Core.Bool.{Bool, true, false}
-use mathlib.Core.List.{List, [], _∷_, _++_}
+use mathlib.Core.List.{List}
 use mathlib.Core.Option.{Option, none, some}
 use lib.ListN.{length}
 use borrow.Author.Tests.{le-leb, lt-leb}
@@ -41,7 +41,11 @@ module _ (o : Option Bytes) (b : Bool) (x : Bytes) (e : optional b x ≡ o) (w :
   pub all-written : b ≡ true → (n : ℕ) → n ≡ 0 + length x → n ≤ length w → (w′ : List ℕ) (m : ℕ) → Stored w 0 x w′ m → Named o w (Written n) w′
   all-written h n c l w′ m a =
       let k : n ≡ length x = omega arith in
-      rw (← e, h, k) (record { answer = (rw (le-leb (length x) (length w) (omega arith))); text = (rw (le-leb (length x) (length w) (omega arith)) (a .work ∙ sets-over w x (omega arith))) })
+      rw (← e, h, k)
+      (record {
+        answer = (rw (le-leb (length x) (length w) (omega arith)));
+        text = (rw (le-leb (length x) (length w) (omega arith)) (a .work ∙ sets-over w x (omega arith)));
+      })
 
 -- answer and text buffer of the call
 pub record Answered (s : List ℕ) (m place t item : ℕ) (w : List ℕ) (r : Placed) (w′ : List ℕ) : Type 0 where

@@ -43,7 +43,8 @@ length-replicate (suc k) x = rw (length-replicate k x)
 
 digits-short : (room n : ℕ) → length (digits-within room n) ≤ room
 digits-short zero n = omega arith
-digits-short (suc room) n = omega (arith, length-append (if n <ᵇ 10 then [] else digits-within room (n / 10)) ((48 + n % 10) ∷ []), go (n <ᵇ 10) (digits-short room (n / 10)))
+digits-short (suc room) n = omega
+    (arith, length-append (if n <ᵇ 10 then [] else digits-within room (n / 10)) ((48 + n % 10) ∷ []), go (n <ᵇ 10) (digits-short room (n / 10)))
   where
     go : (b : Bool) → length (digits-within room (n / 10)) ≤ room → length (if b then [] else digits-within room (n / 10)) ≤ room
     go true h = omega arith

@@ -38,7 +38,8 @@ put-fits (f ∷ fs) o n h =
     let e : 8 * (n + 1) ≡ 8 * n + length (numbers f) = omega arith in
     let a : stored o n f ≡ o₁ = stored-fits o n f (omega arith) in
     let b : put-findings o₁ (n + 1) fs ≡ sets o₁ (8 * (n + 1)) (all-numbers fs) = put-fits fs o₁ (n + 1) (omega (arith, length-sets o (8 * n) (numbers f))) in
-    ap (λ (x : List ℕ). put-findings x (n + 1) fs) a ∙ b ∙ ap (λ (k : ℕ). sets o₁ k (all-numbers fs)) e ∙ sym (sets-append o (8 * n) (numbers f) (all-numbers fs))
+    ap (λ (x : List ℕ). put-findings x (n + 1) fs) a ∙ b ∙ ap (λ (k : ℕ). sets o₁ k (all-numbers fs)) e
+    ∙ sym (sets-append o (8 * n) (numbers f) (all-numbers fs))
 
 length-numbers : (fs : List Finding) → length (all-numbers fs) ≡ 8 * length fs
 length-numbers [] = refl
@@ -68,7 +69,9 @@ count-first p (suc n) = go (p 0) refl (p (suc n)) (count-first p n)
     go : (a : Bool) → p 0 ≡ a → (b : Bool)
         → count-below p (suc n) ≡ (if p 0 then count-below (λ i. p (suc i)) n + 1 else count-below (λ i. p (suc i)) n)
         → (if b then count-below p (suc n) + 1 else count-below p (suc n))
-        ≡ (if p 0 then (if b then count-below (λ i. p (suc i)) n + 1 else count-below (λ i. p (suc i)) n) + 1 else (if b then count-below (λ i. p (suc i)) n + 1 else count-below (λ i. p (suc i)) n))
+        ≡
+        (if p 0 then (if b then count-below (λ i. p (suc i)) n + 1 else count-below (λ i. p (suc i)) n) + 1 else
+        (if b then count-below (λ i. p (suc i)) n + 1 else count-below (λ i. p (suc i)) n))
     go true x true h = ap (λ (k : ℕ). k + 1) h ∙ (rw x)
     go true x false h = h ∙ (rw x)
     go false x true h = ap (λ (k : ℕ). k + 1) h ∙ (rw x)
@@ -80,7 +83,10 @@ errors-read [] rest = refl
 errors-read (f ∷ fs) rest =
     let p : ℕ → Bool = λ i. getD (all-numbers (f ∷ fs) ++ rest) (8 * i + 1) 0 == 1 in
     let q : ℕ → Bool = λ i. getD (all-numbers fs ++ rest) (8 * i + 1) 0 == 1 in
-    let shifted : (i : ℕ) → p (suc i) ≡ q i = λ i. (let e : 8 * suc i + 1 ≡ suc (suc (suc (suc (suc (suc (suc (suc (8 * i + 1)))))))) = omega arith in ap (λ (k : ℕ). getD (all-numbers (f ∷ fs) ++ rest) k 0 == 1) e) in
+    let shifted : (i : ℕ)
+    → p (suc i) ≡ q i = λ i.
+    (let e : 8 * suc i + 1 ≡ suc (suc (suc (suc (suc (suc (suc (suc (8 * i + 1))))))))
+    = omega arith in ap (λ (k : ℕ). getD (all-numbers (f ∷ fs) ++ rest) k 0 == 1) e) in
     count-first p (length fs)
     ∙ ap (λ (c : ℕ). if f .severity == 1 then c + 1 else c) (count-same (λ i. p (suc i)) q shifted (length fs) ∙ errors-read fs rest)
 
@@ -113,7 +119,8 @@ unfolding checked findings-after
 not-loaded s w o q e = record { answer = rw e; out = rw e }
 
 pub is-loaded : (s w o : List ℕ) (i : Index) {r : Checked} {o′ : List ℕ} → loaded s (length w) ≡ load.Accepted i
-    → r ≡ judged (check (pack-of s)) (length o) → o′ ≡ findings-left (judged (check (pack-of s)) (length o)) (all-numbers (check (pack-of s))) o → Answers s w o r o′
+    → r ≡ judged (check (pack-of s)) (length o) → o′ ≡ findings-left (judged (check (pack-of s)) (length o)) (all-numbers (check (pack-of s))) o
+    → Answers s w o r o′
 unfolding checked findings-after
 is-loaded s w o i e x y = record { answer = rw e x; out = rw e y }
 

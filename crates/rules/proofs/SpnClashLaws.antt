@@ -33,8 +33,10 @@ module _ (pgns : List Pgn) where
   met name s e i k j h a b d l =
       let p = getD pgns i no-pgn in
       let q = getD pgns j no-pgn in
-      let own : (field-at q h .name ≐ field-at p k .name) ≡ true = ap (λ (t : Bytes). t ≐ field-at p k .name) (b .names ∙ sym (a .names)) ∙ same-refl (field-at p k .name) in
-      let hit : other-spn (field-at p k .name) s (field-at q h .name) (field-at q h .spn) ≡ true = ap (other-spn (field-at p k .name) s (field-at q h .name)) (b .carries) ∙ (rw (own, ne-eqb e s d)) in
+      let own : (field-at q h .name ≐ field-at p k .name) ≡ true = ap (λ (t : Bytes). t ≐ field-at p k .name) (b .names ∙ sym (a .names))
+      ∙ same-refl (field-at p k .name) in
+      let hit : other-spn (field-at p k .name) s (field-at q h .name) (field-at q h .spn) ≡ true
+      = ap (other-spn (field-at p k .name) s (field-at q h .name)) (b .carries) ∙ (rw (own, ne-eqb e s d)) in
       let inner = any-hit (λ x. other-spn (field-at p k .name) s (field-at q x .name) (field-at q x .spn)) (length (q .fields)) h (b .in-pgn) hit in
       let among : other-among pgns (i + 1) (field-at p k .name) (field-at p k .spn) ≡ true =
       ap (other-among pgns (i + 1) (field-at p k .name)) (a .carries)
@@ -50,7 +52,8 @@ module _ (pgns : List Pgn) where
       go false u = met name e s j h i k b a (λ q. omega (arith, l, q)) (omega (arith, leb-false j i u))
 
   -- the field that has the earlier one
-  earlier-carries : (s i k e : ℕ) (o : Option ℕ) → earlier-if pgns s i k o ≡ some e → (o ≡ some e) × (e < s) × (field-at (getD pgns i no-pgn) k .name ≡ spn-name pgns s)
+  earlier-carries : (s i k e : ℕ) (o : Option ℕ) → earlier-if pgns s i k o ≡ some e
+      → (o ≡ some e) × (e < s) × (field-at (getD pgns i no-pgn) k .name ≡ spn-name pgns s)
   earlier-carries s i k e none h = absurd (Option·none-ne-some e h)
   earlier-carries s i k e (some x) h =
       let own = field-at (getD pgns i no-pgn) k .name in
@@ -71,7 +74,13 @@ module _ (pgns : List Pgn) where
           let k = max-is (λ k. earlier-if pgns s (i .index) k (field-at p k .spn)) (length (p .fields)) e (i .is) in
           let c = earlier-carries s (i .index) (k .index) e (field-at p (k .index) .spn) (k .is) in
           let n = named pgns s g in
-          let a : Carries pgns (spn-name pgns s) s (n .pgn) (n .field) = record { in-tree = n .in-tree; in-pgn = n .in-pgn; carries = n .carries; names = sym (names-name pgns s (n .pgn) (n .field) (n .names)) } in
+          let a : Carries pgns (spn-name pgns s) s (n .pgn) (n .field)
+          = record {
+            in-tree = n .in-tree;
+            in-pgn = n .in-pgn;
+            carries = n .carries;
+            names = sym (names-name pgns s (n .pgn) (n .field) (n .names));
+          } in
           let b : Carries pgns (spn-name pgns s) e (i .index) (k .index) = record { in-tree = i .below; in-pgn = k .below; carries = c .0; names = c .2 } in
           absurd (false≢true (sym w ∙ met-either (spn-name pgns s) s e (n .pgn) (n .field) (i .index) (k .index) a b (c .1)))
 

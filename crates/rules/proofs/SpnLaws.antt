@@ -28,7 +28,8 @@ from-is pgns b s none h = absurd (Option·none-ne-some s h)
 from-is pgns b s (some x) h = ap some (optional-is (b ≤ᵇ x) x s h .1)
 
 -- an SPN that a field carries is named
-pub carried-named : (pgns : List Pgn) (s i k : ℕ) → i < length pgns → k < length (getD pgns i no-pgn .fields) → field-at (getD pgns i no-pgn) k .spn ≡ some s → given (spn-pgn pgns s) ≡ true
+pub carried-named : (pgns : List Pgn) (s i k : ℕ) → i < length pgns → k < length (getD pgns i no-pgn .fields)
+    → field-at (getD pgns i no-pgn) k .spn ≡ some s → given (spn-pgn pgns s) ≡ true
 unfolding spn-pgn spn-field
 carried-named pgns s i k l m e =
     let p = getD pgns i no-pgn in

@@ -177,7 +177,8 @@ unfolding spn-at
 spn-most pgns i k none = search Most
 spn-most pgns i k (some s) = search (Most, unlike-first-most)
 
-continued-most : (fts : List FieldType) (t i : ℕ) (p : Pgn) (k : ℕ) (f : Field) (id : Bytes) (j : ℕ) (low : Field) → AtMost 6 (continued-at fts t i p k f id j low)
+continued-most : (fts : List FieldType) (t i : ℕ) (p : Pgn) (k : ℕ) (f : Field) (id : Bytes) (j : ℕ) (low : Field)
+    → AtMost 6 (continued-at fts t i p k f id j low)
 unfolding continued-at
 continued-most fts t i p k f id j low = search Most depth 9
 
@@ -302,7 +303,8 @@ abbrev pub entries-of : List Lookup → ℕ
 entries-of ls = sum-below (λ l. length (getD ls l no-lookup .entries)) (length ls)
 
 pgn-most : (P : Pack) (t i : ℕ) (p : Pgn) → AtMost (13 + length (p .fields) * 10) (check-pgn P t i p)
-unfolding check-pgn check-dynamic-length check-special-values check-reserved-ids check-match-values check-field-type-overrides check-bit-length-field check-trailing-zero-is-digit
+unfolding check-pgn check-dynamic-length check-special-values check-reserved-ids check-match-values check-field-type-overrides check-bit-length-field
+    check-trailing-zero-is-digit
 pgn-most P t i p =
     let n = length (p .fields) in
     let c1 = most-append _ _ _ _ (pgn-range-most t i p) (frame-length-most t i p) in

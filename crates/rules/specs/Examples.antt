@@ -26,7 +26,8 @@ abbrev number-type : FieldType
 number-type = record { name = NUMBER; base = false; print-function = true; signed = false; size = 0; resolution = 0; root-name = NUMBER }
 
 abbrev a-field :
-    (id name type : Bytes) (bits resolution offset : ℕ) (spn : Option ℕ) (match : Option Bytes) (reference : Option Reference) (special : Option ℕ) (trailing : Option Bytes)
+    (id name type : Bytes) (bits resolution offset : ℕ) (spn : Option ℕ) (match : Option Bytes) (reference : Option Reference) (special : Option ℕ)
+    (trailing : Option Bytes)
     → Field
 a-field id name type bits resolution offset spn match reference special trailing =
     record {
@@ -266,7 +267,8 @@ on-off kind = record { name = bytes "ON_OFF"; kind = kind; bits = 64; entries = 
 abbrev match-on : (lookup reference : ℕ) → List Finding
 match-on lookup reference =
     check
-    (in-nmea2000 (on-off lookup ∷ []) (a-pgn 127488 (bytes "a") none (matching 64 (bytes "On") (some (record { kind = reference; name = bytes "ON_OFF" })) ∷ []) ∷ []))
+    (in-nmea2000 (on-off lookup ∷ [])
+    (a-pgn 127488 (bytes "a") none (matching 64 (bytes "On") (some (record { kind = reference; name = bytes "ON_OFF" })) ∷ []) ∷ []))
 
 pair-by-fieldtype : match-on 0 3 ≡ pgn-error 8 2 0 0 0 0 ∷ pgn-error 13 1 0 0 0 0 ∷ []
 unfolding computed

@@ -24,7 +24,8 @@ module _ (pgns : List Pgn) where
 
   -- a field of PGN i and one up to there
   unfoldable pub clash-from : (i : ℕ) → Bool
-  clash-from i = any-below (λ k. other-among (i + 1) (field-at (getD pgns i no-pgn) k .name) (field-at (getD pgns i no-pgn) k .spn)) (length (getD pgns i no-pgn .fields))
+  clash-from i = any-below (λ k. other-among (i + 1) (field-at (getD pgns i no-pgn) k .name) (field-at (getD pgns i no-pgn) k .spn))
+      (length (getD pgns i no-pgn .fields))
 
   unfoldable pub may-clash : Bool
   may-clash = any-below clash-from (length pgns)

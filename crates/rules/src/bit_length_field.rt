@@ -4,9 +4,9 @@ ghost use mathlib.Core.Bool.{not, _||_};
 ghost use Prim.Native.Nat.{_<_};
 ghost use lib.ListN.{length};
 ghost use Rattle.pack.specs.Notation.{_==_};
-ghost use Rattle.pack.specs.Meaning.{optional-number, field-meaning, pack-of};
-ghost use Rattle.pack.specs.Ready.{PgnAt, PgnIs};
-ghost use Rattle.pack.specs.Value.{pgn-at, field-at};
+ghost use Rattle.pack.specs.Meaning.{optional-number, field-meaning};
+ghost use Rattle.pack.specs.Ready.{PgnAt, PgnRecordIs, pgn-in};
+ghost use Rattle.pack.specs.Value.{field-at};
 ghost use Rattle.rules.specs.Emit.{Emitted, Fits};
 ghost use Rattle.rules.specs.Floats.{float-eq, ONE};
 ghost use Rattle.rules.specs.BitLengthField.{variable-binary, bit-length-target-at, bit-length-field-at, check-bit-length-field};
@@ -19,7 +19,7 @@ use crate::targets::target;
 use pack::field::FieldView;
 use pack::of::field_of;
 use pack::optional::OptNumber;
-use pack::pgn::PgnView;
+use pack::pgn::PgnRecord;
 use pack::text::text_is;
 
 fn variable_binary(s: &[u8], f: FieldView) -> bool
@@ -50,51 +50,66 @@ fn bit_length_target_at(
     n: usize,
     s: &[u8],
     work: &[u32],
-    t: u32,
-    i: u32,
-    p: usize,
+    g: PgnRecord,
     k: u32,
     j: OptNumber,
 ) -> usize
-    requires { ⌜ Fits n (bit-length-target-at t i (pgn-at (pack-of (now s)) t i) k (optional-number j)) × PgnAt (now s) (now work) t i p × (k < length (pgn-at (pack-of (now s)) t i .fields)) ⌝ }
-    ensures { λ r. ⌜ Emitted (now (out .entry)) n (bit-length-target-at t i (pgn-at (pack-of (now (s .entry))) t i) k (optional-number j)) (now (out .exit)) r ⌝ }
+    requires { ⌜ record {
+      fits : Fits n (bit-length-target-at (g .tree) (g .item) (pgn-in (now s) g) k (optional-number j));
+      at : PgnAt (now s) (now work) (g .tree) (g .item) (g .place);
+      field : k < length (pgn-in (now s) g .fields);
+    } ⌝ }
+    ensures { λ r. ⌜ Emitted (now (out .entry)) n
+        (bit-length-target-at (g .tree) (g .item) (pgn-in (now (s .entry)) g) k (optional-number j)) (now (out .exit)) r ⌝ }
 {
     if !j.given {
-        return put(out, n, pgn_error(15, 3, t, i, k, 0));
+        return put(out, n, pgn_error(15, 3, g.tree, g.item, k, 0));
     }
     if k <= j.value {
-        return put(out, n, pgn_error(15, 4, t, i, k, j.value));
+        return put(out, n, pgn_error(15, 4, g.tree, g.item, k, j.value));
     }
-    let f = field_of(s, work, t, i, p, j.value);
+    let f = field_of(s, work, g.tree, g.item, g.place, j.value);
     let wrong = not_bit_count(f);
-    put_if(out, n, wrong, pgn_error(15, 5, t, i, k, j.value))
+    put_if(out, n, wrong, pgn_error(15, 5, g.tree, g.item, k, j.value))
 }
 
-// Field k, which is f, of so many fields.
+// Field k, which is f.
 fn bit_length_field_at(
     out: &mut [u32],
     n: usize,
     s: &[u8],
     work: &[u32],
-    t: u32,
-    i: u32,
-    p: usize,
-    fields: u32,
+    g: PgnRecord,
     k: u32,
     f: FieldView,
 ) -> usize
-    requires { ⌜ Fits n (bit-length-field-at t i (pgn-at (pack-of (now s)) t i) k (field-at (pgn-at (pack-of (now s)) t i) k .bit-length-field)) × PgnAt (now s) (now work) t i p × (fields ≡ length (pgn-at (pack-of (now s)) t i .fields)) × (k < fields) × (field-meaning (now s) f ≡ field-at (pgn-at (pack-of (now s)) t i) k) ⌝ }
-    ensures { λ r. ⌜ Emitted (now (out .entry)) n (bit-length-field-at t i (pgn-at (pack-of (now (s .entry))) t i) k (field-at (pgn-at (pack-of (now (s .entry))) t i) k .bit-length-field)) (now (out .exit)) r ⌝ }
+    requires { ⌜ record {
+      fits : Fits n (bit-length-field-at (g .tree) (g .item) (pgn-in (now s) g) k (field-at (pgn-in (now s) g) k .bit-length-field));
+      pgn : PgnRecordIs (now s) (now work) g;
+      field : k < g .view .fields;
+      means : field-meaning (now s) f ≡ field-at (pgn-in (now s) g) k;
+    } ⌝ }
+    ensures { λ r. ⌜ Emitted (now (out .entry)) n
+        (bit-length-field-at (g .tree) (g .item) (pgn-in (now (s .entry)) g) k (field-at (pgn-in (now (s .entry)) g) k .bit-length-field))
+        (now (out .exit)) r ⌝ }
 {
     let binary = variable_binary(s, f);
     if !f.links.length.given {
-        return put_if(out, n, binary, pgn_error(15, 1, t, i, k, 0));
+        return put_if(out, n, binary, pgn_error(15, 1, g.tree, g.item, k, 0));
     }
     if !binary {
-        return put(out, n, pgn_error(15, 2, t, i, k, 0));
+        return put(out, n, pgn_error(15, 2, g.tree, g.item, k, 0));
     }
-    let j = target(s, work, t, i, p, fields, f.links.length.text);
-    bit_length_target_at(out, n, s, work, t, i, p, k, j)
+    let j = target(
+        s,
+        work,
+        g.tree,
+        g.item,
+        g.place,
+        g.view.fields,
+        f.links.length.text,
+    );
+    bit_length_target_at(out, n, s, work, g, k, j)
 }
 
 // R15: a variable-length BINARY field takes its length from an earlier integer field.
@@ -103,20 +118,20 @@ pub fn check_bit_length_field(
     n: usize,
     s: &[u8],
     work: &[u32],
-    t: u32,
-    i: u32,
-    p: usize,
-    g: PgnView,
+    g: PgnRecord,
 ) -> usize
-    requires { ⌜ Fits n (check-bit-length-field t i (pgn-at (pack-of (now s)) t i)) × PgnAt (now s) (now work) t i p × PgnIs (now s) (pgn-at (pack-of (now s)) t i) g ⌝ }
-    ensures { λ r. ⌜ Emitted (now (out .entry)) n (check-bit-length-field t i (pgn-at (pack-of (now (s .entry))) t i)) (now (out .exit)) r ⌝ }
+    requires { ⌜ record {
+      fits : Fits n (check-bit-length-field (g .tree) (g .item) (pgn-in (now s) g));
+      pgn : PgnRecordIs (now s) (now work) g;
+    } ⌝ }
+    ensures { λ r. ⌜ Emitted (now (out .entry)) n (check-bit-length-field (g .tree) (g .item) (pgn-in (now (s .entry)) g)) (now (out .exit)) r ⌝ }
 {
-    let fields = g.fields;
+    let fields = g.view.fields;
     let mut m = n;
     let mut k: u32 = 0;
     while k < fields {
-        let f = field_of(s, work, t, i, p, k);
-        m = bit_length_field_at(out, m, s, work, t, i, p, fields, k, f);
+        let f = field_of(s, work, g.tree, g.item, g.place, k);
+        m = bit_length_field_at(out, m, s, work, g, k, f);
         k += 1;
     }
     m

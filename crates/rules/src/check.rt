@@ -30,7 +30,11 @@ pub enum Checked {
 
 // Every finding, behind n others, in the order in which the Rust reports.
 fn check_all(out: &mut [u32], n: usize, s: &[u8], work: &[u32], index: Index) -> usize
-    requires { ⌜ Fits n (check (pack-of (now s))) × Ready (now s) (now work) × IndexIs (pack-of (now s)) index ⌝ }
+    requires { ⌜ record {
+      fits : Fits n (check (pack-of (now s)));
+      ready : Ready (now s) (now work);
+      index : IndexIs (pack-of (now s)) index;
+    } ⌝ }
     ensures { λ r. ⌜ Emitted (now (out .entry)) n (check (pack-of (now (s .entry)))) (now (out .exit)) r ⌝ }
 {
     let r23 = check_fieldtypes(out, n, s, work, index.types.count);
@@ -70,7 +74,7 @@ fn count_errors(findings: &[u32], n: usize) -> usize
 
 // The first n numbers of a buffer, copied into another.
 fn copy(from: &[u32], to: &mut [u32], n: usize)
-    requires { ⌜ (n ≤ length (now from)) × (n ≤ length (now to)) ⌝ }
+    requires { ⌜ record { from : n ≤ length (now from); to : n ≤ length (now to) } ⌝ }
     ensures { λ r. ⌜ now (to .exit) ≡ over (take n (now (from .entry))) (now (to .entry)) ⌝ }
 {
     let mut i = 0;
@@ -89,7 +93,13 @@ fn deliver(
     short: &[u32],
     count: usize,
 )
-    requires { ⌜ Ready (now pack) (now work) × IndexIs (pack-of (now pack)) index × (count ≡ length (check (pack-of (now pack)))) × (8 * count ≤ length (now short) → take (8 * count) (now short) ≡ all-numbers (check (pack-of (now pack)))) × (8 * count ≤ length (now findings)) ⌝ }
+    requires { ⌜ record {
+      ready : Ready (now pack) (now work);
+      index : IndexIs (pack-of (now pack)) index;
+      counted : count ≡ length (check (pack-of (now pack)));
+      short : 8 * count ≤ length (now short) → take (8 * count) (now short) ≡ all-numbers (check (pack-of (now pack)));
+      room : 8 * count ≤ length (now findings);
+    } ⌝ }
     ensures { λ r. ⌜ now (findings .exit) ≡ over (all-numbers (check (pack-of (now (pack .entry))))) (now (findings .entry)) ⌝ }
 {
     let numbers = 8 * count;
@@ -102,9 +112,12 @@ fn deliver(
 
 // Into a short list first, since after 22 the buffer has not changed.
 fn report(pack: &[u8], work: &[u32], findings: &mut [u32], index: Index) -> Checked
-    requires { ⌜ Ready (now pack) (now work) × IndexIs (pack-of (now pack)) index ⌝ }
-    ensures { λ r. ⌜ r ≡ judged (check (pack-of (now (pack .entry)))) (length (now (findings .entry))) ⌝ }
-    ensures { λ r. ⌜ now (findings .exit) ≡ findings-left (judged (check (pack-of (now (pack .entry)))) (length (now (findings .entry)))) (all-numbers (check (pack-of (now (pack .entry))))) (now (findings .entry)) ⌝ }
+    requires { ⌜ record { ready : Ready (now pack) (now work); index : IndexIs (pack-of (now pack)) index } ⌝ }
+    ensures { λ r. ⌜ record {
+      answer : r ≡ judged (check (pack-of (now (pack .entry)))) (length (now (findings .entry)));
+      findings : now (findings .exit) ≡ findings-left (judged (check (pack-of (now (pack .entry)))) (length (now (findings .entry))))
+          (all-numbers (check (pack-of (now (pack .entry))))) (now (findings .entry));
+    } ⌝ }
 {
     let mut short = [0u32; 8192];
     let count = check_all(&mut short, 0, pack, work, index);

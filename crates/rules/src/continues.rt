@@ -7,14 +7,15 @@ ghost use lib.ListN.{length};
 ghost use Rattle.pack.specs.Notation.{_==_, _<ᵇ_, _≐_, if_then_else_};
 ghost use Rattle.pack.specs.Items.{bytes-of};
 ghost use Rattle.pack.specs.Meaning.{optional-float, optional-repeating, field-meaning, pack-of};
-ghost use Rattle.pack.specs.Ready.{Ready, PgnAt, PgnIs};
-ghost use Rattle.pack.specs.Value.{pgn-at, field-at};
+ghost use Rattle.pack.specs.Ready.{Ready, PgnRecordIs, pgn-in};
+ghost use Rattle.pack.specs.Value.{field-at};
 ghost use Rattle.rules.specs.Emit.{Emitted, Fits};
 ghost use Rattle.rules.specs.Findings.{report-if, pgn-error};
 ghost use Rattle.rules.specs.Floats.{float-eq, ZERO};
 ghost use Rattle.rules.specs.Texts.{NUMBER};
 ghost use Rattle.rules.specs.Model.{fieldtype-of, root-of, value-bits};
 ghost use Rattle.rules.specs.Continues.{holds-order, set-of, integer, differs-from, not-raw, continued-by, continued-at, continues-at, check-continues};
+use crate::Finding;
 use crate::emit::pgn_error;
 use crate::emit::put;
 use crate::emit::put_if;
@@ -31,6 +32,7 @@ use pack::of::field_of;
 use pack::of::type_of;
 use pack::optional::OptFloat;
 use pack::pgn::OptRepeating;
+use pack::pgn::PgnRecord;
 use pack::pgn::PgnView;
 use pack::protocol::FieldIndex;
 use pack::protocol::FieldOrder;
@@ -51,7 +53,9 @@ pub fn holds_order(set: OptRepeating, order: FieldOrder) -> bool
 // The set of field k: 2, 1, or 0 for none.
 fn set_of(g: PgnView, k: u32) -> u32
     requires { ⌜ k < 4294967295 ⌝ }
-    ensures { λ r. ⌜ r ≡ (if holds-order (optional-repeating (g .repeating2)) (k + 1) then 2 else if holds-order (optional-repeating (g .repeating1)) (k + 1) then 1 else 0) ⌝ }
+    ensures { λ r. ⌜ r ≡
+        (if holds-order (optional-repeating (g .repeating2)) (k + 1) then 2 else if holds-order (optional-repeating (g .repeating1)) (k + 1)
+        then 1 else 0) ⌝ }
 {
     let order = FieldIndex(k).order();
     if holds_order(g.repeating2, order) {
@@ -95,15 +99,16 @@ fn not_raw(s: &[u8], f: FieldView) -> bool
     f.authored.spn.given
 }
 
-// How many of n fields do.
-fn continued_by(s: &[u8], work: &[u32], t: u32, i: u32, p: usize, n: u32, id: Text) -> u32
-    requires { ⌜ PgnAt (now s) (now work) t i p × (n ≡ length (pgn-at (pack-of (now s)) t i .fields)) ⌝ }
-    ensures { λ r. ⌜ r ≡ continued-by (pgn-at (pack-of (now (s .entry))) t i) (bytes-of (now (s .entry)) id) ⌝ }
+// How many fields of the PGN do.
+fn continued_by(s: &[u8], work: &[u32], g: PgnRecord, id: Text) -> u32
+    requires { ⌜ PgnRecordIs (now s) (now work) g ⌝ }
+    ensures { λ r. ⌜ r ≡ continued-by (pgn-in (now (s .entry)) g) (bytes-of (now (s .entry)) id) ⌝ }
 {
+    let fields = g.view.fields;
     let mut count: u32 = 0;
     let mut k: u32 = 0;
-    while k < n {
-        let f = field_of(s, work, t, i, p, k);
+    while k < fields {
+        let f = field_of(s, work, g.tree, g.item, g.place, k);
         let hit = is_text(s, f.authored.continues, id);
         count = counted(count, hit);
         k += 1;
@@ -113,8 +118,14 @@ fn continued_by(s: &[u8], work: &[u32], t: u32, i: u32, p: usize, n: u32, id: Te
 
 // Not integers: the field low and the field f that continues it.
 fn not_integers(s: &[u8], work: &[u32], low: FieldView, f: FieldView) -> bool
-    requires { ⌜ Ready (now s) (now work) × (low .ft < length (pack-of (now s) .fieldtypes)) × (f .ft < length (pack-of (now s) .fieldtypes)) ⌝ }
-    ensures { λ r. ⌜ r ≡ (not (integer (pack-of (now (s .entry)) .fieldtypes) (field-meaning (now (s .entry)) low)) || not (root-of (pack-of (now (s .entry)) .fieldtypes) (field-meaning (now (s .entry)) f) ≐ NUMBER)) ⌝ }
+    requires { ⌜ record {
+      ready : Ready (now s) (now work);
+      low-type : low .ft < length (pack-of (now s) .fieldtypes);
+      type : f .ft < length (pack-of (now s) .fieldtypes);
+    } ⌝ }
+    ensures { λ r. ⌜ r ≡
+        (not (integer (pack-of (now (s .entry)) .fieldtypes) (field-meaning (now (s .entry)) low)) || not
+        (root-of (pack-of (now (s .entry)) .fieldtypes) (field-meaning (now (s .entry)) f) ≐ NUMBER)) ⌝ }
 {
     let v = type_of(s, work, low.ft);
     if !integer(s, v) {
@@ -126,8 +137,10 @@ fn not_integers(s: &[u8], work: &[u32], low: FieldView, f: FieldView) -> bool
 
 // A sign or an offset.
 fn not_plain(s: &[u8], work: &[u32], low: FieldView) -> bool
-    requires { ⌜ Ready (now s) (now work) × (low .ft < length (pack-of (now s) .fieldtypes)) ⌝ }
-    ensures { λ r. ⌜ r ≡ (fieldtype-of (pack-of (now (s .entry)) .fieldtypes) (field-meaning (now (s .entry)) low) .signed || not (float-eq (low .scaling .offset) ZERO)) ⌝ }
+    requires { ⌜ record { ready : Ready (now s) (now work); low-type : low .ft < length (pack-of (now s) .fieldtypes) } ⌝ }
+    ensures { λ r. ⌜ r ≡
+        (fieldtype-of (pack-of (now (s .entry)) .fieldtypes) (field-meaning (now (s .entry)) low) .signed || not
+        (float-eq (low .scaling .offset) ZERO)) ⌝ }
 {
     let v = type_of(s, work, low.ft);
     if v.signed {
@@ -143,81 +156,91 @@ fn too_wide(s: &[u8], low: FieldView) -> bool
     64 < value_bits(s, low)
 }
 
-// Where field k lies that continues field j: another set, no fixed distance, or not the only one.
+// A field that continues an earlier one, by its id.
+struct Continuing {
+    field: u32,
+    id: Text,
+    earlier: u32,
+}
+
+fn link_error(cause: u32, g: PgnRecord, link: Continuing) -> Finding
+    ensures { λ r. ⌜ r ≡ pgn-error 43 cause (g .tree) (g .item) (link .field) (link .earlier) ⌝ }
+{
+    pgn_error(43, cause, g.tree, g.item, link.field, link.earlier)
+}
+
+// Where a field lies that continues another: another set, no fixed distance, or not the only one.
 fn placed_at(
     out: &mut [u32],
     n: usize,
     s: &[u8],
     work: &[u32],
-    t: u32,
-    i: u32,
-    p: usize,
-    g: PgnView,
-    k: u32,
-    id: Text,
-    j: u32,
+    g: PgnRecord,
+    link: Continuing,
     continued: bool,
 ) -> usize
-    requires { ⌜ Fits n (if not (set-of (pgn-at (pack-of (now s)) t i) j == set-of (pgn-at (pack-of (now s)) t i) k) then pgn-error 43 2 t i k j ∷ [] else if not continued then pgn-error 43 3 t i k j ∷ [] else report-if (1 <ᵇ continued-by (pgn-at (pack-of (now s)) t i) (bytes-of (now s) id)) (pgn-error 43 4 t i k j)) × PgnAt (now s) (now work) t i p × PgnIs (now s) (pgn-at (pack-of (now s)) t i) g × (k < g .fields) × (j < k) ⌝ }
-    ensures { λ r. ⌜ Emitted (now (out .entry)) n (if not (set-of (pgn-at (pack-of (now (s .entry))) t i) j == set-of (pgn-at (pack-of (now (s .entry))) t i) k) then pgn-error 43 2 t i k j ∷ [] else if not continued then pgn-error 43 3 t i k j ∷ [] else report-if (1 <ᵇ continued-by (pgn-at (pack-of (now (s .entry))) t i) (bytes-of (now (s .entry)) id)) (pgn-error 43 4 t i k j)) (now (out .exit)) r ⌝ }
+    requires { ⌜ record {
+      fits : Fits n
+          (if not (set-of (pgn-in (now s) g) (link .earlier) == set-of (pgn-in (now s) g) (link .field)) then pgn-error 43 2 (g .tree)
+          (g .item) (link .field) (link .earlier) ∷ [] else if not continued then pgn-error 43 3 (g .tree) (g .item) (link .field)
+          (link .earlier) ∷ [] else report-if (1 <ᵇ continued-by (pgn-in (now s) g) (bytes-of (now s) (link .id)))
+          (pgn-error 43 4 (g .tree) (g .item) (link .field) (link .earlier)));
+      pgn : PgnRecordIs (now s) (now work) g;
+      field : link .field < g .view .fields;
+      earlier : link .earlier < link .field;
+    } ⌝ }
+    ensures { λ r. ⌜ Emitted (now (out .entry)) n
+        (if not (set-of (pgn-in (now (s .entry)) g) (link .earlier) == set-of (pgn-in (now (s .entry)) g) (link .field)) then pgn-error 43 2
+        (g .tree) (g .item) (link .field) (link .earlier) ∷ [] else if not continued then pgn-error 43 3 (g .tree) (g .item) (link .field)
+        (link .earlier) ∷ [] else report-if (1 <ᵇ continued-by (pgn-in (now (s .entry)) g) (bytes-of (now (s .entry)) (link .id)))
+        (pgn-error 43 4 (g .tree) (g .item) (link .field) (link .earlier))) (now (out .exit)) r ⌝ }
 {
-    if set_of(g, j) != set_of(g, k) {
-        return put(out, n, pgn_error(43, 2, t, i, k, j));
+    if set_of(g.view, link.earlier) != set_of(g.view, link.field) {
+        return put(out, n, link_error(2, g, link));
     }
     if !continued {
-        return put(out, n, pgn_error(43, 3, t, i, k, j));
+        return put(out, n, link_error(3, g, link));
     }
-    let count = continued_by(s, work, t, i, p, g.fields, id);
-    put_if(out, n, 1 < count, pgn_error(43, 4, t, i, k, j))
+    let count = continued_by(s, work, g, link.id);
+    put_if(out, n, 1 < count, link_error(4, g, link))
 }
 
-// Field k, which is f, continues field j, which is low.
+// Field f continues the earlier one.
 fn continued_at(
     out: &mut [u32],
     n: usize,
     s: &[u8],
     work: &[u32],
-    t: u32,
-    i: u32,
-    p: usize,
-    g: PgnView,
-    k: u32,
+    g: PgnRecord,
     f: FieldView,
-    id: Text,
-    j: u32,
+    link: Continuing,
 ) -> usize
-    requires { ⌜ Fits n (continued-at (pack-of (now s) .fieldtypes) t i (pgn-at (pack-of (now s)) t i) k (field-at (pgn-at (pack-of (now s)) t i) k) (bytes-of (now s) id) j (field-at (pgn-at (pack-of (now s)) t i) j)) × PgnAt (now s) (now work) t i p × PgnIs (now s) (pgn-at (pack-of (now s)) t i) g × (k < g .fields) × (j < k) × (field-meaning (now s) f ≡ field-at (pgn-at (pack-of (now s)) t i) k) ⌝ }
-    ensures { λ r. ⌜ Emitted (now (out .entry)) n (continued-at (pack-of (now (s .entry)) .fieldtypes) t i (pgn-at (pack-of (now (s .entry))) t i) k (field-at (pgn-at (pack-of (now (s .entry))) t i) k) (bytes-of (now (s .entry)) id) j (field-at (pgn-at (pack-of (now (s .entry))) t i) j)) (now (out .exit)) r ⌝ }
+    requires { ⌜ record {
+      fits : Fits n
+          (continued-at (pack-of (now s) .fieldtypes) (g .tree) (g .item) (pgn-in (now s) g) (link .field)
+          (field-at (pgn-in (now s) g) (link .field)) (bytes-of (now s) (link .id)) (link .earlier)
+          (field-at (pgn-in (now s) g) (link .earlier)));
+      pgn : PgnRecordIs (now s) (now work) g;
+      field : link .field < g .view .fields;
+      earlier : link .earlier < link .field;
+      means : field-meaning (now s) f ≡ field-at (pgn-in (now s) g) (link .field);
+    } ⌝ }
+    ensures { λ r. ⌜ Emitted (now (out .entry)) n
+        (continued-at (pack-of (now (s .entry)) .fieldtypes) (g .tree) (g .item) (pgn-in (now (s .entry)) g) (link .field)
+        (field-at (pgn-in (now (s .entry)) g) (link .field)) (bytes-of (now (s .entry)) (link .id)) (link .earlier)
+        (field-at (pgn-in (now (s .entry)) g) (link .earlier))) (now (out .exit)) r ⌝ }
 {
-    let low = field_of(s, work, t, i, p, j);
+    let low = field_of(s, work, g.tree, g.item, g.place, link.earlier);
     let words = not_integers(s, work, low, f);
     let dressed = not_raw(s, f);
     let scaled = not_plain(s, work, low);
     let wide = too_wide(s, low);
-    let a = placed_at(
-        out,
-        n,
-        s,
-        work,
-        t,
-        i,
-        p,
-        g,
-        k,
-        id,
-        j,
-        low.links.continuation.given,
-    );
-    let b = put_if(
-        out,
-        a,
-        low.authored.continues.given,
-        pgn_error(43, 5, t, i, k, j),
-    );
-    let c = put_if(out, b, words, pgn_error(43, 6, t, i, k, j));
-    let d = put_if(out, c, dressed, pgn_error(43, 7, t, i, k, j));
-    let e = put_if(out, d, scaled, pgn_error(43, 8, t, i, k, j));
-    put_if(out, e, wide, pgn_error(43, 9, t, i, k, j))
+    let a = placed_at(out, n, s, work, g, link, low.links.continuation.given);
+    let b = put_if(out, a, low.authored.continues.given, link_error(5, g, link));
+    let c = put_if(out, b, words, link_error(6, g, link));
+    let d = put_if(out, c, dressed, link_error(7, g, link));
+    let e = put_if(out, d, scaled, link_error(8, g, link));
+    put_if(out, e, wide, link_error(9, g, link))
 }
 
 // Field k, which is f.
@@ -226,25 +249,35 @@ fn continues_at(
     n: usize,
     s: &[u8],
     work: &[u32],
-    t: u32,
-    i: u32,
-    p: usize,
-    g: PgnView,
+    g: PgnRecord,
     k: u32,
     f: FieldView,
 ) -> usize
-    requires { ⌜ Fits n (continues-at (pack-of (now s) .fieldtypes) t i (pgn-at (pack-of (now s)) t i) k (field-at (pgn-at (pack-of (now s)) t i) k .continues)) × PgnAt (now s) (now work) t i p × PgnIs (now s) (pgn-at (pack-of (now s)) t i) g × (k < g .fields) × (field-meaning (now s) f ≡ field-at (pgn-at (pack-of (now s)) t i) k) ⌝ }
-    ensures { λ r. ⌜ Emitted (now (out .entry)) n (continues-at (pack-of (now (s .entry)) .fieldtypes) t i (pgn-at (pack-of (now (s .entry))) t i) k (field-at (pgn-at (pack-of (now (s .entry))) t i) k .continues)) (now (out .exit)) r ⌝ }
+    requires { ⌜ record {
+      fits : Fits n (continues-at (pack-of (now s) .fieldtypes) (g .tree) (g .item) (pgn-in (now s) g) k (field-at (pgn-in (now s) g) k .continues));
+      pgn : PgnRecordIs (now s) (now work) g;
+      field : k < g .view .fields;
+      means : field-meaning (now s) f ≡ field-at (pgn-in (now s) g) k;
+    } ⌝ }
+    ensures { λ r. ⌜ Emitted (now (out .entry)) n
+        (continues-at (pack-of (now (s .entry)) .fieldtypes) (g .tree) (g .item) (pgn-in (now (s .entry)) g) k
+        (field-at (pgn-in (now (s .entry)) g) k .continues)) (now (out .exit)) r ⌝ }
 {
     if !f.authored.continues.given {
         return n;
     }
     let id = f.authored.continues.text;
-    let j = first_with_id(s, work, t, i, p, k, id);
+    let j = first_with_id(s, work, g.tree, g.item, g.place, k, id);
     if !j.given {
-        return put(out, n, pgn_error(43, 1, t, i, k, 0));
+        return put(out, n, pgn_error(43, 1, g.tree, g.item, k, 0));
     }
-    continued_at(out, n, s, work, t, i, p, g, k, f, id, j.value)
+    let earlier = j.value;
+    let link = Continuing {
+        field: k,
+        id,
+        earlier,
+    };
+    continued_at(out, n, s, work, g, f, link)
 }
 
 // R43: a `continues:` field adds high bits to an earlier, plain integer field of the same record, at a fixed distance from it.
@@ -253,20 +286,21 @@ pub(crate) fn check_continues(
     n: usize,
     s: &[u8],
     work: &[u32],
-    t: u32,
-    i: u32,
-    p: usize,
-    g: PgnView,
+    g: PgnRecord,
 ) -> usize
-    requires { ⌜ Fits n (check-continues (pack-of (now s) .fieldtypes) t i (pgn-at (pack-of (now s)) t i)) × PgnAt (now s) (now work) t i p × PgnIs (now s) (pgn-at (pack-of (now s)) t i) g ⌝ }
-    ensures { λ r. ⌜ Emitted (now (out .entry)) n (check-continues (pack-of (now (s .entry)) .fieldtypes) t i (pgn-at (pack-of (now (s .entry))) t i)) (now (out .exit)) r ⌝ }
+    requires { ⌜ record {
+      fits : Fits n (check-continues (pack-of (now s) .fieldtypes) (g .tree) (g .item) (pgn-in (now s) g));
+      pgn : PgnRecordIs (now s) (now work) g;
+    } ⌝ }
+    ensures { λ r. ⌜ Emitted (now (out .entry)) n
+        (check-continues (pack-of (now (s .entry)) .fieldtypes) (g .tree) (g .item) (pgn-in (now (s .entry)) g)) (now (out .exit)) r ⌝ }
 {
-    let fields = g.fields;
+    let fields = g.view.fields;
     let mut m = n;
     let mut k: u32 = 0;
     while k < fields {
-        let f = field_of(s, work, t, i, p, k);
-        m = continues_at(out, m, s, work, t, i, p, g, k, f);
+        let f = field_of(s, work, g.tree, g.item, g.place, k);
+        m = continues_at(out, m, s, work, g, k, f);
         k += 1;
     }
     m

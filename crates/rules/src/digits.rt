@@ -20,9 +20,11 @@ fn lowest(n: u32) -> u8
 
 // The digits of n put so that they end before `end`; answers where they begin.
 pub fn digits_before(b: &mut [u8], end: usize, n: u32) -> usize
-    requires { ⌜ (10 ≤ end) × (end ≤ length (now b)) ⌝ }
-    ensures { λ r. ⌜ drop r (now (b .exit)) ≡ digits n ++ drop end (now (b .entry)) ⌝ }
-    ensures { λ r. ⌜ r + length (digits n) ≡ end ⌝ }
+    requires { ⌜ record { ten : 10 ≤ end; within : end ≤ length (now b) } ⌝ }
+    ensures { λ r. ⌜ record {
+      written : drop r (now (b .exit)) ≡ digits n ++ drop end (now (b .entry));
+      start : r + length (digits n) ≡ end;
+    } ⌝ }
 {
     let mut at = end;
     let mut v = n;
@@ -38,8 +40,10 @@ pub fn digits_before(b: &mut [u8], end: usize, n: u32) -> usize
 
 // The digits of n.
 pub fn digits_of(n: u32) -> Digits
-    ensures { λ r. ⌜ drop (r .start) (r .bytes) ≡ digits n ⌝ }
-    ensures { λ r. ⌜ r .start + length (digits n) ≡ 10 ⌝ }
+    ensures { λ r. ⌜ record {
+      written : drop (r .start) (r .bytes) ≡ digits n;
+      start : r .start + length (digits n) ≡ 10;
+    } ⌝ }
 {
     let mut bytes = [0u8; 10];
     let start = digits_before(&mut bytes, 10, n);

@@ -1,7 +1,7 @@
 // Findings put into a buffer one after the other. A finding is stored only where its eight numbers fit; all are counted.
 ghost use mathlib.Core.Path.{_≡_};
 ghost use mathlib.Core.List.{[], _∷_};
-ghost use Prim.Native.Nat.{_+_, _*_, _≤_};
+ghost use Prim.Native.Nat.{_+_, _≤_};
 ghost use lib.ListN.{length};
 ghost use lib.Seq.{sets};
 ghost use Rattle.rules.specs.Findings.{report-if, fieldtype-error, pgn-error, pgn-warning, lookup-error, lookup-warning, group-error};

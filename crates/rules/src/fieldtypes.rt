@@ -13,7 +13,11 @@ use crate::emit::put_if;
 use pack::of::type_of;
 
 fn fieldtype_at(out: &mut [u32], n: usize, s: &[u8], work: &[u32], i: u32) -> usize
-    requires { ⌜ Fits n (fieldtype-at i (getD (pack-of (now s) .fieldtypes) i no-field-type)) × Ready (now s) (now work) × (i < length (pack-of (now s) .fieldtypes)) ⌝ }
+    requires { ⌜ record {
+      fits : Fits n (fieldtype-at i (getD (pack-of (now s) .fieldtypes) i no-field-type));
+      ready : Ready (now s) (now work);
+      type : i < length (pack-of (now s) .fieldtypes);
+    } ⌝ }
     ensures { λ r. ⌜ Emitted (now (out .entry)) n (fieldtype-at i (getD (pack-of (now (s .entry)) .fieldtypes) i no-field-type)) (now (out .exit)) r ⌝ }
 {
     let ft = type_of(s, work, i);
@@ -23,7 +27,11 @@ fn fieldtype_at(out: &mut [u32], n: usize, s: &[u8], work: &[u32], i: u32) -> us
 
 // R23: every root field type can print. So many field types are there.
 pub fn check_fieldtypes(out: &mut [u32], n: usize, s: &[u8], work: &[u32], types: u32) -> usize
-    requires { ⌜ Fits n (check-fieldtypes (pack-of (now s) .fieldtypes)) × Ready (now s) (now work) × (types ≡ length (pack-of (now s) .fieldtypes)) ⌝ }
+    requires { ⌜ record {
+      fits : Fits n (check-fieldtypes (pack-of (now s) .fieldtypes));
+      ready : Ready (now s) (now work);
+      types : types ≡ length (pack-of (now s) .fieldtypes);
+    } ⌝ }
     ensures { λ r. ⌜ Emitted (now (out .entry)) n (check-fieldtypes (pack-of (now (s .entry)) .fieldtypes)) (now (out .exit)) r ⌝ }
 {
     let mut m = n;

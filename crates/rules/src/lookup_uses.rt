@@ -5,10 +5,10 @@ ghost use mathlib.Core.Bool.{false, not};
 ghost use Prim.Native.Nat.{_<_, _≤_};
 ghost use lib.ListN.{length, getD};
 ghost use Rattle.pack.specs.Notation.{concat-below};
-ghost use Rattle.pack.specs.Value.{pgns-of, pgn-at, lookup-at};
+ghost use Rattle.pack.specs.Value.{lookup-at};
 ghost use Rattle.pack.specs.Items.{bytes-of};
 ghost use Rattle.pack.specs.Meaning.{optional-reference, pack-of};
-ghost use Rattle.pack.specs.Ready.{Ready, LookupAt, LookupIs, PgnAt, place-of-lookup, place-of-tree, IndexIs};
+ghost use Rattle.pack.specs.Ready.{Ready, IndexIs, PgnRecordIs, LookupsAre, TreeIs, pgn-in, lookup-in, LookupRecordIs};
 ghost use Rattle.rules.specs.Emit.{Emitted, Fits};
 ghost use Rattle.rules.specs.Findings.{report-if, lookup-warning};
 ghost use Rattle.rules.specs.Marks.{Clear};
@@ -21,11 +21,12 @@ use crate::model::is_text;
 use pack::field::OptReference;
 use pack::load::Index;
 use pack::load::Section;
-use pack::lookup::LookupView;
+use pack::lookup::LookupRecord;
 use pack::of::entry_of;
 use pack::of::field_of;
 use pack::of::lookup_of;
 use pack::of::pgn_of;
+use pack::pgn::PgnRecord;
 use pack::protocol::Protocol;
 use pack::text::Text;
 use pack::text::same_text;
@@ -40,22 +41,15 @@ fn ref_is(s: &[u8], r: OptReference, name: Text) -> bool
     false
 }
 
-// By a field of PGN i of tree t.
-fn referenced_by_pgn(
-    s: &[u8],
-    work: &[u32],
-    t: u32,
-    i: u32,
-    p: usize,
-    fields: u32,
-    name: Text,
-) -> bool
-    requires { ⌜ PgnAt (now s) (now work) t i p × (fields ≡ length (pgn-at (pack-of (now s)) t i .fields)) ⌝ }
-    ensures { λ r. ⌜ r ≡ referenced-by-pgn (bytes-of (now (s .entry)) name) (pgn-at (pack-of (now (s .entry))) t i) ⌝ }
+// By a field of a PGN.
+fn referenced_by_pgn(s: &[u8], work: &[u32], g: PgnRecord, name: Text) -> bool
+    requires { ⌜ PgnRecordIs (now s) (now work) g ⌝ }
+    ensures { λ r. ⌜ r ≡ referenced-by-pgn (bytes-of (now (s .entry)) name) (pgn-in (now (s .entry)) g) ⌝ }
 {
+    let fields = g.view.fields;
     let mut k: u32 = 0;
     while k < fields {
-        let f = field_of(s, work, t, i, p, k);
+        let f = field_of(s, work, g.tree, g.item, g.place, k);
         if ref_is(s, f.links.reference, name) {
             return true;
         }
@@ -66,18 +60,24 @@ fn referenced_by_pgn(
 
 // By a PGN of tree t.
 fn referenced_by_tree(s: &[u8], work: &[u32], t: u32, tree: Section, name: Text) -> bool
-    requires { ⌜ Ready (now s) (now work) × (t < 3) × (tree .count ≡ length (pgns-of (pack-of (now s)) t)) × (tree .place ≡ place-of-tree (pack-of (now s)) t) ⌝ }
+    requires { ⌜ record { ready : Ready (now s) (now work); trees : t < 3; pgns : TreeIs (pack-of (now s)) t tree } ⌝ }
     ensures { λ r. ⌜ r ≡ referenced-by-tree (pack-of (now (s .entry))) (bytes-of (now (s .entry)) name) t ⌝ }
 {
     let count = tree.count;
     let mut p = tree.place;
     let mut i: u32 = 0;
     while i < count {
-        let g = pgn_of(s, work, t, i, p);
-        if referenced_by_pgn(s, work, t, i, p, g.fields, name) {
+        let view = pgn_of(s, work, t, i, p);
+        let pgn = PgnRecord {
+            tree: t,
+            item: i,
+            place: p,
+            view,
+        };
+        if referenced_by_pgn(s, work, pgn, name) {
             return true;
         }
-        p = p + 1 + g.fields as usize;
+        p = p + 1 + view.fields as usize;
         i += 1;
     }
     false
@@ -85,7 +85,7 @@ fn referenced_by_tree(s: &[u8], work: &[u32], t: u32, tree: Section, name: Text)
 
 // By a tree.
 fn referenced_by_trees(s: &[u8], work: &[u32], index: Index, name: Text) -> bool
-    requires { ⌜ Ready (now s) (now work) × IndexIs (pack-of (now s)) index ⌝ }
+    requires { ⌜ record { ready : Ready (now s) (now work); index : IndexIs (pack-of (now s)) index } ⌝ }
     ensures { λ r. ⌜ r ≡ any-below (λ t. referenced-by-tree (pack-of (now (s .entry))) (bytes-of (now (s .entry)) name) t) 3 ⌝ }
 {
     let mut t: u32 = 0;
@@ -99,18 +99,18 @@ fn referenced_by_trees(s: &[u8], work: &[u32], index: Index, name: Text) -> bool
     false
 }
 
-// By an entry of lookup l, which is v.
-fn referenced_by_lookup(s: &[u8], work: &[u32], l: u32, p: usize, v: LookupView, name: Text) -> bool
-    requires { ⌜ LookupAt (now s) (now work) l p × LookupIs (now s) (lookup-at (pack-of (now s) .lookups) l) v ⌝ }
-    ensures { λ r. ⌜ r ≡ referenced-by-lookup (bytes-of (now (s .entry)) name) (lookup-at (pack-of (now (s .entry)) .lookups) l) ⌝ }
+// By an entry of a lookup.
+fn referenced_by_lookup(s: &[u8], work: &[u32], l: LookupRecord, name: Text) -> bool
+    requires { ⌜ LookupRecordIs (now s) (now work) l ⌝ }
+    ensures { λ r. ⌜ r ≡ referenced-by-lookup (bytes-of (now (s .entry)) name) (lookup-in (now (s .entry)) l) ⌝ }
 {
-    if v.kind != 3 {
+    if l.view.kind != 3 {
         return false;
     }
-    let entries = v.entries;
+    let entries = l.view.entries;
     let mut e: u32 = 0;
     while e < entries {
-        let entry = entry_of(s, work, l, p, 3, e);
+        let entry = entry_of(s, work, l.item, l.place, 3, e);
         if is_text(s, entry.nested, name) {
             return true;
         }
@@ -121,18 +121,25 @@ fn referenced_by_lookup(s: &[u8], work: &[u32], l: u32, p: usize, v: LookupView,
 
 // By a lookup.
 fn referenced_by_lookups(s: &[u8], work: &[u32], lookups: Section, name: Text) -> bool
-    requires { ⌜ Ready (now s) (now work) × (lookups .count ≡ length (pack-of (now s) .lookups)) × (lookups .place ≡ place-of-lookup (pack-of (now s)) 0) ⌝ }
-    ensures { λ r. ⌜ r ≡ any-below (λ l. referenced-by-lookup (bytes-of (now (s .entry)) name) (lookup-at (pack-of (now (s .entry)) .lookups) l)) (length (pack-of (now (s .entry)) .lookups)) ⌝ }
+    requires { ⌜ record { ready : Ready (now s) (now work); lookups : LookupsAre (pack-of (now s)) lookups } ⌝ }
+    ensures { λ r. ⌜ r ≡ any-below
+        (λ l. referenced-by-lookup (bytes-of (now (s .entry)) name) (lookup-at (pack-of (now (s .entry)) .lookups) l))
+        (length (pack-of (now (s .entry)) .lookups)) ⌝ }
 {
     let count = lookups.count;
     let mut p = lookups.place;
     let mut l: u32 = 0;
     while l < count {
-        let v = lookup_of(s, work, l, p);
-        if referenced_by_lookup(s, work, l, p, v, name) {
+        let view = lookup_of(s, work, l, p);
+        let lookup = LookupRecord {
+            item: l,
+            place: p,
+            view,
+        };
+        if referenced_by_lookup(s, work, lookup, name) {
             return true;
         }
-        p = p + 1 + v.entries as usize;
+        p = p + 1 + view.entries as usize;
         l += 1;
     }
     false
@@ -140,7 +147,7 @@ fn referenced_by_lookups(s: &[u8], work: &[u32], lookups: Section, name: Text) -
 
 // By anything.
 fn referenced(s: &[u8], work: &[u32], index: Index, name: Text) -> bool
-    requires { ⌜ Ready (now s) (now work) × IndexIs (pack-of (now s)) index ⌝ }
+    requires { ⌜ record { ready : Ready (now s) (now work); index : IndexIs (pack-of (now s)) index } ⌝ }
     ensures { λ r. ⌜ r ≡ referenced (pack-of (now (s .entry))) (bytes-of (now (s .entry)) name) ⌝ }
 {
     if referenced_by_trees(s, work, index, name) {
@@ -151,8 +158,18 @@ fn referenced(s: &[u8], work: &[u32], index: Index, name: Text) -> bool
 
 // Each lookup searched for.
 fn check_by_search(out: &mut [u32], n: usize, s: &[u8], work: &[u32], index: Index) -> usize
-    requires { ⌜ Fits n (concat-below (λ l. report-if (not (referenced (pack-of (now s)) (lookup-at (pack-of (now s) .lookups) l .name))) (lookup-warning 22 1 l 0 0)) (length (pack-of (now s) .lookups))) × Ready (now s) (now work) × IndexIs (pack-of (now s)) index ⌝ }
-    ensures { λ r. ⌜ Emitted (now (out .entry)) n (concat-below (λ l. report-if (not (referenced (pack-of (now (s .entry))) (lookup-at (pack-of (now (s .entry)) .lookups) l .name))) (lookup-warning 22 1 l 0 0)) (length (pack-of (now (s .entry)) .lookups))) (now (out .exit)) r ⌝ }
+    requires { ⌜ record {
+      fits : Fits n
+          (concat-below
+          (λ l. report-if (not (referenced (pack-of (now s)) (lookup-at (pack-of (now s) .lookups) l .name))) (lookup-warning 22 1 l 0 0))
+          (length (pack-of (now s) .lookups)));
+      ready : Ready (now s) (now work);
+      index : IndexIs (pack-of (now s)) index;
+    } ⌝ }
+    ensures { λ r. ⌜ Emitted (now (out .entry)) n
+        (concat-below
+        (λ l. report-if (not (referenced (pack-of (now (s .entry))) (lookup-at (pack-of (now (s .entry)) .lookups) l .name)))
+        (lookup-warning 22 1 l 0 0)) (length (pack-of (now (s .entry)) .lookups))) (now (out .exit)) r ⌝ }
 {
     let count = index.lookups.count;
     let mut m = n;
@@ -170,8 +187,12 @@ fn check_by_search(out: &mut [u32], n: usize, s: &[u8], work: &[u32], index: Ind
 
 // The lookups without a mark.
 fn report_unmarked(out: &mut [u32], n: usize, marks: &[bool], count: u32) -> usize
-    requires { ⌜ Fits n (concat-below (λ l. report-if (not (getD (now marks) l false)) (lookup-warning 22 1 l 0 0)) count) × (count ≤ length (now marks)) ⌝ }
-    ensures { λ r. ⌜ Emitted (now (out .entry)) n (concat-below (λ l. report-if (not (getD (now (marks .entry)) l false)) (lookup-warning 22 1 l 0 0)) count) (now (out .exit)) r ⌝ }
+    requires { ⌜ record {
+      fits : Fits n (concat-below (λ l. report-if (not (getD (now marks) l false)) (lookup-warning 22 1 l 0 0)) count);
+      marks : count ≤ length (now marks);
+    } ⌝ }
+    ensures { λ r. ⌜ Emitted (now (out .entry)) n
+        (concat-below (λ l. report-if (not (getD (now (marks .entry)) l false)) (lookup-warning 22 1 l 0 0)) count) (now (out .exit)) r ⌝ }
 {
     let mut m = n;
     let mut l: u32 = 0;
@@ -192,8 +213,20 @@ fn check_by_marks(
     work: &[u32],
     index: Index,
 ) -> usize
-    requires { ⌜ Fits n (concat-below (λ l. report-if (not (referenced (pack-of (now s)) (lookup-at (pack-of (now s) .lookups) l .name))) (lookup-warning 22 1 l 0 0)) (length (pack-of (now s) .lookups))) × Clear (now marks) × (length (pack-of (now s) .lookups) ≤ length (now marks)) × Ready (now s) (now work) × IndexIs (pack-of (now s)) index ⌝ }
-    ensures { λ r. ⌜ Emitted (now (out .entry)) n (concat-below (λ l. report-if (not (referenced (pack-of (now (s .entry))) (lookup-at (pack-of (now (s .entry)) .lookups) l .name))) (lookup-warning 22 1 l 0 0)) (length (pack-of (now (s .entry)) .lookups))) (now (out .exit)) r ⌝ }
+    requires { ⌜ record {
+      fits : Fits n
+          (concat-below
+          (λ l. report-if (not (referenced (pack-of (now s)) (lookup-at (pack-of (now s) .lookups) l .name))) (lookup-warning 22 1 l 0 0))
+          (length (pack-of (now s) .lookups)));
+      clear : Clear (now marks);
+      marks : length (pack-of (now s) .lookups) ≤ length (now marks);
+      ready : Ready (now s) (now work);
+      index : IndexIs (pack-of (now s)) index;
+    } ⌝ }
+    ensures { λ r. ⌜ Emitted (now (out .entry)) n
+        (concat-below
+        (λ l. report-if (not (referenced (pack-of (now (s .entry))) (lookup-at (pack-of (now (s .entry)) .lookups) l .name)))
+        (lookup-warning 22 1 l 0 0)) (length (pack-of (now (s .entry)) .lookups))) (now (out .exit)) r ⌝ }
 {
     mark_referenced(marks, s, work, index);
     report_unmarked(out, n, marks, index.lookups.count)
@@ -201,8 +234,18 @@ fn check_by_marks(
 
 // R22: every lookup is referenced somewhere. A search for each is slow, so it is left to packs with more lookups than there are marks.
 pub fn check_lookup_uses(out: &mut [u32], n: usize, s: &[u8], work: &[u32], index: Index) -> usize
-    requires { ⌜ Fits n (concat-below (λ l. report-if (not (referenced (pack-of (now s)) (lookup-at (pack-of (now s) .lookups) l .name))) (lookup-warning 22 1 l 0 0)) (length (pack-of (now s) .lookups))) × Ready (now s) (now work) × IndexIs (pack-of (now s)) index ⌝ }
-    ensures { λ r. ⌜ Emitted (now (out .entry)) n (concat-below (λ l. report-if (not (referenced (pack-of (now (s .entry))) (lookup-at (pack-of (now (s .entry)) .lookups) l .name))) (lookup-warning 22 1 l 0 0)) (length (pack-of (now (s .entry)) .lookups))) (now (out .exit)) r ⌝ }
+    requires { ⌜ record {
+      fits : Fits n
+          (concat-below
+          (λ l. report-if (not (referenced (pack-of (now s)) (lookup-at (pack-of (now s) .lookups) l .name))) (lookup-warning 22 1 l 0 0))
+          (length (pack-of (now s) .lookups)));
+      ready : Ready (now s) (now work);
+      index : IndexIs (pack-of (now s)) index;
+    } ⌝ }
+    ensures { λ r. ⌜ Emitted (now (out .entry)) n
+        (concat-below
+        (λ l. report-if (not (referenced (pack-of (now (s .entry))) (lookup-at (pack-of (now (s .entry)) .lookups) l .name)))
+        (lookup-warning 22 1 l 0 0)) (length (pack-of (now (s .entry)) .lookups))) (now (out .exit)) r ⌝ }
 {
     if 4096 < index.lookups.count {
         return check_by_search(out, n, s, work, index);

@@ -1,11 +1,10 @@
 // Lookups by name: the Rust's `db.lookups.get(name)`.
 ghost use mathlib.Core.Path.{_≡_};
 ghost use mathlib.Core.Bool.{true};
-ghost use lib.ListN.{length};
 ghost use Rattle.pack.specs.Notation.{optional};
 ghost use Rattle.pack.specs.Items.{bytes-of};
 ghost use Rattle.pack.specs.Meaning.{pack-of};
-ghost use Rattle.pack.specs.Ready.{Ready, LookupAt, place-of-lookup};
+ghost use Rattle.pack.specs.Ready.{Ready, LookupAt, LookupsAre};
 ghost use Rattle.rules.specs.Model.{find-lookup};
 use pack::load::Section;
 use pack::of::lookup_of;
@@ -21,9 +20,11 @@ pub struct FoundLookup {
 
 // The lookup of that name.
 pub fn find_lookup(s: &[u8], work: &[u32], lookups: Section, name: Text) -> FoundLookup
-    requires { ⌜ Ready (now s) (now work) × (lookups .count ≡ length (pack-of (now s) .lookups)) × (lookups .place ≡ place-of-lookup (pack-of (now s)) 0) ⌝ }
-    ensures { λ r. ⌜ optional (r .given) (r .index) ≡ find-lookup (pack-of (now (s .entry)) .lookups) (bytes-of (now (s .entry)) name) ⌝ }
-    ensures { λ r. ⌜ (r .given ≡ true → LookupAt (now (s .entry)) (now (work .entry)) (r .index) (r .place)) ⌝ }
+    requires { ⌜ record { ready : Ready (now s) (now work); lookups : LookupsAre (pack-of (now s)) lookups } ⌝ }
+    ensures { λ r. ⌜ record {
+      found : optional (r .given) (r .index) ≡ find-lookup (pack-of (now (s .entry)) .lookups) (bytes-of (now (s .entry)) name);
+      at : r .given ≡ true → LookupAt (now (s .entry)) (now (work .entry)) (r .index) (r .place);
+    } ⌝ }
 {
     let n = lookups.count;
     let mut place = lookups.place;

@@ -1,19 +1,14 @@
 // The keys of PGNs' matches, as streams of bytes: no buffer holds one. Each is read with a `,` before it, so that all pieces are alike.
 ghost use mathlib.Core.Path.{_≡_};
-ghost use mathlib.Core.List.{[], _++_};
-ghost use mathlib.Core.Bool.{true};
-ghost use Prim.Native.Nat.{_+_, _-_, _≤_, _<_};
-ghost use lib.ListN.{length, drop};
+ghost use Prim.Native.Nat.{_-_, _≤_, _<_};
+ghost use lib.ListN.{length};
 ghost use Rattle.pack.specs.Notation.{_≐_};
-ghost use Rattle.pack.specs.Meaning.{pack-of};
-ghost use Rattle.pack.specs.Ready.{PgnAt};
-ghost use Rattle.pack.specs.Value.{pgn-at};
-ghost use Rattle.rules.specs.Digits.{digits};
-ghost use Rattle.rules.specs.MatchKeys.{pieces-from, to-come, first-and};
-ghost use Rattle.rules.specs.Texts.{bytes};
+ghost use Rattle.rules.specs.MatchKeys.{pieces-from, to-come, first-and, Begun, Before};
 ghost use Rattle.rules.specs.Variants.{has-match, duplicates};
+ghost use Rattle.pack.specs.Ready.{PgnRecordIs, pgn-in};
 use crate::digits::digits_before;
 use pack::of::field_of;
+use pack::pgn::PgnRecord;
 use pack::text::Text;
 use pack::text::part;
 
@@ -32,14 +27,15 @@ pub struct KeyByte {
     pub after: MatchKey,
 }
 
-// Whether a field of PGN i of tree t, which is at p, has a match.
-pub fn has_match(s: &[u8], work: &[u32], t: u32, i: u32, p: usize, fields: u32) -> bool
-    requires { ⌜ PgnAt (now s) (now work) t i p × (fields ≡ length (pgn-at (pack-of (now s)) t i .fields)) ⌝ }
-    ensures { λ r. ⌜ r ≡ has-match (pgn-at (pack-of (now (s .entry))) t i) fields ⌝ }
+// Whether a field of the PGN has a match.
+pub fn has_match(s: &[u8], work: &[u32], g: PgnRecord) -> bool
+    requires { ⌜ PgnRecordIs (now s) (now work) g ⌝ }
+    ensures { λ r. ⌜ r ≡ has-match (pgn-in (now (s .entry)) g) (g .view .fields) ⌝ }
 {
+    let fields = g.view.fields;
     let mut k: u32 = 0;
     while k < fields {
-        let f = field_of(s, work, t, i, p, k);
+        let f = field_of(s, work, g.tree, g.item, g.place, k);
         if f.authored.matched.given {
             return true;
         }
@@ -51,7 +47,7 @@ pub fn has_match(s: &[u8], work: &[u32], t: u32, i: u32, p: usize, fields: u32) 
 // The `,` of field k's piece, then its index, `=` and its match text.
 fn begun(k: u32, text: Text) -> KeyByte
     requires { ⌜ k < 4294967295 ⌝ }
-    ensures { λ r. ⌜ (r .given ≡ true) × (r .byte ≡ 44) × (drop (r .after .at) (r .after .head) ≡ digits k ++ bytes "=") × (r .after .text ≡ text) × (r .after .field ≡ k + 1) × (length (r .after .head) ≡ 11) ⌝ }
+    ensures { λ r. ⌜ Begun k text r ⌝ }
 {
     let mut head = [0u8; 11];
     head[10] = 61;
@@ -71,7 +67,7 @@ fn begun(k: u32, text: Text) -> KeyByte
 
 // Nothing to come before the fields from `field` on.
 fn before(field: u32) -> MatchKey
-    ensures { λ r. ⌜ (drop (r .at) (r .head) ≡ []) × (r .text .len ≡ 0) × (r .field ≡ field) × (length (r .head) ≡ 11) ⌝ }
+    ensures { λ r. ⌜ Before field r ⌝ }
 {
     let text = Text { start: 0, len: 0 };
     let head = [0u8; 11];
@@ -84,14 +80,19 @@ fn before(field: u32) -> MatchKey
 }
 
 // The first byte of what fields from `from` on bring.
-fn next_piece(s: &[u8], work: &[u32], t: u32, i: u32, p: usize, fields: u32, from: u32) -> KeyByte
-    requires { ⌜ PgnAt (now s) (now work) t i p × (fields ≡ length (pgn-at (pack-of (now s)) t i .fields)) × (from ≤ fields) ⌝ }
-    ensures { λ r. ⌜ pieces-from (pgn-at (pack-of (now (s .entry))) t i) from (fields - from) ≡ first-and (r .given) (r .byte) (to-come (now (s .entry)) (pgn-at (pack-of (now (s .entry))) t i) (r .after)) ⌝ }
-    ensures { λ r. ⌜ (r .after .field ≤ fields) × (length (r .after .head) ≡ 11) ⌝ }
+fn next_piece(s: &[u8], work: &[u32], g: PgnRecord, from: u32) -> KeyByte
+    requires { ⌜ record { pgn : PgnRecordIs (now s) (now work) g; from : from ≤ g .view .fields } ⌝ }
+    ensures { λ r. ⌜ record {
+      came : pieces-from (pgn-in (now (s .entry)) g) from ((g .view .fields) - from) ≡ first-and (r .given) (r .byte)
+          (to-come (now (s .entry)) (pgn-in (now (s .entry)) g) (r .after));
+      field : r .after .field ≤ g .view .fields;
+      head : length (r .after .head) ≡ 11;
+    } ⌝ }
 {
+    let fields = g.view.fields;
     let mut k = from;
     while k < fields {
-        let f = field_of(s, work, t, i, p, k);
+        let f = field_of(s, work, g.tree, g.item, g.place, k);
         if f.authored.matched.given {
             return begun(k, f.authored.matched.text);
         }
@@ -106,22 +107,23 @@ fn next_piece(s: &[u8], work: &[u32], t: u32, i: u32, p: usize, fields: u32, fro
 }
 
 // The text without its first byte, which comes, or the next piece where it is empty.
-fn next_of_text(
-    s: &[u8],
-    work: &[u32],
-    t: u32,
-    i: u32,
-    p: usize,
-    fields: u32,
-    key: MatchKey,
-) -> KeyByte
-    requires { ⌜ PgnAt (now s) (now work) t i p × (fields ≡ length (pgn-at (pack-of (now s)) t i .fields)) × (key .field ≤ fields) × (length (key .head) ≡ 11) × (11 ≤ key .at) ⌝ }
-    ensures { λ r. ⌜ to-come (now (s .entry)) (pgn-at (pack-of (now (s .entry))) t i) key ≡ first-and (r .given) (r .byte) (to-come (now (s .entry)) (pgn-at (pack-of (now (s .entry))) t i) (r .after)) ⌝ }
-    ensures { λ r. ⌜ (r .after .field ≤ fields) × (length (r .after .head) ≡ 11) ⌝ }
+fn next_of_text(s: &[u8], work: &[u32], g: PgnRecord, key: MatchKey) -> KeyByte
+    requires { ⌜ record {
+      pgn : PgnRecordIs (now s) (now work) g;
+      field : key .field ≤ g .view .fields;
+      head : length (key .head) ≡ 11;
+      written : 11 ≤ key .at;
+    } ⌝ }
+    ensures { λ r. ⌜ record {
+      came : to-come (now (s .entry)) (pgn-in (now (s .entry)) g) key ≡ first-and (r .given) (r .byte)
+          (to-come (now (s .entry)) (pgn-in (now (s .entry)) g) (r .after));
+      field : r .after .field ≤ g .view .fields;
+      head : length (r .after .head) ≡ 11;
+    } ⌝ }
 {
     let b = part(s, key.text);
     if b.len() == 0 {
-        return next_piece(s, work, t, i, p, fields, key.field);
+        return next_piece(s, work, g, key.field);
     }
     let byte = b[0];
     let text = Text {
@@ -143,14 +145,22 @@ fn next_of_text(
 }
 
 // The next byte of the key.
-fn next(s: &[u8], work: &[u32], t: u32, i: u32, p: usize, fields: u32, key: MatchKey) -> KeyByte
-    requires { ⌜ PgnAt (now s) (now work) t i p × (fields ≡ length (pgn-at (pack-of (now s)) t i .fields)) × (key .field ≤ fields) × (length (key .head) ≡ 11) ⌝ }
-    ensures { λ r. ⌜ to-come (now (s .entry)) (pgn-at (pack-of (now (s .entry))) t i) key ≡ first-and (r .given) (r .byte) (to-come (now (s .entry)) (pgn-at (pack-of (now (s .entry))) t i) (r .after)) ⌝ }
-    ensures { λ r. ⌜ (r .after .field ≤ fields) × (length (r .after .head) ≡ 11) ⌝ }
+fn next(s: &[u8], work: &[u32], g: PgnRecord, key: MatchKey) -> KeyByte
+    requires { ⌜ record {
+      pgn : PgnRecordIs (now s) (now work) g;
+      field : key .field ≤ g .view .fields;
+      head : length (key .head) ≡ 11;
+    } ⌝ }
+    ensures { λ r. ⌜ record {
+      came : to-come (now (s .entry)) (pgn-in (now (s .entry)) g) key ≡ first-and (r .given) (r .byte)
+          (to-come (now (s .entry)) (pgn-in (now (s .entry)) g) (r .after));
+      field : r .after .field ≤ g .view .fields;
+      head : length (r .after .head) ≡ 11;
+    } ⌝ }
 {
     let at = key.at;
     if 11 <= at {
-        return next_of_text(s, work, t, i, p, fields, key);
+        return next_of_text(s, work, g, key);
     }
     let head = key.head;
     let byte = head[at];
@@ -169,25 +179,15 @@ fn next(s: &[u8], work: &[u32], t: u32, i: u32, p: usize, fields: u32, key: Matc
 }
 
 // Whether the two keys are the same bytes, each with its `,` before it.
-fn same_key(
-    s: &[u8],
-    work: &[u32],
-    t: u32,
-    i: u32,
-    p: usize,
-    m: u32,
-    j: u32,
-    q: usize,
-    n: u32,
-) -> bool
-    requires { ⌜ PgnAt (now s) (now work) t i p × (m ≡ length (pgn-at (pack-of (now s)) t i .fields)) × PgnAt (now s) (now work) t j q × (n ≡ length (pgn-at (pack-of (now s)) t j .fields)) ⌝ }
-    ensures { λ r. ⌜ r ≡ (pieces-from (pgn-at (pack-of (now (s .entry))) t i) 0 m ≐ pieces-from (pgn-at (pack-of (now (s .entry))) t j) 0 n) ⌝ }
+fn same_key(s: &[u8], work: &[u32], g: PgnRecord, h: PgnRecord) -> bool
+    requires { ⌜ record { pgn : PgnRecordIs (now s) (now work) g; other : PgnRecordIs (now s) (now work) h } ⌝ }
+    ensures { λ r. ⌜ r ≡ (pieces-from (pgn-in (now (s .entry)) g) 0 (g .view .fields) ≐ pieces-from (pgn-in (now (s .entry)) h) 0 (h .view .fields)) ⌝ }
 {
     let mut a = before(0);
     let mut b = before(0);
     loop {
-        let x = next(s, work, t, i, p, m, a);
-        let y = next(s, work, t, j, q, n, b);
+        let x = next(s, work, g, a);
+        let y = next(s, work, h, b);
         if !x.given {
             return !y.given;
         }
@@ -203,25 +203,15 @@ fn same_key(
 }
 
 // Two variants, each with a match, that the matches do not tell apart.
-pub fn duplicates(
-    s: &[u8],
-    work: &[u32],
-    t: u32,
-    i: u32,
-    p: usize,
-    m: u32,
-    j: u32,
-    q: usize,
-    n: u32,
-) -> bool
-    requires { ⌜ PgnAt (now s) (now work) t i p × (m ≡ length (pgn-at (pack-of (now s)) t i .fields)) × PgnAt (now s) (now work) t j q × (n ≡ length (pgn-at (pack-of (now s)) t j .fields)) ⌝ }
-    ensures { λ r. ⌜ r ≡ duplicates (pgn-at (pack-of (now (s .entry))) t i) (pgn-at (pack-of (now (s .entry))) t j) ⌝ }
+pub fn duplicates(s: &[u8], work: &[u32], g: PgnRecord, h: PgnRecord) -> bool
+    requires { ⌜ record { pgn : PgnRecordIs (now s) (now work) g; other : PgnRecordIs (now s) (now work) h } ⌝ }
+    ensures { λ r. ⌜ r ≡ duplicates (pgn-in (now (s .entry)) g) (pgn-in (now (s .entry)) h) ⌝ }
 {
-    if !has_match(s, work, t, i, p, m) {
+    if !has_match(s, work, g) {
         return false;
     }
-    if !has_match(s, work, t, j, q, n) {
+    if !has_match(s, work, h) {
         return false;
     }
-    same_key(s, work, t, i, p, m, j, q, n)
+    same_key(s, work, g, h)
 }

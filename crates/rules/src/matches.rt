@@ -6,7 +6,7 @@ ghost use lib.ListN.{length, drop};
 ghost use Rattle.pack.specs.Notation.{_==_, if_then_else_, optional};
 ghost use Rattle.pack.specs.Items.{bytes-of};
 ghost use Rattle.pack.specs.Meaning.{optional-reference, field-meaning, pack-of};
-ghost use Rattle.pack.specs.Ready.{Ready, LookupAt, place-of-lookup};
+ghost use Rattle.pack.specs.Ready.{Ready, LookupAt, LookupsAre};
 ghost use Rattle.pack.specs.Value.{lookup-at};
 ghost use Rattle.rules.specs.Model.{parse-digits, parse-u64, value-named, resolve-name, resolve-match};
 use crate::lookups::find_lookup;
@@ -79,8 +79,13 @@ pub fn parse_u64(b: &[u8]) -> OptWide
 
 // The value of the first of the n entries with that name, of lookup l, which is at p and of that kind.
 fn value_named(s: &[u8], work: &[u32], l: u32, p: usize, kind: u32, n: u32, name: Text) -> OptWide
-    requires { ⌜ LookupAt (now s) (now work) l p × (kind ≡ lookup-at (pack-of (now s) .lookups) l .kind) × (n ≡ length (lookup-at (pack-of (now s) .lookups) l .entries)) ⌝ }
-    ensures { λ r. ⌜ optional (r .given) (r .value) ≡ value-named (lookup-at (pack-of (now (s .entry)) .lookups) l .entries) (bytes-of (now (s .entry)) name) ⌝ }
+    requires { ⌜ record {
+      at : LookupAt (now s) (now work) l p;
+      kind : kind ≡ lookup-at (pack-of (now s) .lookups) l .kind;
+      entries : n ≡ length (lookup-at (pack-of (now s) .lookups) l .entries);
+    } ⌝ }
+    ensures { λ r. ⌜ optional (r .given) (r .value) ≡ value-named (lookup-at (pack-of (now (s .entry)) .lookups) l .entries)
+        (bytes-of (now (s .entry)) name) ⌝ }
 {
     let mut e: u32 = 0;
     while e < n {
@@ -113,8 +118,9 @@ fn has_entries(reference: u32, kind: u32) -> bool
 }
 
 fn resolve_name(s: &[u8], work: &[u32], lookups: Section, m: Text, r: OptReference) -> OptWide
-    requires { ⌜ Ready (now s) (now work) × (lookups .count ≡ length (pack-of (now s) .lookups)) × (lookups .place ≡ place-of-lookup (pack-of (now s)) 0) ⌝ }
-    ensures { λ v. ⌜ optional (v .given) (v .value) ≡ resolve-name (pack-of (now (s .entry)) .lookups) (bytes-of (now (s .entry)) m) (optional-reference (now (s .entry)) r) ⌝ }
+    requires { ⌜ record { ready : Ready (now s) (now work); lookups : LookupsAre (pack-of (now s)) lookups } ⌝ }
+    ensures { λ v. ⌜ optional (v .given) (v .value) ≡ resolve-name (pack-of (now (s .entry)) .lookups) (bytes-of (now (s .entry)) m)
+        (optional-reference (now (s .entry)) r) ⌝ }
 {
     if !r.given {
         return OptWide {
@@ -140,7 +146,7 @@ fn resolve_name(s: &[u8], work: &[u32], lookups: Section, m: Text, r: OptReferen
 }
 
 pub fn resolve_match(s: &[u8], work: &[u32], lookups: Section, f: FieldView) -> OptWide
-    requires { ⌜ Ready (now s) (now work) × (lookups .count ≡ length (pack-of (now s) .lookups)) × (lookups .place ≡ place-of-lookup (pack-of (now s)) 0) ⌝ }
+    requires { ⌜ record { ready : Ready (now s) (now work); lookups : LookupsAre (pack-of (now s)) lookups } ⌝ }
     ensures { λ r. ⌜ optional (r .given) (r .value) ≡ resolve-match (pack-of (now (s .entry)) .lookups) (field-meaning (now (s .entry)) f) ⌝ }
 {
     if !f.authored.matched.given {

@@ -15,7 +15,7 @@ use pack::text::same_text;
 
 // The name of the root of field type ft.
 pub fn root_of(s: &[u8], work: &[u32], ft: u32) -> Text
-    requires { ⌜ Ready (now s) (now work) × (ft < length (pack-of (now s) .fieldtypes)) ⌝ }
+    requires { ⌜ record { ready : Ready (now s) (now work); type : ft < length (pack-of (now s) .fieldtypes) } ⌝ }
     ensures { λ r. ⌜ bytes-of (now (s .entry)) r ≡ getD (pack-of (now (s .entry)) .fieldtypes) ft no-field-type .root-name ⌝ }
 {
     let v = type_of(s, work, ft);

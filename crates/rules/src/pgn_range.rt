@@ -5,17 +5,15 @@ ghost use mathlib.Core.List.{_∷_};
 ghost use Prim.Native.Nat.{_+_, _%_, _<_};
 ghost use lib.ListN.{length, drop};
 ghost use Rattle.pack.specs.Notation.{_==_, if_then_else_, optional};
-ghost use Rattle.pack.specs.Meaning.{pack-of};
-ghost use Rattle.pack.specs.Ready.{PgnIs};
+ghost use Rattle.pack.specs.Ready.{PgnIs, pgn-in};
 ghost use Rattle.pack.specs.Trees.{tree-number};
-ghost use Rattle.pack.specs.Value.{pgn-at};
 ghost use Rattle.rules.specs.Emit.{Emitted, Fits};
 ghost use Rattle.rules.specs.Pdu1.{pdu1};
 ghost use Rattle.rules.specs.PgnRange.{range, ranges-of, find-range, quick-range, found-range, check-pgn-range};
 use crate::emit::pgn_error;
 use crate::emit::put;
 use crate::emit::put_if;
-use pack::pgn::PgnView;
+use pack::pgn::PgnRecord;
 use pack::protocol::Protocol;
 
 // The packet types.
@@ -162,7 +160,8 @@ fn range_count(protocol: Protocol) -> usize
 // Range j of a tree's table.
 fn range_at(protocol: Protocol, j: usize) -> Range
     requires { ⌜ j < length (ranges-of (tree-number protocol)) ⌝ }
-    ensures { λ r. ⌜ drop j (ranges-of (tree-number protocol)) ≡ range (r .start) (r .end) (if pdu1 (r .start) then 256 else 1) (r .kind) ∷ drop (j + 1) (ranges-of (tree-number protocol)) ⌝ }
+    ensures { λ r. ⌜ drop j (ranges-of (tree-number protocol)) ≡ range (r .start) (r .end) (if pdu1 (r .start) then 256 else 1) (r .kind) ∷
+        drop (j + 1) (ranges-of (tree-number protocol)) ⌝ }
 {
     match protocol {
         Protocol::J1939 => J1939_PGN_RANGES[j],
@@ -173,7 +172,8 @@ fn range_at(protocol: Protocol, j: usize) -> Range
 
 // The first range that does not end below the number.
 fn find_range(protocol: Protocol, pgn: u32) -> OptRange
-    ensures { λ r. ⌜ find-range (ranges-of (tree-number protocol)) pgn ≡ optional (r .given) (range (r .range .start) (r .range .end) (if pdu1 (r .range .start) then 256 else 1) (r .range .kind)) ⌝ }
+    ensures { λ r. ⌜ find-range (ranges-of (tree-number protocol)) pgn ≡ optional (r .given)
+        (range (r .range .start) (r .range .end) (if pdu1 (r .range .start) then 256 else 1) (r .range .kind)) ⌝ }
 {
     let count = range_count(protocol);
     let mut j = 0;
@@ -218,51 +218,67 @@ fn disagrees(range: u32, kind: u32) -> bool
 }
 
 // Quick's "PGN" is an 11-bit CAN identifier, and one frame is the whole message.
-fn quick_range(out: &mut [u32], n: usize, s: &[u8], t: u32, i: u32, g: PgnView) -> usize
-    requires { ⌜ Fits n (quick-range t i (pgn-at (pack-of (now s)) t i)) × PgnIs (now s) (pgn-at (pack-of (now s)) t i) g ⌝ }
-    ensures { λ r. ⌜ Emitted (now (out .entry)) n (quick-range t i (pgn-at (pack-of (now (s .entry))) t i)) (now (out .exit)) r ⌝ }
+fn quick_range(out: &mut [u32], n: usize, s: &[u8], g: PgnRecord) -> usize
+    requires { ⌜ record {
+      fits : Fits n (quick-range (g .tree) (g .item) (pgn-in (now s) g));
+      is : PgnIs (now s) (pgn-in (now s) g) (g .view);
+    } ⌝ }
+    ensures { λ r. ⌜ Emitted (now (out .entry)) n (quick-range (g .tree) (g .item) (pgn-in (now (s .entry)) g)) (now (out .exit)) r ⌝ }
 {
-    let m = put_if(out, n, QUICK_MOST < g.pgn, pgn_error(2, 1, t, i, 0, 0));
-    put_if(out, m, g.kind != SINGLE, pgn_error(2, 2, t, i, 0, 0))
+    let m = put_if(
+        out,
+        n,
+        QUICK_MOST < g.view.pgn,
+        pgn_error(2, 1, g.tree, g.item, 0, 0),
+    );
+    put_if(
+        out,
+        m,
+        g.view.kind != SINGLE,
+        pgn_error(2, 2, g.tree, g.item, 0, 0),
+    )
 }
 
 // A PGN beside the range that was found for it.
-fn found_range(
-    out: &mut [u32],
-    n: usize,
-    s: &[u8],
-    t: u32,
-    i: u32,
-    g: PgnView,
-    found: OptRange,
-) -> usize
-    requires { ⌜ Fits n (found-range t i (pgn-at (pack-of (now s)) t i) (find-range (ranges-of t) (g .pgn))) × PgnIs (now s) (pgn-at (pack-of (now s)) t i) g × (find-range (ranges-of t) (g .pgn) ≡ optional (found .given) (range (found .range .start) (found .range .end) (if pdu1 (found .range .start) then 256 else 1) (found .range .kind))) ⌝ }
-    ensures { λ r. ⌜ Emitted (now (out .entry)) n (found-range t i (pgn-at (pack-of (now (s .entry))) t i) (find-range (ranges-of t) (g .pgn))) (now (out .exit)) r ⌝ }
+fn found_range(out: &mut [u32], n: usize, s: &[u8], g: PgnRecord, found: OptRange) -> usize
+    requires { ⌜ record {
+      fits : Fits n (found-range (g .tree) (g .item) (pgn-in (now s) g) (find-range (ranges-of (g .tree)) (g .view .pgn)));
+      is : PgnIs (now s) (pgn-in (now s) g) (g .view);
+      found : find-range (ranges-of (g .tree)) (g .view .pgn) ≡ optional (found .given)
+          (range (found .range .start) (found .range .end) (if pdu1 (found .range .start) then 256 else 1) (found .range .kind));
+    } ⌝ }
+    ensures { λ r. ⌜ Emitted (now (out .entry)) n
+        (found-range (g .tree) (g .item) (pgn-in (now (s .entry)) g) (find-range (ranges-of (g .tree)) (g .view .pgn))) (now (out .exit))
+        r ⌝ }
 {
     if found.given {
-        if g.pgn < found.range.start {
-            return put(out, n, pgn_error(2, 4, t, i, 0, 0));
+        if g.view.pgn < found.range.start {
+            return put(out, n, pgn_error(2, 4, g.tree, g.item, 0, 0));
         }
-        let unended = pdu1_unended(g.pgn);
-        let m = put_if(out, n, unended, pgn_error(2, 5, t, i, 0, 0));
-        let other = disagrees(found.range.kind, g.kind);
-        return put_if(out, m, other, pgn_error(2, 6, t, i, 0, 0));
+        let unended = pdu1_unended(g.view.pgn);
+        let m = put_if(out, n, unended, pgn_error(2, 5, g.tree, g.item, 0, 0));
+        let other = disagrees(found.range.kind, g.view.kind);
+        return put_if(out, m, other, pgn_error(2, 6, g.tree, g.item, 0, 0));
     }
-    put(out, n, pgn_error(2, 3, t, i, 0, 0))
+    put(out, n, pgn_error(2, 3, g.tree, g.item, 0, 0))
 }
 
 // R02: the number in a valid range; PDU1 PGNs end in 0x00; the packet type agrees with the range.
-pub fn check_pgn_range(out: &mut [u32], n: usize, s: &[u8], t: u32, i: u32, g: PgnView) -> usize
-    requires { ⌜ Fits n (check-pgn-range t i (pgn-at (pack-of (now s)) t i)) × PgnIs (now s) (pgn-at (pack-of (now s)) t i) g × (t < 3) ⌝ }
-    ensures { λ r. ⌜ Emitted (now (out .entry)) n (check-pgn-range t i (pgn-at (pack-of (now (s .entry))) t i)) (now (out .exit)) r ⌝ }
+pub fn check_pgn_range(out: &mut [u32], n: usize, s: &[u8], g: PgnRecord) -> usize
+    requires { ⌜ record {
+      fits : Fits n (check-pgn-range (g .tree) (g .item) (pgn-in (now s) g));
+      is : PgnIs (now s) (pgn-in (now s) g) (g .view);
+      trees : g .tree < 3;
+    } ⌝ }
+    ensures { λ r. ⌜ Emitted (now (out .entry)) n (check-pgn-range (g .tree) (g .item) (pgn-in (now (s .entry)) g)) (now (out .exit)) r ⌝ }
 {
-    if ACTISENSE_BEM <= g.pgn {
+    if ACTISENSE_BEM <= g.view.pgn {
         return n;
     }
-    let protocol = Protocol::of_tree(t);
+    let protocol = Protocol::of_tree(g.tree);
     if let Protocol::Quick = protocol {
-        return quick_range(out, n, s, t, i, g);
+        return quick_range(out, n, s, g);
     }
-    let found = find_range(protocol, g.pgn);
-    found_range(out, n, s, t, i, g, found)
+    let found = find_range(protocol, g.view.pgn);
+    found_range(out, n, s, g, found)
 }

@@ -28,9 +28,13 @@ fn write_named(
     item: u32,
     text: &mut [u8],
 ) -> Placed
-    requires { ⌜ Ready (now pack) (now work) × IndexIs (pack-of (now pack)) index ⌝ }
-    ensures { λ r. ⌜ r ≡ named (place-text (pack-of (now (pack .entry))) place tree item) (length (now (text .entry))) ⌝ }
-    ensures { λ r. ⌜ now (text .exit) ≡ text-left (named (place-text (pack-of (now (pack .entry))) place tree item) (length (now (text .entry)))) (place-text (pack-of (now (pack .entry))) place tree item) (now (text .entry)) ⌝ }
+    requires { ⌜ record { ready : Ready (now pack) (now work); index : IndexIs (pack-of (now pack)) index } ⌝ }
+    ensures { λ r. ⌜ record {
+      answer : r ≡ named (place-text (pack-of (now (pack .entry))) place tree item) (length (now (text .entry)));
+      text : now (text .exit) ≡ text-left
+          (named (place-text (pack-of (now (pack .entry))) place tree item) (length (now (text .entry))))
+          (place-text (pack-of (now (pack .entry))) place tree item) (now (text .entry));
+    } ⌝ }
 {
     let found = find_loc(pack, work, index, place, tree, item);
     if !found.given {

@@ -6,7 +6,7 @@ ghost use lib.ListN.{length};
 ghost use Rattle.pack.specs.Notation.{_==_, _<ᵇ_, optional};
 ghost use Rattle.pack.specs.Value.{pgns-of, pgn-at, lookup-at};
 ghost use Rattle.pack.specs.Meaning.{pack-of};
-ghost use Rattle.pack.specs.Ready.{Ready, LookupAt, PgnAt, place-of-tree, place-of-lookup, IndexIs};
+ghost use Rattle.pack.specs.Ready.{Ready, LookupAt, PgnAt, place-of-tree, place-of-lookup, IndexIs, LookupsAre, TreeIs};
 ghost use Rattle.rules.specs.Locs.{loc-text};
 ghost use Rattle.rules.specs.PlaceText.{pgn-loc, group-loc, lookup-loc, has-number, place-text};
 use crate::locs::Loc;
@@ -25,7 +25,12 @@ pub(crate) struct FoundLoc {
 
 // The work position of a PGN of tree t, which begins at `first`.
 pub fn pgn_position(s: &[u8], work: &[u32], t: u32, first: usize, item: u32) -> usize
-    requires { ⌜ Ready (now s) (now work) × (t < 3) × (first ≡ place-of-tree (pack-of (now s)) t) × (item < length (pgns-of (pack-of (now s)) t)) ⌝ }
+    requires { ⌜ record {
+      ready : Ready (now s) (now work);
+      trees : t < 3;
+      first : first ≡ place-of-tree (pack-of (now s)) t;
+      item : item < length (pgns-of (pack-of (now s)) t);
+    } ⌝ }
     ensures { λ r. ⌜ PgnAt (now (s .entry)) (now (work .entry)) t item r ⌝ }
 {
     let mut p = first;
@@ -40,7 +45,11 @@ pub fn pgn_position(s: &[u8], work: &[u32], t: u32, first: usize, item: u32) -> 
 
 // The work position of a lookup; they begin at `first`.
 fn lookup_position(s: &[u8], work: &[u32], first: usize, item: u32) -> usize
-    requires { ⌜ Ready (now s) (now work) × (first ≡ place-of-lookup (pack-of (now s)) 0) × (item < length (pack-of (now s) .lookups)) ⌝ }
+    requires { ⌜ record {
+      ready : Ready (now s) (now work);
+      first : first ≡ place-of-lookup (pack-of (now s)) 0;
+      item : item < length (pack-of (now s) .lookups);
+    } ⌝ }
     ensures { λ r. ⌜ LookupAt (now (s .entry)) (now (work .entry)) item r ⌝ }
 {
     let mut p = first;
@@ -55,7 +64,7 @@ fn lookup_position(s: &[u8], work: &[u32], first: usize, item: u32) -> usize
 
 // "for place 3 a PGN of that number in the tree"
 fn has_number(s: &[u8], work: &[u32], t: u32, tree: Section, number: u32) -> bool
-    requires { ⌜ Ready (now s) (now work) × (t < 3) × (tree .count ≡ length (pgns-of (pack-of (now s)) t)) × (tree .place ≡ place-of-tree (pack-of (now s)) t) ⌝ }
+    requires { ⌜ record { ready : Ready (now s) (now work); trees : t < 3; pgns : TreeIs (pack-of (now s)) t tree } ⌝ }
     ensures { λ r. ⌜ r ≡ has-number (pack-of (now (s .entry))) t number ⌝ }
 {
     let n = tree.count;
@@ -94,8 +103,10 @@ fn absent() -> FoundLoc
 
 // Place 1.
 fn pgn_loc(s: &[u8], work: &[u32], index: Index, tree: u32, item: u32) -> FoundLoc
-    requires { ⌜ Ready (now s) (now work) × IndexIs (pack-of (now s)) index ⌝ }
-    ensures { λ r. ⌜ optional (r .given) (loc-text (now (s .entry)) (r .loc)) ≡ optional ((tree <ᵇ 3) && (item <ᵇ length (pgns-of (pack-of (now (s .entry))) tree))) (pgn-loc tree (pgn-at (pack-of (now (s .entry))) tree item)) ⌝ }
+    requires { ⌜ record { ready : Ready (now s) (now work); index : IndexIs (pack-of (now s)) index } ⌝ }
+    ensures { λ r. ⌜ optional (r .given) (loc-text (now (s .entry)) (r .loc)) ≡ optional
+        ((tree <ᵇ 3) && (item <ᵇ length (pgns-of (pack-of (now (s .entry))) tree)))
+        (pgn-loc tree (pgn-at (pack-of (now (s .entry))) tree item)) ⌝ }
 {
     if Protocol::COUNT <= tree as usize {
         return absent();
@@ -116,8 +127,10 @@ fn pgn_loc(s: &[u8], work: &[u32], index: Index, tree: u32, item: u32) -> FoundL
 
 // Place 2.
 fn lookup_loc(s: &[u8], work: &[u32], lookups: Section, tree: u32, item: u32) -> FoundLoc
-    requires { ⌜ Ready (now s) (now work) × (lookups .count ≡ length (pack-of (now s) .lookups)) × (lookups .place ≡ place-of-lookup (pack-of (now s)) 0) ⌝ }
-    ensures { λ r. ⌜ optional (r .given) (loc-text (now (s .entry)) (r .loc)) ≡ optional ((tree == 0) && (item <ᵇ length (pack-of (now (s .entry)) .lookups))) (lookup-loc (lookup-at (pack-of (now (s .entry)) .lookups) item .name)) ⌝ }
+    requires { ⌜ record { ready : Ready (now s) (now work); lookups : LookupsAre (pack-of (now s)) lookups } ⌝ }
+    ensures { λ r. ⌜ optional (r .given) (loc-text (now (s .entry)) (r .loc)) ≡ optional
+        ((tree == 0) && (item <ᵇ length (pack-of (now (s .entry)) .lookups)))
+        (lookup-loc (lookup-at (pack-of (now (s .entry)) .lookups) item .name)) ⌝ }
 {
     if !in_first_tree(tree, item, lookups.count) {
         return absent();
@@ -132,8 +145,9 @@ fn lookup_loc(s: &[u8], work: &[u32], lookups: Section, tree: u32, item: u32) ->
 
 // Place 3, where the item is the PGN number.
 fn group_loc(s: &[u8], work: &[u32], index: Index, tree: u32, item: u32) -> FoundLoc
-    requires { ⌜ Ready (now s) (now work) × IndexIs (pack-of (now s)) index ⌝ }
-    ensures { λ r. ⌜ optional (r .given) (loc-text (now (s .entry)) (r .loc)) ≡ optional ((tree <ᵇ 3) && has-number (pack-of (now (s .entry))) tree item) (group-loc tree item) ⌝ }
+    requires { ⌜ record { ready : Ready (now s) (now work); index : IndexIs (pack-of (now s)) index } ⌝ }
+    ensures { λ r. ⌜ optional (r .given) (loc-text (now (s .entry)) (r .loc)) ≡ optional
+        ((tree <ᵇ 3) && has-number (pack-of (now (s .entry))) tree item) (group-loc tree item) ⌝ }
 {
     if Protocol::COUNT <= tree as usize {
         return absent();
@@ -155,7 +169,7 @@ pub(crate) fn find_loc(
     tree: u32,
     item: u32,
 ) -> FoundLoc
-    requires { ⌜ Ready (now s) (now work) × IndexIs (pack-of (now s)) index ⌝ }
+    requires { ⌜ record { ready : Ready (now s) (now work); index : IndexIs (pack-of (now s)) index } ⌝ }
     ensures { λ r. ⌜ optional (r .given) (loc-text (now (s .entry)) (r .loc)) ≡ place-text (pack-of (now (s .entry))) place tree item ⌝ }
 {
     if place == 0 {

@@ -5,8 +5,7 @@ ghost use Prim.Native.Nat.{_<_};
 ghost use lib.ListN.{length};
 ghost use Rattle.pack.specs.Notation.{_==_, _≐_};
 ghost use Rattle.pack.specs.Meaning.{optional-reference, field-meaning, pack-of};
-ghost use Rattle.pack.specs.Ready.{Ready, PgnAt, PgnIs};
-ghost use Rattle.pack.specs.Value.{pgn-at};
+ghost use Rattle.pack.specs.Ready.{Ready, PgnRecordIs, pgn-in};
 ghost use Rattle.rules.specs.Emit.{Emitted, Fits};
 ghost use Rattle.rules.specs.Model.{root-of};
 ghost use Rattle.rules.specs.Proprietary.{is-manufacturer-pgn, pair-is, company-fields, check-proprietary};
@@ -17,7 +16,7 @@ use crate::is_manufacturer_pgn;
 use crate::model::root_of;
 use pack::field::FieldView;
 use pack::of::field_of;
-use pack::pgn::PgnView;
+use pack::pgn::PgnRecord;
 use pack::text::text_is;
 
 // A field of so many bits with a reference of kind pair to the lookup of that name.
@@ -40,7 +39,7 @@ fn is_pair(s: &[u8], f: FieldView, name: &[u8], bits: u32) -> bool
 
 // A RESERVED field of so many bits.
 fn is_reserved(s: &[u8], work: &[u32], f: FieldView, bits: u32) -> bool
-    requires { ⌜ Ready (now s) (now work) × (f .ft < length (pack-of (now s) .fieldtypes)) ⌝ }
+    requires { ⌜ record { ready : Ready (now s) (now work); type : f .ft < length (pack-of (now s) .fieldtypes) } ⌝ }
     ensures { λ r. ⌜ r ≡ ((root-of (pack-of (now (s .entry)) .fieldtypes) (field-meaning (now (s .entry)) f) ≐ RESERVED) && (f .scaling .bits == bits)) ⌝ }
 {
     let root = root_of(s, work, f.ft);
@@ -50,23 +49,24 @@ fn is_reserved(s: &[u8], work: &[u32], f: FieldView, bits: u32) -> bool
     false
 }
 
-// Whether a PGN of so many fields opens with Manufacturer Code, Reserved, Industry Code.
-fn company_fields(s: &[u8], work: &[u32], t: u32, i: u32, p: usize, fields: u32) -> bool
-    requires { ⌜ PgnAt (now s) (now work) t i p × (fields ≡ length (pgn-at (pack-of (now s)) t i .fields)) ⌝ }
-    ensures { λ r. ⌜ r ≡ company-fields (pack-of (now (s .entry)) .fieldtypes) (pgn-at (pack-of (now (s .entry))) t i) ⌝ }
+// Whether the PGN opens with Manufacturer Code, Reserved, Industry Code.
+fn company_fields(s: &[u8], work: &[u32], g: PgnRecord) -> bool
+    requires { ⌜ PgnRecordIs (now s) (now work) g ⌝ }
+    ensures { λ r. ⌜ r ≡ company-fields (pack-of (now (s .entry)) .fieldtypes) (pgn-in (now (s .entry)) g) ⌝ }
 {
+    let fields = g.view.fields;
     if fields < 3 {
         return false;
     }
-    let code = field_of(s, work, t, i, p, 0);
+    let code = field_of(s, work, g.tree, g.item, g.place, 0);
     if !is_pair(s, code, b"MANUFACTURER_CODE", 11) {
         return false;
     }
-    let reserved = field_of(s, work, t, i, p, 1);
+    let reserved = field_of(s, work, g.tree, g.item, g.place, 1);
     if !is_reserved(s, work, reserved, 2) {
         return false;
     }
-    let industry = field_of(s, work, t, i, p, 2);
+    let industry = field_of(s, work, g.tree, g.item, g.place, 2);
     is_pair(s, industry, b"INDUSTRY_CODE", 3)
 }
 
@@ -81,25 +81,20 @@ fn is_exempt(pgn: u32, fallback: bool) -> bool
 }
 
 // R07: manufacturer-proprietary PGNs open with Manufacturer Code / Reserved / Industry Code, or declare MissingCompanyFields.
-pub fn check_proprietary(
-    out: &mut [u32],
-    n: usize,
-    s: &[u8],
-    work: &[u32],
-    t: u32,
-    i: u32,
-    p: usize,
-    g: PgnView,
-) -> usize
-    requires { ⌜ Fits n (check-proprietary (pack-of (now s) .fieldtypes) t i (pgn-at (pack-of (now s)) t i)) × PgnAt (now s) (now work) t i p × PgnIs (now s) (pgn-at (pack-of (now s)) t i) g ⌝ }
-    ensures { λ r. ⌜ Emitted (now (out .entry)) n (check-proprietary (pack-of (now (s .entry)) .fieldtypes) t i (pgn-at (pack-of (now (s .entry))) t i)) (now (out .exit)) r ⌝ }
+pub fn check_proprietary(out: &mut [u32], n: usize, s: &[u8], work: &[u32], g: PgnRecord) -> usize
+    requires { ⌜ record {
+      fits : Fits n (check-proprietary (pack-of (now s) .fieldtypes) (g .tree) (g .item) (pgn-in (now s) g));
+      pgn : PgnRecordIs (now s) (now work) g;
+    } ⌝ }
+    ensures { λ r. ⌜ Emitted (now (out .entry)) n
+        (check-proprietary (pack-of (now (s .entry)) .fieldtypes) (g .tree) (g .item) (pgn-in (now (s .entry)) g)) (now (out .exit)) r ⌝ }
 {
-    if is_exempt(g.pgn, g.flags.fallback) {
+    if is_exempt(g.view.pgn, g.view.flags.fallback) {
         return n;
     }
-    if g.flags.incomplete {
+    if g.view.flags.incomplete {
         return n;
     }
-    let opened = company_fields(s, work, t, i, p, g.fields);
-    put_if(out, n, !opened, pgn_error(7, 1, t, i, 0, 0))
+    let opened = company_fields(s, work, g);
+    put_if(out, n, !opened, pgn_error(7, 1, g.tree, g.item, 0, 0))
 }

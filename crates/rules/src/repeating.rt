@@ -3,9 +3,8 @@ ghost use mathlib.Core.Path.{_≡_};
 ghost use mathlib.Core.Bool.{not, _&&_, _||_};
 ghost use Prim.Native.Nat.{_+_};
 ghost use Rattle.pack.specs.Notation.{_<ᵇ_, _≤ᵇ_, _==_};
-ghost use Rattle.pack.specs.Meaning.{optional-number, repeating-meaning, optional-repeating, pack-of};
-ghost use Rattle.pack.specs.Ready.{PgnIs};
-ghost use Rattle.pack.specs.Value.{pgn-at};
+ghost use Rattle.pack.specs.Meaning.{optional-number, repeating-meaning, optional-repeating};
+ghost use Rattle.pack.specs.Ready.{PgnIs, pgn-in};
 ghost use Rattle.rules.specs.Emit.{Emitted, Fits};
 ghost use Rattle.rules.specs.Repeating.{none-or-below, set-bounds, set-count-field, set-nesting, check-set, check-repeating};
 use crate::emit::pgn_error;
@@ -13,7 +12,7 @@ use crate::emit::put;
 use crate::emit::put_if;
 use pack::optional::OptNumber;
 use pack::pgn::OptRepeating;
-use pack::pgn::PgnView;
+use pack::pgn::PgnRecord;
 use pack::pgn::RepeatingView;
 use pack::protocol::FieldOrder;
 use pack::protocol::precedes;
@@ -160,14 +159,17 @@ fn check_set(
 }
 
 // R05: repeating sets are self-consistent, and a nested set lies wholly inside the one that encloses it. Nothing encloses set 1.
-pub fn check_repeating(out: &mut [u32], n: usize, s: &[u8], t: u32, i: u32, g: PgnView) -> usize
-    requires { ⌜ Fits n (check-repeating t i (pgn-at (pack-of (now s)) t i)) × PgnIs (now s) (pgn-at (pack-of (now s)) t i) g ⌝ }
-    ensures { λ r. ⌜ Emitted (now (out .entry)) n (check-repeating t i (pgn-at (pack-of (now (s .entry))) t i)) (now (out .exit)) r ⌝ }
+pub fn check_repeating(out: &mut [u32], n: usize, s: &[u8], g: PgnRecord) -> usize
+    requires { ⌜ record {
+      fits : Fits n (check-repeating (g .tree) (g .item) (pgn-in (now s) g));
+      is : PgnIs (now s) (pgn-in (now s) g) (g .view);
+    } ⌝ }
+    ensures { λ r. ⌜ Emitted (now (out .entry)) n (check-repeating (g .tree) (g .item) (pgn-in (now (s .entry)) g)) (now (out .exit)) r ⌝ }
 {
-    let first = g.repeating1;
-    let second = g.repeating2;
+    let first = g.view.repeating1;
+    let second = g.view.repeating2;
     let set = first.set;
     let nothing = OptRepeating { given: false, set };
-    let m = check_set(out, n, t, i, 1, g.fields, nothing, first);
-    check_set(out, m, t, i, 2, g.fields, first, second)
+    let m = check_set(out, n, g.tree, g.item, 1, g.view.fields, nothing, first);
+    check_set(out, m, g.tree, g.item, 2, g.view.fields, first, second)
 }

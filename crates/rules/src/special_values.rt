@@ -3,16 +3,16 @@ ghost use mathlib.Core.Path.{_≡_};
 ghost use mathlib.Core.Bool.{_||_};
 ghost use Prim.Native.Nat.{_<_};
 ghost use Rattle.pack.specs.Notation.{_<ᵇ_};
-ghost use Rattle.pack.specs.Meaning.{field-meaning, pack-of};
-ghost use Rattle.pack.specs.Ready.{PgnAt, PgnIs};
-ghost use Rattle.pack.specs.Value.{pgn-at, field-at};
+ghost use Rattle.pack.specs.Meaning.{field-meaning};
+ghost use Rattle.pack.specs.Value.{field-at};
 ghost use Rattle.rules.specs.Emit.{Emitted, Fits};
 ghost use Rattle.rules.specs.SpecialValues.{special-max, special-values-at, check-special-values};
+ghost use Rattle.pack.specs.Ready.{PgnRecordIs, pgn-in};
 use crate::emit::pgn_error;
 use crate::emit::put_if;
 use pack::field::FieldView;
 use pack::of::field_of;
-use pack::pgn::PgnView;
+use pack::pgn::PgnRecord;
 
 // The largest value of so many bits, at most of 63.
 fn special_max(bits: u32) -> u64
@@ -41,18 +41,22 @@ fn special_values_at(
     out: &mut [u32],
     n: usize,
     s: &[u8],
-    t: u32,
-    i: u32,
+    g: PgnRecord,
     k: u32,
     f: FieldView,
 ) -> usize
-    requires { ⌜ Fits n (special-values-at t i k (field-at (pgn-at (pack-of (now s)) t i) k .res-bits) (field-at (pgn-at (pack-of (now s)) t i) k .special-values)) × (field-meaning (now s) f ≡ field-at (pgn-at (pack-of (now s)) t i) k) ⌝ }
-    ensures { λ r. ⌜ Emitted (now (out .entry)) n (special-values-at t i k (field-at (pgn-at (pack-of (now (s .entry))) t i) k .res-bits) (field-at (pgn-at (pack-of (now (s .entry))) t i) k .special-values)) (now (out .exit)) r ⌝ }
+    requires { ⌜ record {
+      fits : Fits n (special-values-at (g .tree) (g .item) k (field-at (pgn-in (now s) g) k .res-bits) (field-at (pgn-in (now s) g) k .special-values));
+      means : field-meaning (now s) f ≡ field-at (pgn-in (now s) g) k;
+    } ⌝ }
+    ensures { λ r. ⌜ Emitted (now (out .entry)) n
+        (special-values-at (g .tree) (g .item) k (field-at (pgn-in (now (s .entry)) g) k .res-bits)
+        (field-at (pgn-in (now (s .entry)) g) k .special-values)) (now (out .exit)) r ⌝ }
 {
     let special = f.links.special;
     if special.given {
         let report = out_of_range(special.value, f.scaling.bits);
-        return put_if(out, n, report, pgn_error(9, 1, t, i, k, 0));
+        return put_if(out, n, report, pgn_error(9, 1, g.tree, g.item, k, 0));
     }
     n
 }
@@ -63,19 +67,19 @@ pub fn check_special_values(
     n: usize,
     s: &[u8],
     work: &[u32],
-    t: u32,
-    i: u32,
-    p: usize,
-    g: PgnView,
+    g: PgnRecord,
 ) -> usize
-    requires { ⌜ Fits n (check-special-values t i (pgn-at (pack-of (now s)) t i)) × PgnAt (now s) (now work) t i p × PgnIs (now s) (pgn-at (pack-of (now s)) t i) g ⌝ }
-    ensures { λ r. ⌜ Emitted (now (out .entry)) n (check-special-values t i (pgn-at (pack-of (now (s .entry))) t i)) (now (out .exit)) r ⌝ }
+    requires { ⌜ record {
+      fits : Fits n (check-special-values (g .tree) (g .item) (pgn-in (now s) g));
+      pgn : PgnRecordIs (now s) (now work) g;
+    } ⌝ }
+    ensures { λ r. ⌜ Emitted (now (out .entry)) n (check-special-values (g .tree) (g .item) (pgn-in (now (s .entry)) g)) (now (out .exit)) r ⌝ }
 {
     let mut m = n;
     let mut k = 0;
-    while k < g.fields {
-        let f = field_of(s, work, t, i, p, k);
-        m = special_values_at(out, m, s, t, i, k, f);
+    while k < g.view.fields {
+        let f = field_of(s, work, g.tree, g.item, g.place, k);
+        m = special_values_at(out, m, s, g, k, f);
         k += 1;
     }
     m

@@ -6,7 +6,7 @@ ghost use lib.ListN.{length};
 ghost use Rattle.pack.specs.Notation.{_==_};
 ghost use Rattle.pack.specs.Items.{bytes-of};
 ghost use Rattle.pack.specs.Meaning.{optional-number, pack-of};
-ghost use Rattle.pack.specs.Ready.{Ready, PgnAt, place-of-tree};
+ghost use Rattle.pack.specs.Ready.{Ready, PgnAt, place-of-tree, TreeIs};
 ghost use Rattle.pack.specs.Value.{pgn-at, field-at};
 ghost use Rattle.rules.specs.SpnClashes.{other-spn, other-in, other-among, clash-from, may-clash};
 use pack::load::Section;
@@ -29,8 +29,9 @@ fn differs(n: OptNumber, spn: u32) -> bool
 
 // Whether field h of PGN j, which is at q, has that name, and carries another SPN. Few have the name: only of these more is read.
 fn other_spn(s: &[u8], work: &[u32], name: Text, spn: u32, j: u32, q: usize, h: u32) -> bool
-    requires { ⌜ PgnAt (now s) (now work) 1 j q × (h < length (pgn-at (pack-of (now s)) 1 j .fields)) ⌝ }
-    ensures { λ r. ⌜ r ≡ other-spn (bytes-of (now (s .entry)) name) spn (field-at (pgn-at (pack-of (now (s .entry))) 1 j) h .name) (field-at (pgn-at (pack-of (now (s .entry))) 1 j) h .spn) ⌝ }
+    requires { ⌜ record { at : PgnAt (now s) (now work) 1 j q; field : h < length (pgn-at (pack-of (now s)) 1 j .fields) } ⌝ }
+    ensures { λ r. ⌜ r ≡ other-spn (bytes-of (now (s .entry)) name) spn (field-at (pgn-at (pack-of (now (s .entry))) 1 j) h .name)
+        (field-at (pgn-at (pack-of (now (s .entry))) 1 j) h .spn) ⌝ }
 {
     let own = field_name_of(s, work, 1, j, q, h);
     if !same_text(s, own, name) {
@@ -42,7 +43,7 @@ fn other_spn(s: &[u8], work: &[u32], name: Text, spn: u32, j: u32, q: usize, h: 
 
 // Whether a field of PGN j does.
 fn other_in(s: &[u8], work: &[u32], name: Text, spn: u32, j: u32, q: usize, fields: u32) -> bool
-    requires { ⌜ PgnAt (now s) (now work) 1 j q × (fields ≡ length (pgn-at (pack-of (now s)) 1 j .fields)) ⌝ }
+    requires { ⌜ record { at : PgnAt (now s) (now work) 1 j q; fields : fields ≡ length (pgn-at (pack-of (now s)) 1 j .fields) } ⌝ }
     ensures { λ r. ⌜ r ≡ other-in (bytes-of (now (s .entry)) name) spn (pgn-at (pack-of (now (s .entry))) 1 j) ⌝ }
 {
     let mut h: u32 = 0;
@@ -57,7 +58,11 @@ fn other_in(s: &[u8], work: &[u32], name: Text, spn: u32, j: u32, q: usize, fiel
 
 // Whether a field of the PGNs up to i does, if that SPN is given. The tree begins at `first`.
 fn other_among(s: &[u8], work: &[u32], first: usize, i: u32, name: Text, spn: OptNumber) -> bool
-    requires { ⌜ Ready (now s) (now work) × (first ≡ place-of-tree (pack-of (now s)) 1) × (i < length (pack-of (now s) .pgns-j1939)) ⌝ }
+    requires { ⌜ record {
+      ready : Ready (now s) (now work);
+      first : first ≡ place-of-tree (pack-of (now s)) 1;
+      item : i < length (pack-of (now s) .pgns-j1939);
+    } ⌝ }
     ensures { λ r. ⌜ r ≡ other-among (pack-of (now (s .entry)) .pgns-j1939) (i + 1) (bytes-of (now (s .entry)) name) (optional-number spn) ⌝ }
 {
     if !spn.given {
@@ -78,7 +83,11 @@ fn other_among(s: &[u8], work: &[u32], first: usize, i: u32, name: Text, spn: Op
 
 // Whether a field of PGN i, which is at p, has one up to there.
 fn clash_from(s: &[u8], work: &[u32], first: usize, i: u32, p: usize, fields: u32) -> bool
-    requires { ⌜ (first ≡ place-of-tree (pack-of (now s)) 1) × PgnAt (now s) (now work) 1 i p × (fields ≡ length (pgn-at (pack-of (now s)) 1 i .fields)) ⌝ }
+    requires { ⌜ record {
+      first : first ≡ place-of-tree (pack-of (now s)) 1;
+      at : PgnAt (now s) (now work) 1 i p;
+      fields : fields ≡ length (pgn-at (pack-of (now s)) 1 i .fields);
+    } ⌝ }
     ensures { λ r. ⌜ r ≡ clash-from (pack-of (now (s .entry)) .pgns-j1939) i ⌝ }
 {
     let mut k: u32 = 0;
@@ -94,7 +103,7 @@ fn clash_from(s: &[u8], work: &[u32], first: usize, i: u32, p: usize, fields: u3
 
 // Whether two fields have one name and different SPNs: else no two SPNs have one name.
 pub fn may_clash(s: &[u8], work: &[u32], tree: Section) -> bool
-    requires { ⌜ Ready (now s) (now work) × (tree .count ≡ length (pack-of (now s) .pgns-j1939)) × (tree .place ≡ place-of-tree (pack-of (now s)) 1) ⌝ }
+    requires { ⌜ record { ready : Ready (now s) (now work); pgns : TreeIs (pack-of (now s)) 1 tree } ⌝ }
     ensures { λ r. ⌜ r ≡ may-clash (pack-of (now (s .entry)) .pgns-j1939) ⌝ }
 {
     let count = tree.count;

@@ -9,7 +9,7 @@ ghost use Rattle.pack.specs.Notation.{_<ᵇ_, _≤ᵇ_, _≐_};
 ghost use Rattle.pack.specs.Value.{no-pgn, pgn-at};
 ghost use Rattle.pack.specs.Items.{bytes-of};
 ghost use Rattle.pack.specs.Meaning.{optional-number, pgn-meaning, pack-of};
-ghost use Rattle.pack.specs.Ready.{Ready, PgnAt, PgnIs, place-of-tree};
+ghost use Rattle.pack.specs.Ready.{Ready, PgnAt, PgnIs, TreeIs};
 ghost use Rattle.rules.specs.Emit.{Emitted, Fits};
 ghost use Rattle.rules.specs.Model.{given};
 ghost use Rattle.rules.specs.PlaceText.{pgn-loc};
@@ -52,7 +52,7 @@ pub fn is_number(n: OptNumber, v: u32) -> bool
 
 // The first field of PGN j, which is at p, that carries the SPN.
 fn spn_field(s: &[u8], work: &[u32], j: u32, p: usize, fields: u32, spn: u32) -> OptNumber
-    requires { ⌜ PgnAt (now s) (now work) 1 j p × (fields ≡ length (pgn-at (pack-of (now s)) 1 j .fields)) ⌝ }
+    requires { ⌜ record { at : PgnAt (now s) (now work) 1 j p; fields : fields ≡ length (pgn-at (pack-of (now s)) 1 j .fields) } ⌝ }
     ensures { λ r. ⌜ optional-number r ≡ spn-field (pgn-at (pack-of (now (s .entry))) 1 j) spn ⌝ }
 {
     let mut k: u32 = 0;
@@ -84,7 +84,11 @@ fn comes_after(best: Namer, number: u32) -> bool
 
 // The best so far, when PGN j is tried, which is g, at p.
 fn better(s: &[u8], work: &[u32], spn: u32, best: Namer, j: u32, p: usize, g: PgnView) -> Namer
-    requires { ⌜ NamesAmong (now s) (now work) spn j best × PgnAt (now s) (now work) 1 j p × PgnIs (now s) (pgn-at (pack-of (now s)) 1 j) g ⌝ }
+    requires { ⌜ record {
+      names : NamesAmong (now s) (now work) spn j best;
+      at : PgnAt (now s) (now work) 1 j p;
+      is : PgnIs (now s) (pgn-at (pack-of (now s)) 1 j) g;
+    } ⌝ }
     ensures { λ r. ⌜ NamesAmong (now (s .entry)) (now (work .entry)) spn (j + 1) r ⌝ }
 {
     if comes_after(best, g.pgn) {
@@ -105,7 +109,7 @@ fn better(s: &[u8], work: &[u32], spn: u32, best: Namer, j: u32, p: usize, g: Pg
 
 // The PGN that names the SPN: of those that carry it the one of the least number, the first of equals.
 fn spn_pgn(s: &[u8], work: &[u32], tree: Section, spn: u32) -> Namer
-    requires { ⌜ Ready (now s) (now work) × (tree .count ≡ length (pack-of (now s) .pgns-j1939)) × (tree .place ≡ place-of-tree (pack-of (now s)) 1) ⌝ }
+    requires { ⌜ record { ready : Ready (now s) (now work); pgns : TreeIs (pack-of (now s)) 1 tree } ⌝ }
     ensures { λ r. ⌜ NamesAmong (now (s .entry)) (now (work .entry)) spn (length (pack-of (now (s .entry)) .pgns-j1939)) r ⌝ }
 {
     let count = tree.count;
@@ -129,7 +133,10 @@ fn spn_pgn(s: &[u8], work: &[u32], tree: Section, spn: u32) -> Namer
 
 // The SPN's name.
 fn spn_name(s: &[u8], work: &[u32], spn: u32, namer: Namer) -> Text
-    requires { ⌜ NamesAmong (now s) (now work) spn (length (pack-of (now s) .pgns-j1939)) namer × (namer .given ≡ true) ⌝ }
+    requires { ⌜ record {
+      names : NamesAmong (now s) (now work) spn (length (pack-of (now s) .pgns-j1939)) namer;
+      given : namer .given ≡ true;
+    } ⌝ }
     ensures { λ r. ⌜ bytes-of (now (s .entry)) r ≡ spn-name (pack-of (now (s .entry)) .pgns-j1939) spn ⌝ }
 {
     let f = field_of(s, work, 1, namer.pgn, namer.place, namer.field);
@@ -138,7 +145,11 @@ fn spn_name(s: &[u8], work: &[u32], spn: u32, namer: Namer) -> Text
 
 // Whether an SPN that a field carries has that name.
 fn has_name(s: &[u8], work: &[u32], tree: Section, spn: u32, name: Text) -> bool
-    requires { ⌜ Ready (now s) (now work) × (tree .count ≡ length (pack-of (now s) .pgns-j1939)) × (tree .place ≡ place-of-tree (pack-of (now s)) 1) × (given (spn-pgn (pack-of (now s) .pgns-j1939) spn) ≡ true) ⌝ }
+    requires { ⌜ record {
+      ready : Ready (now s) (now work);
+      pgns : TreeIs (pack-of (now s)) 1 tree;
+      named : given (spn-pgn (pack-of (now s) .pgns-j1939) spn) ≡ true;
+    } ⌝ }
     ensures { λ r. ⌜ r ≡ (spn-name (pack-of (now (s .entry)) .pgns-j1939) spn ≐ bytes-of (now (s .entry)) name) ⌝ }
 {
     let namer = spn_pgn(s, work, tree, spn);
@@ -148,7 +159,9 @@ fn has_name(s: &[u8], work: &[u32], tree: Section, spn: u32, name: Text) -> bool
 
 // Whether f carries an SPN below b, under that name.
 fn is_candidate(s: &[u8], b: u32, name: Text, f: FieldView) -> bool
-    ensures { λ r. ⌜ r ≡ (f .authored .spn .given && (f .authored .spn .value <ᵇ b) && (bytes-of (now (s .entry)) (f .names .name) ≐ bytes-of (now (s .entry)) name)) ⌝ }
+    ensures { λ r. ⌜ r ≡
+        (f .authored .spn .given && (f .authored .spn .value <ᵇ b) &&
+        (bytes-of (now (s .entry)) (f .names .name) ≐ bytes-of (now (s .entry)) name)) ⌝ }
 {
     let spn = f.authored.spn;
     if !spn.given {
@@ -170,7 +183,7 @@ fn candidate_in(
     p: usize,
     fields: u32,
 ) -> OptNumber
-    requires { ⌜ PgnAt (now s) (now work) 1 i p × (fields ≡ length (pgn-at (pack-of (now s)) 1 i .fields)) ⌝ }
+    requires { ⌜ record { at : PgnAt (now s) (now work) 1 i p; fields : fields ≡ length (pgn-at (pack-of (now s)) 1 i .fields) } ⌝ }
     ensures { λ r. ⌜ optional-number r ≡ candidate-in (pack-of (now (s .entry)) .pgns-j1939) (bytes-of (now (s .entry)) name) b i ⌝ }
 {
     let mut found = OptNumber {
@@ -189,7 +202,7 @@ fn candidate_in(
 
 // The largest SPN below b that a field carries under that name.
 fn candidate(s: &[u8], work: &[u32], tree: Section, b: u32, name: Text) -> OptNumber
-    requires { ⌜ Ready (now s) (now work) × (tree .count ≡ length (pack-of (now s) .pgns-j1939)) × (tree .place ≡ place-of-tree (pack-of (now s)) 1) ⌝ }
+    requires { ⌜ record { ready : Ready (now s) (now work); pgns : TreeIs (pack-of (now s)) 1 tree } ⌝ }
     ensures { λ r. ⌜ optional-number r ≡ candidate (pack-of (now (s .entry)) .pgns-j1939) (bytes-of (now (s .entry)) name) b ⌝ }
 {
     let count = tree.count;
@@ -211,7 +224,11 @@ fn candidate(s: &[u8], work: &[u32], tree: Section, b: u32, name: Text) -> OptNu
 
 // The largest SPN below this one of its name. Another field may name a candidate: then one below it is looked for.
 fn earlier_spn(s: &[u8], work: &[u32], tree: Section, spn: u32, name: Text) -> OptNumber
-    requires { ⌜ Ready (now s) (now work) × (tree .count ≡ length (pack-of (now s) .pgns-j1939)) × (tree .place ≡ place-of-tree (pack-of (now s)) 1) × (bytes-of (now s) name ≡ spn-name (pack-of (now s) .pgns-j1939) spn) ⌝ }
+    requires { ⌜ record {
+      ready : Ready (now s) (now work);
+      pgns : TreeIs (pack-of (now s)) 1 tree;
+      name : bytes-of (now s) name ≡ spn-name (pack-of (now s) .pgns-j1939) spn;
+    } ⌝ }
     ensures { λ r. ⌜ optional-number r ≡ earlier-spn (pack-of (now (s .entry)) .pgns-j1939) spn ⌝ }
 {
     let mut b = spn;
@@ -237,7 +254,7 @@ fn same_place(s: &[u8], a: PgnView, b: PgnView) -> bool
     false
 }
 
-// The earlier SPN is named in PGN i, at p, this one in PGN j, at q.
+// The earlier SPN is named in the PGN of `other`, this one in that of `namer`.
 fn clash_at(
     out: &mut [u32],
     n: usize,
@@ -245,26 +262,34 @@ fn clash_at(
     work: &[u32],
     earlier: u32,
     spn: u32,
-    i: u32,
-    p: usize,
-    j: u32,
-    q: usize,
+    other: Namer,
+    namer: Namer,
 ) -> usize
-    requires { ⌜ Fits n (clash-at (pack-of (now s) .pgns-j1939) earlier spn i j) × PgnAt (now s) (now work) 1 i p × PgnAt (now s) (now work) 1 j q ⌝ }
-    ensures { λ r. ⌜ Emitted (now (out .entry)) n (clash-at (pack-of (now (s .entry)) .pgns-j1939) earlier spn i j) (now (out .exit)) r ⌝ }
+    requires { ⌜ record {
+      fits : Fits n (clash-at (pack-of (now s) .pgns-j1939) earlier spn (other .pgn) (namer .pgn));
+      other-at : PgnAt (now s) (now work) 1 (other .pgn) (other .place);
+      at : PgnAt (now s) (now work) 1 (namer .pgn) (namer .place);
+    } ⌝ }
+    ensures { λ r. ⌜ Emitted (now (out .entry)) n (clash-at (pack-of (now (s .entry)) .pgns-j1939) earlier spn (other .pgn) (namer .pgn))
+        (now (out .exit)) r ⌝ }
 {
-    let a = pgn_of(s, work, 1, i, p);
-    let b = pgn_of(s, work, 1, j, q);
+    let a = pgn_of(s, work, 1, other.pgn, other.place);
+    let b = pgn_of(s, work, 1, namer.pgn, namer.place);
     if same_place(s, a, b) {
-        return put(out, n, pgn_error(24, 2, 1, i, earlier, spn));
+        return put(out, n, pgn_error(24, 2, 1, other.pgn, earlier, spn));
     }
-    let m = put(out, n, pgn_error(24, 2, 1, i, earlier, spn));
-    put(out, m, pgn_error(24, 2, 1, j, earlier, spn))
+    let m = put(out, n, pgn_error(24, 2, 1, other.pgn, earlier, spn));
+    put(out, m, pgn_error(24, 2, 1, namer.pgn, earlier, spn))
 }
 
 // An SPN that a field carries, and the one before it of its name.
 fn clash_of(out: &mut [u32], n: usize, s: &[u8], work: &[u32], tree: Section, spn: u32) -> usize
-    requires { ⌜ Fits n (clash-of (pack-of (now s) .pgns-j1939) (some spn)) × Ready (now s) (now work) × (tree .count ≡ length (pack-of (now s) .pgns-j1939)) × (tree .place ≡ place-of-tree (pack-of (now s)) 1) × (given (spn-pgn (pack-of (now s) .pgns-j1939) spn) ≡ true) ⌝ }
+    requires { ⌜ record {
+      fits : Fits n (clash-of (pack-of (now s) .pgns-j1939) (some spn));
+      ready : Ready (now s) (now work);
+      pgns : TreeIs (pack-of (now s)) 1 tree;
+      named : given (spn-pgn (pack-of (now s) .pgns-j1939) spn) ≡ true;
+    } ⌝ }
     ensures { λ r. ⌜ Emitted (now (out .entry)) n (clash-of (pack-of (now (s .entry)) .pgns-j1939) (some spn)) (now (out .exit)) r ⌝ }
 {
     let namer = spn_pgn(s, work, tree, spn);
@@ -274,18 +299,7 @@ fn clash_of(out: &mut [u32], n: usize, s: &[u8], work: &[u32], tree: Section, sp
         return n;
     }
     let other = spn_pgn(s, work, tree, earlier.value);
-    clash_at(
-        out,
-        n,
-        s,
-        work,
-        earlier.value,
-        spn,
-        other.pgn,
-        other.place,
-        namer.pgn,
-        namer.place,
-    )
+    clash_at(out, n, s, work, earlier.value, spn, other, namer)
 }
 
 // Whether an SPN is given, and not below b.
@@ -300,7 +314,7 @@ fn is_from(b: u64, spn: OptNumber) -> bool
 
 // The least SPN from b on that a field of PGN i carries, which is at p.
 fn least_spn_in(s: &[u8], work: &[u32], b: u64, i: u32, p: usize, fields: u32) -> OptNumber
-    requires { ⌜ PgnAt (now s) (now work) 1 i p × (fields ≡ length (pgn-at (pack-of (now s)) 1 i .fields)) ⌝ }
+    requires { ⌜ record { at : PgnAt (now s) (now work) 1 i p; fields : fields ≡ length (pgn-at (pack-of (now s)) 1 i .fields) } ⌝ }
     ensures { λ r. ⌜ optional-number r ≡ least-spn-in (pack-of (now (s .entry)) .pgns-j1939) b i ⌝ }
 {
     let mut found = OptNumber {
@@ -319,7 +333,7 @@ fn least_spn_in(s: &[u8], work: &[u32], b: u64, i: u32, p: usize, fields: u32) -
 
 // The least SPN from b on. b is wide, since it is one above an SPN.
 fn least_spn(s: &[u8], work: &[u32], tree: Section, b: u64) -> OptNumber
-    requires { ⌜ Ready (now s) (now work) × (tree .count ≡ length (pack-of (now s) .pgns-j1939)) × (tree .place ≡ place-of-tree (pack-of (now s)) 1) ⌝ }
+    requires { ⌜ record { ready : Ready (now s) (now work); pgns : TreeIs (pack-of (now s)) 1 tree } ⌝ }
     ensures { λ r. ⌜ optional-number r ≡ least-spn (pack-of (now (s .entry)) .pgns-j1939) b ⌝ }
 {
     let count = tree.count;
@@ -341,8 +355,9 @@ fn least_spn(s: &[u8], work: &[u32], tree: Section, b: u64) -> OptNumber
 
 // The number of fields of the tree: there are no more SPNs.
 fn field_total(s: &[u8], work: &[u32], tree: Section) -> u32
-    requires { ⌜ Ready (now s) (now work) × (tree .count ≡ length (pack-of (now s) .pgns-j1939)) × (tree .place ≡ place-of-tree (pack-of (now s)) 1) ⌝ }
-    ensures { λ r. ⌜ r ≡ sum-below (λ i. length (getD (pack-of (now (s .entry)) .pgns-j1939) i no-pgn .fields)) (length (pack-of (now (s .entry)) .pgns-j1939)) ⌝ }
+    requires { ⌜ record { ready : Ready (now s) (now work); pgns : TreeIs (pack-of (now s)) 1 tree } ⌝ }
+    ensures { λ r. ⌜ r ≡ sum-below (λ i. length (getD (pack-of (now (s .entry)) .pgns-j1939) i no-pgn .fields))
+        (length (pack-of (now (s .entry)) .pgns-j1939)) ⌝ }
 {
     let count = tree.count;
     let mut total: u32 = 0;
@@ -359,7 +374,11 @@ fn field_total(s: &[u8], work: &[u32], tree: Section) -> u32
 
 // The findings of the SPNs in rising order, until there is none.
 fn spn_clashes(out: &mut [u32], n: usize, s: &[u8], work: &[u32], j1939: Section) -> usize
-    requires { ⌜ Fits n (check-spn-names (pack-of (now s) .pgns-j1939)) × Ready (now s) (now work) × (j1939 .count ≡ length (pack-of (now s) .pgns-j1939)) × (j1939 .place ≡ place-of-tree (pack-of (now s)) 1) ⌝ }
+    requires { ⌜ record {
+      fits : Fits n (check-spn-names (pack-of (now s) .pgns-j1939));
+      ready : Ready (now s) (now work);
+      pgns : TreeIs (pack-of (now s)) 1 j1939;
+    } ⌝ }
     ensures { λ r. ⌜ Emitted (now (out .entry)) n (check-spn-names (pack-of (now (s .entry)) .pgns-j1939)) (now (out .exit)) r ⌝ }
 {
     let total = field_total(s, work, j1939);
@@ -380,7 +399,11 @@ fn spn_clashes(out: &mut [u32], n: usize, s: &[u8], work: &[u32], j1939: Section
 
 // R24, cause 2: no two SPNs have one name. The test before it spares the search for each SPN where there is nothing to find.
 pub fn check_spn_names(out: &mut [u32], n: usize, s: &[u8], work: &[u32], j1939: Section) -> usize
-    requires { ⌜ Fits n (check-spn-names (pack-of (now s) .pgns-j1939)) × Ready (now s) (now work) × (j1939 .count ≡ length (pack-of (now s) .pgns-j1939)) × (j1939 .place ≡ place-of-tree (pack-of (now s)) 1) ⌝ }
+    requires { ⌜ record {
+      fits : Fits n (check-spn-names (pack-of (now s) .pgns-j1939));
+      ready : Ready (now s) (now work);
+      pgns : TreeIs (pack-of (now s)) 1 j1939;
+    } ⌝ }
     ensures { λ r. ⌜ Emitted (now (out .entry)) n (check-spn-names (pack-of (now (s .entry)) .pgns-j1939)) (now (out .exit)) r ⌝ }
 {
     if may_clash(s, work, j1939) {

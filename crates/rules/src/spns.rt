@@ -8,7 +8,7 @@ ghost use lib.Ieee.{ofBits, binary64};
 ghost use Rattle.pack.specs.Notation.{_==_, concat-below};
 ghost use Rattle.pack.specs.Value.{pgns-of, pgn-at, field-at};
 ghost use Rattle.pack.specs.Meaning.{optional-bytes, field-meaning, pack-of};
-ghost use Rattle.pack.specs.Ready.{Ready, PgnAt, PgnIs, place-of-tree, IndexIs};
+ghost use Rattle.pack.specs.Ready.{Ready, PgnAt, PgnIs, place-of-tree, IndexIs, PgnRecordIs, TreeIs, pgn-in};
 ghost use Rattle.rules.specs.Emit.{Emitted, Fits};
 ghost use Rattle.rules.specs.Floats.{float-eq};
 ghost use Rattle.rules.specs.SpnNames.{spn-field};
@@ -24,6 +24,7 @@ use pack::load::Index;
 use pack::load::Section;
 use pack::of::field_of;
 use pack::of::pgn_of;
+use pack::pgn::PgnRecord;
 use pack::pgn::PgnView;
 use pack::protocol::Protocol;
 use pack::text::OptText;
@@ -78,7 +79,9 @@ fn same_unit(s: &[u8], a: OptText, b: OptText) -> bool
 
 // `==` of the Rust's tuple: a NaN differs from itself.
 fn same_scaling(s: &[u8], v: ScalingView, w: ScalingView) -> bool
-    ensures { λ r. ⌜ r ≡ ((v .bits == w .bits) && float-eq (v .resolution) (w .resolution) && float-eq (v .offset) (w .offset) && same-unit (optional-bytes (now (s .entry)) (v .unit)) (optional-bytes (now (s .entry)) (w .unit))) ⌝ }
+    ensures { λ r. ⌜ r ≡
+        ((v .bits == w .bits) && float-eq (v .resolution) (w .resolution) && float-eq (v .offset) (w .offset) && same-unit
+        (optional-bytes (now (s .entry)) (v .unit)) (optional-bytes (now (s .entry)) (w .unit))) ⌝ }
 {
     let a = scaling_of(v);
     let b = scaling_of(w);
@@ -96,8 +99,18 @@ fn same_scaling(s: &[u8], v: ScalingView, w: ScalingView) -> bool
 
 // The field that carries the SPN first, of the J1939 tree, which begins at `first`: at or before field k of PGN i, which carries it.
 fn first_seen(s: &[u8], work: &[u32], first: usize, i: u32, k: u32, spn: u32) -> Carrier
-    requires { ⌜ Ready (now s) (now work) × (first ≡ place-of-tree (pack-of (now s)) 1) × (i < length (pgns-of (pack-of (now s)) 1)) × (k < length (pgn-at (pack-of (now s)) 1 i .fields)) × (field-at (pgn-at (pack-of (now s)) 1 i) k .spn ≡ some spn) ⌝ }
-    ensures { λ r. ⌜ (first-seen (pgns-of (pack-of (now (s .entry))) 1) spn ≡ some (r .pgn)) × (spn-field (pgn-at (pack-of (now (s .entry))) 1 (r .pgn)) spn ≡ some (r .field)) × PgnAt (now (s .entry)) (now (work .entry)) 1 (r .pgn) (r .place) ⌝ }
+    requires { ⌜ record {
+      ready : Ready (now s) (now work);
+      first : first ≡ place-of-tree (pack-of (now s)) 1;
+      item : i < length (pgns-of (pack-of (now s)) 1);
+      field : k < length (pgn-at (pack-of (now s)) 1 i .fields);
+      spn : field-at (pgn-at (pack-of (now s)) 1 i) k .spn ≡ some spn;
+    } ⌝ }
+    ensures { λ r. ⌜ record {
+      seen : first-seen (pgns-of (pack-of (now (s .entry))) 1) spn ≡ some (r .pgn);
+      field : spn-field (pgn-at (pack-of (now (s .entry))) 1 (r .pgn)) spn ≡ some (r .field);
+      at : PgnAt (now (s .entry)) (now (work .entry)) 1 (r .pgn) (r .place);
+    } ⌝ }
 {
     let mut pgn: u32 = 0;
     let mut place = first;
@@ -139,8 +152,20 @@ fn unlike_first(
     k: u32,
     f: FieldView,
 ) -> usize
-    requires { ⌜ Fits n (unlike-first (pgns-of (pack-of (now s)) 1) i k (f .authored .spn .value) (first-seen (pgns-of (pack-of (now s)) 1) (f .authored .spn .value))) × Ready (now s) (now work) × (first ≡ place-of-tree (pack-of (now s)) 1) × (i < length (pgns-of (pack-of (now s)) 1)) × (k < length (pgn-at (pack-of (now s)) 1 i .fields)) × (field-meaning (now s) f ≡ field-at (pgn-at (pack-of (now s)) 1 i) k) × (f .authored .spn .given ≡ true) ⌝ }
-    ensures { λ r. ⌜ Emitted (now (out .entry)) n (unlike-first (pgns-of (pack-of (now (s .entry))) 1) i k (f .authored .spn .value) (first-seen (pgns-of (pack-of (now (s .entry))) 1) (f .authored .spn .value))) (now (out .exit)) r ⌝ }
+    requires { ⌜ record {
+      fits : Fits n
+          (unlike-first (pgns-of (pack-of (now s)) 1) i k (f .authored .spn .value)
+          (first-seen (pgns-of (pack-of (now s)) 1) (f .authored .spn .value)));
+      ready : Ready (now s) (now work);
+      first : first ≡ place-of-tree (pack-of (now s)) 1;
+      item : i < length (pgns-of (pack-of (now s)) 1);
+      field : k < length (pgn-at (pack-of (now s)) 1 i .fields);
+      means : field-meaning (now s) f ≡ field-at (pgn-at (pack-of (now s)) 1 i) k;
+      spn : f .authored .spn .given ≡ true;
+    } ⌝ }
+    ensures { λ r. ⌜ Emitted (now (out .entry)) n
+        (unlike-first (pgns-of (pack-of (now (s .entry))) 1) i k (f .authored .spn .value)
+        (first-seen (pgns-of (pack-of (now (s .entry))) 1) (f .authored .spn .value))) (now (out .exit)) r ⌝ }
 {
     let seen = first_seen(s, work, first, i, k, f.authored.spn.value);
     if is_at(seen, i, k) {
@@ -162,8 +187,16 @@ fn spn_at(
     k: u32,
     f: FieldView,
 ) -> usize
-    requires { ⌜ Fits n (spn-at (pgns-of (pack-of (now s)) 1) i k (field-at (pgn-at (pack-of (now s)) 1 i) k .spn)) × Ready (now s) (now work) × (first ≡ place-of-tree (pack-of (now s)) 1) × (i < length (pgns-of (pack-of (now s)) 1)) × (k < length (pgn-at (pack-of (now s)) 1 i .fields)) × (field-meaning (now s) f ≡ field-at (pgn-at (pack-of (now s)) 1 i) k) ⌝ }
-    ensures { λ r. ⌜ Emitted (now (out .entry)) n (spn-at (pgns-of (pack-of (now (s .entry))) 1) i k (field-at (pgn-at (pack-of (now (s .entry))) 1 i) k .spn)) (now (out .exit)) r ⌝ }
+    requires { ⌜ record {
+      fits : Fits n (spn-at (pgns-of (pack-of (now s)) 1) i k (field-at (pgn-at (pack-of (now s)) 1 i) k .spn));
+      ready : Ready (now s) (now work);
+      first : first ≡ place-of-tree (pack-of (now s)) 1;
+      item : i < length (pgns-of (pack-of (now s)) 1);
+      field : k < length (pgn-at (pack-of (now s)) 1 i .fields);
+      means : field-meaning (now s) f ≡ field-at (pgn-at (pack-of (now s)) 1 i) k;
+    } ⌝ }
+    ensures { λ r. ⌜ Emitted (now (out .entry)) n
+        (spn-at (pgns-of (pack-of (now (s .entry))) 1) i k (field-at (pgn-at (pack-of (now (s .entry))) 1 i) k .spn)) (now (out .exit)) r ⌝ }
 {
     let spn = f.authored.spn;
     if spn.given {
@@ -186,8 +219,14 @@ fn check_scalings(
     p: usize,
     g: PgnView,
 ) -> usize
-    requires { ⌜ Fits n (check-scalings (pgns-of (pack-of (now s)) 1) i (pgn-at (pack-of (now s)) 1 i)) × PgnAt (now s) (now work) 1 i p × (first ≡ place-of-tree (pack-of (now s)) 1) × PgnIs (now s) (pgn-at (pack-of (now s)) 1 i) g ⌝ }
-    ensures { λ r. ⌜ Emitted (now (out .entry)) n (check-scalings (pgns-of (pack-of (now (s .entry))) 1) i (pgn-at (pack-of (now (s .entry))) 1 i)) (now (out .exit)) r ⌝ }
+    requires { ⌜ record {
+      fits : Fits n (check-scalings (pgns-of (pack-of (now s)) 1) i (pgn-at (pack-of (now s)) 1 i));
+      at : PgnAt (now s) (now work) 1 i p;
+      first : first ≡ place-of-tree (pack-of (now s)) 1;
+      is : PgnIs (now s) (pgn-at (pack-of (now s)) 1 i) g;
+    } ⌝ }
+    ensures { λ r. ⌜ Emitted (now (out .entry)) n
+        (check-scalings (pgns-of (pack-of (now (s .entry))) 1) i (pgn-at (pack-of (now (s .entry))) 1 i)) (now (out .exit)) r ⌝ }
 {
     let mut m = n;
     let mut k: u32 = 0;
@@ -201,8 +240,14 @@ fn check_scalings(
 
 // The J1939 tree.
 fn scalings(out: &mut [u32], n: usize, s: &[u8], work: &[u32], tree: Section) -> usize
-    requires { ⌜ Fits n (concat-below (λ i. check-scalings (pgns-of (pack-of (now s)) 1) i (pgn-at (pack-of (now s)) 1 i)) (length (pgns-of (pack-of (now s)) 1))) × Ready (now s) (now work) × (tree .count ≡ length (pgns-of (pack-of (now s)) 1)) × (tree .place ≡ place-of-tree (pack-of (now s)) 1) ⌝ }
-    ensures { λ r. ⌜ Emitted (now (out .entry)) n (concat-below (λ i. check-scalings (pgns-of (pack-of (now (s .entry))) 1) i (pgn-at (pack-of (now (s .entry))) 1 i)) (length (pgns-of (pack-of (now (s .entry))) 1))) (now (out .exit)) r ⌝ }
+    requires { ⌜ record {
+      fits : Fits n (concat-below (λ i. check-scalings (pgns-of (pack-of (now s)) 1) i (pgn-at (pack-of (now s)) 1 i)) (length (pgns-of (pack-of (now s)) 1)));
+      ready : Ready (now s) (now work);
+      pgns : TreeIs (pack-of (now s)) 1 tree;
+    } ⌝ }
+    ensures { λ r. ⌜ Emitted (now (out .entry)) n
+        (concat-below (λ i. check-scalings (pgns-of (pack-of (now (s .entry))) 1) i (pgn-at (pack-of (now (s .entry))) 1 i))
+        (length (pgns-of (pack-of (now (s .entry))) 1))) (now (out .exit)) r ⌝ }
 {
     let count = tree.count;
     let first = tree.place;
@@ -218,25 +263,24 @@ fn scalings(out: &mut [u32], n: usize, s: &[u8], work: &[u32], tree: Section) ->
     m
 }
 
-// PGN i of another tree, at p.
-fn spns_elsewhere(
-    out: &mut [u32],
-    n: usize,
-    s: &[u8],
-    work: &[u32],
-    t: u32,
-    i: u32,
-    p: usize,
-    g: PgnView,
-) -> usize
-    requires { ⌜ Fits n (spns-elsewhere t i (pgn-at (pack-of (now s)) t i)) × PgnAt (now s) (now work) t i p × PgnIs (now s) (pgn-at (pack-of (now s)) t i) g ⌝ }
-    ensures { λ r. ⌜ Emitted (now (out .entry)) n (spns-elsewhere t i (pgn-at (pack-of (now (s .entry))) t i)) (now (out .exit)) r ⌝ }
+// A PGN of another tree.
+fn spns_elsewhere(out: &mut [u32], n: usize, s: &[u8], work: &[u32], g: PgnRecord) -> usize
+    requires { ⌜ record {
+      fits : Fits n (spns-elsewhere (g .tree) (g .item) (pgn-in (now s) g));
+      pgn : PgnRecordIs (now s) (now work) g;
+    } ⌝ }
+    ensures { λ r. ⌜ Emitted (now (out .entry)) n (spns-elsewhere (g .tree) (g .item) (pgn-in (now (s .entry)) g)) (now (out .exit)) r ⌝ }
 {
     let mut m = n;
     let mut k: u32 = 0;
-    while k < g.fields {
-        let f = field_of(s, work, t, i, p, k);
-        m = put_if(out, m, f.authored.spn.given, pgn_error(42, 1, t, i, k, 0));
+    while k < g.view.fields {
+        let f = field_of(s, work, g.tree, g.item, g.place, k);
+        m = put_if(
+            out,
+            m,
+            f.authored.spn.given,
+            pgn_error(42, 1, g.tree, g.item, k, 0),
+        );
         k += 1;
     }
     m
@@ -244,17 +288,30 @@ fn spns_elsewhere(
 
 // Another tree.
 fn elsewhere(out: &mut [u32], n: usize, s: &[u8], work: &[u32], t: u32, tree: Section) -> usize
-    requires { ⌜ Fits n (concat-below (λ i. spns-elsewhere t i (pgn-at (pack-of (now s)) t i)) (length (pgns-of (pack-of (now s)) t))) × Ready (now s) (now work) × (t < 3) × (tree .count ≡ length (pgns-of (pack-of (now s)) t)) × (tree .place ≡ place-of-tree (pack-of (now s)) t) ⌝ }
-    ensures { λ r. ⌜ Emitted (now (out .entry)) n (concat-below (λ i. spns-elsewhere t i (pgn-at (pack-of (now (s .entry))) t i)) (length (pgns-of (pack-of (now (s .entry))) t))) (now (out .exit)) r ⌝ }
+    requires { ⌜ record {
+      fits : Fits n (concat-below (λ i. spns-elsewhere t i (pgn-at (pack-of (now s)) t i)) (length (pgns-of (pack-of (now s)) t)));
+      ready : Ready (now s) (now work);
+      trees : t < 3;
+      pgns : TreeIs (pack-of (now s)) t tree;
+    } ⌝ }
+    ensures { λ r. ⌜ Emitted (now (out .entry)) n
+        (concat-below (λ i. spns-elsewhere t i (pgn-at (pack-of (now (s .entry))) t i)) (length (pgns-of (pack-of (now (s .entry))) t)))
+        (now (out .exit)) r ⌝ }
 {
     let count = tree.count;
     let mut m = n;
     let mut p = tree.place;
     let mut i: u32 = 0;
     while i < count {
-        let g = pgn_of(s, work, t, i, p);
-        m = spns_elsewhere(out, m, s, work, t, i, p, g);
-        p = p + 1 + g.fields as usize;
+        let view = pgn_of(s, work, t, i, p);
+        let pgn = PgnRecord {
+            tree: t,
+            item: i,
+            place: p,
+            view,
+        };
+        m = spns_elsewhere(out, m, s, work, pgn);
+        p = p + 1 + view.fields as usize;
         i += 1;
     }
     m
@@ -262,7 +319,11 @@ fn elsewhere(out: &mut [u32], n: usize, s: &[u8], work: &[u32], t: u32, tree: Se
 
 // R42: spn only on J1939 fields, within 19 bits, and decoded alike by every field that carries the same SPN.
 pub fn check_spns(out: &mut [u32], n: usize, s: &[u8], work: &[u32], index: Index) -> usize
-    requires { ⌜ Fits n (check-spns (pack-of (now s))) × Ready (now s) (now work) × IndexIs (pack-of (now s)) index ⌝ }
+    requires { ⌜ record {
+      fits : Fits n (check-spns (pack-of (now s)));
+      ready : Ready (now s) (now work);
+      index : IndexIs (pack-of (now s)) index;
+    } ⌝ }
     ensures { λ r. ⌜ Emitted (now (out .entry)) n (check-spns (pack-of (now (s .entry)))) (now (out .exit)) r ⌝ }
 {
     let nmea2000 = elsewhere(out, n, s, work, 0, Protocol::Nmea2000.section(index));

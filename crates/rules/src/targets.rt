@@ -28,7 +28,7 @@ pub(crate) fn first_with_id(
     n: u32,
     id: Text,
 ) -> OptNumber
-    requires { ⌜ PgnAt (now s) (now work) t i p × (n ≤ length (pgn-at (pack-of (now s)) t i .fields)) ⌝ }
+    requires { ⌜ record { at : PgnAt (now s) (now work) t i p; fields : n ≤ length (pgn-at (pack-of (now s)) t i .fields) } ⌝ }
     ensures { λ r. ⌜ optional-number r ≡ first-below (λ j. field-at (pgn-at (pack-of (now (s .entry))) t i) j .id ≐ bytes-of (now (s .entry)) id) n ⌝ }
 {
     let mut j: u32 = 0;
@@ -50,7 +50,7 @@ pub(crate) fn first_with_id(
 
 // "A target is the first field with that id", of n fields.
 pub fn target(s: &[u8], work: &[u32], t: u32, i: u32, p: usize, n: u32, id: Text) -> OptNumber
-    requires { ⌜ PgnAt (now s) (now work) t i p × (n ≡ length (pgn-at (pack-of (now s)) t i .fields)) ⌝ }
+    requires { ⌜ record { at : PgnAt (now s) (now work) t i p; fields : n ≡ length (pgn-at (pack-of (now s)) t i .fields) } ⌝ }
     ensures { λ r. ⌜ optional-number r ≡ target (pgn-at (pack-of (now (s .entry))) t i) (bytes-of (now (s .entry)) id) ⌝ }
 {
     first_with_id(s, work, t, i, p, n, id)

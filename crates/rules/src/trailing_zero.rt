@@ -1,12 +1,12 @@
 // R44
 ghost use mathlib.Core.Path.{_≡_};
-ghost use mathlib.Core.Bool.{not, _||_};
+ghost use mathlib.Core.Bool.{_||_};
 ghost use Prim.Native.Nat.{_≤_, _<_};
 ghost use lib.ListN.{length};
 ghost use Rattle.pack.specs.Notation.{_==_};
 ghost use Rattle.pack.specs.Meaning.{optional-number, optional-repeating, field-meaning, pack-of};
-ghost use Rattle.pack.specs.Ready.{Ready, PgnAt, PgnIs};
-ghost use Rattle.pack.specs.Value.{pgn-at, field-at};
+ghost use Rattle.pack.specs.Ready.{Ready, PgnAt, PgnRecordIs, pgn-in};
+ghost use Rattle.pack.specs.Value.{field-at};
 ghost use Rattle.rules.specs.Emit.{Emitted, Fits};
 ghost use Rattle.rules.specs.Search.{any-below};
 ghost use Rattle.rules.specs.TrailingZero.{starts-behind, fixed, unsigned-integer, trailing-zero-target-at, trailing-zero-at};
@@ -24,7 +24,7 @@ use pack::of::field_of;
 use pack::of::type_of;
 use pack::optional::OptNumber;
 use pack::pgn::OptRepeating;
-use pack::pgn::PgnView;
+use pack::pgn::PgnRecord;
 use pack::protocol::FieldIndex;
 use pack::protocol::FieldOrder;
 use pack::protocol::precedes;
@@ -58,13 +58,16 @@ fn moves(f: FieldView) -> bool
 }
 
 // Whether such a field is among the first n.
-fn any_moves(s: &[u8], work: &[u32], t: u32, i: u32, p: usize, n: u32) -> bool
-    requires { ⌜ PgnAt (now s) (now work) t i p × (n ≤ length (pgn-at (pack-of (now s)) t i .fields)) ⌝ }
-    ensures { λ r. ⌜ r ≡ any-below (λ k. (field-at (pgn-at (pack-of (now (s .entry))) t i) k .res-bits == 0) || field-at (pgn-at (pack-of (now (s .entry))) t i) k .proprietary) n ⌝ }
+fn any_moves(s: &[u8], work: &[u32], g: PgnRecord, n: u32) -> bool
+    requires { ⌜ record {
+      at : PgnAt (now s) (now work) (g .tree) (g .item) (g .place);
+      fields : n ≤ length (pgn-in (now s) g .fields);
+    } ⌝ }
+    ensures { λ r. ⌜ r ≡ any-below (λ k. (field-at (pgn-in (now (s .entry)) g) k .res-bits == 0) || field-at (pgn-in (now (s .entry)) g) k .proprietary) n ⌝ }
 {
     let mut k: u32 = 0;
     while k < n {
-        let f = field_of(s, work, t, i, p, k);
+        let f = field_of(s, work, g.tree, g.item, g.place, k);
         if moves(f) {
             return true;
         }
@@ -74,23 +77,23 @@ fn any_moves(s: &[u8], work: &[u32], t: u32, i: u32, p: usize, n: u32) -> bool
 }
 
 // Whether field j has a fixed position.
-fn fixed(s: &[u8], work: &[u32], t: u32, i: u32, p: usize, g: PgnView, j: u32) -> bool
-    requires { ⌜ PgnAt (now s) (now work) t i p × PgnIs (now s) (pgn-at (pack-of (now s)) t i) g × (j < length (pgn-at (pack-of (now s)) t i .fields)) ⌝ }
-    ensures { λ r. ⌜ r ≡ fixed (pgn-at (pack-of (now (s .entry))) t i) j ⌝ }
+fn fixed(s: &[u8], work: &[u32], g: PgnRecord, j: u32) -> bool
+    requires { ⌜ record { pgn : PgnRecordIs (now s) (now work) g; field : j < length (pgn-in (now s) g .fields) } ⌝ }
+    ensures { λ r. ⌜ r ≡ fixed (pgn-in (now (s .entry)) g) j ⌝ }
 {
-    if any_moves(s, work, t, i, p, j) {
+    if any_moves(s, work, g, j) {
         return false;
     }
     let order = FieldIndex(j).order();
-    if starts_behind(g.repeating1, order) {
-        return starts_behind(g.repeating2, order);
+    if starts_behind(g.view.repeating1, order) {
+        return starts_behind(g.view.repeating2, order);
     }
     false
 }
 
 // "an unsigned, unscaled NUMBER or LOOKUP without an offset", of 1 to 63 bits
 fn unsigned_integer(s: &[u8], work: &[u32], f: FieldView) -> bool
-    requires { ⌜ Ready (now s) (now work) × (f .ft < length (pack-of (now s) .fieldtypes)) ⌝ }
+    requires { ⌜ record { ready : Ready (now s) (now work); type : f .ft < length (pack-of (now s) .fieldtypes) } ⌝ }
     ensures { λ r. ⌜ r ≡ unsigned-integer (pack-of (now (s .entry)) .fieldtypes) (field-meaning (now (s .entry)) f) ⌝ }
 {
     let v = type_of(s, work, f.ft);
@@ -118,28 +121,31 @@ fn trailing_zero_target_at(
     n: usize,
     s: &[u8],
     work: &[u32],
-    t: u32,
-    i: u32,
-    p: usize,
-    g: PgnView,
+    g: PgnRecord,
     k: u32,
     j: OptNumber,
 ) -> usize
-    requires { ⌜ Fits n (trailing-zero-target-at (pack-of (now s) .fieldtypes) t i (pgn-at (pack-of (now s)) t i) k (optional-number j)) × PgnAt (now s) (now work) t i p × PgnIs (now s) (pgn-at (pack-of (now s)) t i) g × (k < g .fields) ⌝ }
-    ensures { λ r. ⌜ Emitted (now (out .entry)) n (trailing-zero-target-at (pack-of (now (s .entry)) .fieldtypes) t i (pgn-at (pack-of (now (s .entry))) t i) k (optional-number j)) (now (out .exit)) r ⌝ }
+    requires { ⌜ record {
+      fits : Fits n (trailing-zero-target-at (pack-of (now s) .fieldtypes) (g .tree) (g .item) (pgn-in (now s) g) k (optional-number j));
+      pgn : PgnRecordIs (now s) (now work) g;
+      field : k < g .view .fields;
+    } ⌝ }
+    ensures { λ r. ⌜ Emitted (now (out .entry)) n
+        (trailing-zero-target-at (pack-of (now (s .entry)) .fieldtypes) (g .tree) (g .item) (pgn-in (now (s .entry)) g) k (optional-number j))
+        (now (out .exit)) r ⌝ }
 {
     if !j.given {
-        return put(out, n, pgn_error(44, 2, t, i, k, 0));
+        return put(out, n, pgn_error(44, 2, g.tree, g.item, k, 0));
     }
     if k <= j.value {
-        return put(out, n, pgn_error(44, 3, t, i, k, j.value));
+        return put(out, n, pgn_error(44, 3, g.tree, g.item, k, j.value));
     }
-    if !fixed(s, work, t, i, p, g, j.value) {
-        return put(out, n, pgn_error(44, 3, t, i, k, j.value));
+    if !fixed(s, work, g, j.value) {
+        return put(out, n, pgn_error(44, 3, g.tree, g.item, k, j.value));
     }
-    let f = field_of(s, work, t, i, p, j.value);
+    let f = field_of(s, work, g.tree, g.item, g.place, j.value);
     let right = unsigned_integer(s, work, f);
-    put_if(out, n, !right, pgn_error(44, 4, t, i, k, j.value))
+    put_if(out, n, !right, pgn_error(44, 4, g.tree, g.item, k, j.value))
 }
 
 // Field k, which is f.
@@ -148,24 +154,36 @@ fn trailing_zero_at(
     n: usize,
     s: &[u8],
     work: &[u32],
-    t: u32,
-    i: u32,
-    p: usize,
-    g: PgnView,
+    g: PgnRecord,
     k: u32,
     f: FieldView,
 ) -> usize
-    requires { ⌜ Fits n (trailing-zero-at (pack-of (now s) .fieldtypes) t i (pgn-at (pack-of (now s)) t i) k (field-at (pgn-at (pack-of (now s)) t i) k .trailing-zero)) × PgnAt (now s) (now work) t i p × PgnIs (now s) (pgn-at (pack-of (now s)) t i) g × (k < g .fields) × (field-meaning (now s) f ≡ field-at (pgn-at (pack-of (now s)) t i) k) ⌝ }
-    ensures { λ r. ⌜ Emitted (now (out .entry)) n (trailing-zero-at (pack-of (now (s .entry)) .fieldtypes) t i (pgn-at (pack-of (now (s .entry))) t i) k (field-at (pgn-at (pack-of (now (s .entry))) t i) k .trailing-zero)) (now (out .exit)) r ⌝ }
+    requires { ⌜ record {
+      fits : Fits n (trailing-zero-at (pack-of (now s) .fieldtypes) (g .tree) (g .item) (pgn-in (now s) g) k (field-at (pgn-in (now s) g) k .trailing-zero));
+      pgn : PgnRecordIs (now s) (now work) g;
+      field : k < g .view .fields;
+      means : field-meaning (now s) f ≡ field-at (pgn-in (now s) g) k;
+    } ⌝ }
+    ensures { λ r. ⌜ Emitted (now (out .entry)) n
+        (trailing-zero-at (pack-of (now (s .entry)) .fieldtypes) (g .tree) (g .item) (pgn-in (now (s .entry)) g) k
+        (field-at (pgn-in (now (s .entry)) g) k .trailing-zero)) (now (out .exit)) r ⌝ }
 {
     if !f.links.trailing.given {
         return n;
     }
     if !text_is(s, f.names.kind, b"DECIMAL") {
-        return put(out, n, pgn_error(44, 1, t, i, k, 0));
+        return put(out, n, pgn_error(44, 1, g.tree, g.item, k, 0));
     }
-    let j = target(s, work, t, i, p, g.fields, f.links.trailing.text);
-    trailing_zero_target_at(out, n, s, work, t, i, p, g, k, j)
+    let j = target(
+        s,
+        work,
+        g.tree,
+        g.item,
+        g.place,
+        g.view.fields,
+        f.links.trailing.text,
+    );
+    trailing_zero_target_at(out, n, s, work, g, k, j)
 }
 
 // R44: a DECIMAL's trailingZeroIsDigit names an earlier field of fixed position.
@@ -174,20 +192,22 @@ pub fn check_trailing_zero_is_digit(
     n: usize,
     s: &[u8],
     work: &[u32],
-    t: u32,
-    i: u32,
-    p: usize,
-    g: PgnView,
+    g: PgnRecord,
 ) -> usize
-    requires { ⌜ Fits n (check-trailing-zero-is-digit (pack-of (now s) .fieldtypes) t i (pgn-at (pack-of (now s)) t i)) × PgnAt (now s) (now work) t i p × PgnIs (now s) (pgn-at (pack-of (now s)) t i) g ⌝ }
-    ensures { λ r. ⌜ Emitted (now (out .entry)) n (check-trailing-zero-is-digit (pack-of (now (s .entry)) .fieldtypes) t i (pgn-at (pack-of (now (s .entry))) t i)) (now (out .exit)) r ⌝ }
+    requires { ⌜ record {
+      fits : Fits n (check-trailing-zero-is-digit (pack-of (now s) .fieldtypes) (g .tree) (g .item) (pgn-in (now s) g));
+      pgn : PgnRecordIs (now s) (now work) g;
+    } ⌝ }
+    ensures { λ r. ⌜ Emitted (now (out .entry)) n
+        (check-trailing-zero-is-digit (pack-of (now (s .entry)) .fieldtypes) (g .tree) (g .item) (pgn-in (now (s .entry)) g))
+        (now (out .exit)) r ⌝ }
 {
-    let fields = g.fields;
+    let fields = g.view.fields;
     let mut m = n;
     let mut k: u32 = 0;
     while k < fields {
-        let f = field_of(s, work, t, i, p, k);
-        m = trailing_zero_at(out, m, s, work, t, i, p, g, k, f);
+        let f = field_of(s, work, g.tree, g.item, g.place, k);
+        m = trailing_zero_at(out, m, s, work, g, k, f);
         k += 1;
     }
     m

@@ -1,11 +1,10 @@
 // The rules that look at a PGN or a tree, in the order in which the Rust reports.
-ghost use mathlib.Core.Path.{_≡_};
 ghost use Prim.Native.Nat.{_<_};
 ghost use lib.ListN.{length};
 ghost use Rattle.pack.specs.Notation.{concat-below};
 ghost use Rattle.pack.specs.Meaning.{pack-of};
 ghost use Rattle.pack.specs.Value.{pgns-of, pgn-at};
-ghost use Rattle.pack.specs.Ready.{Ready, PgnAt, PgnIs, place-of-lookup, place-of-tree, IndexIs};
+ghost use Rattle.pack.specs.Ready.{Ready, IndexIs, PgnRecordIs, LookupsAre, TreeIs, pgn-in};
 ghost use Rattle.rules.specs.Check.{check-pgn, check-tree, check-tree-continues};
 ghost use Rattle.rules.specs.Emit.{Emitted, Fits};
 use crate::bit_length_field::check_bit_length_field;
@@ -27,37 +26,38 @@ use crate::variants::check_variants;
 use pack::load::Index;
 use pack::load::Section;
 use pack::of::pgn_of;
-use pack::pgn::PgnView;
+use pack::pgn::PgnRecord;
 use pack::protocol::Protocol;
 
-// PGN i of tree t, at p, which is g.
+// One PGN.
 fn check_pgn(
     out: &mut [u32],
     n: usize,
     s: &[u8],
     work: &[u32],
     lookups: Section,
-    t: u32,
-    i: u32,
-    p: usize,
-    g: PgnView,
+    g: PgnRecord,
 ) -> usize
-    requires { ⌜ Fits n (check-pgn (pack-of (now s)) t i (pgn-at (pack-of (now s)) t i)) × PgnAt (now s) (now work) t i p × PgnIs (now s) (pgn-at (pack-of (now s)) t i) g × (lookups .count ≡ length (pack-of (now s) .lookups)) × (lookups .place ≡ place-of-lookup (pack-of (now s)) 0) ⌝ }
-    ensures { λ r. ⌜ Emitted (now (out .entry)) n (check-pgn (pack-of (now (s .entry))) t i (pgn-at (pack-of (now (s .entry))) t i)) (now (out .exit)) r ⌝ }
+    requires { ⌜ record {
+      fits : Fits n (check-pgn (pack-of (now s)) (g .tree) (g .item) (pgn-in (now s) g));
+      pgn : PgnRecordIs (now s) (now work) g;
+      lookups : LookupsAre (pack-of (now s)) lookups;
+    } ⌝ }
+    ensures { λ r. ⌜ Emitted (now (out .entry)) n (check-pgn (pack-of (now (s .entry))) (g .tree) (g .item) (pgn-in (now (s .entry)) g)) (now (out .exit)) r ⌝ }
 {
-    let r02 = check_pgn_range(out, n, s, t, i, g);
-    let r04 = check_frame_length(out, r02, s, t, i, g);
-    let r05 = check_repeating(out, r04, s, t, i, g);
-    let r06 = check_dynamic_length(out, r05, s, work, t, i, p, g);
-    let r07 = check_proprietary(out, r06, s, work, t, i, p, g);
-    let r09 = check_special_values(out, r07, s, work, t, i, p, g);
-    let r11 = check_field_count(out, r09, s, t, i, g);
-    let r12 = check_reserved_ids(out, r11, s, work, t, i, p, g);
-    let r13 = check_match_values(out, r12, s, work, lookups, t, i, p, g);
-    let r14 = check_field_type_overrides(out, r13, s, work, t, i, p, g);
-    let r15 = check_bit_length_field(out, r14, s, work, t, i, p, g);
-    let r44 = check_trailing_zero_is_digit(out, r15, s, work, t, i, p, g);
-    check_min_length(out, r44, s, work, t, i, p, g)
+    let r02 = check_pgn_range(out, n, s, g);
+    let r04 = check_frame_length(out, r02, s, g);
+    let r05 = check_repeating(out, r04, s, g);
+    let r06 = check_dynamic_length(out, r05, s, work, g);
+    let r07 = check_proprietary(out, r06, s, work, g);
+    let r09 = check_special_values(out, r07, s, work, g);
+    let r11 = check_field_count(out, r09, s, g);
+    let r12 = check_reserved_ids(out, r11, s, work, g);
+    let r13 = check_match_values(out, r12, s, work, lookups, g);
+    let r14 = check_field_type_overrides(out, r13, s, work, g);
+    let r15 = check_bit_length_field(out, r14, s, work, g);
+    let r44 = check_trailing_zero_is_digit(out, r15, s, work, g);
+    check_min_length(out, r44, s, work, g)
 }
 
 // The PGNs of tree t.
@@ -70,17 +70,31 @@ fn check_pgns(
     t: u32,
     tree: Section,
 ) -> usize
-    requires { ⌜ Fits n (concat-below (λ i. check-pgn (pack-of (now s)) t i (pgn-at (pack-of (now s)) t i)) (length (pgns-of (pack-of (now s)) t))) × Ready (now s) (now work) × (t < 3) × (tree .count ≡ length (pgns-of (pack-of (now s)) t)) × (tree .place ≡ place-of-tree (pack-of (now s)) t) × (lookups .count ≡ length (pack-of (now s) .lookups)) × (lookups .place ≡ place-of-lookup (pack-of (now s)) 0) ⌝ }
-    ensures { λ r. ⌜ Emitted (now (out .entry)) n (concat-below (λ i. check-pgn (pack-of (now (s .entry))) t i (pgn-at (pack-of (now (s .entry))) t i)) (length (pgns-of (pack-of (now (s .entry))) t))) (now (out .exit)) r ⌝ }
+    requires { ⌜ record {
+      fits : Fits n (concat-below (λ i. check-pgn (pack-of (now s)) t i (pgn-at (pack-of (now s)) t i)) (length (pgns-of (pack-of (now s)) t)));
+      ready : Ready (now s) (now work);
+      trees : t < 3;
+      pgns : TreeIs (pack-of (now s)) t tree;
+      lookups : LookupsAre (pack-of (now s)) lookups;
+    } ⌝ }
+    ensures { λ r. ⌜ Emitted (now (out .entry)) n
+        (concat-below (λ i. check-pgn (pack-of (now (s .entry))) t i (pgn-at (pack-of (now (s .entry))) t i))
+        (length (pgns-of (pack-of (now (s .entry))) t))) (now (out .exit)) r ⌝ }
 {
     let count = tree.count;
     let mut m = n;
     let mut p = tree.place;
     let mut i: u32 = 0;
     while i < count {
-        let g = pgn_of(s, work, t, i, p);
-        m = check_pgn(out, m, s, work, lookups, t, i, p, g);
-        p = p + 1 + g.fields as usize;
+        let view = pgn_of(s, work, t, i, p);
+        let pgn = PgnRecord {
+            tree: t,
+            item: i,
+            place: p,
+            view,
+        };
+        m = check_pgn(out, m, s, work, lookups, pgn);
+        p = p + 1 + view.fields as usize;
         i += 1;
     }
     m
@@ -88,7 +102,12 @@ fn check_pgns(
 
 // Tree t.
 fn check_tree(out: &mut [u32], n: usize, s: &[u8], work: &[u32], index: Index, t: u32) -> usize
-    requires { ⌜ Fits n (check-tree (pack-of (now s)) t) × Ready (now s) (now work) × IndexIs (pack-of (now s)) index × (t < 3) ⌝ }
+    requires { ⌜ record {
+      fits : Fits n (check-tree (pack-of (now s)) t);
+      ready : Ready (now s) (now work);
+      index : IndexIs (pack-of (now s)) index;
+      trees : t < 3;
+    } ⌝ }
     ensures { λ r. ⌜ Emitted (now (out .entry)) n (check-tree (pack-of (now (s .entry))) t) (now (out .exit)) r ⌝ }
 {
     let protocol = Protocol::of_tree(t);
@@ -99,7 +118,11 @@ fn check_tree(out: &mut [u32], n: usize, s: &[u8], work: &[u32], index: Index, t
 }
 
 pub fn check_trees(out: &mut [u32], n: usize, s: &[u8], work: &[u32], index: Index) -> usize
-    requires { ⌜ Fits n (concat-below (check-tree (pack-of (now s))) 3) × Ready (now s) (now work) × IndexIs (pack-of (now s)) index ⌝ }
+    requires { ⌜ record {
+      fits : Fits n (concat-below (check-tree (pack-of (now s))) 3);
+      ready : Ready (now s) (now work);
+      index : IndexIs (pack-of (now s)) index;
+    } ⌝ }
     ensures { λ r. ⌜ Emitted (now (out .entry)) n (concat-below (check-tree (pack-of (now (s .entry)))) 3) (now (out .exit)) r ⌝ }
 {
     let nmea2000 = check_tree(out, n, s, work, index, 0);
@@ -116,7 +139,12 @@ fn check_tree_continues(
     t: u32,
     tree: Section,
 ) -> usize
-    requires { ⌜ Fits n (check-tree-continues (pack-of (now s)) t) × Ready (now s) (now work) × (t < 3) × (tree .count ≡ length (pgns-of (pack-of (now s)) t)) × (tree .place ≡ place-of-tree (pack-of (now s)) t) ⌝ }
+    requires { ⌜ record {
+      fits : Fits n (check-tree-continues (pack-of (now s)) t);
+      ready : Ready (now s) (now work);
+      trees : t < 3;
+      pgns : TreeIs (pack-of (now s)) t tree;
+    } ⌝ }
     ensures { λ r. ⌜ Emitted (now (out .entry)) n (check-tree-continues (pack-of (now (s .entry))) t) (now (out .exit)) r ⌝ }
 {
     let count = tree.count;
@@ -124,9 +152,15 @@ fn check_tree_continues(
     let mut p = tree.place;
     let mut i: u32 = 0;
     while i < count {
-        let g = pgn_of(s, work, t, i, p);
-        m = check_continues(out, m, s, work, t, i, p, g);
-        p = p + 1 + g.fields as usize;
+        let view = pgn_of(s, work, t, i, p);
+        let pgn = PgnRecord {
+            tree: t,
+            item: i,
+            place: p,
+            view,
+        };
+        m = check_continues(out, m, s, work, pgn);
+        p = p + 1 + view.fields as usize;
         i += 1;
     }
     m
@@ -139,7 +173,11 @@ pub fn check_trees_continues(
     work: &[u32],
     index: Index,
 ) -> usize
-    requires { ⌜ Fits n (concat-below (check-tree-continues (pack-of (now s))) 3) × Ready (now s) (now work) × IndexIs (pack-of (now s)) index ⌝ }
+    requires { ⌜ record {
+      fits : Fits n (concat-below (check-tree-continues (pack-of (now s))) 3);
+      ready : Ready (now s) (now work);
+      index : IndexIs (pack-of (now s)) index;
+    } ⌝ }
     ensures { λ r. ⌜ Emitted (now (out .entry)) n (concat-below (check-tree-continues (pack-of (now (s .entry)))) 3) (now (out .exit)) r ⌝ }
 {
     let nmea2000 = check_tree_continues(out, n, s, work, 0, index.nmea2000);

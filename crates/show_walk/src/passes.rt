@@ -15,7 +15,7 @@ pub struct Passes {
 }
 
 pub fn none() -> Passes
-    ensures { λ r. ⌜ (r .first ≤ 0) × (r .second ≤ 0) ⌝ }
+    ensures { λ r. ⌜ record { first : r .first ≤ 0; second : r .second ≤ 0 } ⌝ }
 {
     Passes {
         first: 0,
@@ -41,8 +41,8 @@ fn say_pass(w: &[u8], n: usize) {
 
 // At a visit of the order; a pass that begins with it is said.
 pub fn at_visit(g: PgnView, passes: Passes, order: FieldOrder) -> Passes
-    requires { ⌜ (passes .first < 18446744073709551615) × (passes .second < 18446744073709551615) ⌝ }
-    ensures { λ r. ⌜ (r .first ≤ passes .first + 1) × (r .second ≤ passes .second + 1) ⌝ }
+    requires { ⌜ record { first : passes .first < 18446744073709551615; second : passes .second < 18446744073709551615 } ⌝ }
+    ensures { λ r. ⌜ record { first : r .first ≤ passes .first + 1; second : r .second ≤ passes .second + 1 } ⌝ }
 {
     if begins(g.repeating1, order) {
         let first = passes.first + 1;

@@ -32,7 +32,8 @@ readings-visit L h g a i r k t e = go (ℕ-discrete i t)
 -- the two settle alike
 pub data Same (L : Layout) : Settled Visits → Settled (ℕ → ℕ) → Type 0 where
   both-past : Same L past past
-  both-halted : {k : ℕ} {p : Place} {h : Visits} (g : ℕ → ℕ) → Comes L (standing (arrived k p)) h → arrive L (by-place L) p g k (set-at L k .count-field) ≡ not-current → Same L halted halted
+  both-halted : {k : ℕ} {p : Place} {h : Visits} (g : ℕ → ℕ) → Comes L (standing (arrived k p)) h
+      → arrive L (by-place L) p g k (set-at L k .count-field) ≡ not-current → Same L halted halted
   both-due : {p : Place} {h : Visits} {g : ℕ → ℕ} → Comes L (visiting p) h → Readings L h g → Same L (due p h) (due p g)
 
 module _ (L : Layout) (G : Good L) where
@@ -43,7 +44,8 @@ module _ (L : Layout) (G : Good L) where
   arrive-same p h g k same a (some zero) e = refl
   arrive-same p h g k same a (some (suc t)) e = rw (same t, a k t e)
 
-  settle-same : (n : ℕ) (h : Visits) (g : ℕ → ℕ) → Readings L h g → (c : Stand) → Comes L (standing c) h → Same L (settle L (by-visits L) n c h) (settle L (by-place L) n c g)
+  settle-same : (n : ℕ) (h : Visits) (g : ℕ → ℕ) → Readings L h g → (c : Stand) → Comes L (standing c) h
+      → Same L (settle L (by-visits L) n c h) (settle L (by-place L) n c g)
   unfolding settle
   settle-same zero h g a c s = both-past
   settle-same (suc n) h g a (again k p) s = both-due (another s) a
@@ -61,7 +63,8 @@ module _ (L : Layout) (G : Good L) where
       go over x rec = rw (same, x, settle) (rec _ (passed-over s))
       go (enter y) x rec = rw (same, x, settle) (both-due (entered y s) a)
 
-  pub next-same : (p : Place) (h : Visits) (g : ℕ → ℕ) (r : ℕ) → Comes L (visiting p) h → Readings L h g → Same L (onward L (by-visits L) p h r) (onward L (by-place L) p g r)
+  pub next-same : (p : Place) (h : Visits) (g : ℕ → ℕ) (r : ℕ) → Comes L (visiting p) h → Readings L h g
+      → Same L (onward L (by-visits L) p h r) (onward L (by-place L) p g r)
   unfolding onward settled
   next-same p h g r c a = settle-same (suc (length (L .fields))) _ _ (readings-visit L h g a (pred (p .order)) r) _ (after-visit r c)
 
@@ -69,14 +72,16 @@ module _ (L : Layout) (G : Good L) where
   unfolding settled latest
   first-same = settle-same (suc (length (L .fields))) _ _ (λ k t e. refl) _ at-first
 
-  walk-same : (stops : Stops) (rs : List ℕ) (x : Settled Visits) (y : Settled (ℕ → ℕ)) → Same L x y → walk-on L (by-visits L) stops x rs ≡ walk-on L (by-place L) stops y rs
+  walk-same : (stops : Stops) (rs : List ℕ) (x : Settled Visits) (y : Settled (ℕ → ℕ)) → Same L x y
+      → walk-on L (by-visits L) stops x rs ≡ walk-on L (by-place L) stops y rs
   unfolding walk-on
   walk-same stops [] x y both-past = refl
   walk-same stops [] x y (both-halted g c e) = refl
   walk-same stops [] x y (both-due c a) = refl
   walk-same stops (r ∷ rs) x y both-past = refl
   walk-same stops (r ∷ rs) x y (both-halted g c e) = refl
-  walk-same stops (r ∷ rs) x y (both-due {p = p} {h = h} {g = g} c a) = go (stops (placed L (p .order)) (pred (p .order)) r) refl (walk-same stops rs _ _ (next-same p h g r c a))
+  walk-same stops (r ∷ rs) x y (both-due {p = p} {h = h} {g = g} c a)
+      = go (stops (placed L (p .order)) (pred (p .order)) r) refl (walk-same stops rs _ _ (next-same p h g r c a))
     where
       current : by-visits L .current p h ≡ placed L (p .order)
       current = fun-ext (at-field L G c)

@@ -86,7 +86,8 @@ module _ (P : Pack) where
   and-none true b e = e
   and-none false b e = refl
 
-  pub no-stop-5 : ((l : ℕ) → l < length (P .lookups) → Clean (check-nested-refs P l (lookup-at (P .lookups) l))) → (x : Option Reference) (reading : ℕ) → reference-names-missing P x reading ≡ false
+  pub no-stop-5 : ((l : ℕ) → l < length (P .lookups) → Clean (check-nested-refs P l (lookup-at (P .lookups) l))) → (x : Option Reference) (reading : ℕ)
+      → reference-names-missing P x reading ≡ false
   unfolding check-nested-refs reference-names-missing lookup-names-missing entries-name-missing find-lookup
   no-stop-5 c none reading = refl
   no-stop-5 c (some r) reading = go (find-lookup (P .lookups) (r .name)) refl
@@ -96,7 +97,9 @@ module _ (P : Pack) where
       go (some l) q =
           let es = fieldtypes (lookup-at (P .lookups) l) in
           let c′ = c l (first-is _ _ l q .0) in
-          rw (q, lookup-names-missing, entries-name-missing) (none-below _ (length es) (λ e h. and-none (eqb (entry-at es e .value) reading) _ (names-there l e (entry-at es e) (clean-below _ (length es) c′ e h))))
+          rw (q, lookup-names-missing, entries-name-missing)
+          (none-below _ (length es)
+          (λ e h. and-none (eqb (entry-at es e .value) reading) _ (names-there l e (entry-at es e) (clean-below _ (length es) c′ e h))))
 
 -- A NEEDED FIELD of the PGN p, by the place
 module _ (p : Pgn) where
@@ -106,7 +109,8 @@ module _ (p : Pgn) where
 
   -- STOP 6, by R15 and what is held
   pub no-stop-6 : (t i k : ℕ) (x : Option Bytes) → Clean (bit-length-field-at t i p k x)
-      → ((id : Bytes) (j : ℕ) → x ≡ some id → target p id ≡ some j → sets-hold (layout p) (suc j) (suc k) ≡ true) → lacks p (placed (layout p) (suc k)) x ≡ false
+      → ((id : Bytes) (j : ℕ) → x ≡ some id → target p id ≡ some j → sets-hold (layout p) (suc j) (suc k) ≡ true)
+      → lacks p (placed (layout p) (suc k)) x ≡ false
   unfolding bit-length-field-at bit-length-target-at lacks placed
   no-stop-6 t i k none e h = refl
   no-stop-6 t i k (some id) e h = go (target p id) refl
@@ -173,7 +177,8 @@ module _ (p : Pgn) (G : Good (layout p)) where
       omega (arith, order-e (p .repeating2) (k + 1) (same-2 (one j) (two j) (one k) (two k) q a))
   one-set j k q (suc (suc n)) h = absurd (omega (arith, short (layout p) (suc (suc n)) (suc j) h))
 
-  pub no-stop-7 : (P : Pack) (t i k : ℕ) → k < length (p .fields) → (x : Option Bytes) → Clean (continues-at (P .fieldtypes) t i p k x) → lacks p (placed (layout p) (suc k)) x ≡ false
+  pub no-stop-7 : (P : Pack) (t i k : ℕ) → k < length (p .fields) → (x : Option Bytes) → Clean (continues-at (P .fieldtypes) t i p k x)
+      → lacks p (placed (layout p) (suc k)) x ≡ false
   unfolding continues-at continued-found-at continued-at lacks target
   no-stop-7 P t i k l none e = refl
   no-stop-7 P t i k l (some id) e = go (first-below (λ j. field-at p j .id ≐ id) k) refl

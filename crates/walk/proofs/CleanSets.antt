@@ -60,7 +60,8 @@ module _ (t i n : ℕ) where
   silent : (fields : ℕ) (outer : Option Repeating) (r : Repeating) → 0 < r .count → Clean (check-set t i n fields outer (some r)) → Silent fields outer r
   unfolding check-set
   silent fields outer r l e =
-      let parts = clean-in-turn (set-bounds t i n fields r) (set-count-field t i n (r .start) (r .count-field) ∷ (if r .nested then set-nesting t i n outer r else []) ∷ [])
+      let parts = clean-in-turn (set-bounds t i n fields r)
+      (set-count-field t i n (r .start) (r .count-field) ∷ (if r .nested then set-nesting t i n outer r else []) ∷ [])
       (rw (ne-eqb (r .count) 0 (λ q. omega arith)) at e) in
       let b = bounds fields r (parts .0) in
       record {

@@ -508,6 +508,7 @@ three = record {
 }
 
 three-deep :
-    walk-with three (by-visits three) (λ current i r. none) (0 ∷ 0 ∷ 0 ∷ 0 ∷ 1 ∷ 2 ∷ 0 ∷ 9 ∷ 9 ∷ 7 ∷ []) ≡ answer used-up (0 ∷ 1 ∷ 2 ∷ 1 ∷ 2 ∷ 3 ∷ 4 ∷ 5 ∷ 5 ∷ 1 ∷ [])
+    walk-with three (by-visits three) (λ current i r. none) (0 ∷ 0 ∷ 0 ∷ 0 ∷ 1 ∷ 2 ∷ 0 ∷ 9 ∷ 9 ∷ 7 ∷ [])
+    ≡ answer used-up (0 ∷ 1 ∷ 2 ∷ 1 ∷ 2 ∷ 3 ∷ 4 ∷ 5 ∷ 5 ∷ 1 ∷ [])
 unfolding run
 three-deep = refl

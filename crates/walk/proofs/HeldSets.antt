@@ -25,7 +25,8 @@ pub record Fits (L : Layout) (k : ℕ) : Type 0 where
 module _ (L : Layout) (fit : (k o : ℕ) → Holds L k o → Fits L k) (shares : shares-held L ≡ true) where
   apart : (j k : ℕ) → j < k → k < length (L .sets) → clash L j k ≡ false
   unfolding shares-held
-  apart j k l m = not-true (clash L j k) (every-e (λ j. not (clash L j k)) k (every-e (λ k. every-below (λ j. not (clash L j k)) k) (length (L .sets)) shares k m) j l)
+  apart j k l m = not-true (clash L j k)
+      (every-e (λ j. not (clash L j k)) k (every-e (λ k. every-below (λ j. not (clash L j k)) k) (length (L .sets)) shares k m) j l)
 
   in-place : (k : ℕ) → misplaced L k ≡ false
   unfolding misplaced
@@ -36,7 +37,9 @@ module _ (L : Layout) (fit : (k o : ℕ) → Holds L k o → Fits L k) (shares :
       go true e =
           let l = ltb-true 0 (set-at L k .count) e in
           let f = fit k (start L k) (omega arith) in
-          rw (e, misplaced) (or-i _ _ (or-i _ _ (ne-eqb (start L k) 0 (λ q. omega (arith, f .low))) (le-ltb _ _ (f .high))) (and-not (set-at L k .nested) (inside-previous L k) (f .nests)))
+          rw (e, misplaced)
+          (or-i _ _ (or-i _ _ (ne-eqb (start L k) 0 (λ q. omega (arith, f .low))) (le-ltb _ _ (f .high)))
+          (and-not (set-at L k .nested) (inside-previous L k) (f .nests)))
 
   pub past-stop-1 : stop-1 L ≡ false
   unfolding stop-1

@@ -96,7 +96,8 @@ module _ (L : Layout) (p : Place) (h : Visits) (law : Law L p h) where
   -- a pass of set k begins, here or visit-then one that ends here
   pub law-begin : (k : ℕ) (x : Option Rest) → start L k ≤ p .order → p .order ≤ end L k → Law L (goto-with p (start L k) k x) (by-visits L .begin h k)
   law-begin k x l u = law-set k (start L k) x _ (λ j n. put-other (h .begun) k _ j n) (rw put-same (omega arith))
-      (λ t a b e. omega arith) (λ t a e s. since-none _ (h .made) t (omega arith) (rw put-same at s)) (λ t n b. before L k (suc t) n (omega arith)) (λ t n b. omega arith)
+      (λ t a b e. omega arith) (λ t a e s. since-none _ (h .made) t (omega arith) (rw put-same at s)) (λ t n b. before L k (suc t) n (omega arith))
+      (λ t n b. omega arith)
 
   -- set k is passed over
   pub law-over : (k : ℕ) → start L k ≡ p .order → (Present p k → ⊥) → Law L (goto p (end L k)) h
@@ -143,7 +144,8 @@ module _ (L : Layout) (p : Place) (h : Visits) (law : Law L p h) (d : Due L p) (
       fwd : (t : ℕ) → Current L (p .left) (by-visits L .visit h (pred (p .order)) r) t → Dec (suc t ≡ p .order) → Behind L (goto p (suc (p .order))) t
       fwd t c (yes q) = record { below = omega arith; here = c .here }
       fwd t c (no q) =
-          let b = law .fwd t (record { ever = rw (since-miss 0 t q) at (c .ever); here = c .here; lately = λ k a. rw (since-miss (h .begun k) t q) at (c .lately k a) }) in
+          let b = law .fwd t
+          (record { ever = rw (since-miss 0 t q) at (c .ever); here = c .here; lately = λ k a. rw (since-miss (h .begun k) t q) at (c .lately k a) }) in
           record { below = omega arith; here = b .here }
 
       bwd : (t : ℕ) → Behind L (goto p (suc (p .order))) t → Dec (suc t ≡ p .order) → Current L (p .left) (by-visits L .visit h (pred (p .order)) r) t
@@ -186,16 +188,22 @@ pub record Arriving (L : Layout) (p : Place) (k : ℕ) : Type 0 where
 
 pub arrives-e : (L : Layout) (p : Place) (k : ℕ) → arrives L p k ≡ true → Arriving L p k
 unfolding arrives
-arrives-e L p k e = record { full = ltb-true _ _ (search (and-l, and-r)); starts = eqb-true _ _ (search (and-l, and-r)); outside = λ a. false≢true (sym (not-true _ (search (and-l, and-r))) ∙ a) }
+arrives-e L p k e = record {
+  full = ltb-true _ _ (search (and-l, and-r));
+  starts = eqb-true _ _ (search (and-l, and-r));
+  outside = λ a. false≢true (sym (not-true _ (search (and-l, and-r))) ∙ a);
+}
 
 arrives-f : (L : Layout) (p : Place) (k : ℕ) → arrives L p k ≡ false → Holds L k (p .order) → start L k ≡ p .order → Present p k
 unfolding arrives
 arrives-f L p k e a q = not-false (present (p .left k)) (rw (lt-ltb 0 (set-at L k .count) (omega arith), eq-eqb (start L k) (p .order) q) at e)
 
 -- a set that is arrived at is entered
-pub entering : (L : Layout) (p : Place) (h : Visits) → Law L p h → (k : ℕ) (x : Rest) → Arriving L p k → Law L (goto-with p (p .order) k (some x)) (by-visits L .begin h k)
+pub entering : (L : Layout) (p : Place) (h : Visits) → Law L p h → (k : ℕ) (x : Rest) → Arriving L p k
+    → Law L (goto-with p (p .order) k (some x)) (by-visits L .begin h k)
 entering L p h law k x a =
-    subst (λ (o : ℕ). Law L (goto-with p o k (some x)) (by-visits L .begin h k)) (a .starts) (law-begin L p h law k (some x) (omega (arith, a .starts)) (omega (arith, a .starts)))
+    subst (λ (o : ℕ). Law L (goto-with p o k (some x)) (by-visits L .begin h k)) (a .starts)
+    (law-begin L p h law k (some x) (omega (arith, a .starts)) (omega (arith, a .starts)))
 
 -- the passes that end here are closed
 module _ (L : Layout) (w : ℕ) (p : Place) (m : Moved L w 0 p) where
@@ -240,7 +248,8 @@ module _ (L : Layout) (G : Good L) (w : ℕ) (p : Place) (m : Moved L w 0 p) (hi
       let hk : Holds L k (p .order) = omega (arith, v .full, v .starts) in
       let up : (j : ℕ) → Present p j → end L k ≤ end L j = λ j a.
       let hj : Holds L j (p .order) = now L w p m j a in
-      tri j k (λ l. G .inside j k (p .order) l hj hk .1) (λ r. rw r (omega arith)) (λ l. let i = G .inside k j (p .order) l hk hj in absurd (omega (arith, m .ahead, m .from j a))) in
+      tri j k (λ l. G .inside j k (p .order) l hj hk .1) (λ r. rw r (omega arith))
+      (λ l. let i = G .inside k j (p .order) l hk hj in absurd (omega (arith, m .ahead, m .from j a))) in
       record {
         ahead = omega (arith, m .ahead);
         from = m .from;
@@ -301,26 +310,32 @@ module _ (L : Layout) (G : Good L) (w : ℕ) (h : Visits) where
   due-again : (k : ℕ) (p : Place) (x : Rest) → Moved L w (suc k) p → p .order ≡ end L k → Present p k → Due L (goto-with p (start L k) k (some x))
   due-again k p x m q e = let hk : Holds L k w = (m .from k e, omega (arith, m .ahead)) in record {
     holding = λ j a. tri j k
-        (λ l. let b = was p (start L k) k (some x) j a (λ r. omega arith) in let i = G .inside j k w l (m .from j b, omega (arith, m .ahead, m .upto j b)) hk in omega arith)
+        (λ l. let b = was p (start L k) k (some x) j a (λ r. omega arith) in
+        let i = G .inside j k w l (m .from j b, omega (arith, m .ahead, m .upto j b)) hk in omega arith)
         (λ r. rw r (omega arith))
-        (λ l. let b = was p (start L k) k (some x) j a (λ r. omega arith) in let i = G .inside k j w l hk (m .from j b, omega (arith, m .ahead, m .upto j b)) in absurd (omega (arith, m .done j b l)));
+        (λ l. let b = was p (start L k) k (some x) j a (λ r. omega arith) in
+        let i = G .inside k j w l hk (m .from j b, omega (arith, m .ahead, m .upto j b)) in absurd (omega (arith, m .done j b l)));
     held = λ j a. tri j k
-        (λ l. let i = G .inside j k (start L k) l a (omega arith) in kept p (start L k) k (some x) j (λ r. omega arith) (m .todo j (omega arith) (omega arith) (omega arith)))
+        (λ l. let i = G .inside j k (start L k) l a (omega arith) in kept p (start L k) k (some x) j (λ r. omega arith)
+        (m .todo j (omega arith) (omega arith) (omega arith)))
         (λ r. put-in p (start L k) k (some x) j refl r)
         (λ l. let i = G .inside k j (start L k) l (omega arith) a in absurd (omega arith));
     low = G .low k w hk;
     high = omega (arith, G .high k w hk);
   }
 
-  again-ok : (k : ℕ) (p : Place) (x : Rest) → Moved L w (suc k) p → Law L p h → p .order ≡ end L k → Present p k → Stood L w h (again k (goto-with p (start L k) k (some x)))
+  again-ok : (k : ℕ) (p : Place) (x : Rest) → Moved L w (suc k) p → Law L p h → p .order ≡ end L k → Present p k
+      → Stood L w h (again k (goto-with p (start L k) k (some x)))
   again-ok k p x m law q e = (due-again k p x m q e, law-begin L p h law k (some x) (omega arith) (omega arith))
 
-  look-ok : (k : ℕ) (p : Place) → Moved L w 0 p → p .order ≤ length (L .fields) → Law L p h → ((j : ℕ) → k ≤ j → j < length (L .sets) → arrives L p j ≡ false) → Stood L w h (look L k p)
+  look-ok : (k : ℕ) (p : Place) → Moved L w 0 p → p .order ≤ length (L .fields) → Law L p h
+      → ((j : ℕ) → k ≤ j → j < length (L .sets) → arrives L p j ≡ false) → Stood L w h (look L k p)
   unfolding look
   look-ok zero p m u law f = (due-here L G w p m u (λ j. f j (omega arith)), law)
   look-ok (suc k) p m u law f = go (arrives L p k) refl (look-ok k p m u law)
     where
-      go : (b : Bool) → arrives L p k ≡ b → (((j : ℕ) → k ≤ j → j < length (L .sets) → arrives L p j ≡ false) → Stood L w h (look L k p)) → Stood L w h (look L (suc k) p)
+      go : (b : Bool) → arrives L p k ≡ b → (((j : ℕ) → k ≤ j → j < length (L .sets) → arrives L p j ≡ false) → Stood L w h (look L k p))
+          → Stood L w h (look L (suc k) p)
       go true e rec = rw (e, look) (record { moved = m; high = u; law = law; arriving = arrives-e L p k e })
       go false e rec = rw (e, look) (rec (λ j a b. tri j k (λ l. absurd (omega arith)) (λ q. rw q e) (λ l. f j l b)))
 

@@ -18,7 +18,8 @@ use Rattle.walk.specs.Stops.{stop-at}
 pub harmless-clear : (P : Pack) (p : Pgn) (m : List Bool) → Clear m → Harmless P p m
 harmless-clear P p m c = record { never = λ k h. absurd (false≢true (sym (c .none-set k) ∙ h)) }
 
-pub harmless-marked : {P : Pack} {p : Pgn} {m : List Bool} (k : ℕ) (b : Bool) → Harmless P p m → (b ≡ true → (r : ℕ) → stop-at P p (placed (layout p) (suc k)) k r ≡ none)
+pub harmless-marked : {P : Pack} {p : Pgn} {m : List Bool} (k : ℕ) (b : Bool) → Harmless P p m
+    → (b ≡ true → (r : ℕ) → stop-at P p (placed (layout p) (suc k)) k r ≡ none)
     → Harmless P p (if b then set m k true else m)
 harmless-marked k false h f = h
 harmless-marked {P} {p} {m} k true h f = record { never = λ j e. go j (ℕ-discrete j k) e }

@@ -32,7 +32,8 @@ module _ (L : Layout) {M : Type 0} (m : Memory M) (stops : Stops) where
   on-counted (r ∷ rs) halted = record { at-most = omega arith; exact = λ q. cc }
   on-counted (r ∷ rs) (due p h) = go (stops (m .current p h) (pred (p .order)) r) refl (on-counted rs (onward L m p h r))
     where
-      go : (t : Option ℕ) → stops (m .current p h) (pred (p .order)) r ≡ t → Counted (walk-on L m stops (onward L m p h r) rs) (length rs) → Counted (walk-on L m stops (due p h) (r ∷ rs)) (suc (length rs))
+      go : (t : Option ℕ) → stops (m .current p h) (pred (p .order)) r ≡ t → Counted (walk-on L m stops (onward L m p h r) rs) (length rs)
+          → Counted (walk-on L m stops (due p h) (r ∷ rs)) (suc (length rs))
       go (some n) t c = rw (t, walk-on) (record { at-most = omega arith; exact = λ q. cc })
       go none t c = rw (t, walk-on) (record { at-most = omega (arith, c .at-most); exact = λ f. ap suc (c .exact f) })
 

@@ -61,7 +61,8 @@ module _ (P : Pack) (t i : ℕ) (p : Pgn) (q : Quiet P t i p) (h : held-widest P
   laid = past-stop-1 (layout p) fit (held-4 .0)
 
   -- stop 6's target is held
-  bits-held : (k : ℕ) → k < length (p .fields) → (id : Bytes) (j : ℕ) → field-at p k .bit-length-field ≡ some id → target p id ≡ some j → sets-hold (layout p) (suc j) (suc k) ≡ true
+  bits-held : (k : ℕ) → k < length (p .fields) → (id : Bytes) (j : ℕ) → field-at p k .bit-length-field ≡ some id → target p id ≡ some j
+      → sets-hold (layout p) (suc j) (suc k) ≡ true
   unfolding bit-length-held
   bits-held k l id j a b = let e = every-e (λ k. bit-length-held p k) (length (p .fields)) (held-4 .2) k l in rw (bit-length-held, a, b) at e
 
@@ -71,7 +72,8 @@ module _ (P : Pack) (t i : ℕ) (p : Pgn) (q : Quiet P t i p) (h : held-widest P
   no-stop-8 k l = and-not (is-dynamic-value P (field-at p k)) (any-below current-source k) (λ v.
       let s = any-e _ k (imp-e (is-dynamic-value P (field-at p k)) _ (every-e (λ k. dynamic-value-held P p k) (length (p .fields)) (held-4 .3) k l) v) in
       let source = length-source (P .fieldtypes) (field-at p (s .at)) in
-      any-hit current-source k (s .at) (s .low) (and-i source _ (and-l source _ (s .has)) (and-i _ _ (lt-ltb (suc (s .at)) (suc k) (omega (arith, s .low))) (and-r source _ (s .has)))))
+      any-hit current-source k (s .at) (s .low)
+      (and-i source _ (and-l source _ (s .has)) (and-i _ _ (lt-ltb (suc (s .at)) (suc k) (omega (arith, s .low))) (and-r source _ (s .has)))))
     where
       current-source : ℕ → Bool
       current-source j = length-source (P .fieldtypes) (field-at p j) && placed (layout p) (suc k) j

@@ -58,12 +58,15 @@ module _ (P : Pack) (p : Pgn) (current : ℕ → Bool) (i reading : ℕ) where
 
 -- 5, by the fieldtype lookup that the reference names
 pub named-reading : {s w : List ℕ} {r : Option Reference} {v : FieldtypeLookup} → Named s w r v → (reading : ℕ) (b : Bool)
-    → b ≡ (v .given && entries-name-missing (pack-of s) (lookup-at (pack-of s .lookups) (v .index) .entries) reading) → b ≡ reference-names-missing (pack-of s) r reading
+    → b ≡ (v .given && entries-name-missing (pack-of s) (lookup-at (pack-of s .lookups) (v .index) .entries) reading)
+    → b ≡ reference-names-missing (pack-of s) r reading
 named-reading {s} {w} {r} {v} N reading b e = go (v .given) refl
   where
     go : (g : Bool) → v .given ≡ g → b ≡ reference-names-missing (pack-of s) r reading
-    go true g = e ∙ ap (λ (x : Bool). x && entries-name-missing (pack-of s) (lookup-at (pack-of s .lookups) (v .index) .entries) reading) g ∙ sym (N .decide g reading)
-    go false g = e ∙ ap (λ (x : Bool). x && entries-name-missing (pack-of s) (lookup-at (pack-of s .lookups) (v .index) .entries) reading) g ∙ sym (N .none g reading)
+    go true g = e ∙ ap (λ (x : Bool). x && entries-name-missing (pack-of s) (lookup-at (pack-of s .lookups) (v .index) .entries) reading) g
+        ∙ sym (N .decide g reading)
+    go false g = e ∙ ap (λ (x : Bool). x && entries-name-missing (pack-of s) (lookup-at (pack-of s .lookups) (v .index) .entries) reading) g
+        ∙ sym (N .none g reading)
 
 -- harmless: no stop, and no fieldtype lookup
 pub and-not-parts : (a b : Bool) → (a && not b) ≡ true → (a ≡ true) × (b ≡ false)
@@ -84,7 +87,8 @@ less-one a b h = go (ltb b a) refl
     go true e = rw (le-ltb (a - 1) b (omega (arith, ltb-true b a e)), lt-leb a b (ltb-true b a e))
     go false e = rw (lt-ltb (a - 1) b (omega (arith, ltb-false b a e)), le-leb a b (ltb-false b a e))
 
-module _ (P : Pack) (F : Field) (g : Bool) (v : ℕ) (e : optional g v ≡ resolve-match (P .lookups) F) (m : Bool) (t : Bytes) (x : F .match ≡ optional m t) (h : m ≡ true) where
+module _ (P : Pack) (F : Field) (g : Bool) (v : ℕ) (e : optional g v ≡ resolve-match (P .lookups) F) (m : Bool) (t : Bytes)
+    (x : F .match ≡ optional m t) (h : m ≡ true) where
   pub unresolved : g ≡ false → match-unfit P F ≡ true
   unfolding match-unfit unfit
   unresolved y = rw (← e, x, h, y)
@@ -144,7 +148,8 @@ de-morgan true false = refl
 de-morgan false b = refl
 
 -- that it is held says that it has one that is current
-pub value-held : (P : Pack) (p : Pgn) (L : Layout) (k : ℕ) → (not (is-dynamic-value P (field-at p k)) || any-below (gives P p L k) k) ≡ not (lacks-length P p (placed L (suc k)) k)
+pub value-held : (P : Pack) (p : Pgn) (L : Layout) (k : ℕ)
+    → (not (is-dynamic-value P (field-at p k)) || any-below (gives P p L k) k) ≡ not (lacks-length P p (placed L (suc k)) k)
 unfolding lacks-length
 value-held P p L k = rw (given-length P p L k) (de-morgan (is-dynamic-value P (field-at p k)) (any-below (gives P p L k) k))
 

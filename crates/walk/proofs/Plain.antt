@@ -36,7 +36,8 @@ elsewhere false b x e = refl
 abbrev pub edge : Set → ℕ → Bool
 edge v n = (v .start .0 == n) || (n == v .end .0)
 
-module _ {L : Layout} {v : Sets} (a : SetsAre L v) (p : Place) (o : ℕ) (po : p .order ≡ o) (low : o < v .fields) (f₁ : edge (v .first) (o + 1) ≡ false) (f₂ : edge (v .second) (o + 1) ≡ false) where
+module _ {L : Layout} {v : Sets} (a : SetsAre L v) (p : Place) (o : ℕ) (po : p .order ≡ o) (low : o < v .fields) (f₁ : edge (v .first) (o + 1) ≡ false)
+    (f₂ : edge (v .second) (o + 1) ≡ false) where
   abbrev next : Place
   next = goto p (suc o)
 
@@ -70,7 +71,8 @@ module _ {L : Layout} {v : Sets} (a : SetsAre L v) (p : Place) (o : ℕ) (po : p
 
 -- ---- a run
 
-pub run-starts : (L : Layout) (stops : Stops) (readings v : List ℕ) (n : ℕ) (p : Place) (g : ℕ → ℕ) (o : ℕ) → p .order ≡ o → Run L stops readings v n (due p g) v n (due (goto p o) g)
+pub run-starts : (L : Layout) (stops : Stops) (readings v : List ℕ) (n : ℕ) (p : Place) (g : ℕ → ℕ) (o : ℕ) → p .order ≡ o
+    → Run L stops readings v n (due p g) v n (due (goto p o) g)
 run-starts L stops readings v n p g o e = rw (← e) no-step
 
 pub run-visits : {L : Layout} {stops : Stops} {readings v v′ : List ℕ} {n m : ℕ} {c : Settled (ℕ → ℕ)} (p : Place) (g : ℕ → ℕ) (o : ℕ)
@@ -83,6 +85,7 @@ run-visits {L} {stops} {readings} {v} {v′} {n} {m} {c} p g o R low one free to
     (ap (λ (x : ℕ). due (goto p x) g) (add-one o) ∙ sym (to (getD readings m 0))))
 
 -- from a state where a field is due
-pub run-told : {L : Layout} {stops : Stops} {readings v v′ : List ℕ} {n m : ℕ} (x y : Settling) (g : ℕ → ℕ) (q : Place) → x .due ≡ true → settled-of y g ≡ due q g
+pub run-told : {L : Layout} {stops : Stops} {readings v v′ : List ℕ} {n m : ℕ} (x y : Settling) (g : ℕ → ℕ) (q : Place) → x .due ≡ true
+    → settled-of y g ≡ due q g
     → Run L stops readings v n (due (place-of (x .spot)) g) v′ m (due q g) → Run L stops readings v n (settled-of x g) v′ m (settled-of y g)
 run-told x y g q d e R = rw (d, e) R

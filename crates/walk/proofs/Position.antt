@@ -28,9 +28,11 @@ pub data Comes (L : Layout) : Moment → Visits → Type 0 where
   at-first : Comes L (standing (stand L first)) (by-visits L .fresh)
   another : {k : ℕ} {p : Place} {h : Visits} → Comes L (standing (again k p)) h → Comes L (visiting p) (by-visits L .begin h k)
   no-start : {p : Place} {h : Visits} → Comes L (standing (ready p)) h → Comes L (visiting p) h
-  entered : {k : ℕ} {p : Place} {h : Visits} (x : Rest) → Comes L (standing (arrived k p)) h → Comes L (visiting (goto-with p (p .order) k (some x))) (by-visits L .begin h k)
+  entered : {k : ℕ} {p : Place} {h : Visits} (x : Rest) → Comes L (standing (arrived k p)) h
+      → Comes L (visiting (goto-with p (p .order) k (some x))) (by-visits L .begin h k)
   passed-over : {k : ℕ} {p : Place} {h : Visits} → Comes L (standing (arrived k p)) h → Comes L (standing (stand L (goto p (end L k)))) h
-  after-visit : {p : Place} {h : Visits} (r : ℕ) → Comes L (visiting p) h → Comes L (standing (stand L (goto p (suc (p .order))))) (by-visits L .visit h (pred (p .order)) r)
+  after-visit : {p : Place} {h : Visits} (r : ℕ) → Comes L (visiting p) h
+      → Comes L (standing (stand L (goto p (suc (p .order))))) (by-visits L .visit h (pred (p .order)) r)
 
 -- what holds at each
 abbrev pub Holds-at : Layout → Moment → Visits → Type 0
@@ -55,7 +57,8 @@ module _ (L : Layout) (G : Good L) where
       (p .order, stand-ok L G (p .order) _ _ (moved-visit L p v (s .1) (s .0) r) (law-visit L p v (s .1) (s .0) r))
 
   -- `is-current` is `placed` where, of the sets that begin before here, those with a present pass are those that hold this order
-  by-law : (p : Place) (h : Visits) → Law L p h → ((j : ℕ) → Present p j → Holds L j (p .order)) → ((j : ℕ) → start L j < p .order → Holds L j (p .order) → Present p j)
+  by-law : (p : Place) (h : Visits) → Law L p h → ((j : ℕ) → Present p j → Holds L j (p .order))
+      → ((j : ℕ) → start L j < p .order → Holds L j (p .order) → Present p j)
       → (t : ℕ) → is-current L p h t ≡ placed L (p .order) t
   unfolding is-current placed sets-hold
   by-law p h law to fro t = bool-eq _ _
@@ -104,7 +107,8 @@ module _ (L : Layout) where
   settle-comes (suc n) beyond h s = tt
   settle-comes (suc n) (arrived k p) h s = go (arrive L (by-visits L) p h k (set-at L k .count-field)) refl (λ c. settle-comes n c h)
     where
-      go : (x : Arrival) → arrive L (by-visits L) p h k (set-at L k .count-field) ≡ x → ((c : Stand) → Comes L (standing c) h → Due-comes L (settle L (by-visits L) n c h))
+      go : (x : Arrival) → arrive L (by-visits L) p h k (set-at L k .count-field) ≡ x
+          → ((c : Stand) → Comes L (standing c) h → Due-comes L (settle L (by-visits L) n c h))
           → Due-comes L (settle L (by-visits L) (suc n) (arrived k p) h)
       go not-current e rec = rw (e, settle) tt
       go over e rec = rw (e, settle) (rec _ (passed-over s))

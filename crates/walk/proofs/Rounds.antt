@@ -37,7 +37,8 @@ close-ahead L zero p = go (ltb (length (L .fields)) (p .order)) refl
     go false e = rw (e, close) (look-ahead L (length (L .sets)) p (ltb-false _ _ e))
 close-ahead L (suc k) p = go (turn (eqb (p .order) (end L k)) (p .left k)) refl (close-ahead L k)
   where
-    go : (x : Turn) → turn (eqb (p .order) (end L k)) (p .left k) ≡ x → ((q : Place) → Ahead L (q .order) (close L k q)) → Ahead L (p .order) (close L (suc k) p)
+    go : (x : Turn) → turn (eqb (p .order) (end L k)) (p .left k) ≡ x → ((q : Place) → Ahead L (q .order) (close L k q))
+        → Ahead L (p .order) (close L (suc k) p)
     go goes-on e rec = rw (e, close) (rec p)
     go leaves e rec = rw (e, close) (rec _)
     go (begins x) e rec = rw (e, close) tt
@@ -64,4 +65,5 @@ module _ (L : Layout) {M : Type 0} (m : Memory M) (h : M) where
   pub enough : (p : Place) → 1 ≤ p .order → (more : ℕ) → settle L m (suc (more + length (L .fields))) (stand L p) h ≡ settled L m p h
   unfolding settled stand
   enough p o zero = rw zero-add
-  enough p o (suc d) = rw suc-add (sym (one-more (d + length (L .fields)) (p .order) (stand L p) (close-ahead L (length (L .sets)) p) (omega arith)) ∙ enough p o d)
+  enough p o (suc d) = rw suc-add
+      (sym (one-more (d + length (L .fields)) (p .order) (stand L p) (close-ahead L (length (L .sets)) p) (omega arith)) ∙ enough p o d)

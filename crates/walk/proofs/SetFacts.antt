@@ -52,7 +52,12 @@ placed-i L o t l h = and-i _ _ (lt-ltb _ _ l) (each-i L (suc t) (λ k. holds L k
 pub share-i : (L : Layout) (j k o : ℕ) → Holds L j o → Holds L k o → share L j k ≡ true
 unfolding share
 share-i L j k o h g =
-    rw (lt-ltb 0 (set-at L j .count) (omega arith), lt-ltb 0 (set-at L k .count) (omega arith), lt-ltb (start L j) (end L k) (omega arith), lt-ltb (start L k) (end L j) (omega arith))
+    rw (
+      lt-ltb 0 (set-at L j .count) (omega arith),
+      lt-ltb 0 (set-at L k .count) (omega arith),
+      lt-ltb (start L j) (end L k) (omega arith),
+      lt-ltb (start L k) (end L j) (omega arith),
+    )
 
 -- past stop 1
 pub record Good (L : Layout) : Type 0 where

@@ -74,7 +74,8 @@ unfolding arrive
 arrive-endless L p g k m e = rw (e, arrive)
 
 -- one round, on arriving at set k
-module _ (L : Layout) (p : Place) (g : ℕ → ℕ) (k : ℕ) (x : Arrival) (c : Option ℕ) (ec : c ≡ set-at L k .count-field) (ex : x ≡ arrive L (by-place L) p g k c) (n : ℕ) where
+module _ (L : Layout) (p : Place) (g : ℕ → ℕ) (k : ℕ) (x : Arrival) (c : Option ℕ) (ec : c ≡ set-at L k .count-field)
+    (ex : x ≡ arrive L (by-place L) p g k c) (n : ℕ) where
   pub round-not-current : x ≡ not-current → halted ≡ settle L (by-place L) (suc n) (arrived k p) g
   unfolding settle
   round-not-current e = rw (← ec, ← ex, e, settle)
@@ -112,7 +113,8 @@ module _ (L : Layout) (g : ℕ → ℕ) where
     rounds-settled zero l h x e = absurd (omega arith)
     rounds-settled (suc n) l h x e = ap (round-of L g n) (sym e) ∙ er n ∙ h
 
-    pub rounds-over : (n : ℕ) → 0 < n → settle L (by-place L) n c g ≡ B → (v : Spot) → r ≡ rounds.Over v → settle L (by-place L) (n - 1) (stand L (place-of v)) g ≡ B
+    pub rounds-over : (n : ℕ) → 0 < n → settle L (by-place L) n c g ≡ B → (v : Spot) → r ≡ rounds.Over v
+        → settle L (by-place L) (n - 1) (stand L (place-of v)) g ≡ B
     rounds-over zero l h v e = absurd (omega arith)
     rounds-over (suc n) l h v e = let d : suc n - 1 ≡ n = omega arith in rw d (ap (round-of L g n) (sym e) ∙ er n ∙ h)
 
@@ -187,10 +189,13 @@ module _ {L : Layout} {v : Sets} (a : SetsAre L v) where
   closed-look p l = rw (le-ltb (length (L .fields)) (p .order) (omega (arith, a .fields)), a .two, close)
 
   -- the countFields' latest readings
-  visit-two : (x y t r : ℕ) → by-place L .visit (two x y 0) t r ≡ two (if counts (set-at L 0 .count-field) t then r else x) (if counts (set-at L 1 .count-field) t then r else y) 0
+  visit-two : (x y t r : ℕ)
+      → by-place L .visit (two x y 0) t r ≡ two (if counts (set-at L 0 .count-field) t then r else x) (if counts (set-at L 1 .count-field) t then r else y) 0
   visit-two x y t r = fun-ext go
     where
-      go : (k : ℕ) → by-place L .visit (two x y 0) t r k ≡ two (if counts (set-at L 0 .count-field) t then r else x) (if counts (set-at L 1 .count-field) t then r else y) 0 k
+      go : (k : ℕ)
+          → by-place L .visit (two x y 0) t r k ≡ two (if counts (set-at L 0 .count-field) t then r else x)
+          (if counts (set-at L 1 .count-field) t then r else y) 0 k
       go zero = refl
       go (suc zero) = refl
       go (suc (suc k)) = rw (List·getD-eq-default (L .sets) no-set {n = suc (suc k)} (omega (arith, a .two)))

@@ -37,14 +37,19 @@ clean-means s m n h = go (verdict s) refl (leb (load-index s .records) m) refl (
     go (refused r) ev a ea b eb = absurd (false≢true (rw (checked, loaded, ev) at h))
     go accepted ev false ea b eb = absurd (false≢true (rw (checked, loaded, ev, ea) at h))
     go accepted ev true ea false eb = absurd (false≢true (rw (checked, loaded, ev, ea, eb) at h))
-    go accepted ev true ea true eb = record { taken = ev; quiet = errors-clean (check (pack-of s)) (eqb-true (errors (check (pack-of s))) 0 (rw (checked, loaded, ev, ea, eb) at h)) }
+    go accepted ev true ea true eb = record {
+      taken = ev;
+      quiet = errors-clean (check (pack-of s)) (eqb-true (errors (check (pack-of s))) 0 (rw (checked, loaded, ev, ea, eb) at h));
+    }
 
-kept : (s : List ℕ) (m t i : ℕ) (readings w : List ℕ) → verdict s ≡ accepted → in-pack (pack-of s) t i ≡ true → Unstopped (walk-of s t i readings) (length readings)
+kept : (s : List ℕ) (m t i : ℕ) (readings w : List ℕ) → verdict s ≡ accepted → in-pack (pack-of s) t i ≡ true
+    → Unstopped (walk-of s t i readings) (length readings)
     → Kept (walk-of s t i readings) (length readings) m w (visits-after s m t i readings w) (walked s m t i readings (length w))
 unfolding walked visits-after loaded
 kept s m t i readings w ev there u = go (leb (load-index s .records) m) refl (leb (length readings) (length w)) refl u
   where
-    go : (a : Bool) → leb (load-index s .records) m ≡ a → (b : Bool) → leb (length readings) (length w) ≡ b → Unstopped (walk-of s t i readings) (length readings)
+    go : (a : Bool) → leb (load-index s .records) m ≡ a → (b : Bool) → leb (length readings) (length w) ≡ b
+        → Unstopped (walk-of s t i readings) (length readings)
         → Kept (walk-of s t i readings) (length readings) m w (visits-after s m t i readings w) (walked s m t i readings (length w))
     go false ea b eb u = work-short (load-index s .records) (leb-false _ _ ea) (rw (ev, ea)) (rw (ev, ea))
     go true ea false eb u = visits-short (leb-false _ _ eb) (rw (ev, ea, there, eb)) (rw (ev, ea, there, eb))

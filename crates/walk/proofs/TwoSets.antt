@@ -97,7 +97,8 @@ module _ {L : Layout} {v : Sets} (a : SetsAre L v) where
   count-second : (o : Option ℕ) → count-field-held L 1 o ≡ counter-held v o (v .second .nested)
   unfolding count-field-held
   count-second none = refl
-  count-second (some c) = rw (a .two, holds-first c, holds-second c, nested-second, nested-own) (swapped (in-set (v .first) c) (in-set (v .second) c) (v .second .nested))
+  count-second (some c) = rw (a .two, holds-first c, holds-second c, nested-second, nested-own)
+      (swapped (in-set (v .first) c) (in-set (v .second) c) (v .second .nested))
 
   pub count-fields-two : count-fields-held L
       ≡ (counter-held v (opt-order (v .first .counter)) false && counter-held v (opt-order (v .second .counter)) (v .second .nested))

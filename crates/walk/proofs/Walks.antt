@@ -1,4 +1,5 @@
 -- The walk's loop: what it has made of the walk by now, one step, and its ends.
+use Rattle.walk.specs.declared.walk.End.{End as Ending}
 use Prim.Native.Nat.{ℕ, zero, suc, pred, _+_, _-_, _≤_, _<_}
 use native.Mathlib.Omega.{arith}
 use native.Mathlib.Numerals.{add-one}
@@ -24,7 +25,6 @@ use Rattle.walk.specs.StopParts.{stop-number}
 use Rattle.walk.specs.Stops.{stop-at}
 use Rattle.walk.specs.WalkCall.{ending, told}
 use Rattle.walk.specs.declared.passes.Settling.{Settling}
-use Rattle.walk.specs.declared.walk.End.{End as Ending}
 use Rattle.walk.specs.declared.walk.End.the-variants.{Whole, UsedUp, Stop}
 use Rattle.walk.specs.declared.walk.Walked.{Walked}
 use Rattle.walk.specs.declared.walk.Walked.the-variants.{Ended}
@@ -51,7 +51,8 @@ pub stop-is : (n : ℕ) → (n ≡ 0 → ⊥) → stop-number n ≡ some n
 stop-is zero h = absurd (h refl)
 stop-is (suc n) h = refl
 
-module _ (L : Layout) (stops : Stops) (p : Place) (g : ℕ → ℕ) (r k : ℕ) (ek : k ≡ p .order - 1) (low : 1 ≤ p .order) (n : ℕ) (en : stop-number n ≡ stops (placed L (suc k)) k r) where
+module _ (L : Layout) (stops : Stops) (p : Place) (g : ℕ → ℕ) (r k : ℕ) (ek : k ≡ p .order - 1) (low : 1 ≤ p .order) (n : ℕ)
+    (en : stop-number n ≡ stops (placed L (suc k)) k r) where
   here : stop-number n ≡ stops (placed L (p .order)) (pred (p .order)) r
   here = let a : suc k ≡ p .order = omega arith in let b : k ≡ pred (p .order) = omega arith in rw (← b, ← a) en
 
@@ -79,7 +80,8 @@ used-finished v g d = go (v .halted) refl
     go true x = rw (d, x)
     go false x = rw (d, x)
 
-pub due-within : (L : Layout) (v : Settling) (g : ℕ → ℕ) → v .due ≡ true → Within L (settled-of v g) → (1 ≤ v .spot .order .0) × (v .spot .order .0 ≤ length (L .fields))
+pub due-within : (L : Layout) (v : Settling) (g : ℕ → ℕ) → v .due ≡ true → Within L (settled-of v g)
+    → (1 ≤ v .spot .order .0) × (v .spot .order .0 ≤ length (L .fields))
 due-within L v g d w = rw d at w
 
 all-same : {A : Type 0} (x : A) → two x x x ≡ (λ k. x)
@@ -94,7 +96,8 @@ pub begins-at : (L : Layout) (l : Option Rest) → l ≡ none → (o : ℕ) → 
     → settled L (by-place L) (record { order = o; left = two l l none }) (two 0 0 0) ≡ settled L (by-place L) first (by-place L .fresh)
 begins-at L l e o q = rw (e, q, all-same {A = Option Rest} none, all-same {A = ℕ} 0)
 
-pub goes-onward : (L : Layout) (p q : Place) (g h : ℕ → ℕ) (r : ℕ) → q ≡ goto p (p .order + 1) → h ≡ by-place L .visit g (p .order - 1) r → settled L (by-place L) q h ≡ onward L (by-place L) p g r
+pub goes-onward : (L : Layout) (p q : Place) (g h : ℕ → ℕ) (r : ℕ) → q ≡ goto p (p .order + 1) → h ≡ by-place L .visit g (p .order - 1) r
+    → settled L (by-place L) q h ≡ onward L (by-place L) p g r
 unfolding onward
 goes-onward L p q g h r e f = let b : p .order - 1 ≡ pred (p .order) = omega arith in rw (e, f, b, add-one)
 
@@ -111,7 +114,8 @@ module _ (L : Layout) (stops : Stops) where
   step-law halted r rs = refl
   step-law (due p g) r rs = go (stops (placed L (p .order)) (pred (p .order)) r) refl
     where
-      go : (t : Option ℕ) → stops (placed L (p .order)) (pred (p .order)) r ≡ t → walk-on L (by-place L) stops (due p g) (r ∷ rs) ≡ answer-of rs (one-step L stops (due p g) r)
+      go : (t : Option ℕ) → stops (placed L (p .order)) (pred (p .order)) r ≡ t
+          → walk-on L (by-place L) stops (due p g) (r ∷ rs) ≡ answer-of rs (one-step L stops (due p g) r)
       go (some n) e = rw (e, walk-on, one-step)
       go none e = rw (e, walk-on, one-step)
 

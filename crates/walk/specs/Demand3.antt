@@ -39,4 +39,5 @@ pub data Kept (A : Answer) (n m : ℕ) (w w′ : List ℕ) (r : Walked) : Type 0
 -- implies it (proofs/HeldWidest.antt: held-, nonempty-, letter-, letter-nonempty-, where-nested-implies-widest).
 abbrev pub Demand3 : (Pack → Pgn → Bool) → (s : List ℕ) (t i : ℕ) (readings : List ℕ) (m : ℕ) (w w′ : List ℕ) → Checked → Walked → Type 0
 Demand3 is-held s t i readings m w w′ c r =
-    clean c ≡ true → in-pack (pack-of s) t i ≡ true → is-held (pack-of s) (pgn-at (pack-of s) t i) ≡ true → Kept (walk-of s t i readings) (length readings) m w w′ r
+    clean c ≡ true → in-pack (pack-of s) t i ≡ true → is-held (pack-of s) (pgn-at (pack-of s) t i) ≡ true
+    → Kept (walk-of s t i readings) (length readings) m w w′ r

@@ -29,7 +29,8 @@ pub record Named (s w : List ℕ) (r : Option Reference) (v : FieldtypeLookup) :
   pub place : v .given ≡ true → LookupAt s w (v .index) (v .place)
   pub kind : v .given ≡ true → 3 ≡ lookup-at (pack-of s .lookups) (v .index) .kind
   pub entries : v .given ≡ true → v .entries ≡ length (lookup-at (pack-of s .lookups) (v .index) .entries)
-  pub decide : v .given ≡ true → (reading : ℕ) → reference-names-missing (pack-of s) r reading ≡ entries-name-missing (pack-of s) (lookup-at (pack-of s .lookups) (v .index) .entries) reading
+  pub decide : v .given ≡ true → (reading : ℕ)
+      → reference-names-missing (pack-of s) r reading ≡ entries-name-missing (pack-of s) (lookup-at (pack-of s .lookups) (v .index) .entries) reading
   pub none : v .given ≡ false → (reading : ℕ) → reference-names-missing (pack-of s) r reading ≡ false
 
 -- 6 to 9

@@ -53,11 +53,16 @@ pub fn stop_at(
     k: u32,
     reading: u64,
 ) -> u32
-    requires { ⌜ IsFound (now s) (now work) found × Harmless (pack-of (now s)) (found-pgn (now s) found) (now harmless)
-        × (k < length (found-pgn (now s) found .fields)) ⌝ }
-    ensures { λ r. ⌜ stop-number r ≡ stop-at (pack-of (now (s .entry))) (found-pgn (now (s .entry)) found)
-        (placed (layout (found-pgn (now (s .entry)) found)) (suc k)) k reading ⌝ }
-    ensures { λ r. ⌜ Harmless (pack-of (now (s .entry))) (found-pgn (now (s .entry)) found) (now (harmless .exit)) ⌝ }
+    requires { ⌜ record {
+      pgn : IsFound (now s) (now work) found;
+      harmless : Harmless (pack-of (now s)) (found-pgn (now s) found) (now harmless);
+      field : k < length (found-pgn (now s) found .fields);
+    } ⌝ }
+    ensures { λ r. ⌜ record {
+      stop : stop-number r ≡ stop-at (pack-of (now (s .entry))) (found-pgn (now (s .entry)) found)
+          (placed (layout (found-pgn (now (s .entry)) found)) (suc k)) k reading;
+      harmless : Harmless (pack-of (now (s .entry))) (found-pgn (now (s .entry)) found) (now (harmless .exit));
+    } ⌝ }
 {
     if is_marked(harmless, k) {
         return 0;

@@ -3,12 +3,13 @@ ghost use mathlib.Core.Path.{_≡_};
 ghost use Prim.Native.Nat.{_<_};
 ghost use lib.ListN.{length};
 ghost use Rattle.pack.specs.Meaning.{field-meaning, pack-of};
-ghost use Rattle.pack.specs.Ready.{PgnAt};
-ghost use Rattle.pack.specs.Value.{pgn-at, field-at};
+ghost use Rattle.pack.specs.Value.{field-at};
 ghost use Rattle.walk.specs.Held.{count-fields-held, bit-length-held, dynamic-value-held, held};
-ghost use Rattle.walk.specs.Layout.{Layout, layout};
+ghost use Rattle.walk.specs.Layout.{Layout};
+ghost use Rattle.walk.specs.Naming.{IsFound, found-pgn};
 ghost use Rattle.walk.specs.SetsOf.{SetsAre, opt-order, counter-held};
 ghost use Rattle.rules.specs.Search.{every-below};
+use crate::named::FoundPgn;
 use crate::sets::OptOrder;
 use crate::sets::Sets;
 use crate::sets::clash;
@@ -48,41 +49,45 @@ fn count_fields_held(sets: Sets) -> bool
 }
 
 // Whether the sets of the bitLengthField target of field k, which is f, hold field k.
-fn bit_length_held(
-    s: &[u8],
-    work: &[u32],
-    t: u32,
-    i: u32,
-    p: usize,
-    sets: Sets,
-    k: u32,
-    f: FieldView,
-) -> bool
-    requires { ⌜ PgnAt (now s) (now work) t i p × SetsAre (layout (pgn-at (pack-of (now s)) t i)) sets × (k < length (pgn-at (pack-of (now s)) t i .fields)) × (field-meaning (now s) f ≡ field-at (pgn-at (pack-of (now s)) t i) k) ⌝ }
-    ensures { λ r. ⌜ r ≡ bit-length-held (pgn-at (pack-of (now (s .entry))) t i) k ⌝ }
+fn bit_length_held(s: &[u8], work: &[u32], found: FoundPgn, k: u32, f: FieldView) -> bool
+    requires { ⌜ record {
+      pgn : IsFound (now s) (now work) found;
+      field : k < length (found-pgn (now s) found .fields);
+      means : field-meaning (now s) f ≡ field-at (found-pgn (now s) found) k;
+    } ⌝ }
+    ensures { λ r. ⌜ r ≡ bit-length-held (found-pgn (now (s .entry)) found) k ⌝ }
 {
     let id = f.links.length;
     if !id.given {
         return true;
     }
-    let found = target(s, work, t, i, p, sets.fields, id.text);
-    if !found.given {
+    let aim = target(
+        s,
+        work,
+        found.tree,
+        found.pgn,
+        found.place,
+        found.sets.fields,
+        id.text,
+    );
+    if !aim.given {
         return true;
     }
     let own = FieldIndex(k).order();
-    sets_hold(sets, FieldIndex(found.value).order(), own)
+    sets_hold(found.sets, FieldIndex(aim.value).order(), own)
 }
 
 // "a bitLengthField target's nonempty sets hold its user"
-fn bit_lengths_held(s: &[u8], work: &[u32], t: u32, i: u32, p: usize, sets: Sets) -> bool
-    requires { ⌜ PgnAt (now s) (now work) t i p × SetsAre (layout (pgn-at (pack-of (now s)) t i)) sets ⌝ }
-    ensures { λ r. ⌜ r ≡ every-below (λ k. bit-length-held (pgn-at (pack-of (now (s .entry))) t i) k) (length (pgn-at (pack-of (now (s .entry))) t i .fields)) ⌝ }
+fn bit_lengths_held(s: &[u8], work: &[u32], found: FoundPgn) -> bool
+    requires { ⌜ IsFound (now s) (now work) found ⌝ }
+    ensures { λ r. ⌜ r ≡ every-below (λ k. bit-length-held (found-pgn (now (s .entry)) found) k)
+        (length (found-pgn (now (s .entry)) found .fields)) ⌝ }
 {
-    let fields = sets.fields;
+    let fields = found.sets.fields;
     let mut k: u32 = 0;
     while k < fields {
-        let f = field_of(s, work, t, i, p, k);
-        if !bit_length_held(s, work, t, i, p, sets, k, f) {
+        let f = field_of(s, work, found.tree, found.pgn, found.place, k);
+        if !bit_length_held(s, work, found, k, f) {
             return false;
         }
         k += 1;
@@ -92,15 +97,16 @@ fn bit_lengths_held(s: &[u8], work: &[u32], t: u32, i: u32, p: usize, sets: Sets
 
 // "each DYNAMIC_FIELD_VALUE has a lower-order dynamicFieldLength or DYNAMIC_FIELD_KEY field whose nonempty sets hold it": then it is never
 // without one that is current.
-fn dynamic_values_held(s: &[u8], work: &[u32], t: u32, i: u32, p: usize, sets: Sets) -> bool
-    requires { ⌜ PgnAt (now s) (now work) t i p × SetsAre (layout (pgn-at (pack-of (now s)) t i)) sets ⌝ }
-    ensures { λ r. ⌜ r ≡ every-below (λ k. dynamic-value-held (pack-of (now (s .entry))) (pgn-at (pack-of (now (s .entry))) t i) k) (length (pgn-at (pack-of (now (s .entry))) t i .fields)) ⌝ }
+fn dynamic_values_held(s: &[u8], work: &[u32], found: FoundPgn) -> bool
+    requires { ⌜ IsFound (now s) (now work) found ⌝ }
+    ensures { λ r. ⌜ r ≡ every-below (λ k. dynamic-value-held (pack-of (now (s .entry))) (found-pgn (now (s .entry)) found) k)
+        (length (found-pgn (now (s .entry)) found .fields)) ⌝ }
 {
-    let fields = sets.fields;
+    let fields = found.sets.fields;
     let mut k: u32 = 0;
     while k < fields {
-        let f = field_of(s, work, t, i, p, k);
-        if lacks_length(s, work, t, i, p, sets, k, f) {
+        let f = field_of(s, work, found.tree, found.pgn, found.place, k);
+        if lacks_length(s, work, found, k, f) {
             return false;
         }
         k += 1;
@@ -108,19 +114,19 @@ fn dynamic_values_held(s: &[u8], work: &[u32], t: u32, i: u32, p: usize, sets: S
     true
 }
 
-// Whether PGN i of tree t, which is at p and has these sets, is held.
-pub fn held_at(s: &[u8], work: &[u32], t: u32, i: u32, p: usize, sets: Sets) -> bool
-    requires { ⌜ PgnAt (now s) (now work) t i p × SetsAre (layout (pgn-at (pack-of (now s)) t i)) sets ⌝ }
-    ensures { λ r. ⌜ r ≡ held (pack-of (now (s .entry))) (pgn-at (pack-of (now (s .entry))) t i) ⌝ }
+// Whether the PGN is held.
+pub fn held_at(s: &[u8], work: &[u32], found: FoundPgn) -> bool
+    requires { ⌜ IsFound (now s) (now work) found ⌝ }
+    ensures { λ r. ⌜ r ≡ held (pack-of (now (s .entry))) (found-pgn (now (s .entry)) found) ⌝ }
 {
-    if clash(sets) {
+    if clash(found.sets) {
         return false;
     }
-    if !count_fields_held(sets) {
+    if !count_fields_held(found.sets) {
         return false;
     }
-    if !bit_lengths_held(s, work, t, i, p, sets) {
+    if !bit_lengths_held(s, work, found) {
         return false;
     }
-    dynamic_values_held(s, work, t, i, p, sets)
+    dynamic_values_held(s, work, found)
 }

@@ -33,7 +33,7 @@ pub enum NamedPgn {
 
 // The PGN that is named, if it is in the pack: 23.
 fn find_pgn(s: &[u8], work: &[u32], index: Index, tree: u32, pgn: u32) -> NamedPgn
-    requires { ⌜ Ready (now s) (now work) × IndexIs (pack-of (now s)) index ⌝ }
+    requires { ⌜ record { ready : Ready (now s) (now work); index : IndexIs (pack-of (now s)) index } ⌝ }
     ensures { λ r. ⌜ NamedIs (now (s .entry)) (now (work .entry)) tree pgn (absence (in-pack (pack-of (now (s .entry))) tree pgn)) r ⌝ }
 {
     if Protocol::COUNT <= tree as usize {
@@ -58,8 +58,10 @@ fn find_pgn(s: &[u8], work: &[u32], index: Index, tree: u32, pgn: u32) -> NamedP
 
 // The pack is loaded, and the PGN found: "Input refusals come before these; then 21, 23"
 pub fn named_pgn(pack: &[u8], work: &mut [u32], tree: u32, pgn: u32) -> NamedPgn
-    ensures { λ r. ⌜ NamedIs (now (pack .entry)) (now (work .exit)) tree pgn (naming-refusal (now (pack .entry)) (length (now (work .entry))) tree pgn) r ⌝ }
-    ensures { λ r. ⌜ now (work .exit) ≡ work-after (now (pack .entry)) (now (work .entry)) ⌝ }
+    ensures { λ r. ⌜ record {
+      named : NamedIs (now (pack .entry)) (now (work .exit)) tree pgn (naming-refusal (now (pack .entry)) (length (now (work .entry))) tree pgn) r;
+      work : now (work .exit) ≡ work-after (now (pack .entry)) (now (work .entry));
+    } ⌝ }
 {
     match load(pack, work) {
         Loaded::Refused(refusal) => NamedPgn::Refused(refusal),

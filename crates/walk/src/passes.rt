@@ -292,7 +292,8 @@ fn not_due(halts: bool, spot: Spot) -> Settling
 
 // On arriving at set 1.
 fn at_first(sets: Sets, counts: Counts, spot: Spot) -> Round
-    ensures { λ r. ⌜ ((L : Layout) → SetsAre L sets → (n : ℕ) → round-of L (memory-of counts) n r ≡ settle L (by-place L) (suc n) (arrived 0 (place-of spot)) (memory-of counts)) ⌝ }
+    ensures { λ r. ⌜ ((L : Layout) → SetsAre L sets → (n : ℕ) → round-of L (memory-of counts) n r ≡ settle L (by-place L) (suc n)
+        (arrived 0 (place-of spot)) (memory-of counts)) ⌝ }
 {
     let set = sets.first;
     match arrive(sets, spot.order, set.counter, counts.first) {
@@ -306,7 +307,8 @@ fn at_first(sets: Sets, counts: Counts, spot: Spot) -> Round
 
 // On arriving at set 2.
 fn at_second(sets: Sets, counts: Counts, spot: Spot) -> Round
-    ensures { λ r. ⌜ ((L : Layout) → SetsAre L sets → (n : ℕ) → round-of L (memory-of counts) n r ≡ settle L (by-place L) (suc n) (arrived 1 (place-of spot)) (memory-of counts)) ⌝ }
+    ensures { λ r. ⌜ ((L : Layout) → SetsAre L sets → (n : ℕ) → round-of L (memory-of counts) n r ≡ settle L (by-place L) (suc n)
+        (arrived 1 (place-of spot)) (memory-of counts)) ⌝ }
 {
     let set = sets.second;
     match arrive(sets, spot.order, set.counter, counts.second) {
@@ -319,7 +321,8 @@ fn at_second(sets: Sets, counts: Counts, spot: Spot) -> Round
 }
 
 fn settle_once(sets: Sets, counts: Counts, spot: Spot) -> Round
-    ensures { λ r. ⌜ ((L : Layout) → SetsAre L sets → (n : ℕ) → round-of L (memory-of counts) n r ≡ settle L (by-place L) (suc n) (stand L (place-of spot)) (memory-of counts)) ⌝ }
+    ensures { λ r. ⌜ ((L : Layout) → SetsAre L sets → (n : ℕ) → round-of L (memory-of counts) n r ≡ settle L (by-place L) (suc n) (stand L (place-of spot))
+        (memory-of counts)) ⌝ }
 {
     match stand(sets, spot) {
         Standing::AgainFirst(at) => Round::Settled(due(at)),

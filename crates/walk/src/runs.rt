@@ -48,8 +48,11 @@ fn is_edge(set: Set, o: FieldOrder) -> bool
 // Whether a visit at the order o, of a field that is no countField, leads to the next order and changes nothing else.
 fn is_plain(sets: Sets, o: FieldOrder) -> bool
     requires { ⌜ 1 ≤ o .0 ⌝ }
-    ensures { λ r. ⌜ (r ≡ true → o .0 < sets .fields) ⌝ }
-    ensures { λ r. ⌜ (r ≡ true → (L : Layout) → SetsAre L sets → (p : Place) → p .order ≡ o .0 → (g : ℕ → ℕ) (reading : ℕ) → onward L (by-place L) p g reading ≡ due (goto p (suc (o .0))) g) ⌝ }
+    ensures { λ r. ⌜ record {
+      within : r ≡ true → o .0 < sets .fields;
+      onward : r ≡ true → (L : Layout) → SetsAre L sets → (p : Place) → p .order ≡ o .0 → (g : ℕ → ℕ) (reading : ℕ) → onward L (by-place L) p g
+          reading ≡ due (goto p (suc (o .0))) g;
+    } ⌝ }
 {
     if sets.fields <= o.0 {
         return false;
@@ -70,9 +73,12 @@ fn is_plain(sets: Sets, o: FieldOrder) -> bool
 // Whether the field of the order o is visited in a run: it stops at no reading, and the next order follows.
 fn runs_at(sets: Sets, harmless: &[bool], o: FieldOrder) -> bool
     requires { ⌜ 1 ≤ o .0 ⌝ }
-    ensures { λ r. ⌜ (r ≡ true → getD (now (harmless .entry)) (o .0 - 1) false ≡ true) ⌝ }
-    ensures { λ r. ⌜ (r ≡ true → o .0 < sets .fields) ⌝ }
-    ensures { λ r. ⌜ (r ≡ true → (L : Layout) → SetsAre L sets → (p : Place) → p .order ≡ o .0 → (g : ℕ → ℕ) (reading : ℕ) → onward L (by-place L) p g reading ≡ due (goto p (suc (o .0))) g) ⌝ }
+    ensures { λ r. ⌜ record {
+      harmless : r ≡ true → getD (now (harmless .entry)) (o .0 - 1) false ≡ true;
+      within : r ≡ true → o .0 < sets .fields;
+      onward : r ≡ true → (L : Layout) → SetsAre L sets → (p : Place) → p .order ≡ o .0 → (g : ℕ → ℕ) (reading : ℕ) → onward L (by-place L) p g
+          reading ≡ due (goto p (suc (o .0))) g;
+    } ⌝ }
 {
     let k = index_of(o);
     if is_marked(harmless, k.0) {
@@ -90,9 +96,20 @@ pub fn run(
     visits: &mut [u32],
     n: usize,
 ) -> RunEnd
-    requires { ⌜ (1 ≤ order .0) × (order .0 ≤ sets .fields) × (n ≤ length (now readings)) × (length (now readings) ≤ length (now visits)) ⌝ }
-    ensures { λ r. ⌜ (n ≤ r .visits) × (r .visits ≤ length (now (readings .entry))) ⌝ }
-    ensures { λ r. ⌜ ((L : Layout) → SetsAre L sets → (stops : Stops) → ((k : ℕ) → getD (now (harmless .entry)) k false ≡ true → (reading : ℕ) → stops (placed L (suc k)) k reading ≡ none) → (p : Place) → p .order ≡ order .0 → (g : ℕ → ℕ) → Run L stops (now (readings .entry)) (now (visits .entry)) n (due p g) (now (visits .exit)) (r .visits) (due (goto p (r .order .0)) g)) ⌝ }
+    requires { ⌜ record {
+      first : 1 ≤ order .0;
+      within : order .0 ≤ sets .fields;
+      read : n ≤ length (now readings);
+      room : length (now readings) ≤ length (now visits);
+    } ⌝ }
+    ensures { λ r. ⌜ record {
+      at-least : n ≤ r .visits;
+      read : r .visits ≤ length (now (readings .entry));
+      ran : (L : Layout) → SetsAre L sets → (stops : Stops) →
+          ((k : ℕ) → getD (now (harmless .entry)) k false ≡ true → (reading : ℕ) → stops (placed L (suc k)) k reading ≡ none) → (p : Place) →
+          p .order ≡ order .0 → (g : ℕ → ℕ) → Run L stops (now (readings .entry)) (now (visits .entry)) n (due p g) (now (visits .exit))
+          (r .visits) (due (goto p (r .order .0)) g);
+    } ⌝ }
 {
     let mut o = order;
     let mut m = n;

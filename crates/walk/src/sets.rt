@@ -74,9 +74,9 @@ fn set_of(o: OptRepeating) -> Set
     no_set()
 }
 
-// The sets of PGN i of tree t, which is at p and which is g.
+// The sets of the PGN with that view.
 pub fn sets_of(s: &[u8], work: &[u32], t: u32, i: u32, p: usize, g: PgnView) -> Sets
-    requires { ⌜ PgnAt (now s) (now work) t i p × PgnIs (now s) (pgn-at (pack-of (now s)) t i) g ⌝ }
+    requires { ⌜ record { at : PgnAt (now s) (now work) t i p; is : PgnIs (now s) (pgn-at (pack-of (now s)) t i) g } ⌝ }
     ensures { λ r. ⌜ SetsAre (layout (pgn-at (pack-of (now (s .entry))) t i)) r ⌝ }
 {
     Sets {

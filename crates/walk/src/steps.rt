@@ -85,7 +85,7 @@ pub fn begin(sets: Sets) -> State
 
 // After a visit of the field that was due at the spot.
 fn onward(sets: Sets, counts: Counts, spot: Spot, reading: u64) -> State
-    requires { ⌜ (1 ≤ spot .order .0) × (spot .order .0 < 4294967295) ⌝ }
+    requires { ⌜ record { first : 1 ≤ spot .order .0; small : spot .order .0 < 4294967295 } ⌝ }
     ensures { λ r. ⌜ ((L : Layout) → SetsAre L sets → state-of r ≡ onward L (by-place L) (place-of spot) (memory-of counts) reading) ⌝ }
 {
     let order = spot.order;
@@ -108,11 +108,17 @@ fn step_at(
     spot: Spot,
     reading: u64,
 ) -> Stepping
-    requires { ⌜ IsFound (now s) (now work) found × Harmless (pack-of (now s)) (found-pgn (now s) found) (now harmless) × (1 ≤ spot .order .0)
-        × (spot .order .0 ≤ length (found-pgn (now s) found .fields)) ⌝ }
-    ensures { λ r. ⌜ step-of r ≡ one-step (layout (found-pgn (now (s .entry)) found)) (stop-at (pack-of (now (s .entry))) (found-pgn (now (s .entry)) found))
-        (due (place-of spot) (memory-of counts)) reading ⌝ }
-    ensures { λ r. ⌜ Harmless (pack-of (now (s .entry))) (found-pgn (now (s .entry)) found) (now (harmless .exit)) ⌝ }
+    requires { ⌜ record {
+      pgn : IsFound (now s) (now work) found;
+      harmless : Harmless (pack-of (now s)) (found-pgn (now s) found) (now harmless);
+      first : 1 ≤ spot .order .0;
+      within : spot .order .0 ≤ length (found-pgn (now s) found .fields);
+    } ⌝ }
+    ensures { λ r. ⌜ record {
+      step : step-of r ≡ one-step (layout (found-pgn (now (s .entry)) found)) (stop-at (pack-of (now (s .entry))) (found-pgn (now (s .entry)) found))
+          (due (place-of spot) (memory-of counts)) reading;
+      harmless : Harmless (pack-of (now (s .entry))) (found-pgn (now (s .entry)) found) (now (harmless .exit));
+    } ⌝ }
 {
     let field = index_of(spot.order);
     let stop = stop_at(s, work, found, harmless, field.0, reading);
@@ -132,11 +138,16 @@ pub fn step(
     state: State,
     reading: u64,
 ) -> Stepping
-    requires { ⌜ IsFound (now s) (now work) found × Harmless (pack-of (now s)) (found-pgn (now s) found) (now harmless)
-        × Within (layout (found-pgn (now s) found)) (state-of state) ⌝ }
-    ensures { λ r. ⌜ step-of r ≡ one-step (layout (found-pgn (now (s .entry)) found)) (stop-at (pack-of (now (s .entry))) (found-pgn (now (s .entry)) found))
-        (state-of state) reading ⌝ }
-    ensures { λ r. ⌜ Harmless (pack-of (now (s .entry))) (found-pgn (now (s .entry)) found) (now (harmless .exit)) ⌝ }
+    requires { ⌜ record {
+      pgn : IsFound (now s) (now work) found;
+      harmless : Harmless (pack-of (now s)) (found-pgn (now s) found) (now harmless);
+      within : Within (layout (found-pgn (now s) found)) (state-of state);
+    } ⌝ }
+    ensures { λ r. ⌜ record {
+      step : step-of r ≡ one-step (layout (found-pgn (now (s .entry)) found)) (stop-at (pack-of (now (s .entry))) (found-pgn (now (s .entry)) found))
+          (state-of state) reading;
+      harmless : Harmless (pack-of (now (s .entry))) (found-pgn (now (s .entry)) found) (now (harmless .exit));
+    } ⌝ }
 {
     let settling = state.settling;
     if settling.due {
@@ -173,9 +184,18 @@ pub fn run_on(
     visits: &mut [u32],
     n: usize,
 ) -> Ran
-    requires { ⌜ (state .settling .due ≡ true → (1 ≤ state .settling .spot .order .0) × (state .settling .spot .order .0 ≤ sets .fields)) × (n ≤ length (now readings)) × (length (now readings) ≤ length (now visits)) ⌝ }
-    ensures { λ r. ⌜ (n ≤ r .visits) × (r .visits ≤ length (now (readings .entry))) ⌝ }
-    ensures { λ r. ⌜ ((L : Layout) → SetsAre L sets → (stops : Stops) → ((k : ℕ) → getD (now (harmless .entry)) k false ≡ true → (reading : ℕ) → stops (placed L (suc k)) k reading ≡ none) → Run L stops (now (readings .entry)) (now (visits .entry)) n (state-of state) (now (visits .exit)) (r .visits) (state-of (r .state))) ⌝ }
+    requires { ⌜ record {
+      due : state .settling .due ≡ true → record { first : 1 ≤ state .settling .spot .order .0; within : state .settling .spot .order .0 ≤ sets .fields };
+      read : n ≤ length (now readings);
+      room : length (now readings) ≤ length (now visits);
+    } ⌝ }
+    ensures { λ r. ⌜ record {
+      at-least : n ≤ r .visits;
+      read : r .visits ≤ length (now (readings .entry));
+      ran : (L : Layout) → SetsAre L sets → (stops : Stops) →
+          ((k : ℕ) → getD (now (harmless .entry)) k false ≡ true → (reading : ℕ) → stops (placed L (suc k)) k reading ≡ none) → Run L stops
+          (now (readings .entry)) (now (visits .entry)) n (state-of state) (now (visits .exit)) (r .visits) (state-of (r .state));
+    } ⌝ }
 {
     let settling = state.settling;
     if !settling.due {

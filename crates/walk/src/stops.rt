@@ -1,23 +1,21 @@
 // The stops 3 to 9 at a due field: "At a field, in this order".
 ghost use mathlib.Core.Path.{_≡_};
-ghost use mathlib.Core.Bool.{true, false, _&&_};
+ghost use mathlib.Core.Bool.{true, _&&_};
 ghost use mathlib.Core.Option.{none};
-ghost use Prim.Native.Nat.{ℕ, suc, _+_, _<_};
+ghost use Prim.Native.Nat.{ℕ, suc, _<_};
 ghost use lib.ListN.{length};
 ghost use Rattle.pack.specs.Notation.{_==_};
 ghost use Rattle.pack.specs.Meaning.{optional-bytes, optional-reference, entry-meaning, field-meaning, pack-of};
-ghost use Rattle.pack.specs.Ready.{Ready, LookupAt, PgnAt, IndexIs};
-ghost use Rattle.pack.specs.Value.{pgn-at, field-at, lookup-at};
+ghost use Rattle.pack.specs.Ready.{Ready, LookupAt, IndexIs};
+ghost use Rattle.pack.specs.Value.{field-at, lookup-at};
 ghost use Rattle.rules.specs.Search.{any-below};
 ghost use Rattle.rules.specs.DynamicLength.{length-source};
 ghost use Rattle.walk.specs.ByPlace.{placed};
 ghost use Rattle.walk.specs.Layout.{layout, sets-hold};
 ghost use Rattle.walk.specs.Naming.{IsFound, found-pgn};
-ghost use Rattle.walk.specs.SetsOf.{SetsAre};
 ghost use Rattle.walk.specs.StopParts.{Named, stop-number, field-stop, need-stop};
 ghost use Rattle.walk.specs.Stops.{is-missing, lookup-missing, match-unfit, names-missing, entries-name-missing, lacks, lacks-length, stop-at};
 use crate::named::FoundPgn;
-use crate::sets::Sets;
 use crate::sets::placed;
 use crate::sets::sets_hold;
 use pack::entry::EntryView;
@@ -42,7 +40,7 @@ use rules::widths::exceeds;
 
 // Whether a lookup is named, and the pack has none of that name.
 fn is_missing(s: &[u8], work: &[u32], index: Index, name: OptText) -> bool
-    requires { ⌜ Ready (now s) (now work) × IndexIs (pack-of (now s)) index ⌝ }
+    requires { ⌜ record { ready : Ready (now s) (now work); index : IndexIs (pack-of (now s)) index } ⌝ }
     ensures { λ r. ⌜ r ≡ is-missing (pack-of (now (s .entry))) (optional-bytes (now (s .entry)) name) ⌝ }
 {
     if !name.given {
@@ -54,7 +52,7 @@ fn is_missing(s: &[u8], work: &[u32], index: Index, name: OptText) -> bool
 
 // "3 lookup missing"
 fn lookup_missing(s: &[u8], work: &[u32], index: Index, f: FieldView) -> bool
-    requires { ⌜ Ready (now s) (now work) × IndexIs (pack-of (now s)) index ⌝ }
+    requires { ⌜ record { ready : Ready (now s) (now work); index : IndexIs (pack-of (now s)) index } ⌝ }
     ensures { λ r. ⌜ r ≡ lookup-missing (pack-of (now (s .entry))) (field-meaning (now (s .entry)) f) ⌝ }
 {
     let reference = f.links.reference;
@@ -72,7 +70,7 @@ fn lookup_missing(s: &[u8], work: &[u32], index: Index, f: FieldView) -> bool
 
 // "4 match unresolved or, below 64 bits, above 2^bits − 1"
 fn match_unfit(s: &[u8], work: &[u32], index: Index, f: FieldView) -> bool
-    requires { ⌜ Ready (now s) (now work) × IndexIs (pack-of (now s)) index ⌝ }
+    requires { ⌜ record { ready : Ready (now s) (now work); index : IndexIs (pack-of (now s)) index } ⌝ }
     ensures { λ r. ⌜ r ≡ match-unfit (pack-of (now (s .entry))) (field-meaning (now (s .entry)) f) ⌝ }
 {
     if !f.authored.matched.given {
@@ -87,7 +85,7 @@ fn match_unfit(s: &[u8], work: &[u32], index: Index, f: FieldView) -> bool
 
 // The stops that go by the field alone: 3, 4, or 0.
 fn field_stop(s: &[u8], work: &[u32], index: Index, f: FieldView) -> u32
-    requires { ⌜ Ready (now s) (now work) × IndexIs (pack-of (now s)) index ⌝ }
+    requires { ⌜ record { ready : Ready (now s) (now work); index : IndexIs (pack-of (now s)) index } ⌝ }
     ensures { λ r. ⌜ stop-number r ≡ field-stop (pack-of (now (s .entry))) (field-meaning (now (s .entry)) f) ⌝ }
 {
     if lookup_missing(s, work, index, f) {
@@ -101,7 +99,7 @@ fn field_stop(s: &[u8], work: &[u32], index: Index, f: FieldView) -> u32
 
 // Whether an entry of a fieldtype lookup names a missing field type or nested lookup.
 fn names_missing(s: &[u8], work: &[u32], index: Index, e: EntryView) -> bool
-    requires { ⌜ Ready (now s) (now work) × IndexIs (pack-of (now s)) index ⌝ }
+    requires { ⌜ record { ready : Ready (now s) (now work); index : IndexIs (pack-of (now s)) index } ⌝ }
     ensures { λ r. ⌜ r ≡ names-missing (pack-of (now (s .entry))) (entry-meaning (now (s .entry)) e) ⌝ }
 {
     if !is_fieldtype(s, work, index.types.count, e.fieldtype) {
@@ -112,7 +110,7 @@ fn names_missing(s: &[u8], work: &[u32], index: Index, e: EntryView) -> bool
 
 // Whether an entry is for the reading and names something missing.
 fn entry_names_missing(s: &[u8], work: &[u32], index: Index, e: EntryView, reading: u64) -> bool
-    requires { ⌜ Ready (now s) (now work) × IndexIs (pack-of (now s)) index ⌝ }
+    requires { ⌜ record { ready : Ready (now s) (now work); index : IndexIs (pack-of (now s)) index } ⌝ }
     ensures { λ r. ⌜ r ≡ ((e .value == reading) && names-missing (pack-of (now (s .entry))) (entry-meaning (now (s .entry)) e)) ⌝ }
 {
     if e.value != reading {
@@ -131,7 +129,12 @@ fn entries_name_missing(
     entries: u32,
     reading: u64,
 ) -> bool
-    requires { ⌜ LookupAt (now s) (now work) l p × (3 ≡ lookup-at (pack-of (now s) .lookups) l .kind) × (entries ≡ length (lookup-at (pack-of (now s) .lookups) l .entries)) × IndexIs (pack-of (now s)) index ⌝ }
+    requires { ⌜ record {
+      at : LookupAt (now s) (now work) l p;
+      kind : 3 ≡ lookup-at (pack-of (now s) .lookups) l .kind;
+      entries : entries ≡ length (lookup-at (pack-of (now s) .lookups) l .entries);
+      index : IndexIs (pack-of (now s)) index;
+    } ⌝ }
     ensures { λ r. ⌜ r ≡ entries-name-missing (pack-of (now (s .entry))) (lookup-at (pack-of (now (s .entry)) .lookups) l .entries) reading ⌝ }
 {
     let mut e: u32 = 0;
@@ -155,7 +158,7 @@ pub struct FieldtypeLookup {
 
 // The fieldtype lookup that a reference names: only the entries of such a one name anything.
 fn fieldtype_lookup(s: &[u8], work: &[u32], index: Index, r: OptReference) -> FieldtypeLookup
-    requires { ⌜ Ready (now s) (now work) × IndexIs (pack-of (now s)) index ⌝ }
+    requires { ⌜ record { ready : Ready (now s) (now work); index : IndexIs (pack-of (now s)) index } ⌝ }
     ensures { λ v. ⌜ Named (now (s .entry)) (now (work .entry)) (optional-reference (now (s .entry)) r) v ⌝ }
 {
     let no_lookup = FieldtypeLookup {
@@ -191,8 +194,15 @@ fn lookup_names_missing(
     l: FieldtypeLookup,
     reading: u64,
 ) -> bool
-    requires { ⌜ IndexIs (pack-of (now s)) index × (l .given ≡ true → LookupAt (now s) (now work) (l .index) (l .place)) × (l .given ≡ true → 3 ≡ lookup-at (pack-of (now s) .lookups) (l .index) .kind) × (l .given ≡ true → l .entries ≡ length (lookup-at (pack-of (now s) .lookups) (l .index) .entries)) ⌝ }
-    ensures { λ b. ⌜ b ≡ (l .given && entries-name-missing (pack-of (now (s .entry))) (lookup-at (pack-of (now (s .entry)) .lookups) (l .index) .entries) reading) ⌝ }
+    requires { ⌜ record {
+      index : IndexIs (pack-of (now s)) index;
+      at : l .given ≡ true → LookupAt (now s) (now work) (l .index) (l .place);
+      kind : l .given ≡ true → 3 ≡ lookup-at (pack-of (now s) .lookups) (l .index) .kind;
+      entries : l .given ≡ true → l .entries ≡ length (lookup-at (pack-of (now s) .lookups) (l .index) .entries);
+    } ⌝ }
+    ensures { λ b. ⌜ b ≡
+        (l .given && entries-name-missing (pack-of (now (s .entry))) (lookup-at (pack-of (now (s .entry)) .lookups) (l .index) .entries)
+        reading) ⌝ }
 {
     if !l.given {
         return false;
@@ -200,70 +210,71 @@ fn lookup_names_missing(
     entries_name_missing(s, work, index, l.index, l.place, l.entries, reading)
 }
 
-// "6 bitLengthField target not current; 7 continued field not current", "9 trailing-zero target not current": at the order o of PGN i of
-// tree t, which is at p, the target is named and is not current.
-fn lacks(
-    s: &[u8],
-    work: &[u32],
-    t: u32,
-    i: u32,
-    p: usize,
-    sets: Sets,
-    o: FieldOrder,
-    id: OptText,
-) -> bool
-    requires { ⌜ PgnAt (now s) (now work) t i p × SetsAre (layout (pgn-at (pack-of (now s)) t i)) sets ⌝ }
-    ensures { λ r. ⌜ r ≡ lacks (pgn-at (pack-of (now (s .entry))) t i) (placed (layout (pgn-at (pack-of (now (s .entry))) t i)) (o .0)) (optional-bytes (now (s .entry)) id) ⌝ }
+// "6 bitLengthField target not current; 7 continued field not current", "9 trailing-zero target not current": at the order o the
+// target is named and is not current.
+fn lacks(s: &[u8], work: &[u32], found: FoundPgn, o: FieldOrder, id: OptText) -> bool
+    requires { ⌜ IsFound (now s) (now work) found ⌝ }
+    ensures { λ r. ⌜ r ≡ lacks (found-pgn (now (s .entry)) found) (placed (layout (found-pgn (now (s .entry)) found)) (o .0))
+        (optional-bytes (now (s .entry)) id) ⌝ }
 {
     if !id.given {
         return false;
     }
-    let found = target(s, work, t, i, p, sets.fields, id.text);
-    if !found.given {
+    let aim = target(
+        s,
+        work,
+        found.tree,
+        found.pgn,
+        found.place,
+        found.sets.fields,
+        id.text,
+    );
+    if !aim.given {
         return true;
     }
-    !placed(sets, o, FieldIndex(found.value))
+    !placed(found.sets, o, FieldIndex(aim.value))
 }
 
 // Whether field j is a length source.
-fn length_source_at(s: &[u8], work: &[u32], t: u32, i: u32, p: usize, j: u32) -> bool
-    requires { ⌜ PgnAt (now s) (now work) t i p × (j < length (pgn-at (pack-of (now s)) t i .fields)) ⌝ }
-    ensures { λ r. ⌜ r ≡ length-source (pack-of (now (s .entry)) .fieldtypes) (field-at (pgn-at (pack-of (now (s .entry))) t i) j) ⌝ }
+fn length_source_at(s: &[u8], work: &[u32], found: FoundPgn, j: u32) -> bool
+    requires { ⌜ record { pgn : IsFound (now s) (now work) found; field : j < length (found-pgn (now s) found .fields) } ⌝ }
+    ensures { λ r. ⌜ r ≡ length-source (pack-of (now (s .entry)) .fieldtypes) (field-at (found-pgn (now (s .entry)) found) j) ⌝ }
 {
-    let f = field_of(s, work, t, i, p, j);
+    let f = field_of(s, work, found.tree, found.pgn, found.place, j);
     let root = root_of(s, work, f.ft);
     length_source(s, f.flags.dynamic, root)
 }
 
 // Whether field j is a length source whose sets hold the order o.
-fn gives_length(
-    s: &[u8],
-    work: &[u32],
-    t: u32,
-    i: u32,
-    p: usize,
-    sets: Sets,
-    o: FieldOrder,
-    j: u32,
-) -> bool
-    requires { ⌜ PgnAt (now s) (now work) t i p × SetsAre (layout (pgn-at (pack-of (now s)) t i)) sets × (j < length (pgn-at (pack-of (now s)) t i .fields)) ⌝ }
-    ensures { λ r. ⌜ r ≡ (length-source (pack-of (now (s .entry)) .fieldtypes) (field-at (pgn-at (pack-of (now (s .entry))) t i) j) && sets-hold (layout (pgn-at (pack-of (now (s .entry))) t i)) (suc j) (o .0)) ⌝ }
+fn gives_length(s: &[u8], work: &[u32], found: FoundPgn, o: FieldOrder, j: u32) -> bool
+    requires { ⌜ record {
+      pgn : IsFound (now s) (now work) found;
+      field : j < length (found-pgn (now s) found .fields);
+    } ⌝ }
+    ensures { λ r. ⌜ r ≡
+        (length-source (pack-of (now (s .entry)) .fieldtypes) (field-at (found-pgn (now (s .entry)) found) j) && sets-hold
+        (layout (found-pgn (now (s .entry)) found)) (suc j) (o .0)) ⌝ }
 {
-    if sets_hold(sets, FieldIndex(j).order(), o) {
-        return length_source_at(s, work, t, i, p, j);
+    if sets_hold(found.sets, FieldIndex(j).order(), o) {
+        return length_source_at(s, work, found, j);
     }
     false
 }
 
 // Whether a field before field k gives it a length.
-fn has_length(s: &[u8], work: &[u32], t: u32, i: u32, p: usize, sets: Sets, k: u32) -> bool
-    requires { ⌜ PgnAt (now s) (now work) t i p × SetsAre (layout (pgn-at (pack-of (now s)) t i)) sets × (k < length (pgn-at (pack-of (now s)) t i .fields)) ⌝ }
-    ensures { λ r. ⌜ r ≡ any-below (λ j. length-source (pack-of (now (s .entry)) .fieldtypes) (field-at (pgn-at (pack-of (now (s .entry))) t i) j) && sets-hold (layout (pgn-at (pack-of (now (s .entry))) t i)) (suc j) (suc k)) k ⌝ }
+fn has_length(s: &[u8], work: &[u32], found: FoundPgn, k: u32) -> bool
+    requires { ⌜ record {
+      pgn : IsFound (now s) (now work) found;
+      field : k < length (found-pgn (now s) found .fields);
+    } ⌝ }
+    ensures { λ r. ⌜ r ≡ any-below
+        (λ j. length-source (pack-of (now (s .entry)) .fieldtypes) (field-at (found-pgn (now (s .entry)) found) j) && sets-hold
+        (layout (found-pgn (now (s .entry)) found)) (suc j) (suc k)) k ⌝ }
 {
     let own = FieldIndex(k).order();
     let mut j: u32 = 0;
     while j < k {
-        if gives_length(s, work, t, i, p, sets, own, j) {
+        if gives_length(s, work, found, own, j) {
             return true;
         }
         j += 1;
@@ -272,51 +283,43 @@ fn has_length(s: &[u8], work: &[u32], t: u32, i: u32, p: usize, sets: Sets, k: u
 }
 
 // "8 root DYNAMIC_FIELD_VALUE and no lower-order dynamicFieldLength or DYNAMIC_FIELD_KEY field current": field k, which is f.
-pub fn lacks_length(
-    s: &[u8],
-    work: &[u32],
-    t: u32,
-    i: u32,
-    p: usize,
-    sets: Sets,
-    k: u32,
-    f: FieldView,
-) -> bool
-    requires { ⌜ PgnAt (now s) (now work) t i p × SetsAre (layout (pgn-at (pack-of (now s)) t i)) sets × (k < length (pgn-at (pack-of (now s)) t i .fields)) × (field-meaning (now s) f ≡ field-at (pgn-at (pack-of (now s)) t i) k) ⌝ }
-    ensures { λ r. ⌜ r ≡ lacks-length (pack-of (now (s .entry))) (pgn-at (pack-of (now (s .entry))) t i) (placed (layout (pgn-at (pack-of (now (s .entry))) t i)) (suc k)) k ⌝ }
+pub fn lacks_length(s: &[u8], work: &[u32], found: FoundPgn, k: u32, f: FieldView) -> bool
+    requires { ⌜ record {
+      pgn : IsFound (now s) (now work) found;
+      field : k < length (found-pgn (now s) found .fields);
+      means : field-meaning (now s) f ≡ field-at (found-pgn (now s) found) k;
+    } ⌝ }
+    ensures { λ r. ⌜ r ≡ lacks-length (pack-of (now (s .entry))) (found-pgn (now (s .entry)) found)
+        (placed (layout (found-pgn (now (s .entry)) found)) (suc k)) k ⌝ }
 {
     let root = root_of(s, work, f.ft);
     if text_is(s, root, b"DYNAMIC_FIELD_VALUE") {
-        return !has_length(s, work, t, i, p, sets, k);
+        return !has_length(s, work, found, k);
     }
     false
 }
 
 // The stops that go by what is current: 6 to 9, or 0. Field k, which is f.
-fn need_stop(
-    s: &[u8],
-    work: &[u32],
-    t: u32,
-    i: u32,
-    p: usize,
-    sets: Sets,
-    k: u32,
-    f: FieldView,
-) -> u32
-    requires { ⌜ PgnAt (now s) (now work) t i p × SetsAre (layout (pgn-at (pack-of (now s)) t i)) sets × (k < length (pgn-at (pack-of (now s)) t i .fields)) × (field-meaning (now s) f ≡ field-at (pgn-at (pack-of (now s)) t i) k) ⌝ }
-    ensures { λ r. ⌜ stop-number r ≡ need-stop (pack-of (now (s .entry))) (pgn-at (pack-of (now (s .entry))) t i) (placed (layout (pgn-at (pack-of (now (s .entry))) t i)) (suc k)) k ⌝ }
+fn need_stop(s: &[u8], work: &[u32], found: FoundPgn, k: u32, f: FieldView) -> u32
+    requires { ⌜ record {
+      pgn : IsFound (now s) (now work) found;
+      field : k < length (found-pgn (now s) found .fields);
+      means : field-meaning (now s) f ≡ field-at (found-pgn (now s) found) k;
+    } ⌝ }
+    ensures { λ r. ⌜ stop-number r ≡ need-stop (pack-of (now (s .entry))) (found-pgn (now (s .entry)) found)
+        (placed (layout (found-pgn (now (s .entry)) found)) (suc k)) k ⌝ }
 {
     let own = FieldIndex(k).order();
-    if lacks(s, work, t, i, p, sets, own, f.links.length) {
+    if lacks(s, work, found, own, f.links.length) {
         return 6;
     }
-    if lacks(s, work, t, i, p, sets, own, f.authored.continues) {
+    if lacks(s, work, found, own, f.authored.continues) {
         return 7;
     }
-    if lacks_length(s, work, t, i, p, sets, k, f) {
+    if lacks_length(s, work, found, k, f) {
         return 8;
     }
-    if lacks(s, work, t, i, p, sets, own, f.links.trailing) {
+    if lacks(s, work, found, own, f.links.trailing) {
         return 9;
     }
     0
@@ -330,11 +333,13 @@ pub struct Judged {
 
 // Field k of a PGN.
 pub fn judge(s: &[u8], work: &[u32], found: FoundPgn, k: u32, reading: u64) -> Judged
-    requires { ⌜ IsFound (now s) (now work) found × (k < length (found-pgn (now s) found .fields)) ⌝ }
-    ensures { λ r. ⌜ stop-number (r .stop) ≡ stop-at (pack-of (now (s .entry))) (found-pgn (now (s .entry)) found)
-        (placed (layout (found-pgn (now (s .entry)) found)) (suc k)) k reading ⌝ }
-    ensures { λ r. ⌜ (r .harmless ≡ true → (other : ℕ) → stop-at (pack-of (now (s .entry))) (found-pgn (now (s .entry)) found)
-        (placed (layout (found-pgn (now (s .entry)) found)) (suc k)) k other ≡ none) ⌝ }
+    requires { ⌜ record { pgn : IsFound (now s) (now work) found; field : k < length (found-pgn (now s) found .fields) } ⌝ }
+    ensures { λ r. ⌜ record {
+      stop : stop-number (r .stop) ≡ stop-at (pack-of (now (s .entry))) (found-pgn (now (s .entry)) found)
+          (placed (layout (found-pgn (now (s .entry)) found)) (suc k)) k reading;
+      harmless : r .harmless ≡ true → (other : ℕ) → stop-at (pack-of (now (s .entry))) (found-pgn (now (s .entry)) found)
+          (placed (layout (found-pgn (now (s .entry)) found)) (suc k)) k other ≡ none;
+    } ⌝ }
 {
     let f = field_of(s, work, found.tree, found.pgn, found.place, k);
     let by_field = field_stop(s, work, found.index, f);
@@ -351,16 +356,7 @@ pub fn judge(s: &[u8], work: &[u32], found: FoundPgn, k: u32, reading: u64) -> J
             harmless: false,
         };
     }
-    let stop = need_stop(
-        s,
-        work,
-        found.tree,
-        found.pgn,
-        found.place,
-        found.sets,
-        k,
-        f,
-    );
+    let stop = need_stop(s, work, found, k, f);
     let harmless = and_not(stop == 0, l.given);
     Judged { stop, harmless }
 }

@@ -49,11 +49,17 @@ fn walk_on(
     readings: &[u64],
     visits: &mut [u32],
 ) -> Walked
-    requires { ⌜ IsFound (now s) (now work) found × Harmless (pack-of (now s)) (found-pgn (now s) found) (now harmless)
-        × (stop-1 (layout (found-pgn (now s) found)) ≡ false) × (length (now readings) ≤ length (now visits)) ⌝ }
-    ensures { λ r. ⌜ r ≡ told (walk (pack-of (now (s .entry))) (found-pgn (now (s .entry)) found) (now (readings .entry))) ⌝ }
-    ensures { λ r. ⌜ now (visits .exit)
-        ≡ over (walk (pack-of (now (s .entry))) (found-pgn (now (s .entry)) found) (now (readings .entry)) .visits) (now (visits .entry)) ⌝ }
+    requires { ⌜ record {
+      pgn : IsFound (now s) (now work) found;
+      harmless : Harmless (pack-of (now s)) (found-pgn (now s) found) (now harmless);
+      no-stop-1 : stop-1 (layout (found-pgn (now s) found)) ≡ false;
+      room : length (now readings) ≤ length (now visits);
+    } ⌝ }
+    ensures { λ r. ⌜ record {
+      answer : r ≡ told (walk (pack-of (now (s .entry))) (found-pgn (now (s .entry)) found) (now (readings .entry)));
+      out : now (visits .exit)
+          ≡ over (walk (pack-of (now (s .entry))) (found-pgn (now (s .entry)) found) (now (readings .entry)) .visits) (now (visits .entry));
+    } ⌝ }
 {
     let sets = found.sets;
     let mut state = begin(sets);
@@ -75,10 +81,12 @@ fn walk_on(
 
 // The walk over a PGN that is found.
 fn walk_at(s: &[u8], work: &[u32], found: FoundPgn, readings: &[u64], visits: &mut [u32]) -> Walked
-    requires { ⌜ IsFound (now s) (now work) found × (length (now readings) ≤ length (now visits)) ⌝ }
-    ensures { λ r. ⌜ r ≡ told (walk (pack-of (now (s .entry))) (found-pgn (now (s .entry)) found) (now (readings .entry))) ⌝ }
-    ensures { λ r. ⌜ now (visits .exit)
-        ≡ over (walk (pack-of (now (s .entry))) (found-pgn (now (s .entry)) found) (now (readings .entry)) .visits) (now (visits .entry)) ⌝ }
+    requires { ⌜ record { pgn : IsFound (now s) (now work) found; room : length (now readings) ≤ length (now visits) } ⌝ }
+    ensures { λ r. ⌜ record {
+      answer : r ≡ told (walk (pack-of (now (s .entry))) (found-pgn (now (s .entry)) found) (now (readings .entry)));
+      out : now (visits .exit)
+          ≡ over (walk (pack-of (now (s .entry))) (found-pgn (now (s .entry)) found) (now (readings .entry)) .visits) (now (visits .entry));
+    } ⌝ }
 {
     if stop_1(found.sets) {
         return Walked::Ended {
@@ -99,10 +107,12 @@ fn walk_found(
     visits: &mut [u32],
 ) -> Walked
     requires { ⌜ IsFound (now pack) (now work) found ⌝ }
-    ensures { λ r. ⌜ r ≡ found-judged (now (pack .entry)) found (now (readings .entry)) (length (now (visits .entry))) ⌝ }
-    ensures { λ r. ⌜ now (visits .exit)
-        ≡ visits-left (found-judged (now (pack .entry)) found (now (readings .entry)) (length (now (visits .entry))))
-        (found-walk (now (pack .entry)) found (now (readings .entry)) .visits) (now (visits .entry)) ⌝ }
+    ensures { λ r. ⌜ record {
+      answer : r ≡ found-judged (now (pack .entry)) found (now (readings .entry)) (length (now (visits .entry)));
+      out : now (visits .exit)
+          ≡ visits-left (found-judged (now (pack .entry)) found (now (readings .entry)) (length (now (visits .entry))))
+          (found-walk (now (pack .entry)) found (now (readings .entry)) .visits) (now (visits .entry));
+    } ⌝ }
 {
     let needed = readings.len();
     if visits.len() < needed {
@@ -133,8 +143,6 @@ pub fn held(pack: &[u8], work: &mut [u32], tree: u32, pgn: u32) -> HeldAnswer
 {
     match named_pgn(pack, work, tree, pgn) {
         NamedPgn::Refused(refusal) => HeldAnswer::Refused(refusal),
-        NamedPgn::Found(found) => {
-            HeldAnswer::Held(held_at(pack, work, found.tree, found.pgn, found.place, found.sets))
-        }
+        NamedPgn::Found(found) => HeldAnswer::Held(held_at(pack, work, found)),
     }
 }

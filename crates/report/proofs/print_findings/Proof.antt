@@ -9,13 +9,14 @@ use Rattle.report.proofs.print_findings.Statement.{statement}
 use Rattle.report.proofs.print_findings.Tie as tie
 
 abbrev Inv-loop : tie.InvT-loop
-Inv-loop pack work₀ text₀ findings count errors i₀ t9 t10 t11 work text i = (length work ≡ length work₀) × (length text ≡ length text₀)
+Inv-loop pack work₀ text₀ findings count errors i₀ t9 t10 t11 work text i =
+    record { same-work : length work ≡ length work₀; same-text : length text ≡ length text₀ }
 
 abbrev μ-loop : tie.MeasureT-loop
 μ-loop pack work₀ text₀ findings count errors i₀ t9 t10 t11 work text i = count - i
 
 loop-holds : tie.Need-loop-holds Inv-loop μ-loop
-loop-holds c = (refl, refl)
+loop-holds c = record { same-work = refl; same-text = refl }
 
 mul-at : tie.Need-mul-at Inv-loop μ-loop
 mul-at c = search needs
@@ -48,13 +49,13 @@ same-length : tie.Need-same-length Inv-loop μ-loop
 same-length c =
     let loop = c .before .before .before .before .before .before .before .before .before .before .loop in
     let print-finding = c .before .before .before .before .before .print-finding in
-    print-finding .kept .1 .0 ∙ loop .inv .0
+    print-finding .kept .1 .0 ∙ loop .inv .same-work
 
 same-length-2 : tie.Need-same-length-2 Inv-loop μ-loop
 same-length-2 c =
     let loop = c .before .before .before .before .before .before .before .before .before .before .loop in
     let print-finding = c .before .before .before .before .before .print-finding in
-    print-finding .kept .1 .1 .0 ∙ loop .inv .1
+    print-finding .kept .1 .1 .0 ∙ loop .inv .same-text
 
 returns : tie.Need-returns Inv-loop μ-loop
 returns c = search needs
@@ -69,7 +70,7 @@ loop-again : tie.Need-loop-again Inv-loop μ-loop
 loop-again c =
     let loop = c .before .before .before .before .before .before .before .before .before .before .loop in
     let print-finding = c .before .before .before .before .before .print-finding in
-    (print-finding .kept .1 .0 ∙ loop .inv .0, print-finding .kept .1 .1 .0 ∙ loop .inv .1)
+    record { same-work = print-finding .kept .1 .0 ∙ loop .inv .same-work; same-text = print-finding .kept .1 .1 .0 ∙ loop .inv .same-text }
 
 slice-aggregate-number : tie.Need-slice-aggregate-number Inv-loop μ-loop
 slice-aggregate-number c = search needs
@@ -92,12 +93,12 @@ words-requires c κs = search needs
 same-length-3 : tie.Need-same-length-3 Inv-loop μ-loop
 same-length-3 c =
     let loop = c .before .before .before .before .before .before .before .loop in
-    loop .inv .0
+    loop .inv .same-work
 
 same-length-4 : tie.Need-same-length-4 Inv-loop μ-loop
 same-length-4 c =
     let loop = c .before .before .before .before .before .before .before .loop in
-    loop .inv .1
+    loop .inv .same-text
 
 returns-2 : tie.Need-returns-2 Inv-loop μ-loop
 returns-2 c = search needs

@@ -10,7 +10,7 @@ field-requires : tie.Need-field-requires
 field-requires c κs = search needs
 
 returns : tie.Need-returns
-returns c = ap (λ r. r .value) (c .before .field .ensures .0) ∙ (rw (c .before .before .cursor-at .ensures))
+returns c = ap (λ r. r .value) (c .before .field .ensures .is) ∙ (rw (c .before .before .cursor-at .ensures))
 
 pub field-at-spec : {M : Type 1} → statement M
 field-at-spec = tie.close (tie.spec cursor-at-requires field-requires returns)

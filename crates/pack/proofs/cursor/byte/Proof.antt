@@ -11,7 +11,7 @@ cast-result : tie.Need-cast-result
 cast-result c = omega (arith, c .shared-slice-known .given (c .before .args .at))
 
 returns : tie.Need-returns
-returns c = (refl, omega (arith, c .shared-slice-known .given (c .before .args .at)))
+returns c = record { is = refl; small = omega (arith, c .shared-slice-known .given (c .before .args .at)) }
 
 pub byte-spec : {M : Type 1} → statement M
 byte-spec = tie.close (tie.spec shared-slice-read-result cast-result returns)

@@ -13,11 +13,13 @@ use Rattle.pack.proofs.load.place_fields.Tie as tie
 
 abbrev Inv-loop : tie.InvT-loop
 Inv-loop s work₀ types n p c₀ total₀ p₀ i₀ work c total p' i =
-    (i ≤ n)
-    × (length work ≡ length work₀)
-    × PlacedTo (fields types s c₀ i .next) work₀ p₀ (field-offsets types s c₀ i) work c p'
-    × Room s c p'
-    × (total ≡ fields types s c₀ i .total)
+    record {
+      turns : i ≤ n;
+      length : length work ≡ length work₀;
+      placed : PlacedTo (fields types s c₀ i .next) work₀ p₀ (field-offsets types s c₀ i) work c p';
+      room : Room s c p';
+      total : total ≡ fields types s c₀ i .total;
+    }
 
 abbrev μ-loop : tie.MeasureT-loop
 μ-loop s work₀ types n p c₀ total₀ p₀ i₀ work c total p' i = n - i
@@ -26,19 +28,25 @@ loop-holds : tie.Need-loop-holds Inv-loop μ-loop
 unfolding fields field-offsets
 loop-holds c =
     let start = c .before .before in
-    (omega (arith, c), refl, placed-none (now (start .args .s)) _ _ _ (start .pre), start .pre, refl)
+    record {
+      turns = omega (arith, c);
+      length = refl;
+      placed = placed-none (now (start .args .s)) _ _ _ (start .pre);
+      room = start .pre;
+      total = refl;
+    }
 
 same-length : tie.Need-same-length Inv-loop μ-loop
 same-length c =
     let loop = c .before .before .before .loop in
-    loop .inv .1
+    loop .inv .length
 
 returns : tie.Need-returns Inv-loop μ-loop
 returns c =
     let start = c .before .before .before .before .before .before in
     let loop = c .before .before .before .loop in
     let s = now (start .args .s) in
-    let a = loop .inv .2 in
+    let a = loop .inv .placed in
     let n = c .if1 .taken in
     placed-refused _ _ _
     (a .next ∙ sym (fields-stay s (start .args .c) (start .args .types) (loop .i) (start .args .n) (omega (arith, c)) (λ z. n ((rw (a .next) z))))) n (a .few)
@@ -46,7 +54,7 @@ returns c =
 put-requires : tie.Need-put-requires Inv-loop μ-loop
 put-requires c κs =
     let loop = c .before .before .before .before .loop in
-    omega (arith, loop .inv .3 .short, loop .inv .3 .inside)
+    omega (arith, loop .inv .room .short, loop .inv .room .inside)
 
 field-requires : tie.Need-field-requires Inv-loop μ-loop
 field-requires c κs = search needs
@@ -57,7 +65,7 @@ add-total c = search needs
 past-requires : tie.Need-past-requires Inv-loop μ-loop
 past-requires c κs =
     let loop = c .before .before .before .before .before .before .before .before .before .before .loop in
-    omega (arith, loop .inv .3 .short, loop .inv .3 .inside, loop .inv .3 .few)
+    omega (arith, loop .inv .room .short, loop .inv .room .inside, loop .inv .room .few)
 
 add-i : tie.Need-add-i Inv-loop μ-loop
 add-i c =
@@ -83,25 +91,27 @@ loop-again c =
     let field = c .before .before .before .field in
     let s = now (start .args .s) in let types = start .args .types in
     let i = loop .i in
-    let a = loop .inv .2 in
+    let a = loop .inv .placed in
     let one = placed-one (field-reader s types (loop .total)) (field-moves s types (loop .total)) (loop .c) (loop .p) (loop .work) (put .last .0) _ _
-    (loop .inv .3) (ap (λ r. r .next) (field .ensures .0)) (put .ensures) (c .past .ensures) in
-    let all = placed-append a (if1 .left) one in (
-      omega (arith, loop-test .taken),
-      put .kept .0 ∙ loop .inv .1,
-      (rw (fields-turn s (start .args .c) types i, field-offsets-turn s (start .args .c) types i, ← a .next, ← loop .inv .4) all),
-      room-after (field-reader s types (loop .total)) (loop .c) (loop .p) (loop .inv .3) one,
-      (rw (fields-turn s (start .args .c) types i, ← a .next, ← loop .inv .4) (ap (λ r. loop .total + r .value .scaling .bits) (field .ensures .0))),
-    )
+    (loop .inv .room) (ap (λ r. r .next) (field .ensures .is)) (put .ensures) (c .past .ensures) in
+    let all = placed-append a (if1 .left) one in
+    record {
+      turns = omega (arith, loop-test .taken);
+      length = put .kept .0 ∙ loop .inv .length;
+      placed = (rw (fields-turn s (start .args .c) types i, field-offsets-turn s (start .args .c) types i, ← a .next, ← loop .inv .total) all);
+      room = room-after (field-reader s types (loop .total)) (loop .c) (loop .p) (loop .inv .room) one;
+      total =
+          (rw (fields-turn s (start .args .c) types i, ← a .next, ← loop .inv .total) (ap (λ r. loop .total + r .value .scaling .bits) (field .ensures .is)));
+    }
 
 same-length-2 : tie.Need-same-length-2 Inv-loop μ-loop
-same-length-2 c = c .before .loop .inv .1
+same-length-2 c = c .before .loop .inv .length
 
 returns-2 : tie.Need-returns-2 Inv-loop μ-loop
 returns-2 c =
     let start = c .before .before .before .before in
     let e : start .args .n ≡ c .before .loop .i = omega (arith, c) in
-    rw e (c .before .loop .inv .2)
+    rw e (c .before .loop .inv .placed)
 
 pub place-fields-spec : {M : Type 1} → statement M
 place-fields-spec =

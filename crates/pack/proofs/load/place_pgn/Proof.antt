@@ -42,7 +42,8 @@ returns c =
     let e : pgn .result .next ≡ read-pgn s (start .args .c) .next = ap (λ (r : PgnItem). r .next) (pgn .ensures) in
     let l : pgn .result .next .at ≡ read-pgn s (start .args .c) .next .at = ap (λ (r : PgnItem). r .next .at) (pgn .ensures) in
     placed-refused _ _ _ (e
-    ∙ sym (fields-reader s (start .args .types) (read-pgn s (start .args .c) .value .fields) .sticky (read-pgn s (start .args .c) .next) (rw (← e) (c .if1 .taken))))
+    ∙ sym
+    (fields-reader s (start .args .types) (read-pgn s (start .args .c) .value .fields) .sticky (read-pgn s (start .args .c) .next) (rw (← e) (c .if1 .taken))))
     (c .if1 .taken) (omega (arith, l, pgn-reader s .grows (start .args .c), start .pre .few))
 
 add-place-fields : tie.Need-add-place-fields

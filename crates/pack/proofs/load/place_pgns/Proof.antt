@@ -13,7 +13,12 @@ use Rattle.pack.proofs.load.place_pgns.Tie as tie
 
 abbrev Inv-loop : tie.InvT-loop
 Inv-loop s work₀ types n p c₀ p₀ i₀ work c p' i =
-    (i ≤ n) × (length work ≡ length work₀) × PlacedTo (pgns types s c₀ i) work₀ p₀ (pgn-offsets types s c₀ i) work c p' × Room s c p'
+    record {
+      turns : i ≤ n;
+      length : length work ≡ length work₀;
+      placed : PlacedTo (pgns types s c₀ i) work₀ p₀ (pgn-offsets types s c₀ i) work c p';
+      room : Room s c p';
+    }
 
 abbrev μ-loop : tie.MeasureT-loop
 μ-loop s work₀ types n p c₀ p₀ i₀ work c p' i = n - i
@@ -22,19 +27,19 @@ loop-holds : tie.Need-loop-holds Inv-loop μ-loop
 unfolding pgns pgn-offsets
 loop-holds c =
     let start = c .before .before in
-    (omega (arith, c), refl, placed-none (now (start .args .s)) _ _ _ (start .pre), start .pre)
+    record { turns = omega (arith, c); length = refl; placed = placed-none (now (start .args .s)) _ _ _ (start .pre); room = start .pre }
 
 same-length : tie.Need-same-length Inv-loop μ-loop
 same-length c =
     let loop = c .before .before .before .loop in
-    loop .inv .1
+    loop .inv .length
 
 returns : tie.Need-returns Inv-loop μ-loop
 returns c =
     let start = c .before .before .before .before .before .before in
     let loop = c .before .before .before .loop in
     let s = now (start .args .s) in
-    let a = loop .inv .2 in
+    let a = loop .inv .placed in
     let n = c .if1 .taken in
     placed-refused _ _ _
     (a .next ∙ sym (pgns-stay s (start .args .c) (start .args .types) (loop .i) (start .args .n) (omega (arith, c)) (λ z. n ((rw (a .next) z))))) n (a .few)
@@ -42,7 +47,7 @@ returns c =
 place-pgn-requires : tie.Need-place-pgn-requires Inv-loop μ-loop
 place-pgn-requires c κs =
     let loop = c .before .before .before .before .loop in
-    loop .inv .3
+    loop .inv .room
 
 add-i : tie.Need-add-i Inv-loop μ-loop
 add-i c = search needs
@@ -58,22 +63,23 @@ loop-again c =
     let place-pgn = c .before .before .before .place-pgn in
     let s = now (start .args .s) in let types = start .args .types in
     let i = loop .i in
-    let a = loop .inv .2 in
-    let all = placed-append a (if1 .left) (place-pgn .ensures) in (
-      omega (arith, c),
-      place-pgn .kept .1 .0 ∙ loop .inv .1,
-      (rw (pgns-turn s (start .args .c) types i, pgn-offsets-turn s (start .args .c) types i, ← a .next) all),
-      room-after (pgn-next-reader s types) (loop .c) (loop .p) (loop .inv .3) (place-pgn .ensures),
-    )
+    let a = loop .inv .placed in
+    let all = placed-append a (if1 .left) (place-pgn .ensures) in
+    record {
+      turns = omega (arith, c);
+      length = place-pgn .kept .1 .0 ∙ loop .inv .length;
+      placed = (rw (pgns-turn s (start .args .c) types i, pgn-offsets-turn s (start .args .c) types i, ← a .next) all);
+      room = room-after (pgn-next-reader s types) (loop .c) (loop .p) (loop .inv .room) (place-pgn .ensures);
+    }
 
 same-length-2 : tie.Need-same-length-2 Inv-loop μ-loop
-same-length-2 c = c .before .loop .inv .1
+same-length-2 c = c .before .loop .inv .length
 
 returns-2 : tie.Need-returns-2 Inv-loop μ-loop
 returns-2 c =
     let start = c .before .before .before .before in
     let e : start .args .n ≡ c .before .loop .i = omega (arith, c) in
-    rw e (c .before .loop .inv .2)
+    rw e (c .before .loop .inv .placed)
 
 pub place-pgns-spec : {M : Type 1} → statement M
 place-pgns-spec =

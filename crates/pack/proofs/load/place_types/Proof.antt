@@ -13,7 +13,12 @@ use Rattle.pack.proofs.load.place_types.Tie as tie
 
 abbrev Inv-loop : tie.InvT-loop
 Inv-loop s work₀ n p c₀ p₀ i₀ work c p' i =
-    (i ≤ n) × (length work ≡ length work₀) × PlacedTo (types s c₀ i) work₀ p₀ (type-offsets s c₀ i) work c p' × Room s c p'
+    record {
+      turns : i ≤ n;
+      length : length work ≡ length work₀;
+      placed : PlacedTo (types s c₀ i) work₀ p₀ (type-offsets s c₀ i) work c p';
+      room : Room s c p';
+    }
 
 abbrev μ-loop : tie.MeasureT-loop
 μ-loop s work₀ n p c₀ p₀ i₀ work c p' i = n - i
@@ -22,26 +27,26 @@ loop-holds : tie.Need-loop-holds Inv-loop μ-loop
 unfolding types type-offsets
 loop-holds c =
     let start = c .before .before in
-    (omega (arith, c), refl, placed-none (now (start .args .s)) _ _ _ (start .pre), start .pre)
+    record { turns = omega (arith, c); length = refl; placed = placed-none (now (start .args .s)) _ _ _ (start .pre); room = start .pre }
 
 same-length : tie.Need-same-length Inv-loop μ-loop
 same-length c =
     let loop = c .before .before .before .loop in
-    loop .inv .1
+    loop .inv .length
 
 returns : tie.Need-returns Inv-loop μ-loop
 returns c =
     let start = c .before .before .before .before .before .before in
     let loop = c .before .before .before .loop in
     let s = now (start .args .s) in
-    let a = loop .inv .2 in
+    let a = loop .inv .placed in
     let n = c .if1 .taken in
     placed-refused _ _ _ (a .next ∙ sym (types-stay s (start .args .c) (loop .i) (start .args .n) (omega (arith, c)) (λ z. n ((rw (a .next) z))))) n (a .few)
 
 put-requires : tie.Need-put-requires Inv-loop μ-loop
 put-requires c κs =
     let loop = c .before .before .before .before .loop in
-    omega (arith, loop .inv .3 .short, loop .inv .3 .inside)
+    omega (arith, loop .inv .room .short, loop .inv .room .inside)
 
 field-type-requires : tie.Need-field-type-requires Inv-loop μ-loop
 field-type-requires c κs = search needs
@@ -49,7 +54,7 @@ field-type-requires c κs = search needs
 past-requires : tie.Need-past-requires Inv-loop μ-loop
 past-requires c κs =
     let loop = c .before .before .before .before .before .before .before .before .before .loop in
-    omega (arith, loop .inv .3 .short, loop .inv .3 .inside, loop .inv .3 .few)
+    omega (arith, loop .inv .room .short, loop .inv .room .inside, loop .inv .room .few)
 
 add-i : tie.Need-add-i Inv-loop μ-loop
 add-i c = search needs
@@ -66,24 +71,25 @@ loop-again c =
     let put = c .before .before .before .before .before .put in
     let s = now (start .args .s) in
     let i = loop .i in
-    let a = loop .inv .2 in
-    let one = placed-one (type-reader s) (type-moves s) (loop .c) (loop .p) (loop .work) (put .last .0) _ _ (loop .inv .3)
+    let a = loop .inv .placed in
+    let one = placed-one (type-reader s) (type-moves s) (loop .c) (loop .p) (loop .work) (put .last .0) _ _ (loop .inv .room)
     (ap (λ r. r .next) (c .before .before .field-type .ensures)) (put .ensures) (c .past .ensures) in
-    let all = placed-append a (if1 .left) one in (
-      omega (arith, c),
-      put .kept .0 ∙ loop .inv .1,
-      (rw (types-turn s (start .args .c) i, type-offsets-turn s (start .args .c) i, ← a .next) all),
-      room-after (type-reader s) (loop .c) (loop .p) (loop .inv .3) one,
-    )
+    let all = placed-append a (if1 .left) one in
+    record {
+      turns = omega (arith, c);
+      length = put .kept .0 ∙ loop .inv .length;
+      placed = (rw (types-turn s (start .args .c) i, type-offsets-turn s (start .args .c) i, ← a .next) all);
+      room = room-after (type-reader s) (loop .c) (loop .p) (loop .inv .room) one;
+    }
 
 same-length-2 : tie.Need-same-length-2 Inv-loop μ-loop
-same-length-2 c = c .before .loop .inv .1
+same-length-2 c = c .before .loop .inv .length
 
 returns-2 : tie.Need-returns-2 Inv-loop μ-loop
 returns-2 c =
     let start = c .before .before .before .before in
     let e : start .args .n ≡ c .before .loop .i = omega (arith, c) in
-    rw e (c .before .loop .inv .2)
+    rw e (c .before .loop .inv .placed)
 
 pub place-types-spec : {M : Type 1} → statement M
 place-types-spec =

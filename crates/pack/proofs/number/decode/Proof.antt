@@ -12,7 +12,12 @@ use Rattle.pack.proofs.number.decode.Statement.{statement}
 use Rattle.pack.proofs.number.decode.Tie as tie
 
 abbrev Inv-loop : tie.InvT-loop
-Inv-loop s end n most v₀ k₀ v k = (k ≤ n) × (v ≡ groups s end k) × (v < 2 ^ 64)
+Inv-loop s end n most v₀ k₀ v k =
+    record {
+      turns : k ≤ n;
+      value : v ≡ groups s end k;
+      small : v < 2 ^ 64;
+    }
 
 abbrev μ-loop : tie.MeasureT-loop
 μ-loop s end n most v₀ k₀ v k = n - k
@@ -25,7 +30,7 @@ no-less s e k zero = let z : k + 0 ≡ k = omega arith in rw z (omega arith)
 no-less s e k (suc j) = let z : k + suc j ≡ suc (k + j) = omega arith in rw z (let h = no-less s e k j in omega arith)
 
 loop-holds : tie.Need-loop-holds Inv-loop μ-loop
-loop-holds c = (search needs, refl, search needs)
+loop-holds c = record { turns = search needs; value = refl; small = search needs }
 
 returns : tie.Need-returns Inv-loop μ-loop
 unfolding capped
@@ -36,7 +41,7 @@ returns c =
     let z : k + 1 + (start .args .n - (k + 1)) ≡ start .args .n = omega (arith, c) in
     let m = rw z at (no-less s end (k + 1) (start .args .n - (k + 1))) in
     let o = one-more s end k in
-    ((rw (lt-leb (groups s end (start .args .n)) (start .args .most) (omega (arith, start .fits .most)))), omega (arith, c))
+    record { is = (rw (lt-leb (groups s end (start .args .n)) (start .args .most) (omega (arith, start .fits .most)))); bound = omega (arith, c) }
 
 add-k : tie.Need-add-k Inv-loop μ-loop
 add-k c = search needs
@@ -72,7 +77,7 @@ returns-2 c =
     let start = c .before .before .before .before in
     let loop = c .before .before .loop in
     let e : start .args .n ≡ loop .k = omega (arith, c) in
-    ((rw (e, ← loop .inv .1, le-leb _ _ (c .if2 .taken))), omega (arith, c))
+    record { is = (rw (e, ← loop .inv .value, le-leb _ _ (c .if2 .taken))); bound = omega (arith, c) }
 
 returns-3 : tie.Need-returns-3 Inv-loop μ-loop
 unfolding capped
@@ -80,7 +85,7 @@ returns-3 c =
     let start = c .before .before .before .before in
     let loop = c .before .before .loop in
     let e : start .args .n ≡ loop .k = omega (arith, c) in
-    ((rw (e, ← loop .inv .1, lt-leb _ _ (c .if2 .left))), omega (arith, c))
+    record { is = (rw (e, ← loop .inv .value, lt-leb _ _ (c .if2 .left))); bound = omega (arith, c) }
 
 pub decode-spec : {M : Type 1} → statement M
 decode-spec =

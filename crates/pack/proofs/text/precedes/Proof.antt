@@ -15,7 +15,12 @@ use Rattle.pack.proofs.text.precedes.Statement.{statement}
 use Rattle.pack.proofs.text.precedes.Tie as tie
 
 abbrev Inv-loop : tie.InvT-loop
-Inv-loop a b i₀ i = (i ≤ length a) × (i ≤ length b) × ((a ≺ b) ≡ (drop i a ≺ drop i b))
+Inv-loop a b i₀ i =
+    record {
+      left : i ≤ length a;
+      right : i ≤ length b;
+      rest : (a ≺ b) ≡ (drop i a ≺ drop i b);
+    }
 
 abbrev μ-loop : tie.MeasureT-loop
 μ-loop a b i₀ i = length a - i
@@ -48,7 +53,7 @@ returns : tie.Need-returns Inv-loop μ-loop
 returns c =
     let start = c .before .before .before in
     let loop = c .before .before .loop in
-    sym (loop .inv .2 ∙ short (now (start .args .a)) (now (start .args .b)) (loop .i) (omega (arith, c)) (omega (arith, c)))
+    sym (loop .inv .rest ∙ short (now (start .args .a)) (now (start .args .b)) (loop .i) (omega (arith, c)) (omega (arith, c)))
 
 shared-slice-read-if2 : tie.Need-shared-slice-read-if2 Inv-loop μ-loop
 shared-slice-read-if2 c = search needs
@@ -60,7 +65,7 @@ returns-2 : tie.Need-returns-2 Inv-loop μ-loop
 returns-2 c =
     let start = c .before .before .before .before .before .before in
     let loop = c .before .before .before .before .before .loop in
-    sym (loop .inv .2 ∙ lower (now (start .args .a)) (now (start .args .b)) (loop .i) (omega (arith, c)) (omega (arith, c)) (c .if2 .taken))
+    sym (loop .inv .rest ∙ lower (now (start .args .a)) (now (start .args .b)) (loop .i) (omega (arith, c)) (omega (arith, c)) (c .if2 .taken))
 
 shared-slice-read-if3 : tie.Need-shared-slice-read-if3 Inv-loop μ-loop
 shared-slice-read-if3 c = search needs
@@ -72,7 +77,7 @@ returns-3 : tie.Need-returns-3 Inv-loop μ-loop
 returns-3 c =
     let start = c .before .before .before .before .before .before .before .before .before in
     let loop = c .before .before .before .before .before .before .before .before .loop in
-    sym (loop .inv .2 ∙ higher (now (start .args .a)) (now (start .args .b)) (loop .i) (omega (arith, c)) (omega (arith, c)) (c .if3 .taken))
+    sym (loop .inv .rest ∙ higher (now (start .args .a)) (now (start .args .b)) (loop .i) (omega (arith, c)) (omega (arith, c)) (c .if3 .taken))
 
 add-i : tie.Need-add-i Inv-loop μ-loop
 add-i c = search needs
@@ -84,16 +89,17 @@ loop-again : tie.Need-loop-again Inv-loop μ-loop
 loop-again c =
     let start = c .before .before .before .before .before .before .before .before .before in
     let loop = c .before .before .before .before .before .before .before .before .loop in
-    let if2 = c .before .before .before .if2 in (
-      omega (arith, c),
-      omega (arith, c),
-      loop .inv .2 ∙ level (now (start .args .a)) (now (start .args .b)) (loop .i) (omega (arith, c)) (omega (arith, c)) (if2 .left) (c .if3 .left),
-    )
+    let if2 = c .before .before .before .if2 in
+    record {
+      left = omega (arith, c);
+      right = omega (arith, c);
+      rest = loop .inv .rest ∙ level (now (start .args .a)) (now (start .args .b)) (loop .i) (omega (arith, c)) (omega (arith, c)) (if2 .left) (c .if3 .left);
+    }
 
 returns-4 : tie.Need-returns-4 Inv-loop μ-loop
 returns-4 c =
     let start = c .before .before in
-    sym (c .before .loop .inv .2 ∙ ended (now (start .args .a)) (now (start .args .b)) (c .before .loop .i) (c .loop-test .left))
+    sym (c .before .loop .inv .rest ∙ ended (now (start .args .a)) (now (start .args .b)) (c .before .loop .i) (c .loop-test .left))
 
 pub precedes-spec : {M : Type 1} → statement M
 precedes-spec =

@@ -15,7 +15,11 @@ use Rattle.pack.proofs.text.same.Statement.{statement}
 use Rattle.pack.proofs.text.same.Tie as tie
 
 abbrev Inv-loop : tie.InvT-loop
-Inv-loop a b i₀ i = (length a ≡ length b) × ((a ≐ b) ≡ (drop i a ≐ drop i b))
+Inv-loop a b i₀ i =
+    record {
+      lengths : length a ≡ length b;
+      rest : (a ≐ b) ≡ (drop i a ≐ drop i b);
+    }
 
 abbrev μ-loop : tie.MeasureT-loop
 μ-loop a b i₀ i = length a - i
@@ -53,7 +57,7 @@ returns-2 : tie.Need-returns-2 Inv-loop μ-loop
 returns-2 c =
     let start = c .before .before .before .before .before .before in
     let loop = c .before .before .before .before .loop in
-    sym (loop .inv .1 ∙ differ (now (start .args .a)) (now (start .args .b)) (loop .i) (omega (arith, c)) (omega (arith, c)) (c .if2 .taken))
+    sym (loop .inv .rest ∙ differ (now (start .args .a)) (now (start .args .b)) (loop .i) (omega (arith, c)) (omega (arith, c)) (c .if2 .taken))
 
 add-i : tie.Need-add-i Inv-loop μ-loop
 add-i c = search needs
@@ -65,14 +69,17 @@ loop-again : tie.Need-loop-again Inv-loop μ-loop
 loop-again c =
     let start = c .before .before .before .before .before .before in
     let loop = c .before .before .before .before .loop in
-    (loop .inv .0, loop .inv .1 ∙ agree (now (start .args .a)) (now (start .args .b)) (loop .i) (omega (arith, c)) (omega (arith, c)) (c .if2 .left))
+    record {
+      lengths = loop .inv .lengths;
+      rest = loop .inv .rest ∙ agree (now (start .args .a)) (now (start .args .b)) (loop .i) (omega (arith, c)) (omega (arith, c)) (c .if2 .left);
+    }
 
 returns-3 : tie.Need-returns-3 Inv-loop μ-loop
 returns-3 c =
     let start = c .before .before .before in
     let x = drop-of-length-le (now (start .args .a)) {i = c .before .loop .i} (omega (arith, c)) in
     let y = drop-of-length-le (now (start .args .b)) {i = c .before .loop .i} (omega (arith, c)) in
-    rw (c .before .loop .inv .1, x, y)
+    rw (c .before .loop .inv .rest, x, y)
 
 pub same-spec : {M : Type 1} → statement M
 same-spec =

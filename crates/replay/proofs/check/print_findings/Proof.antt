@@ -9,13 +9,14 @@ use Rattle.replay.proofs.check.print_findings.Statement.{statement}
 use Rattle.replay.proofs.check.print_findings.Tie as tie
 
 abbrev Inv-loop : tie.InvT-loop
-Inv-loop pack work₀ text₀ findings at₀ work text at = (at ≤ length findings) × (length work ≡ length work₀) × (length text ≡ length text₀)
+Inv-loop pack work₀ text₀ findings at₀ work text at =
+    record { turns : at ≤ length findings; same-work : length work ≡ length work₀; same-text : length text ≡ length text₀ }
 
 abbrev μ-loop : tie.MeasureT-loop
 μ-loop pack work₀ text₀ findings at₀ work text at = length findings - at
 
 loop-holds : tie.Need-loop-holds Inv-loop μ-loop
-loop-holds c = (omega arith, refl, refl)
+loop-holds c = record { turns = omega arith; same-work = refl; same-text = refl }
 
 sub-loop : tie.Need-sub-loop Inv-loop μ-loop
 sub-loop c = search needs
@@ -52,13 +53,17 @@ loop-again c =
     let loop = c .before .before .before .before .before .before .before .before .before .loop in
     let loop-test = c .before .before .before .before .before .before .before .before .loop-test in
     let print-finding = c .before .before .before .before .print-finding in
-    (omega (arith, loop-test .taken), print-finding .kept .1 .0 ∙ loop .inv .1, print-finding .kept .1 .1 .0 ∙ loop .inv .2)
+    record {
+      turns = omega (arith, loop-test .taken);
+      same-work = print-finding .kept .1 .0 ∙ loop .inv .same-work;
+      same-text = print-finding .kept .1 .1 .0 ∙ loop .inv .same-text;
+    }
 
 same-length : tie.Need-same-length Inv-loop μ-loop
-same-length c = c .before .loop .inv .1
+same-length c = c .before .loop .inv .same-work
 
 same-length-2 : tie.Need-same-length-2 Inv-loop μ-loop
-same-length-2 c = c .before .loop .inv .2
+same-length-2 c = c .before .loop .inv .same-text
 
 returns : tie.Need-returns Inv-loop μ-loop
 returns c = search needs

@@ -44,9 +44,9 @@ pgn-error-requires c κs = search needs
 put-requires : tie.Need-put-requires
 put-requires c κs =
     let start = c .before .before .before .before .before .before .before in
-    let s = now (start .args .s) in let t = start .args .t in let i = start .args .i in
+    let s = now (start .args .s) in let t = start .args .g .tree in let i = start .args .g .item in
     rw (absent s t i (start .args .k) (pgn-at (pack-of s) t i) (start .args .j) (not-true (start .args .j .given) (c .before .before .if1 .taken))
-    (c .pgn-error .result) (c .pgn-error .ensures)) at (start .pre .0)
+    (c .pgn-error .result) (c .pgn-error .ensures)) at (start .pre .fits)
 
 same-length : tie.Need-same-length
 same-length c = search needs
@@ -56,7 +56,7 @@ returns c =
     let start = c .before .before .before .before .before .before .before .before .before .before in
     let if1 = c .before .before .before .before .before .if1 in
     let pgn-error-call = c .before .before .before .pgn-error in
-    let s = now (start .args .s) in let t = start .args .t in let i = start .args .i in
+    let s = now (start .args .s) in let t = start .args .g .tree in let i = start .args .g .item in
     rw (absent s t i (start .args .k) (pgn-at (pack-of s) t i) (start .args .j) (not-true (start .args .j .given) (if1 .taken)) (pgn-error-call .result)
     (pgn-error-call .ensures)) (c .before .before .put .ensures)
 
@@ -67,9 +67,9 @@ put-requires-2 : tie.Need-put-requires-2
 put-requires-2 c κs =
     let start = c .before .before .before .before .before .before .before .before .before in
     let if1 = c .before .before .before .before .if1 in
-    let s = now (start .args .s) in let t = start .args .t in let i = start .args .i in
+    let s = now (start .args .s) in let t = start .args .g .tree in let i = start .args .g .item in
     rw (later s t i (start .args .k) (pgn-at (pack-of s) t i) (start .args .j) (not-false (start .args .j .given) (if1 .left)) (c .before .before .if2 .taken)
-    (c .pgn-error2 .result) (c .pgn-error2 .ensures)) at (start .pre .0)
+    (c .pgn-error2 .result) (c .pgn-error2 .ensures)) at (start .pre .fits)
 
 same-length-2 : tie.Need-same-length-2
 same-length-2 c = search needs
@@ -80,14 +80,14 @@ returns-2 c =
     let if1 = c .before .before .before .before .before .before .before .if1 in
     let if2 = c .before .before .before .before .before .if2 in
     let pgn-error2 = c .before .before .before .pgn-error2 in
-    let s = now (start .args .s) in let t = start .args .t in let i = start .args .i in
+    let s = now (start .args .s) in let t = start .args .g .tree in let i = start .args .g .item in
     rw (later s t i (start .args .k) (pgn-at (pack-of s) t i) (start .args .j) (not-false (start .args .j .given) (if1 .left)) (if2 .taken) (pgn-error2 .result)
     (pgn-error2 .ensures)) (c .before .before .put2 .ensures)
 
 field-of-requires : tie.Need-field-of-requires
 field-of-requires c κs =
     let start = c .before .before .before .before .before .before .before in
-    (start .pre .1, omega (arith, start .pre .2, c .if2 .left))
+    record { at = start .pre .at; field = omega (arith, start .pre .field, c .if2 .left) }
 
 not-bit-count-requires : tie.Need-not-bit-count-requires
 not-bit-count-requires c κs = search needs
@@ -102,9 +102,9 @@ put-if-requires c κs =
     let if2 = c .before .before .before .before .if2 in
     let field-of = c .before .before .before .field-of in
     let not-bit-count-call = c .before .before .not-bit-count in
-    let s = now (start .args .s) in let t = start .args .t in let i = start .args .i in
+    let s = now (start .args .s) in let t = start .args .g .tree in let i = start .args .g .item in
     rw (earlier s t i (start .args .k) (pgn-at (pack-of s) t i) (start .args .j) (not-false (start .args .j .given) (if1 .left)) (if2 .left) (field-of .result)
-    (field-of .ensures) (not-bit-count-call .result) (not-bit-count-call .ensures) (c .pgn-error3 .result) (c .pgn-error3 .ensures)) at (start .pre .0)
+    (field-of .ensures) (not-bit-count-call .result) (not-bit-count-call .ensures) (c .pgn-error3 .result) (c .pgn-error3 .ensures)) at (start .pre .fits)
 
 same-length-3 : tie.Need-same-length-3
 same-length-3 c = search needs
@@ -118,7 +118,7 @@ returns-3 c =
     let field-of = c .before .before .before .before .before .before .field-of in
     let not-bit-count-call = c .before .before .before .before .before .not-bit-count in
     let pgn-error3 = c .before .before .before .pgn-error3 in
-    let s = now (start .args .s) in let t = start .args .t in let i = start .args .i in
+    let s = now (start .args .s) in let t = start .args .g .tree in let i = start .args .g .item in
     rw (earlier s t i (start .args .k) (pgn-at (pack-of s) t i) (start .args .j) (not-false (start .args .j .given) (if1 .left)) (if2 .left) (field-of .result)
     (field-of .ensures) (not-bit-count-call .result) (not-bit-count-call .ensures) (pgn-error3 .result) (pgn-error3 .ensures))
     (c .before .before .put-if .ensures)

@@ -18,7 +18,13 @@ turn : (w : List ℕ) (p : ℕ) (bytes w′ : List ℕ) (q i : ℕ) → i < leng
 turn w p bytes w′ q i h a = rw (add-one i, take-suc bytes i 0 h) (stored-one a (getD bytes i 0))
 
 abbrev Inv-loop : tie.InvT-loop
-Inv-loop out₀ at bytes end₀ i₀ out end i = (i ≤ length bytes) × (length out ≡ length out₀) × (end ≡ at + i) × Stored out₀ at (take i bytes) out end
+Inv-loop out₀ at bytes end₀ i₀ out end i =
+    record {
+      turns : i ≤ length bytes;
+      length : length out ≡ length out₀;
+      reached : end ≡ at + i;
+      stored : Stored out₀ at (take i bytes) out end;
+    }
 
 abbrev μ-loop : tie.MeasureT-loop
 μ-loop out₀ at bytes end₀ i₀ out end i = length bytes - i
@@ -26,7 +32,7 @@ abbrev μ-loop : tie.MeasureT-loop
 loop-holds : tie.Need-loop-holds Inv-loop μ-loop
 loop-holds c =
     let start = c .before .before in
-    (omega (arith, c), refl, omega (arith, c), stored-none (now (start .args .out)) (start .args .at))
+    record { turns = omega (arith, c); length = refl; reached = omega (arith, c); stored = stored-none (now (start .args .out)) (start .args .at) }
 
 shared-slice-read-put-byte : tie.Need-shared-slice-read-put-byte Inv-loop μ-loop
 shared-slice-read-put-byte c = search needs
@@ -39,7 +45,7 @@ add-end c =
     let start = c .before .before .before .before .before .before .before .before .before in
     let loop = c .before .before .before .before .before .before .loop in
     let loop-test = c .before .before .before .before .before .loop-test in
-    omega (arith, loop .inv .2, loop-test .taken, start .pre)
+    omega (arith, loop .inv .reached, loop-test .taken, start .pre)
 
 add-i : tie.Need-add-i Inv-loop μ-loop
 add-i c = search needs
@@ -52,21 +58,22 @@ loop-again c =
     let start = c .before .before .before .before .before .before .before .before .before in
     let loop = c .before .before .before .before .before .before .loop in
     let loop-test = c .before .before .before .before .before .loop-test in
-    let put-byte = c .before .before .put-byte in (
-      omega (arith, loop-test .taken),
-      put-byte .kept .0 ∙ loop .inv .1,
-      omega (arith, loop .inv .2),
-      rw (put-byte .ensures)
-          (turn (now (start .args .out)) (start .args .at) (now (start .args .bytes)) (loop .out) (loop .end) (loop .i) (loop-test .taken) (loop .inv .3)),
-    )
+    let put-byte = c .before .before .put-byte in
+    record {
+      turns = omega (arith, loop-test .taken);
+      length = put-byte .kept .0 ∙ loop .inv .length;
+      reached = omega (arith, loop .inv .reached);
+      stored = rw (put-byte .ensures)
+          (turn (now (start .args .out)) (start .args .at) (now (start .args .bytes)) (loop .out) (loop .end) (loop .i) (loop-test .taken) (loop .inv .stored));
+    }
 
 same-length : tie.Need-same-length Inv-loop μ-loop
-same-length c = c .before .loop .inv .1
+same-length c = c .before .loop .inv .length
 
 returns : tie.Need-returns Inv-loop μ-loop
 returns c =
     let start = c .before .before .before .before in
-    rw (take-all (c .before .loop .i) (now (start .args .bytes)) (c .loop-test .left)) at (c .before .loop .inv .3)
+    rw (take-all (c .before .loop .i) (now (start .args .bytes)) (c .loop-test .left)) at (c .before .loop .inv .stored)
 
 pub put-bytes-spec : {M : Type 1} → statement M
 put-bytes-spec =

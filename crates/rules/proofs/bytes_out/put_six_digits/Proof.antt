@@ -60,7 +60,7 @@ part-put-bytes-end c =
     let back12 = c .before .before .before .before .before .before .before .before .before .before .before .before in
     let start = back12 .before in
     let digits-of = c .before .before .before .before .before .before .before .before .before .before .before .digits-of in
-    ten (digits-of .result .start) (start .args .n) (digits-of .result .bytes) (digits-of .ensures .0) (digits-of .ensures .1)
+    ten (digits-of .result .start) (start .args .n) (digits-of .result .bytes) (digits-of .ensures .written) (digits-of .ensures .start)
 
 put-bytes-requires-2 : tie.Need-put-bytes-requires-2
 put-bytes-requires-2 c κs =
@@ -88,7 +88,7 @@ returns c =
     let zeros = back12 .before .before .zeros in
     let put-bytes = c .before .before .before .before .before .before .before .before .before .put-bytes in
     both (now (start .args .out)) (start .args .at) (zeros .result) (digits-of .result .start) (digits-of .result .bytes) (start .args .n) _ _ _ _
-    (digits-of .ensures .0) (digits-of .ensures .1) (zeros .ensures) (put-bytes .ensures) (c .before .before .put-bytes2 .ensures)
+    (digits-of .ensures .written) (digits-of .ensures .start) (zeros .ensures) (put-bytes .ensures) (c .before .before .put-bytes2 .ensures)
 
 pub put-six-digits-spec : {M : Type 1} → statement M
 put-six-digits-spec =

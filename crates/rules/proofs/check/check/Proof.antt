@@ -22,7 +22,7 @@ report-requires c κs =
     let index = c .before .before .before .index in
     let pack = now (start .args .pack) in
     let l = load-law pack (now (start .args .work)) (index .given .0 .0) (sym (load .ensures .answer) ∙ index .given .1) in
-    (rw (load .ensures .work) (l .0), rw (l .1) (index-law pack))
+    record { ready = rw (load .ensures .work) (l .0); index = rw (l .1) (index-law pack) }
 
 same-length : tie.Need-same-length
 same-length c = search needs
@@ -49,7 +49,7 @@ returns-2 c =
     let index = c .before .before .before .before .before .before .index in
     let report = c .before .before .report in
     let a = is-loaded (now (start .args .pack)) (now (start .args .work)) (now (start .args .findings)) (index .given .0 .0)
-    (sym (load .ensures .answer) ∙ index .given .1) (report .ensures .0) (report .ensures .1) in
+    (sym (load .ensures .answer) ∙ index .given .1) (report .ensures .answer) (report .ensures .findings) in
     promised _ _ _ _ _ _ a (load .ensures .work)
 
 pub check-spec : {M : Type 1} → statement M

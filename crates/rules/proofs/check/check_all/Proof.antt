@@ -41,35 +41,40 @@ parts P =
 check-fieldtypes-requires : tie.Need-check-fieldtypes-requires
 check-fieldtypes-requires c κs =
     let start = c .before .before .before .before in
-    (record { small = omega (arith, start .pre .0 .small, parts (pack-of (now (start .args .s)))) }, start .pre .1, start .pre .2 .types)
+    record {
+      fits = record { small = omega (arith, start .pre .fits .small, parts (pack-of (now (start .args .s)))) };
+      ready = start .pre .ready;
+      types = start .pre .index .types;
+    }
 
 check-lookup-wiring-requires : tie.Need-check-lookup-wiring-requires
 check-lookup-wiring-requires c κs =
     let start = c .before .before .before .before .before .before .before .before in
-    let check-fieldtypes-call = c .before .before .before .check-fieldtypes in (
-      record { small = omega (arith, start .pre .0 .small, parts (pack-of (now (start .args .s))), check-fieldtypes-call .ensures .count) },
-      start .pre .1,
-      start .pre .2,
-    )
+    let check-fieldtypes-call = c .before .before .before .check-fieldtypes in
+    record {
+      fits = record { small = omega (arith, start .pre .fits .small, parts (pack-of (now (start .args .s))), check-fieldtypes-call .ensures .count) };
+      ready = start .pre .ready;
+      index = start .pre .index;
+    }
 
 check-spn-names-requires : tie.Need-check-spn-names-requires
 check-spn-names-requires c κs =
     let start = c .before .before .before .before .before .before .before .before .before .before .before .before in
     let check-fieldtypes-call = c .before .before .before .before .before .before .before .check-fieldtypes in
-    let check-lookup-wiring-call = c .before .before .before .check-lookup-wiring in (
-      record {
+    let check-lookup-wiring-call = c .before .before .before .check-lookup-wiring in
+    record {
+      fits = record {
         small = omega (
           arith,
-          start .pre .0 .small,
+          start .pre .fits .small,
           parts (pack-of (now (start .args .s))),
           check-fieldtypes-call .ensures .count,
           check-lookup-wiring-call .ensures .count,
         );
-      },
-      start .pre .1,
-      start .pre .2 .trees 1 (omega (arith, c)),
-      start .pre .2 .trees-place 1 (omega (arith, c)),
-    )
+      };
+      ready = start .pre .ready;
+      pgns = start .pre .index .trees 1 (omega (arith, c));
+    }
 
 check-lookup-names-requires : tie.Need-check-lookup-names-requires
 check-lookup-names-requires c κs =
@@ -77,21 +82,21 @@ check-lookup-names-requires c κs =
     let start = back12 .before .before .before .before in
     let check-fieldtypes-call = c .before .before .before .before .before .before .before .before .before .before .before .check-fieldtypes in
     let check-lookup-wiring-call = c .before .before .before .before .before .before .before .check-lookup-wiring in
-    let check-spn-names-call = c .before .before .before .check-spn-names in (
-      record {
+    let check-spn-names-call = c .before .before .before .check-spn-names in
+    record {
+      fits = record {
         small = omega (
           arith,
-          start .pre .0 .small,
+          start .pre .fits .small,
           parts (pack-of (now (start .args .s))),
           check-fieldtypes-call .ensures .count,
           check-lookup-wiring-call .ensures .count,
           check-spn-names-call .ensures .count,
         );
-      },
-      start .pre .1,
-      start .pre .2 .lookups,
-      start .pre .2 .lookups-place,
-    )
+      };
+      ready = start .pre .ready;
+      lookups = start .pre .index .lookups;
+    }
 
 check-trees-requires : tie.Need-check-trees-requires
 check-trees-requires c κs =
@@ -100,21 +105,22 @@ check-trees-requires c κs =
     let check-fieldtypes-call = back12 .before .before .before .check-fieldtypes in
     let check-lookup-wiring-call = c .before .before .before .before .before .before .before .before .before .before .before .check-lookup-wiring in
     let check-spn-names-call = c .before .before .before .before .before .before .before .check-spn-names in
-    let check-lookup-names-call = c .before .before .before .check-lookup-names in (
-      record {
+    let check-lookup-names-call = c .before .before .before .check-lookup-names in
+    record {
+      fits = record {
         small = omega (
           arith,
-          start .pre .0 .small,
+          start .pre .fits .small,
           parts (pack-of (now (start .args .s))),
           check-fieldtypes-call .ensures .count,
           check-lookup-wiring-call .ensures .count,
           check-spn-names-call .ensures .count,
           check-lookup-names-call .ensures .count,
         );
-      },
-      start .pre .1,
-      start .pre .2,
-    )
+      };
+      ready = start .pre .ready;
+      index = start .pre .index;
+    }
 
 check-spns-requires : tie.Need-check-spns-requires
 check-spns-requires c κs =
@@ -124,11 +130,12 @@ check-spns-requires c κs =
     let check-lookup-wiring-call = back12 .before .before .before .check-lookup-wiring in
     let check-spn-names-call = c .before .before .before .before .before .before .before .before .before .before .before .check-spn-names in
     let check-lookup-names-call = c .before .before .before .before .before .before .before .check-lookup-names in
-    let check-trees = c .before .before .before .check-trees in (
-      record {
+    let check-trees = c .before .before .before .check-trees in
+    record {
+      fits = record {
         small = omega (
           arith,
-          start .pre .0 .small,
+          start .pre .fits .small,
           parts (pack-of (now (start .args .s))),
           check-fieldtypes-call .ensures .count,
           check-lookup-wiring-call .ensures .count,
@@ -136,10 +143,10 @@ check-spns-requires c κs =
           check-lookup-names-call .ensures .count,
           check-trees .ensures .count,
         );
-      },
-      start .pre .1,
-      start .pre .2,
-    )
+      };
+      ready = start .pre .ready;
+      index = start .pre .index;
+    }
 
 check-trees-continues-requires : tie.Need-check-trees-continues-requires
 check-trees-continues-requires c κs =
@@ -151,11 +158,12 @@ check-trees-continues-requires c κs =
     let check-spn-names-call = back12 .before .before .before .check-spn-names in
     let check-lookup-names-call = c .before .before .before .before .before .before .before .before .before .before .before .check-lookup-names in
     let check-trees = c .before .before .before .before .before .before .before .check-trees in
-    let check-spns-call = c .before .before .before .check-spns in (
-      record {
+    let check-spns-call = c .before .before .before .check-spns in
+    record {
+      fits = record {
         small = omega (
           arith,
-          start .pre .0 .small,
+          start .pre .fits .small,
           parts (pack-of (now (start .args .s))),
           check-fieldtypes-call .ensures .count,
           check-lookup-wiring-call .ensures .count,
@@ -164,10 +172,10 @@ check-trees-continues-requires c κs =
           check-trees .ensures .count,
           check-spns-call .ensures .count,
         );
-      },
-      start .pre .1,
-      start .pre .2,
-    )
+      };
+      ready = start .pre .ready;
+      index = start .pre .index;
+    }
 
 same-length : tie.Need-same-length
 same-length c =

@@ -16,13 +16,18 @@ turn : (w from w′ : List ℕ) (q i : ℕ) → i < length from → Stored w 0 (
 turn w from w′ q i h a = rw (add-one i, take-suc from i 0 h) (stored-one a (getD from i 0))
 
 abbrev Inv-loop : tie.InvT-loop
-Inv-loop from to₀ n i₀ to i = (i ≤ n) × (length to ≡ length to₀) × Stored to₀ 0 (take i from) to i
+Inv-loop from to₀ n i₀ to i =
+    record {
+      turns : i ≤ n;
+      length : length to ≡ length to₀;
+      stored : Stored to₀ 0 (take i from) to i;
+    }
 
 abbrev μ-loop : tie.MeasureT-loop
 μ-loop from to₀ n i₀ to i = n - i
 
 loop-holds : tie.Need-loop-holds Inv-loop μ-loop
-loop-holds c = (omega arith, refl, stored-none (now (c .args .to)) 0)
+loop-holds c = record { turns = omega arith; length = refl; stored = stored-none (now (c .args .to)) 0 }
 
 mul-to : tie.Need-mul-to Inv-loop μ-loop
 mul-to c = omega (arith, c .loop-test .taken, c .before .before .pre)
@@ -35,12 +40,12 @@ shared-slice-read-to c =
 mul-to-2 : tie.Need-mul-to-2 Inv-loop μ-loop
 mul-to-2 c =
     let start = c .before .before .before in
-    omega (arith, c .before .loop-test .taken, start .pre, c .before .before .loop .inv .1)
+    omega (arith, c .before .loop-test .taken, start .pre, c .before .before .loop .inv .length)
 
 slice-write-to : tie.Need-slice-write-to Inv-loop μ-loop
 slice-write-to c =
     let start = c .before .before .before in
-    omega (arith, c .before .loop-test .taken, start .pre, c .before .before .loop .inv .1)
+    omega (arith, c .before .loop-test .taken, start .pre, c .before .before .loop .inv .length)
 
 add-i : tie.Need-add-i Inv-loop μ-loop
 add-i c = search needs
@@ -52,22 +57,23 @@ loop-again : tie.Need-loop-again Inv-loop μ-loop
 loop-again c =
     let start = c .before .before .before in
     let loop = c .before .before .loop in
-    let from = now (start .args .from) in (
-      omega (arith, c .before .loop-test .taken),
-      length-set (loop .to) (loop .i) (getD from (loop .i) 0) ∙ loop .inv .1,
-      turn (now (start .args .to)) from (loop .to) (loop .i) (loop .i) (omega (arith, c .before .loop-test .taken, start .pre)) (loop .inv .2),
-    )
+    let from = now (start .args .from) in
+    record {
+      turns = omega (arith, c .before .loop-test .taken);
+      length = length-set (loop .to) (loop .i) (getD from (loop .i) 0) ∙ loop .inv .length;
+      stored = turn (now (start .args .to)) from (loop .to) (loop .i) (loop .i) (omega (arith, c .before .loop-test .taken, start .pre)) (loop .inv .stored);
+    }
 
 same-length : tie.Need-same-length Inv-loop μ-loop
-same-length c = c .before .loop .inv .1
+same-length c = c .before .loop .inv .length
 
 returns : tie.Need-returns Inv-loop μ-loop
 returns c =
     let start = c .before .before in
     let n = start .args .n in let from = now (start .args .from) in
-    let e : c .before .loop .i ≡ start .args .n = omega (arith, c .before .loop .inv .0, c .loop-test .left) in
-    (rw e at (c .before .loop .inv .2)) .work
-    ∙ sets-over (now (start .args .to)) (take n from) (omega (arith, length-take-le n from (start .pre .0), start .pre .1))
+    let e : c .before .loop .i ≡ start .args .n = omega (arith, c .before .loop .inv .turns, c .loop-test .left) in
+    (rw e at (c .before .loop .inv .stored)) .work
+    ∙ sets-over (now (start .args .to)) (take n from) (omega (arith, length-take-le n from (start .pre .from), start .pre .to))
 
 pub copy-spec : {M : Type 1} → statement M
 copy-spec =

@@ -21,13 +21,18 @@ more-by true e h = omega (arith, e)
 more-by false e h = omega (arith, e)
 
 abbrev Inv-loop : tie.InvT-loop
-Inv-loop findings n errors₀ i₀ errors i = (i ≤ n) × (errors ≤ i) × (errors ≡ count-below (error-at findings) i)
+Inv-loop findings n errors₀ i₀ errors i =
+    record {
+      turns : i ≤ n;
+      few : errors ≤ i;
+      errors : errors ≡ count-below (error-at findings) i;
+    }
 
 abbrev μ-loop : tie.MeasureT-loop
 μ-loop findings n errors₀ i₀ errors i = n - i
 
 loop-holds : tie.Need-loop-holds Inv-loop μ-loop
-loop-holds c = (omega arith, omega arith, refl)
+loop-holds c = record { turns = omega arith; few = omega arith; errors = refl }
 
 mul-severity : tie.Need-mul-severity Inv-loop μ-loop
 mul-severity c = search needs
@@ -56,17 +61,18 @@ loop-again : tie.Need-loop-again Inv-loop μ-loop
 loop-again c =
     let start = c .before .before .before .before .before in
     let loop = c .before .before .before .loop in
-    let findings = now (start .args .findings) in (
-      omega (arith, c .before .before .loop-test .taken),
-      more-by (error-at findings (loop .i)) (c .one-more .ensures) (loop .inv .1),
-      c .one-more .ensures ∙ rw (loop .inv .2) (sym (count-turn (error-at findings) (loop .i))),
-    )
+    let findings = now (start .args .findings) in
+    record {
+      turns = omega (arith, c .before .before .loop-test .taken);
+      few = more-by (error-at findings (loop .i)) (c .one-more .ensures) (loop .inv .few);
+      errors = c .one-more .ensures ∙ rw (loop .inv .errors) (sym (count-turn (error-at findings) (loop .i)));
+    }
 
 returns : tie.Need-returns Inv-loop μ-loop
 returns c =
     let start = c .before .before .before in
-    let e : c .before .loop .i ≡ start .args .n = omega (arith, c .before .loop .inv .0, c .loop-test .left) in
-    rw (← e) (c .before .loop .inv .2)
+    let e : c .before .loop .i ≡ start .args .n = omega (arith, c .before .loop .inv .turns, c .loop-test .left) in
+    rw (← e) (c .before .loop .inv .errors)
 
 pub count-errors-spec : {M : Type 1} → statement M
 count-errors-spec =

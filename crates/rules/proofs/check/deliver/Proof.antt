@@ -15,7 +15,7 @@ mul-numbers c = search needs
 copy-requires : tie.Need-copy-requires
 copy-requires c κs =
     let start = c .before .before .before .before .before .before in
-    (c .before .if1 .taken, start .pre .4)
+    record { from = c .before .if1 .taken; to = start .pre .room }
 
 same-length : tie.Need-same-length
 same-length c = c .before .before .copy .kept .1 .0
@@ -24,12 +24,16 @@ returns : tie.Need-returns
 returns c =
     let start = c .before .before .before .before .before .before .before .before .before in
     let if1 = c .before .before .before .before .if1 in
-    rw (start .pre .3 (if1 .taken)) at (c .before .before .copy .ensures)
+    rw (start .pre .short (if1 .taken)) at (c .before .before .copy .ensures)
 
 check-all-requires : tie.Need-check-all-requires
 check-all-requires c κs =
     let start = c .before .before .before .before .before .before in
-    (findings-few (now (start .args .pack)) (now (start .args .work)) (start .pre .0), start .pre .0, start .pre .1)
+    record {
+      fits = findings-few (now (start .args .pack)) (now (start .args .work)) (start .pre .ready);
+      ready = start .pre .ready;
+      index = start .pre .index;
+    }
 
 same-length-2 : tie.Need-same-length-2
 same-length-2 c = c .before .before .check-all .kept .0
@@ -38,7 +42,7 @@ returns-2 : tie.Need-returns-2
 returns-2 c =
     let start = c .before .before .before .before .before .before .before .before .before in
     c .before .before .check-all .ensures .out
-    ∙ put-all (check (pack-of (now (start .args .pack)))) (now (start .args .findings)) (omega (arith, start .pre .2, start .pre .4))
+    ∙ put-all (check (pack-of (now (start .args .pack)))) (now (start .args .findings)) (omega (arith, start .pre .counted, start .pre .room))
 
 pub deliver-spec : {M : Type 1} → statement M
 deliver-spec =

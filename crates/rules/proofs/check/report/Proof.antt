@@ -14,20 +14,24 @@ slice-aggregate-check-all c = search needs
 check-all-requires : tie.Need-check-all-requires
 check-all-requires c κs =
     let start = c .before .before .before .before in
-    (findings-few (now (start .args .pack)) (now (start .args .work)) (start .pre .0), start .pre .0, start .pre .1)
+    record {
+      fits = findings-few (now (start .args .pack)) (now (start .args .work)) (start .pre .ready);
+      ready = start .pre .ready;
+      index = start .pre .index;
+    }
 
 mul-needed : tie.Need-mul-needed
 mul-needed c =
     let start = c .before .before .before .before .before .before in
-    omega (arith, c .before .check-all .ensures .count, findings-few (now (start .args .pack)) (now (start .args .work)) (start .pre .0) .small)
+    omega (arith, c .before .check-all .ensures .count, findings-few (now (start .args .pack)) (now (start .args .work)) (start .pre .ready) .small)
 
 returns : tie.Need-returns
 returns c =
     let start = c .before .before .before .before .before .before .before in
     let check-all = c .before .before .check-all in
-    let a = buffer-short (check (pack-of (now (start .args .pack)))) (now (start .args .findings)) (check-all .result) (omega (arith, check-all .ensures .count))
-    (c .if1 .taken) in
-    (a .answer, a .out)
+    let a = buffer-short (check (pack-of (now (start .args .pack)))) (now (start .args .findings)) (check-all .result)
+    (omega (arith, check-all .ensures .count)) (c .if1 .taken) in
+    record { answer = a .answer; findings = a .out }
 
 slice-aggregate-deliver : tie.Need-slice-aggregate-deliver
 slice-aggregate-deliver c = search needs
@@ -35,13 +39,14 @@ slice-aggregate-deliver c = search needs
 deliver-requires : tie.Need-deliver-requires
 deliver-requires c κs =
     let start = c .before .before .before .before .before .before .before .before .before in
-    let check-all = c .before .before .before .before .check-all in (
-      start .pre .0,
-      start .pre .1,
-      omega (arith, check-all .ensures .count),
-      (λ h. put-front (check (pack-of (now (start .args .pack)))) _ _ (check-all .result) (check-all .ensures) (omega (arith, h, check-all .kept .0))),
-      c .before .before .if1 .left,
-    )
+    let check-all = c .before .before .before .before .check-all in
+    record {
+      ready = start .pre .ready;
+      index = start .pre .index;
+      counted = omega (arith, check-all .ensures .count);
+      short = (λ h. put-front (check (pack-of (now (start .args .pack)))) _ _ (check-all .result) (check-all .ensures) (omega (arith, h, check-all .kept .0)));
+      room = c .before .before .if1 .left;
+    }
 
 count-errors-requires : tie.Need-count-errors-requires
 count-errors-requires c κs = search needs
@@ -58,7 +63,7 @@ returns-2 c =
     let deliver = c .before .before .before .before .deliver in
     let a = all-put (check (pack-of (now (start .args .pack)))) (now (start .args .findings)) (deliver .last .1 .1 .0) (check-all .result)
     (c .count-errors .result) (omega (arith, check-all .ensures .count)) (if1 .left) (deliver .ensures) (c .count-errors .ensures) in
-    (a .answer, a .out)
+    record { answer = a .answer; findings = a .out }
 
 pub report-spec : {M : Type 1} → statement M
 report-spec =

@@ -63,37 +63,39 @@ module _ {n : ℕ} (a b c d e g : List Finding) (h : Fits n (a ++ b ++ c ++ d ++
 field-of-requires : tie.Need-field-of-requires
 field-of-requires c κs =
     let start = c .before .before .before in
-    (start .pre .1, omega (arith, start .pre .2 .fields, start .pre .3, start .pre .4))
+    record { at = start .pre .pgn .at; field = omega (arith, start .pre .pgn .is .fields, start .pre .field, start .pre .earlier) }
 
 not-integers-requires : tie.Need-not-integers-requires
 not-integers-requires c κs =
-    let start = c .before .before .before .before in (
-      start .pre .1 .ready,
-      omega (
+    let start = c .before .before .before .before in
+    record {
+      ready = start .pre .pgn .at .ready;
+      low-type = omega (
         arith,
         ap (λ (F : Field). F .ft) (c .field-of .ensures),
-        field-ft-law (start .pre .1) (start .args .j) (omega (arith, start .pre .2 .fields, start .pre .3, start .pre .4)),
-      ),
-      omega (
+        field-ft-law (start .pre .pgn .at) (start .args .link .earlier) (omega (arith, start .pre .pgn .is .fields, start .pre .field, start .pre .earlier)),
+      );
+      type = omega (
         arith,
-        ap (λ (F : Field). F .ft) (start .pre .5),
-        field-ft-law (start .pre .1) (start .args .k) (omega (arith, start .pre .2 .fields, start .pre .3)),
-      ),
-    )
+        ap (λ (F : Field). F .ft) (start .pre .means),
+        field-ft-law (start .pre .pgn .at) (start .args .link .field) (omega (arith, start .pre .pgn .is .fields, start .pre .field)),
+      );
+    }
 
 not-raw-requires : tie.Need-not-raw-requires
 not-raw-requires c κs = search needs
 
 not-plain-requires : tie.Need-not-plain-requires
 not-plain-requires c κs =
-    let start = c .before .before .before .before .before .before in (
-      start .pre .1 .ready,
-      omega (
+    let start = c .before .before .before .before .before .before in
+    record {
+      ready = start .pre .pgn .at .ready;
+      low-type = omega (
         arith,
         ap (λ (F : Field). F .ft) (c .before .before .field-of .ensures),
-        field-ft-law (start .pre .1) (start .args .j) (omega (arith, start .pre .2 .fields, start .pre .3, start .pre .4)),
-      ),
-    )
+        field-ft-law (start .pre .pgn .at) (start .args .link .earlier) (omega (arith, start .pre .pgn .is .fields, start .pre .field, start .pre .earlier)),
+      );
+    }
 
 too-wide-requires : tie.Need-too-wide-requires
 too-wide-requires c κs = search needs
@@ -105,23 +107,27 @@ placed-at-requires c κs =
     let not-integers = c .before .before .before .before .not-integers in
     let not-raw-call = c .before .before .before .not-raw in
     let not-plain = c .before .before .not-plain in
-    let t = start .args .t in let i = start .args .i in let s = now (start .args .s) in let k = start .args .k in let id = start .args .id in
-    let j = start .args .j in (
-      fit1 (placed t i (pgn-at (pack-of s) t i) k (bytes-of s id) j (field-of .result .links .continuation .given))
+    let s = now (start .args .s) in
+    let t = start .args .g .tree in
+    let i = start .args .g .item in
+    let k = start .args .link .field in
+    let id = start .args .link .id in
+    let j = start .args .link .earlier in
+    record {
+      fits = fit1 (placed t i (pgn-at (pack-of s) t i) k (bytes-of s id) j (field-of .result .links .continuation .given))
           (report-if (field-of .result .authored .continues .given) (pgn-error 43 5 t i k j)) (report-if (not-integers .result) (pgn-error 43 6 t i k j))
           (report-if (not-raw-call .result) (pgn-error 43 7 t i k j)) (report-if (not-plain .result) (pgn-error 43 8 t i k j))
           (report-if (c .before .too-wide .result) (pgn-error 43 9 t i k j))
-          (rw (said s (pack-of s .fieldtypes) t i k j (pgn-at (pack-of s) t i) (bytes-of s id) (start .args .f) (field-of .result) (start .pre .5)
+          (rw (said s (pack-of s .fieldtypes) t i k j (pgn-at (pack-of s) t i) (bytes-of s id) (start .args .f) (field-of .result) (start .pre .means)
           (field-of .ensures) (not-integers .result) (not-raw-call .result) (not-plain .result) (c .before .too-wide .result) (not-integers .ensures)
-          (not-raw-call .ensures) (not-plain .ensures) (c .before .too-wide .ensures)) at (start .pre .0)),
-      start .pre .1,
-      start .pre .2,
-      start .pre .3,
-      start .pre .4,
-    )
+          (not-raw-call .ensures) (not-plain .ensures) (c .before .too-wide .ensures)) at (start .pre .fits));
+      pgn = start .pre .pgn;
+      field = start .pre .field;
+      earlier = start .pre .earlier;
+    }
 
-pgn-error-requires : tie.Need-pgn-error-requires
-pgn-error-requires c κs = search needs
+link-error-requires : tie.Need-link-error-requires
+link-error-requires c κs = search needs
 
 put-if-requires : tie.Need-put-if-requires
 put-if-requires c κs =
@@ -133,19 +139,23 @@ put-if-requires c κs =
     let not-plain = c .before .before .before .before .before .before .before .not-plain in
     let too-wide = c .before .before .before .before .before .before .too-wide in
     let placed-at = c .before .before .before .before .placed-at in
-    let t = start .args .t in let i = start .args .i in let s = now (start .args .s) in let k = start .args .k in let id = start .args .id in
-    let j = start .args .j in
-    rw (c .pgn-error .ensures) (fits-right (placed t i (pgn-at (pack-of s) t i) k (bytes-of s id) j (field-of .result .links .continuation .given))
+    let s = now (start .args .s) in
+    let t = start .args .g .tree in
+    let i = start .args .g .item in
+    let k = start .args .link .field in
+    let id = start .args .link .id in
+    let j = start .args .link .earlier in
+    rw (c .link-error .ensures) (fits-right (placed t i (pgn-at (pack-of s) t i) k (bytes-of s id) j (field-of .result .links .continuation .given))
     (report-if (field-of .result .authored .continues .given) (pgn-error 43 5 t i k j))
     (fit2 (placed t i (pgn-at (pack-of s) t i) k (bytes-of s id) j (field-of .result .links .continuation .given))
     (report-if (field-of .result .authored .continues .given) (pgn-error 43 5 t i k j)) (report-if (not-integers .result) (pgn-error 43 6 t i k j))
     (report-if (not-raw-call .result) (pgn-error 43 7 t i k j)) (report-if (not-plain .result) (pgn-error 43 8 t i k j))
-    (report-if (too-wide .result) (pgn-error 43 9 t i k j)) (rw (said s (pack-of s .fieldtypes) t i k j (pgn-at (pack-of s) t i) (bytes-of s id) (start .args .f)
-    (field-of .result) (start .pre .5) (field-of .ensures) (not-integers .result) (not-raw-call .result) (not-plain .result) (too-wide .result)
-    (not-integers .ensures) (not-raw-call .ensures) (not-plain .ensures) (too-wide .ensures)) at (start .pre .0))) (placed-at .ensures))
+    (report-if (too-wide .result) (pgn-error 43 9 t i k j)) (rw (said s (pack-of s .fieldtypes) t i k j (pgn-at (pack-of s) t i) (bytes-of s id)
+    (start .args .f) (field-of .result) (start .pre .means) (field-of .ensures) (not-integers .result) (not-raw-call .result) (not-plain .result)
+    (too-wide .result) (not-integers .ensures) (not-raw-call .ensures) (not-plain .ensures) (too-wide .ensures)) at (start .pre .fits))) (placed-at .ensures))
 
-pgn-error-requires-2 : tie.Need-pgn-error-requires-2
-pgn-error-requires-2 c κs = search needs
+link-error-requires-2 : tie.Need-link-error-requires-2
+link-error-requires-2 c κs = search needs
 
 put-if-requires-2 : tie.Need-put-if-requires-2
 put-if-requires-2 c κs =
@@ -157,24 +167,28 @@ put-if-requires-2 c κs =
     let not-plain = c .before .before .before .before .before .before .before .before .before .before .before .before .not-plain in
     let too-wide = c .before .before .before .before .before .before .before .before .before .before .before .too-wide in
     let placed-at = c .before .before .before .before .before .before .before .before .before .placed-at in
-    let pgn-error-call = c .before .before .before .before .before .pgn-error in
+    let link-error-call = c .before .before .before .before .before .link-error in
     let put-if = c .before .before .before .before .put-if in
-    let t = start .args .t in let i = start .args .i in let s = now (start .args .s) in let k = start .args .k in let id = start .args .id in
-    let j = start .args .j in
-    rw (c .pgn-error2 .ensures) (fits-right ((placed t i (pgn-at (pack-of s) t i) k (bytes-of s id) j (field-of .result .links .continuation .given))
+    let s = now (start .args .s) in
+    let t = start .args .g .tree in
+    let i = start .args .g .item in
+    let k = start .args .link .field in
+    let id = start .args .link .id in
+    let j = start .args .link .earlier in
+    rw (c .link-error2 .ensures) (fits-right ((placed t i (pgn-at (pack-of s) t i) k (bytes-of s id) j (field-of .result .links .continuation .given))
     ++ (report-if (field-of .result .authored .continues .given) (pgn-error 43 5 t i k j))) (report-if (not-integers .result) (pgn-error 43 6 t i k j))
     (fit3 (placed t i (pgn-at (pack-of s) t i) k (bytes-of s id) j (field-of .result .links .continuation .given))
     (report-if (field-of .result .authored .continues .given) (pgn-error 43 5 t i k j)) (report-if (not-integers .result) (pgn-error 43 6 t i k j))
     (report-if (not-raw-call .result) (pgn-error 43 7 t i k j)) (report-if (not-plain .result) (pgn-error 43 8 t i k j))
-    (report-if (too-wide .result) (pgn-error 43 9 t i k j)) (rw (said s (pack-of s .fieldtypes) t i k j (pgn-at (pack-of s) t i) (bytes-of s id) (start .args .f)
-    (field-of .result) (start .pre .5) (field-of .ensures) (not-integers .result) (not-raw-call .result) (not-plain .result) (too-wide .result)
-    (not-integers .ensures) (not-raw-call .ensures) (not-plain .ensures) (too-wide .ensures)) at (start .pre .0)))
+    (report-if (too-wide .result) (pgn-error 43 9 t i k j)) (rw (said s (pack-of s .fieldtypes) t i k j (pgn-at (pack-of s) t i) (bytes-of s id)
+    (start .args .f) (field-of .result) (start .pre .means) (field-of .ensures) (not-integers .result) (not-raw-call .result) (not-plain .result)
+    (too-wide .result) (not-integers .ensures) (not-raw-call .ensures) (not-plain .ensures) (too-wide .ensures)) at (start .pre .fits)))
     (emitted-append {xs = (placed t i (pgn-at (pack-of s) t i) k (bytes-of s id) j (field-of .result .links .continuation .given))}
     {ys = (report-if (field-of .result .authored .continues .given) (pgn-error 43 5 t i k j))} (placed-at .ensures)
-    (rw (pgn-error-call .ensures) at (put-if .ensures))))
+    (rw (link-error-call .ensures) at (put-if .ensures))))
 
-pgn-error-requires-3 : tie.Need-pgn-error-requires-3
-pgn-error-requires-3 c κs = search needs
+link-error-requires-3 : tie.Need-link-error-requires-3
+link-error-requires-3 c κs = search needs
 
 put-if-requires-3 : tie.Need-put-if-requires-3
 put-if-requires-3 c κs =
@@ -186,28 +200,32 @@ put-if-requires-3 c κs =
     let not-plain = back12 .before .before .before .before .before .not-plain in
     let too-wide = back12 .before .before .before .before .too-wide in
     let placed-at = back12 .before .before .placed-at in
-    let pgn-error-call = c .before .before .before .before .before .before .before .before .before .before .pgn-error in
+    let link-error-call = c .before .before .before .before .before .before .before .before .before .before .link-error in
     let put-if = c .before .before .before .before .before .before .before .before .before .put-if in
-    let pgn-error2 = c .before .before .before .before .before .pgn-error2 in
+    let link-error2 = c .before .before .before .before .before .link-error2 in
     let put-if2 = c .before .before .before .before .put-if2 in
-    let t = start .args .t in let i = start .args .i in let s = now (start .args .s) in let k = start .args .k in let id = start .args .id in
-    let j = start .args .j in
-    rw (c .pgn-error3 .ensures) (fits-right ((placed t i (pgn-at (pack-of s) t i) k (bytes-of s id) j (field-of .result .links .continuation .given))
+    let s = now (start .args .s) in
+    let t = start .args .g .tree in
+    let i = start .args .g .item in
+    let k = start .args .link .field in
+    let id = start .args .link .id in
+    let j = start .args .link .earlier in
+    rw (c .link-error3 .ensures) (fits-right ((placed t i (pgn-at (pack-of s) t i) k (bytes-of s id) j (field-of .result .links .continuation .given))
     ++ (report-if (field-of .result .authored .continues .given) (pgn-error 43 5 t i k j))
     ++ (report-if (not-integers .result) (pgn-error 43 6 t i k j))) (report-if (not-raw-call .result) (pgn-error 43 7 t i k j))
     (fit4 (placed t i (pgn-at (pack-of s) t i) k (bytes-of s id) j (field-of .result .links .continuation .given))
     (report-if (field-of .result .authored .continues .given) (pgn-error 43 5 t i k j)) (report-if (not-integers .result) (pgn-error 43 6 t i k j))
     (report-if (not-raw-call .result) (pgn-error 43 7 t i k j)) (report-if (not-plain .result) (pgn-error 43 8 t i k j))
-    (report-if (too-wide .result) (pgn-error 43 9 t i k j)) (rw (said s (pack-of s .fieldtypes) t i k j (pgn-at (pack-of s) t i) (bytes-of s id) (start .args .f)
-    (field-of .result) (start .pre .5) (field-of .ensures) (not-integers .result) (not-raw-call .result) (not-plain .result) (too-wide .result)
-    (not-integers .ensures) (not-raw-call .ensures) (not-plain .ensures) (too-wide .ensures)) at (start .pre .0)))
+    (report-if (too-wide .result) (pgn-error 43 9 t i k j)) (rw (said s (pack-of s .fieldtypes) t i k j (pgn-at (pack-of s) t i) (bytes-of s id)
+    (start .args .f) (field-of .result) (start .pre .means) (field-of .ensures) (not-integers .result) (not-raw-call .result) (not-plain .result)
+    (too-wide .result) (not-integers .ensures) (not-raw-call .ensures) (not-plain .ensures) (too-wide .ensures)) at (start .pre .fits)))
     (emitted-append {ys = (report-if (not-integers .result) (pgn-error 43 6 t i k j))}
     (emitted-append {xs = (placed t i (pgn-at (pack-of s) t i) k (bytes-of s id) j (field-of .result .links .continuation .given))}
     {ys = (report-if (field-of .result .authored .continues .given) (pgn-error 43 5 t i k j))} (placed-at .ensures)
-    (rw (pgn-error-call .ensures) at (put-if .ensures))) (rw (pgn-error2 .ensures) at (put-if2 .ensures))))
+    (rw (link-error-call .ensures) at (put-if .ensures))) (rw (link-error2 .ensures) at (put-if2 .ensures))))
 
-pgn-error-requires-4 : tie.Need-pgn-error-requires-4
-pgn-error-requires-4 c κs = search needs
+link-error-requires-4 : tie.Need-link-error-requires-4
+link-error-requires-4 c κs = search needs
 
 put-if-requires-4 : tie.Need-put-if-requires-4
 put-if-requires-4 c κs =
@@ -220,32 +238,36 @@ put-if-requires-4 c κs =
     let not-plain = back12 .before .before .before .before .before .before .before .before .before .before .not-plain in
     let too-wide = back12 .before .before .before .before .before .before .before .before .before .too-wide in
     let placed-at = back12 .before .before .before .before .before .before .before .placed-at in
-    let pgn-error-call = back12 .before .before .before .pgn-error in
+    let link-error-call = back12 .before .before .before .link-error in
     let put-if = back12 .before .before .put-if in
-    let pgn-error2 = c .before .before .before .before .before .before .before .before .before .before .pgn-error2 in
+    let link-error2 = c .before .before .before .before .before .before .before .before .before .before .link-error2 in
     let put-if2 = c .before .before .before .before .before .before .before .before .before .put-if2 in
-    let pgn-error3 = c .before .before .before .before .before .pgn-error3 in
+    let link-error3 = c .before .before .before .before .before .link-error3 in
     let put-if3 = c .before .before .before .before .put-if3 in
-    let t = start .args .t in let i = start .args .i in let s = now (start .args .s) in let k = start .args .k in let id = start .args .id in
-    let j = start .args .j in
-    rw (c .pgn-error4 .ensures) (fits-right ((placed t i (pgn-at (pack-of s) t i) k (bytes-of s id) j (field-of .result .links .continuation .given))
+    let s = now (start .args .s) in
+    let t = start .args .g .tree in
+    let i = start .args .g .item in
+    let k = start .args .link .field in
+    let id = start .args .link .id in
+    let j = start .args .link .earlier in
+    rw (c .link-error4 .ensures) (fits-right ((placed t i (pgn-at (pack-of s) t i) k (bytes-of s id) j (field-of .result .links .continuation .given))
     ++ (report-if (field-of .result .authored .continues .given) (pgn-error 43 5 t i k j))
     ++ (report-if (not-integers .result) (pgn-error 43 6 t i k j))
     ++ (report-if (not-raw-call .result) (pgn-error 43 7 t i k j))) (report-if (not-plain .result) (pgn-error 43 8 t i k j))
     (fit5 (placed t i (pgn-at (pack-of s) t i) k (bytes-of s id) j (field-of .result .links .continuation .given))
     (report-if (field-of .result .authored .continues .given) (pgn-error 43 5 t i k j)) (report-if (not-integers .result) (pgn-error 43 6 t i k j))
     (report-if (not-raw-call .result) (pgn-error 43 7 t i k j)) (report-if (not-plain .result) (pgn-error 43 8 t i k j))
-    (report-if (too-wide .result) (pgn-error 43 9 t i k j)) (rw (said s (pack-of s .fieldtypes) t i k j (pgn-at (pack-of s) t i) (bytes-of s id) (start .args .f)
-    (field-of .result) (start .pre .5) (field-of .ensures) (not-integers .result) (not-raw-call .result) (not-plain .result) (too-wide .result)
-    (not-integers .ensures) (not-raw-call .ensures) (not-plain .ensures) (too-wide .ensures)) at (start .pre .0)))
+    (report-if (too-wide .result) (pgn-error 43 9 t i k j)) (rw (said s (pack-of s .fieldtypes) t i k j (pgn-at (pack-of s) t i) (bytes-of s id)
+    (start .args .f) (field-of .result) (start .pre .means) (field-of .ensures) (not-integers .result) (not-raw-call .result) (not-plain .result)
+    (too-wide .result) (not-integers .ensures) (not-raw-call .ensures) (not-plain .ensures) (too-wide .ensures)) at (start .pre .fits)))
     (emitted-append {ys = (report-if (not-raw-call .result) (pgn-error 43 7 t i k j))}
     (emitted-append {ys = (report-if (not-integers .result) (pgn-error 43 6 t i k j))}
     (emitted-append {xs = (placed t i (pgn-at (pack-of s) t i) k (bytes-of s id) j (field-of .result .links .continuation .given))}
     {ys = (report-if (field-of .result .authored .continues .given) (pgn-error 43 5 t i k j))} (placed-at .ensures)
-    (rw (pgn-error-call .ensures) at (put-if .ensures))) (rw (pgn-error2 .ensures) at (put-if2 .ensures))) (rw (pgn-error3 .ensures) at (put-if3 .ensures))))
+    (rw (link-error-call .ensures) at (put-if .ensures))) (rw (link-error2 .ensures) at (put-if2 .ensures))) (rw (link-error3 .ensures) at (put-if3 .ensures))))
 
-pgn-error-requires-5 : tie.Need-pgn-error-requires-5
-pgn-error-requires-5 c κs = search needs
+link-error-requires-5 : tie.Need-link-error-requires-5
+link-error-requires-5 c κs = search needs
 
 put-if-requires-5 : tie.Need-put-if-requires-5
 put-if-requires-5 c κs =
@@ -258,30 +280,35 @@ put-if-requires-5 c κs =
     let not-plain = back24 .before .before .before .not-plain in
     let too-wide = back24 .before .before .too-wide in
     let placed-at = back12 .before .before .before .before .before .before .before .before .before .before .before .before .placed-at in
-    let pgn-error-call = back12 .before .before .before .before .before .before .before .before .pgn-error in
+    let link-error-call = back12 .before .before .before .before .before .before .before .before .link-error in
     let put-if = back12 .before .before .before .before .before .before .before .put-if in
-    let pgn-error2 = back12 .before .before .before .pgn-error2 in
+    let link-error2 = back12 .before .before .before .link-error2 in
     let put-if2 = back12 .before .before .put-if2 in
-    let pgn-error3 = c .before .before .before .before .before .before .before .before .before .before .pgn-error3 in
+    let link-error3 = c .before .before .before .before .before .before .before .before .before .before .link-error3 in
     let put-if3 = c .before .before .before .before .before .before .before .before .before .put-if3 in
-    let pgn-error4 = c .before .before .before .before .before .pgn-error4 in
+    let link-error4 = c .before .before .before .before .before .link-error4 in
     let put-if4 = c .before .before .before .before .put-if4 in
-    let t = start .args .t in let i = start .args .i in let s = now (start .args .s) in let k = start .args .k in let id = start .args .id in
-    let j = start .args .j in
-    rw (c .pgn-error5 .ensures) (fits-right ((placed t i (pgn-at (pack-of s) t i) k (bytes-of s id) j (field-of .result .links .continuation .given))
+    let s = now (start .args .s) in
+    let t = start .args .g .tree in
+    let i = start .args .g .item in
+    let k = start .args .link .field in
+    let id = start .args .link .id in
+    let j = start .args .link .earlier in
+    rw (c .link-error5 .ensures) (fits-right ((placed t i (pgn-at (pack-of s) t i) k (bytes-of s id) j (field-of .result .links .continuation .given))
     ++ (report-if (field-of .result .authored .continues .given) (pgn-error 43 5 t i k j))
     ++ (report-if (not-integers .result) (pgn-error 43 6 t i k j))
     ++ (report-if (not-raw-call .result) (pgn-error 43 7 t i k j))
     ++ (report-if (not-plain .result) (pgn-error 43 8 t i k j))) (report-if (too-wide .result) (pgn-error 43 9 t i k j))
-    (rw (said s (pack-of s .fieldtypes) t i k j (pgn-at (pack-of s) t i) (bytes-of s id) (start .args .f) (field-of .result) (start .pre .5) (field-of .ensures)
-    (not-integers .result) (not-raw-call .result) (not-plain .result) (too-wide .result) (not-integers .ensures) (not-raw-call .ensures) (not-plain .ensures)
-    (too-wide .ensures)) at (start .pre .0)) (emitted-append {ys = (report-if (not-plain .result) (pgn-error 43 8 t i k j))}
+    (rw (said s (pack-of s .fieldtypes) t i k j (pgn-at (pack-of s) t i) (bytes-of s id) (start .args .f) (field-of .result) (start .pre .means)
+    (field-of .ensures) (not-integers .result) (not-raw-call .result) (not-plain .result) (too-wide .result) (not-integers .ensures) (not-raw-call .ensures)
+    (not-plain .ensures) (too-wide .ensures)) at (start .pre .fits))
+    (emitted-append {ys = (report-if (not-plain .result) (pgn-error 43 8 t i k j))}
     (emitted-append {ys = (report-if (not-raw-call .result) (pgn-error 43 7 t i k j))}
     (emitted-append {ys = (report-if (not-integers .result) (pgn-error 43 6 t i k j))}
     (emitted-append {xs = (placed t i (pgn-at (pack-of s) t i) k (bytes-of s id) j (field-of .result .links .continuation .given))}
     {ys = (report-if (field-of .result .authored .continues .given) (pgn-error 43 5 t i k j))} (placed-at .ensures)
-    (rw (pgn-error-call .ensures) at (put-if .ensures))) (rw (pgn-error2 .ensures) at (put-if2 .ensures))) (rw (pgn-error3 .ensures) at (put-if3 .ensures)))
-    (rw (pgn-error4 .ensures) at (put-if4 .ensures))))
+    (rw (link-error-call .ensures) at (put-if .ensures))) (rw (link-error2 .ensures) at (put-if2 .ensures))) (rw (link-error3 .ensures) at (put-if3 .ensures)))
+    (rw (link-error4 .ensures) at (put-if4 .ensures))))
 
 same-length : tie.Need-same-length
 same-length c =
@@ -306,27 +333,31 @@ returns c =
     let not-plain = back24 .before .before .before .before .before .before .not-plain in
     let too-wide = back24 .before .before .before .before .before .too-wide in
     let placed-at = back24 .before .before .before .placed-at in
-    let pgn-error-call = back12 .before .before .before .before .before .before .before .before .before .before .before .pgn-error in
+    let link-error-call = back12 .before .before .before .before .before .before .before .before .before .before .before .link-error in
     let put-if = back12 .before .before .before .before .before .before .before .before .before .before .put-if in
-    let pgn-error2 = back12 .before .before .before .before .before .before .pgn-error2 in
+    let link-error2 = back12 .before .before .before .before .before .before .link-error2 in
     let put-if2 = back12 .before .before .before .before .before .put-if2 in
-    let pgn-error3 = back12 .before .pgn-error3 in
+    let link-error3 = back12 .before .link-error3 in
     let put-if3 = c .before .before .before .before .before .before .before .before .before .before .before .before .put-if3 in
-    let pgn-error4 = c .before .before .before .before .before .before .before .before .pgn-error4 in
+    let link-error4 = c .before .before .before .before .before .before .before .before .link-error4 in
     let put-if4 = c .before .before .before .before .before .before .before .put-if4 in
-    let pgn-error5 = c .before .before .before .pgn-error5 in
-    let s = now (start .args .s) in let t = start .args .t in let i = start .args .i in let k = start .args .k in let j = start .args .j in
-    let id = start .args .id in
-    rw (said s (pack-of s .fieldtypes) t i k j (pgn-at (pack-of s) t i) (bytes-of s id) (start .args .f) (field-of .result) (start .pre .5) (field-of .ensures)
-    (not-integers .result) (not-raw-call .result) (not-plain .result) (too-wide .result) (not-integers .ensures) (not-raw-call .ensures) (not-plain .ensures)
-    (too-wide .ensures)) (emitted-append {ys = (report-if (too-wide .result) (pgn-error 43 9 t i k j))}
+    let link-error5 = c .before .before .before .link-error5 in
+    let s = now (start .args .s) in
+    let t = start .args .g .tree in
+    let i = start .args .g .item in
+    let k = start .args .link .field in
+    let j = start .args .link .earlier in
+    let id = start .args .link .id in
+    rw (said s (pack-of s .fieldtypes) t i k j (pgn-at (pack-of s) t i) (bytes-of s id) (start .args .f) (field-of .result) (start .pre .means)
+    (field-of .ensures) (not-integers .result) (not-raw-call .result) (not-plain .result) (too-wide .result) (not-integers .ensures) (not-raw-call .ensures)
+    (not-plain .ensures) (too-wide .ensures)) (emitted-append {ys = (report-if (too-wide .result) (pgn-error 43 9 t i k j))}
     (emitted-append {ys = (report-if (not-plain .result) (pgn-error 43 8 t i k j))}
     (emitted-append {ys = (report-if (not-raw-call .result) (pgn-error 43 7 t i k j))}
     (emitted-append {ys = (report-if (not-integers .result) (pgn-error 43 6 t i k j))}
     (emitted-append {xs = (placed t i (pgn-at (pack-of s) t i) k (bytes-of s id) j (field-of .result .links .continuation .given))}
     {ys = (report-if (field-of .result .authored .continues .given) (pgn-error 43 5 t i k j))} (placed-at .ensures)
-    (rw (pgn-error-call .ensures) at (put-if .ensures))) (rw (pgn-error2 .ensures) at (put-if2 .ensures))) (rw (pgn-error3 .ensures) at (put-if3 .ensures)))
-    (rw (pgn-error4 .ensures) at (put-if4 .ensures))) (rw (pgn-error5 .ensures) at (c .before .before .put-if5 .ensures)))
+    (rw (link-error-call .ensures) at (put-if .ensures))) (rw (link-error2 .ensures) at (put-if2 .ensures))) (rw (link-error3 .ensures) at (put-if3 .ensures)))
+    (rw (link-error4 .ensures) at (put-if4 .ensures))) (rw (link-error5 .ensures) at (c .before .before .put-if5 .ensures)))
 
 pub continued-at-spec : {M : Type 1} → statement M
 continued-at-spec =
@@ -338,15 +369,15 @@ continued-at-spec =
     not-plain-requires
     too-wide-requires
     placed-at-requires
-    pgn-error-requires
+    link-error-requires
     put-if-requires
-    pgn-error-requires-2
+    link-error-requires-2
     put-if-requires-2
-    pgn-error-requires-3
+    link-error-requires-3
     put-if-requires-3
-    pgn-error-requires-4
+    link-error-requires-4
     put-if-requires-4
-    pgn-error-requires-5
+    link-error-requires-5
     put-if-requires-5
     same-length
     returns)

@@ -27,7 +27,8 @@ module _ (s : List ℕ) (fts : List FieldType) (t i k : ℕ) (p : Pgn) (f : Fiel
   unfolding continues-at
   without h = rw (← is, h)
 
-  module _ (h : f .authored .continues .given ≡ true) (b : Bool) (v : ℕ) (e : optional b v ≡ first-below (λ j. field-at p j .id ≐ bytes-of s (f .authored .continues .text)) k) where
+  module _ (h : f .authored .continues .given ≡ true) (b : Bool) (v : ℕ)
+      (e : optional b v ≡ first-below (λ j. field-at p j .id ≐ bytes-of s (f .authored .continues .text)) k) where
     text-is : field-at p k .continues ≡ some (bytes-of s (f .authored .continues .text))
     text-is = ap (λ (F : Field). F .continues) (sym is) ∙ (rw h)
 
@@ -47,14 +48,14 @@ module _ (s : List ℕ) (fts : List FieldType) (t i k : ℕ) (p : Pgn) (f : Fiel
 returns : tie.Need-returns
 returns c =
     let start = c .before .before .before .before .before in
-    let s = now (start .args .s) in let t = start .args .t in let i = start .args .i in
-    rw (without s (pack-of s .fieldtypes) t i (start .args .k) (pgn-at (pack-of s) t i) (start .args .f) (start .pre .4)
+    let s = now (start .args .s) in let t = start .args .g .tree in let i = start .args .g .item in
+    rw (without s (pack-of s .fieldtypes) t i (start .args .k) (pgn-at (pack-of s) t i) (start .args .f) (start .pre .means)
     (not-true (start .args .f .authored .continues .given) (c .if1 .taken))) (emitted-none (now (start .args .out)) (start .args .n))
 
 first-with-id-requires : tie.Need-first-with-id-requires
 first-with-id-requires c κs =
     let start = c .before .before .before .before .before .before in
-    (start .pre .1, omega (arith, start .pre .2 .fields, start .pre .3))
+    record { at = start .pre .pgn .at; fields = omega (arith, start .pre .pgn .is .fields, start .pre .field) }
 
 pgn-error-requires : tie.Need-pgn-error-requires
 pgn-error-requires c κs = search needs
@@ -64,10 +65,10 @@ put-requires c κs =
     let start = c .before .before .before .before .before .before .before .before .before .before .before in
     let if1 = c .before .before .before .before .before .before .if1 in
     let first-with-id = c .before .before .before .before .first-with-id in
-    let s = now (start .args .s) in let t = start .args .t in let i = start .args .i in
-    rw (absent s (pack-of s .fieldtypes) t i (start .args .k) (pgn-at (pack-of s) t i) (start .args .f) (start .pre .4)
+    let s = now (start .args .s) in let t = start .args .g .tree in let i = start .args .g .item in
+    rw (absent s (pack-of s .fieldtypes) t i (start .args .k) (pgn-at (pack-of s) t i) (start .args .f) (start .pre .means)
     (not-false (start .args .f .authored .continues .given) (if1 .left)) (first-with-id .result .given) (first-with-id .result .value) (first-with-id .ensures)
-    (not-true (first-with-id .result .given) (c .before .before .if2 .taken)) (c .pgn-error .result) (c .pgn-error .ensures)) at (start .pre .0)
+    (not-true (first-with-id .result .given) (c .before .before .if2 .taken)) (c .pgn-error .result) (c .pgn-error .ensures)) at (start .pre .fits)
 
 same-length : tie.Need-same-length
 same-length c = search needs
@@ -80,8 +81,8 @@ returns-2 c =
     let first-with-id = c .before .before .before .before .before .before .before .first-with-id in
     let if2 = c .before .before .before .before .before .if2 in
     let pgn-error-call = c .before .before .before .pgn-error in
-    let s = now (start .args .s) in let t = start .args .t in let i = start .args .i in
-    rw (absent s (pack-of s .fieldtypes) t i (start .args .k) (pgn-at (pack-of s) t i) (start .args .f) (start .pre .4)
+    let s = now (start .args .s) in let t = start .args .g .tree in let i = start .args .g .item in
+    rw (absent s (pack-of s .fieldtypes) t i (start .args .k) (pgn-at (pack-of s) t i) (start .args .f) (start .pre .means)
     (not-false (start .args .f .authored .continues .given) (if1 .left)) (first-with-id .result .given) (first-with-id .result .value) (first-with-id .ensures)
     (not-true (first-with-id .result .given) (if2 .taken)) (pgn-error-call .result) (pgn-error-call .ensures)) (c .before .before .put .ensures)
 
@@ -90,18 +91,20 @@ continued-at-requires c κs =
     let start = c .before .before .before .before .before .before .before .before .before .before in
     let if1 = c .before .before .before .before .before .if1 in
     let first-with-id = c .before .before .before .first-with-id in
-    let s = now (start .args .s) in let t = start .args .t in let i = start .args .i in let k = start .args .k in let f = start .args .f in (
-      (rw (found s (pack-of s .fieldtypes) t i k (pgn-at (pack-of s) t i) f (start .pre .4) (not-false (start .args .f .authored .continues .given) (if1 .left))
-          (first-with-id .result .given) (first-with-id .result .value) (first-with-id .ensures)
-          (not-false (first-with-id .result .given) (c .before .if2 .left))) at (start .pre .0)),
-      start .pre .1,
-      start .pre .2,
-      start .pre .3,
-      below s (pack-of s .fieldtypes) t i k (pgn-at (pack-of s) t i) f (start .pre .4) (not-false (start .args .f .authored .continues .given) (if1 .left))
-          (first-with-id .result .given) (first-with-id .result .value) (first-with-id .ensures)
-          (not-false (first-with-id .result .given) (c .before .if2 .left)),
-      start .pre .4,
-    )
+    let s = now (start .args .s) in let k = start .args .k in let f = start .args .f in
+    let t = start .args .g .tree in
+    let i = start .args .g .item in
+    record {
+      fits = (rw (found s (pack-of s .fieldtypes) t i k (pgn-at (pack-of s) t i) f (start .pre .means)
+          (not-false (start .args .f .authored .continues .given) (if1 .left)) (first-with-id .result .given) (first-with-id .result .value)
+          (first-with-id .ensures) (not-false (first-with-id .result .given) (c .before .if2 .left))) at (start .pre .fits));
+      pgn = start .pre .pgn;
+      field = start .pre .field;
+      earlier = below s (pack-of s .fieldtypes) t i k (pgn-at (pack-of s) t i) f (start .pre .means)
+          (not-false (start .args .f .authored .continues .given) (if1 .left)) (first-with-id .result .given) (first-with-id .result .value)
+          (first-with-id .ensures) (not-false (first-with-id .result .given) (c .before .if2 .left));
+      means = start .pre .means;
+    }
 
 same-length-2 : tie.Need-same-length-2
 same-length-2 c = search needs
@@ -113,8 +116,8 @@ returns-3 c =
     let if1 = c .before .before .before .before .before .before .before .before .if1 in
     let first-with-id = c .before .before .before .before .before .before .first-with-id in
     let if2 = c .before .before .before .before .if2 in
-    let s = now (start .args .s) in let t = start .args .t in let i = start .args .i in
-    rw (found s (pack-of s .fieldtypes) t i (start .args .k) (pgn-at (pack-of s) t i) (start .args .f) (start .pre .4)
+    let s = now (start .args .s) in let t = start .args .g .tree in let i = start .args .g .item in
+    rw (found s (pack-of s .fieldtypes) t i (start .args .k) (pgn-at (pack-of s) t i) (start .args .f) (start .pre .means)
     (not-false (start .args .f .authored .continues .given) (if1 .left)) (first-with-id .result .given) (first-with-id .result .value) (first-with-id .ensures)
     (not-false (first-with-id .result .given) (if2 .left))) (c .before .before .continued-at .ensures)
 

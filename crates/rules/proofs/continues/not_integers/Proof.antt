@@ -14,7 +14,7 @@ use Rattle.rules.proofs.continues.not_integers.Tie as tie
 type-of-requires : tie.Need-type-of-requires
 type-of-requires c κs =
     let start = c .before .before in
-    (start .pre .0, start .pre .1)
+    record { ready = start .pre .ready; type = start .pre .low-type }
 
 integer-requires : tie.Need-integer-requires
 integer-requires c κs = search needs
@@ -33,7 +33,7 @@ returns c =
 type-of-requires-2 : tie.Need-type-of-requires-2
 type-of-requires-2 c κs =
     let start = c .before .before .before .before .before in
-    (start .pre .0, start .pre .2)
+    record { ready = start .pre .ready; type = start .pre .type }
 
 slice-aggregate-text-is : tie.Need-slice-aggregate-text-is
 slice-aggregate-text-is c = search needs

@@ -1,6 +1,5 @@
 use Rattle.rules.proofs.Sizes.{fields-few}
 use Rattle.rules.specs.Continues.{holds-order, set-of}
-use Rattle.rules.specs.Findings.{pgn-error}
 use Rattle.pack.specs.declared.pgn.PgnView.{PgnView}
 use Rattle.pack.specs.Ready.{PgnIs}
 use Rattle.pack.specs.Meaning.{optional-repeating, pack-of}
@@ -25,27 +24,27 @@ set-is s p g is k r e = sym (e ∙ (rw (ap (λ (G : Pgn). G .repeating1) (is .me
 set-of-requires : tie.Need-set-of-requires
 set-of-requires c κs =
     let start = c .before .before .before in
-    omega (arith, start .pre .2 .fields, start .pre .3, start .pre .4, fields-few (start .pre .1))
+    omega (arith, start .pre .pgn .is .fields, start .pre .field, start .pre .earlier, fields-few (start .pre .pgn .at))
 
 set-of-requires-2 : tie.Need-set-of-requires-2
 set-of-requires-2 c κs =
     let start = c .before .before .before .before in
-    omega (arith, start .pre .2 .fields, start .pre .3, fields-few (start .pre .1))
+    omega (arith, start .pre .pgn .is .fields, start .pre .field, fields-few (start .pre .pgn .at))
 
-pgn-error-requires : tie.Need-pgn-error-requires
-pgn-error-requires c κs = search needs
+link-error-requires : tie.Need-link-error-requires
+link-error-requires c κs = search needs
 
 put-requires : tie.Need-put-requires
 put-requires c κs =
     let start = c .before .before .before .before .before .before .before .before in
     let set-of-call = c .before .before .before .before .set-of in
     let set-of2 = c .before .before .before .set-of2 in
-    let s = now (start .args .s) in let t = start .args .t in let i = start .args .i in let g = start .args .g in
-    rw (c .pgn-error .ensures) (rw (
-      (set-is s (pgn-at (pack-of s) t i) g (start .pre .2) (start .args .j) (set-of-call .result) (set-of-call .ensures)),
-      (set-is s (pgn-at (pack-of s) t i) g (start .pre .2) (start .args .k) (set-of2 .result) (set-of2 .ensures)),
+    let s = now (start .args .s) in let t = start .args .g .tree in let i = start .args .g .item in let g = start .args .g .view in
+    rw (c .link-error .ensures) (rw (
+      (set-is s (pgn-at (pack-of s) t i) g (start .pre .pgn .is) (start .args .link .earlier) (set-of-call .result) (set-of-call .ensures)),
+      (set-is s (pgn-at (pack-of s) t i) g (start .pre .pgn .is) (start .args .link .field) (set-of2 .result) (set-of2 .ensures)),
       ne-eqb (set-of-call .result) (set-of2 .result) (c .before .before .if1 .taken),
-    ) at (start .pre .0))
+    ) at (start .pre .fits))
 
 same-length : tie.Need-same-length
 same-length c = search needs
@@ -56,16 +55,16 @@ returns c =
     let set-of-call = c .before .before .before .before .before .before .before .set-of in
     let set-of2 = c .before .before .before .before .before .before .set-of2 in
     let if1 = c .before .before .before .before .before .if1 in
-    let pgn-error-call = c .before .before .before .pgn-error in
-    let s = now (start .args .s) in let t = start .args .t in let i = start .args .i in let g = start .args .g in
+    let link-error-call = c .before .before .before .link-error in
+    let s = now (start .args .s) in let t = start .args .g .tree in let i = start .args .g .item in let g = start .args .g .view in
     rw (
-      (set-is s (pgn-at (pack-of s) t i) g (start .pre .2) (start .args .j) (set-of-call .result) (set-of-call .ensures)),
-      (set-is s (pgn-at (pack-of s) t i) g (start .pre .2) (start .args .k) (set-of2 .result) (set-of2 .ensures)),
+      (set-is s (pgn-at (pack-of s) t i) g (start .pre .pgn .is) (start .args .link .earlier) (set-of-call .result) (set-of-call .ensures)),
+      (set-is s (pgn-at (pack-of s) t i) g (start .pre .pgn .is) (start .args .link .field) (set-of2 .result) (set-of2 .ensures)),
       ne-eqb (set-of-call .result) (set-of2 .result) (if1 .taken),
-    ) (rw (pgn-error-call .ensures) at (c .before .before .put .ensures))
+    ) (rw (link-error-call .ensures) at (c .before .before .put .ensures))
 
-pgn-error-requires-2 : tie.Need-pgn-error-requires-2
-pgn-error-requires-2 c κs = search needs
+link-error-requires-2 : tie.Need-link-error-requires-2
+link-error-requires-2 c κs = search needs
 
 put-requires-2 : tie.Need-put-requires-2
 put-requires-2 c κs =
@@ -73,13 +72,13 @@ put-requires-2 c κs =
     let set-of-call = c .before .before .before .before .before .set-of in
     let set-of2 = c .before .before .before .before .set-of2 in
     let if1 = c .before .before .before .if1 in
-    let s = now (start .args .s) in let t = start .args .t in let i = start .args .i in let g = start .args .g in
-    rw (c .pgn-error2 .ensures) (rw (
-      (set-is s (pgn-at (pack-of s) t i) g (start .pre .2) (start .args .j) (set-of-call .result) (set-of-call .ensures)),
-      (set-is s (pgn-at (pack-of s) t i) g (start .pre .2) (start .args .k) (set-of2 .result) (set-of2 .ensures)),
+    let s = now (start .args .s) in let t = start .args .g .tree in let i = start .args .g .item in let g = start .args .g .view in
+    rw (c .link-error2 .ensures) (rw (
+      (set-is s (pgn-at (pack-of s) t i) g (start .pre .pgn .is) (start .args .link .earlier) (set-of-call .result) (set-of-call .ensures)),
+      (set-is s (pgn-at (pack-of s) t i) g (start .pre .pgn .is) (start .args .link .field) (set-of2 .result) (set-of2 .ensures)),
       eq-eqb (set-of-call .result) (set-of2 .result) (if1 .left),
       not-true (start .args .continued) (c .before .before .if2 .taken),
-    ) at (start .pre .0))
+    ) at (start .pre .fits))
 
 same-length-2 : tie.Need-same-length-2
 same-length-2 c = search needs
@@ -91,22 +90,22 @@ returns-2 c =
     let set-of2 = c .before .before .before .before .before .before .before .set-of2 in
     let if1 = c .before .before .before .before .before .before .if1 in
     let if2 = c .before .before .before .before .before .if2 in
-    let pgn-error2 = c .before .before .before .pgn-error2 in
-    let s = now (start .args .s) in let t = start .args .t in let i = start .args .i in let g = start .args .g in
+    let link-error2 = c .before .before .before .link-error2 in
+    let s = now (start .args .s) in let t = start .args .g .tree in let i = start .args .g .item in let g = start .args .g .view in
     rw (
-      (set-is s (pgn-at (pack-of s) t i) g (start .pre .2) (start .args .j) (set-of-call .result) (set-of-call .ensures)),
-      (set-is s (pgn-at (pack-of s) t i) g (start .pre .2) (start .args .k) (set-of2 .result) (set-of2 .ensures)),
+      (set-is s (pgn-at (pack-of s) t i) g (start .pre .pgn .is) (start .args .link .earlier) (set-of-call .result) (set-of-call .ensures)),
+      (set-is s (pgn-at (pack-of s) t i) g (start .pre .pgn .is) (start .args .link .field) (set-of2 .result) (set-of2 .ensures)),
       eq-eqb (set-of-call .result) (set-of2 .result) (if1 .left),
       not-true (start .args .continued) (if2 .taken),
-    ) (rw (pgn-error2 .ensures) at (c .before .before .put2 .ensures))
+    ) (rw (link-error2 .ensures) at (c .before .before .put2 .ensures))
 
 continued-by-requires : tie.Need-continued-by-requires
 continued-by-requires c κs =
     let start = c .before .before .before .before .before .before .before in
-    (start .pre .1, start .pre .2 .fields)
+    start .pre .pgn
 
-pgn-error-requires-3 : tie.Need-pgn-error-requires-3
-pgn-error-requires-3 c κs = search needs
+link-error-requires-3 : tie.Need-link-error-requires-3
+link-error-requires-3 c κs = search needs
 
 put-if-requires : tie.Need-put-if-requires
 put-if-requires c κs =
@@ -115,14 +114,14 @@ put-if-requires c κs =
     let set-of2 = c .before .before .before .before .before .set-of2 in
     let if1 = c .before .before .before .before .if1 in
     let if2 = c .before .before .before .if2 in
-    let s = now (start .args .s) in let t = start .args .t in let i = start .args .i in let g = start .args .g in
-    rw (c .pgn-error3 .ensures, c .before .before .continued-by .ensures)
+    let s = now (start .args .s) in let t = start .args .g .tree in let i = start .args .g .item in let g = start .args .g .view in
+    rw (c .link-error3 .ensures, c .before .before .continued-by .ensures)
     (rw (
-      (set-is s (pgn-at (pack-of s) t i) g (start .pre .2) (start .args .j) (set-of-call .result) (set-of-call .ensures)),
-      (set-is s (pgn-at (pack-of s) t i) g (start .pre .2) (start .args .k) (set-of2 .result) (set-of2 .ensures)),
+      (set-is s (pgn-at (pack-of s) t i) g (start .pre .pgn .is) (start .args .link .earlier) (set-of-call .result) (set-of-call .ensures)),
+      (set-is s (pgn-at (pack-of s) t i) g (start .pre .pgn .is) (start .args .link .field) (set-of2 .result) (set-of2 .ensures)),
       eq-eqb (set-of-call .result) (set-of2 .result) (if1 .left),
       not-false (start .args .continued) (if2 .left),
-    ) at (start .pre .0))
+    ) at (start .pre .fits))
 
 same-length-3 : tie.Need-same-length-3
 same-length-3 c = search needs
@@ -136,14 +135,14 @@ returns-3 c =
     let if1 = c .before .before .before .before .before .before .before .if1 in
     let if2 = c .before .before .before .before .before .before .if2 in
     let continued-by = c .before .before .before .before .before .continued-by in
-    let pgn-error3 = c .before .before .before .pgn-error3 in
-    let s = now (start .args .s) in let t = start .args .t in let i = start .args .i in let g = start .args .g in
+    let link-error3 = c .before .before .before .link-error3 in
+    let s = now (start .args .s) in let t = start .args .g .tree in let i = start .args .g .item in let g = start .args .g .view in
     rw (
-      (set-is s (pgn-at (pack-of s) t i) g (start .pre .2) (start .args .j) (set-of-call .result) (set-of-call .ensures)),
-      (set-is s (pgn-at (pack-of s) t i) g (start .pre .2) (start .args .k) (set-of2 .result) (set-of2 .ensures)),
+      (set-is s (pgn-at (pack-of s) t i) g (start .pre .pgn .is) (start .args .link .earlier) (set-of-call .result) (set-of-call .ensures)),
+      (set-is s (pgn-at (pack-of s) t i) g (start .pre .pgn .is) (start .args .link .field) (set-of2 .result) (set-of2 .ensures)),
       eq-eqb (set-of-call .result) (set-of2 .result) (if1 .left),
       not-false (start .args .continued) (if2 .left),
-    ) (rw (pgn-error3 .ensures, continued-by .ensures) at (c .before .before .put-if .ensures))
+    ) (rw (link-error3 .ensures, continued-by .ensures) at (c .before .before .put-if .ensures))
 
 pub placed-at-spec : {M : Type 1} → statement M
 placed-at-spec =
@@ -151,16 +150,16 @@ placed-at-spec =
     (tie.spec
     set-of-requires
     set-of-requires-2
-    pgn-error-requires
+    link-error-requires
     put-requires
     same-length
     returns
-    pgn-error-requires-2
+    link-error-requires-2
     put-requires-2
     same-length-2
     returns-2
     continued-by-requires
-    pgn-error-requires-3
+    link-error-requires-3
     put-if-requires
     same-length-3
     returns-3)

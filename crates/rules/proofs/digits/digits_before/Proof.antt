@@ -48,18 +48,18 @@ unfolding digits
 begun n end b h = record { room = 10; place = omega arith; high = omega arith; kept = refl; few = omega arith; some-left = omega arith; same = refl }
 
 next : (n end v at x : ℕ) (b₀ b : List ℕ) → end ≤ length b₀ → 10 ≤ end → 10 ≤ v → x ≡ 48 + v % 10 → Written n end v at b₀ b
-    → (1 ≤ at - 1) × Written n end (v / 10) (at - 1) b₀ (set b (at - 1) x)
+    → record { ahead : 1 ≤ at - 1; written : Written n end (v / 10) (at - 1) b₀ (set b (at - 1) x) }
 next n end v at x b₀ b l z h e w = go (w .room) (at) (w .place) (w .few) (two-digits (w .room) v h (w .few)) (w .high) (w .same)
   where
     go : (room at : ℕ) → room + end ≡ at + 10 → v < 10 ^ room → 2 ≤ room → at ≤ end → digits n ++ drop end b₀ ≡ digits-within room v ++ drop at b
-        → (1 ≤ at - 1) × Written n end (v / 10) (at - 1) b₀ (set b (at - 1) x)
+        → record { ahead : 1 ≤ at - 1; written : Written n end (v / 10) (at - 1) b₀ (set b (at - 1) x) }
     go zero at p f t u s = absurd (omega arith)
     go (suc room) zero p f t u s = absurd (omega arith)
     go (suc room) (suc at) p f t u s =
         let r : suc at - 1 ≡ at = omega arith in
-        rw r (
-          omega arith,
-          record {
+        rw r (record {
+          ahead = omega arith;
+          written = record {
             room = room;
             place = omega arith;
             high = omega arith;
@@ -67,31 +67,41 @@ next n end v at x b₀ b l z h e w = go (w .room) (at) (w .place) (w .few) (two-
             few = lower room v f;
             some-left = omega arith;
             same = s ∙ more room v at x b h (omega (arith, w .kept)) e;
-          },
-        )
+          };
+        })
 
 done : (n end v at x : ℕ) (b₀ b : List ℕ) → end ≤ length b₀ → 10 ≤ end → v < 10 → x ≡ 48 + v % 10 → Written n end v at b₀ b
-    → (drop (at - 1) (set b (at - 1) x) ≡ digits n ++ drop end b₀) × (at - 1 + length (digits n) ≡ end)
+    → record { written : drop (at - 1) (set b (at - 1) x) ≡ digits n ++ drop end b₀; start : at - 1 + length (digits n) ≡ end }
 done n end v at x b₀ b l z h e w = go (w .room) at (w .place) (w .some-left) (w .high) (w .same)
   where
     go : (room at : ℕ) → room + end ≡ at + 10 → 1 ≤ room → at ≤ end → digits n ++ drop end b₀ ≡ digits-within room v ++ drop at b
-        → (drop (at - 1) (set b (at - 1) x) ≡ digits n ++ drop end b₀) × (at - 1 + length (digits n) ≡ end)
+        → record { written : drop (at - 1) (set b (at - 1) x) ≡ digits n ++ drop end b₀; start : at - 1 + length (digits n) ≡ end }
     go zero at p t u s = absurd (omega arith)
     go (suc room) zero p t u s = absurd (omega arith)
     go (suc room) (suc at) p t u s =
         let r : suc at - 1 ≡ at = omega arith in
         let q = s ∙ last room v at x b h (omega (arith, w .kept)) e in
         let m : length (digits n ++ drop end b₀) ≡ length (drop at (set b at x)) = ap length q in
-        rw r (sym q, omega (arith, m, length-append (digits n) (drop end b₀), length-drop end b₀, length-drop at (set b at x), length-set b at x, w .kept))
+        rw r (record {
+          written = sym q;
+          start = omega (arith, m, length-append (digits n) (drop end b₀), length-drop end b₀, length-drop at (set b at x), length-set b at x, w .kept);
+        })
 
 abbrev Inv-loop : tie.InvT-loop
-Inv-loop b₀ end n at₀ v₀ b at v = (1 ≤ at) × Written n end v at b₀ b
+Inv-loop b₀ end n at₀ v₀ b at v =
+    record {
+      ahead : 1 ≤ at;
+      written : Written n end v at b₀ b;
+    }
 
 abbrev μ-loop : tie.MeasureT-loop
 μ-loop b₀ end n at₀ v₀ b at v = v
 
 loop-holds : tie.Need-loop-holds Inv-loop μ-loop
-loop-holds c = (omega (arith, c .before .pre .0), begun (c .before .args .n) (c .before .args .end) (now (c .before .args .b)) (search needs))
+loop-holds c = record {
+  ahead = omega (arith, c .before .pre .ten);
+  written = begun (c .before .args .n) (c .before .args .end) (now (c .before .args .b)) (search needs);
+}
 
 sub-at : tie.Need-sub-at Inv-loop μ-loop
 sub-at c = search needs
@@ -109,8 +119,8 @@ loop-again : tie.Need-loop-again Inv-loop μ-loop
 loop-again c =
     let start = c .before .before .before .before in
     let loop = c .before .before .loop in
-    next (start .args .n) (start .args .end) (loop .v) (loop .at) (c .lowest .result) (now (start .args .b)) (loop .b) (start .pre .1) (start .pre .0)
-    (c .before .loop-test .taken) (c .lowest .ensures) (loop .inv .1)
+    next (start .args .n) (start .args .end) (loop .v) (loop .at) (c .lowest .result) (now (start .args .b)) (loop .b) (start .pre .within) (start .pre .ten)
+    (c .before .loop-test .taken) (c .lowest .ensures) (loop .inv .written)
 
 sub-at-2 : tie.Need-sub-at-2 Inv-loop μ-loop
 sub-at-2 c = search needs
@@ -128,8 +138,8 @@ returns : tie.Need-returns Inv-loop μ-loop
 returns c =
     let start = c .before .before .before .before in
     let loop = c .before .before .loop in
-    done (start .args .n) (start .args .end) (loop .v) (loop .at) (c .lowest2 .result) (now (start .args .b)) (loop .b) (start .pre .1) (start .pre .0)
-    (c .before .loop-test .left) (c .lowest2 .ensures) (loop .inv .1)
+    done (start .args .n) (start .args .end) (loop .v) (loop .at) (c .lowest2 .result) (now (start .args .b)) (loop .b) (start .pre .within) (start .pre .ten)
+    (c .before .loop-test .left) (c .lowest2 .ensures) (loop .inv .written)
 
 pub digits-before-spec : {M : Type 1} → statement M
 digits-before-spec =

@@ -14,7 +14,10 @@ digits-before-requires c κs = search needs
 returns : tie.Need-returns
 returns c =
     let start = c .before .before .before in
-    (c .before .digits-before .ensures .0 ∙ append-nil (digits (start .args .n)), c .before .digits-before .ensures .1)
+    record {
+      written = c .before .digits-before .ensures .written ∙ append-nil (digits (start .args .n));
+      start = c .before .digits-before .ensures .start;
+    }
 
 pub digits-of-spec : {M : Type 1} → statement M
 digits-of-spec = tie.close (tie.spec slice-aggregate-digits-before digits-before-requires returns)

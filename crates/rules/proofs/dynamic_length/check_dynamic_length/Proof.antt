@@ -1,5 +1,5 @@
-use Rattle.rules.proofs.Emits.{emitted-none, emitted-turn, fits-turn}
-use Rattle.rules.specs.Emit.{Emitted}
+use Rattle.rules.specs.Emit.{Reporting}
+use Rattle.rules.proofs.Emits.{fits-turn, reporting-none, reporting-turn}
 use Rattle.rules.specs.Texts.{DYNAMIC-FIELD-KEY}
 use Rattle.rules.specs.Search.{any-below}
 use Rattle.rules.specs.DynamicLength.{length-source, have-length-source, dynamic-length-at, check-dynamic-length}
@@ -7,14 +7,14 @@ use Rattle.rules.specs.declared.Finding.{Finding}
 use mathlib.Core.Bool.{_||_, Bool}
 use Rattle.pack.proofs.Positions.{field-ft-law}
 use Rattle.pack.specs.Value.{Field, no-field-type, pgn-at, field-at}
-use Rattle.pack.specs.Notation.{_≐_, concat-below}
+use Rattle.pack.specs.Notation.{_≐_}
 use Rattle.pack.specs.Meaning.{field-meaning, pack-of}
 use Rattle.pack.specs.Items.{bytes-of}
 use Rattle.pack.specs.declared.field.FieldView.{FieldView}
-use Prim.Native.Nat.{ℕ, suc, _-_, _≤_}
+use Prim.Native.Nat.{ℕ, suc, _-_}
 use native.Mathlib.Omega.{arith}
 use native.Mathlib.Numerals.{add-one}
-use mathlib.Core.Path.{_≡_, refl, ap, _∙_}
+use mathlib.Core.Path.{_≡_, refl, ap}
 use mathlib.Core.List.{List}
 use borrow.Author.Needs.{needs}
 use denote.Ref.{now}
@@ -36,29 +36,33 @@ unfolding length-source
 found s t i k v root old new is r o n = rw (n, o, r, ← is)
 
 abbrev Inv-loop : tie.InvT-loop
-Inv-loop out₀ n s work t i p g m₀ have₀ k₀ out m have k =
-    (k ≤ g .fields) × (length out ≡ length out₀) × Emitted out₀ n (concat-below (of-field s t i) k) out m × (have ≡ any-below (source s t i) k)
+Inv-loop out₀ n s work g m₀ have₀ k₀ out m have k =
+    record {
+      reporting : Reporting out₀ n (of-field s (g .tree) (g .item)) (g .view .fields) k out m;
+      have : have ≡ any-below (source s (g .tree) (g .item)) k;
+    }
 
 abbrev μ-loop : tie.MeasureT-loop
-μ-loop out₀ n s work t i p g m₀ have₀ k₀ out m have k = g .fields - k
+μ-loop out₀ n s work g m₀ have₀ k₀ out m have k = g .view .fields - k
 
 loop-holds : tie.Need-loop-holds Inv-loop μ-loop
-loop-holds c = (omega arith, refl, emitted-none _ _, refl)
+loop-holds c = record { reporting = reporting-none _ _ _ _; have = refl }
 
 field-of-requires : tie.Need-field-of-requires Inv-loop μ-loop
 field-of-requires c κs =
     let start = c .before .before .before .before .before .before in
-    (start .pre .1, omega (arith, start .pre .2 .fields))
+    record { at = start .pre .pgn .at; field = omega (arith, start .pre .pgn .is .fields) }
 
 root-of-requires : tie.Need-root-of-requires Inv-loop μ-loop
 root-of-requires c κs =
     let start = c .before .before .before .before .before .before .before in
-    let loop = c .before .before .before .loop in (
-      start .pre .1 .ready,
-      (let e : c .field-of .result .ft ≡ field-at (pgn-at (pack-of (now (start .args .s))) (start .args .t) (start .args .i)) (loop .k) .ft =
+    let loop = c .before .before .before .loop in
+    record {
+      ready = start .pre .pgn .at .ready;
+      type = (let e : c .field-of .result .ft ≡ field-at (pgn-at (pack-of (now (start .args .s))) (start .args .g .tree) (start .args .g .item)) (loop .k) .ft =
           ap (λ (F : Field). F .ft) (c .field-of .ensures) in
-          omega (arith, e, field-ft-law (start .pre .1) (loop .k) (omega (arith, c .before .if1 .taken, start .pre .2 .fields)))),
-    )
+          omega (arith, e, field-ft-law (start .pre .pgn .at) (loop .k) (omega (arith, c .before .if1 .taken, start .pre .pgn .is .fields))));
+    }
 
 have-length-source-requires : tie.Need-have-length-source-requires Inv-loop μ-loop
 have-length-source-requires c κs = search needs
@@ -71,13 +75,17 @@ dynamic-length-at-requires c κs =
     let if1 = c .before .before .before .before .if1 in
     let field-of = c .before .before .before .field-of in
     let root-of = c .before .before .root-of in
-    let s = now (start .args .s) in let t = start .args .t in let i = start .args .i in (
-      fits-turn (of-field s t i) (start .args .g .fields) (loop .k) (if1 .taken) (rw (← start .pre .2 .fields) at (start .pre .0)) (loop .inv .2),
-      field-of .ensures,
-      (rw (← field-of .ensures) (root-of .ensures)),
-      found s t i (loop .k) (field-of .result) (bytes-of s (root-of .result)) (loop .have) _ (field-of .ensures) (root-of .ensures) (loop .inv .3)
-          (c .before .have-length-source .ensures),
-    )
+    let s = now (start .args .s) in
+    let t = start .args .g .tree in
+    let i = start .args .g .item in
+    record {
+      fits = fits-turn (of-field s t i) (start .args .g .view .fields) (loop .k) (if1 .taken) (rw (← start .pre .pgn .is .fields) at (start .pre .fits))
+          (loop .inv .reporting .emitted);
+      means = field-of .ensures;
+      root = (rw (← field-of .ensures) (root-of .ensures));
+      have = found s t i (loop .k) (field-of .result) (bytes-of s (root-of .result)) (loop .have) _ (field-of .ensures) (root-of .ensures) (loop .inv .have)
+          (c .before .have-length-source .ensures);
+    }
 
 add-k : tie.Need-add-k Inv-loop μ-loop
 add-k c =
@@ -96,13 +104,14 @@ loop-again c =
     let root-of = c .before .before .before .before .before .root-of in
     let have-length-source-call = c .before .before .before .before .have-length-source in
     let dynamic-length-at-call = c .before .before .dynamic-length-at in
-    let s = now (start .args .s) in let t = start .args .t in let i = start .args .i in (
-      omega (arith, c),
-      dynamic-length-at-call .kept .0 ∙ loop .inv .1,
-      emitted-turn (of-field s t i) (loop .k) (loop .inv .2) (dynamic-length-at-call .ensures),
-      (rw (add-one (loop .k)) (found s t i (loop .k) (field-of .result) (bytes-of s (root-of .result)) (loop .have) _ (field-of .ensures) (root-of .ensures)
-          (loop .inv .3) (have-length-source-call .ensures))),
-    )
+    let s = now (start .args .s) in
+    let t = start .args .g .tree in
+    let i = start .args .g .item in
+    record {
+      reporting = reporting-turn (loop .inv .reporting) (omega (arith, c)) (dynamic-length-at-call .ensures);
+      have = (rw (add-one (loop .k)) (found s t i (loop .k) (field-of .result) (bytes-of s (root-of .result)) (loop .have) _ (field-of .ensures)
+          (root-of .ensures) (loop .inv .have) (have-length-source-call .ensures)));
+    }
 
 same-length : tie.Need-same-length Inv-loop μ-loop
 same-length c = search needs
@@ -112,8 +121,9 @@ unfolding check-dynamic-length
 returns c =
     let start = c .before .before .before .before .before .before in
     let loop = c .before .before .loop in
-    let e : loop .k ≡ length (pgn-at (pack-of (now (start .args .s))) (start .args .t) (start .args .i) .fields) = omega (arith, start .pre .2 .fields) in
-    rw (← e) (loop .inv .2)
+    let e : loop .k ≡ length (pgn-at (pack-of (now (start .args .s))) (start .args .g .tree) (start .args .g .item) .fields) =
+    omega (arith, start .pre .pgn .is .fields) in
+    rw (← e) (loop .inv .reporting .emitted)
 
 pub check-dynamic-length-spec : {M : Type 1} → statement M
 check-dynamic-length-spec =

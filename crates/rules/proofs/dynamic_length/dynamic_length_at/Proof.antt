@@ -51,10 +51,12 @@ put-if-requires c κs =
     let start = c .before .before .before .before .before .before .before .before .before in
     let text-is = c .before .before .before .before .before .text-is in
     let text-is2 = c .before .before .before .text-is2 in
-    let s = now (start .args .s) in let t = start .args .t in let i = start .args .i in
+    let s = now (start .args .s) in
+    let t = start .args .g .tree in
+    let i = start .args .g .item in
     fits-left _ _ (fits-left _ _ (rw (viewed s (pack-of s .fieldtypes) t i (pgn-at (pack-of s) t i) (start .args .k) _ (start .args .f)
-    (bytes-of s (start .args .root)) (start .args .have) (start .pre .1) (start .pre .2) (start .pre .3) _ _ _ _ _ _ _ _ (text-is .ensures) (text-is2 .ensures)
-    (c .before .before .and-not .ensures) (c .pgn-error .ensures) refl refl refl refl) at (start .pre .0)))
+    (bytes-of s (start .args .root)) (start .args .have) (start .pre .means) (start .pre .root) (start .pre .have) _ _ _ _ _ _ _ _ (text-is .ensures)
+    (text-is2 .ensures) (c .before .before .and-not .ensures) (c .pgn-error .ensures) refl refl refl refl) at (start .pre .fits)))
 
 and-not-requires-2 : tie.Need-and-not-requires-2
 and-not-requires-2 c κs = search needs
@@ -71,11 +73,11 @@ put-if-requires-2 c κs =
     let and-not = c .before .before .before .before .before .before .before .before .and-not in
     let pgn-error-call = c .before .before .before .before .before .before .pgn-error in
     let put-if = c .before .before .before .before .before .put-if in
-    let s = now (start .args .s) in let t = start .args .t in let i = start .args .i in
+    let s = now (start .args .s) in let t = start .args .g .tree in let i = start .args .g .item in
     fits-right (report-if (and-not .result) (pgn-error-call .result)) _
     (fits-left _ _ (rw (viewed s (pack-of s .fieldtypes) t i (pgn-at (pack-of s) t i) (start .args .k) _ (start .args .f) (bytes-of s (start .args .root))
-    (start .args .have) (start .pre .1) (start .pre .2) (start .pre .3) _ _ _ _ _ _ _ _ (text-is .ensures) (text-is2 .ensures) (and-not .ensures)
-    (pgn-error-call .ensures) (c .before .before .and-not2 .ensures) (c .pgn-error2 .ensures) refl refl) at (start .pre .0))) (put-if .ensures)
+    (start .args .have) (start .pre .means) (start .pre .root) (start .pre .have) _ _ _ _ _ _ _ _ (text-is .ensures) (text-is2 .ensures) (and-not .ensures)
+    (pgn-error-call .ensures) (c .before .before .and-not2 .ensures) (c .pgn-error2 .ensures) refl refl) at (start .pre .fits))) (put-if .ensures)
 
 and-not-requires-3 : tie.Need-and-not-requires-3
 and-not-requires-3 c κs = search needs
@@ -95,10 +97,10 @@ put-if-requires-3 c κs =
     let and-not2 = c .before .before .before .before .before .before .before .before .and-not2 in
     let pgn-error2 = c .before .before .before .before .before .before .pgn-error2 in
     let put-if2 = c .before .before .before .before .before .put-if2 in
-    let s = now (start .args .s) in let t = start .args .t in let i = start .args .i in
+    let s = now (start .args .s) in let t = start .args .g .tree in let i = start .args .g .item in
     fits-right _ _ (rw (viewed s (pack-of s .fieldtypes) t i (pgn-at (pack-of s) t i) (start .args .k) _ (start .args .f) (bytes-of s (start .args .root))
-    (start .args .have) (start .pre .1) (start .pre .2) (start .pre .3) _ _ _ _ _ _ _ _ (text-is .ensures) (text-is2 .ensures) (and-not .ensures)
-    (pgn-error-call .ensures) (and-not2 .ensures) (pgn-error2 .ensures) (c .before .before .and-not3 .ensures) (c .pgn-error3 .ensures)) at (start .pre .0))
+    (start .args .have) (start .pre .means) (start .pre .root) (start .pre .have) _ _ _ _ _ _ _ _ (text-is .ensures) (text-is2 .ensures) (and-not .ensures)
+    (pgn-error-call .ensures) (and-not2 .ensures) (pgn-error2 .ensures) (c .before .before .and-not3 .ensures) (c .pgn-error3 .ensures)) at (start .pre .fits))
     (emitted-append (put-if .ensures) (put-if2 .ensures))
 
 same-length : tie.Need-same-length
@@ -118,10 +120,12 @@ returns c =
     let put-if2 = c .before .before .before .before .before .before .before .before .put-if2 in
     let and-not3 = c .before .before .before .before .before .and-not3 in
     let pgn-error3 = c .before .before .before .pgn-error3 in
-    let s = now (start .args .s) in let t = start .args .t in let i = start .args .i in
+    let s = now (start .args .s) in
+    let t = start .args .g .tree in
+    let i = start .args .g .item in
     rw (viewed s (pack-of s .fieldtypes) t i (pgn-at (pack-of s) t i) (start .args .k) _ (start .args .f) (bytes-of s (start .args .root)) (start .args .have)
-    (start .pre .1) (start .pre .2) (start .pre .3) _ _ _ _ _ _ _ _ (text-is .ensures) (text-is2 .ensures) (and-not .ensures) (pgn-error-call .ensures)
-    (and-not2 .ensures) (pgn-error2 .ensures) (and-not3 .ensures) (pgn-error3 .ensures))
+    (start .pre .means) (start .pre .root) (start .pre .have) _ _ _ _ _ _ _ _ (text-is .ensures) (text-is2 .ensures) (and-not .ensures)
+    (pgn-error-call .ensures) (and-not2 .ensures) (pgn-error2 .ensures) (and-not3 .ensures) (pgn-error3 .ensures))
     (emitted-append (emitted-append (put-if .ensures) (put-if2 .ensures)) (c .before .before .put-if3 .ensures))
 
 pub dynamic-length-at-spec : {M : Type 1} → statement M

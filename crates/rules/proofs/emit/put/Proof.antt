@@ -28,13 +28,18 @@ unfolding stored
 returns c =
     let start = c .before .before .before .before .before .before in
     let if1 = c .before .before .before .before .if1 in
-    record { count = refl; out = c .before .before .write .ensures ∙ (rw (le-leb (8 * start .args .n + 8) (length (now (start .args .out))) (if1 .taken))) }
+    let write = c .before .before .write in
+    record {
+      count = refl;
+      length = write .kept .0;
+      out = write .ensures ∙ (rw (le-leb (8 * start .args .n + 8) (length (now (start .args .out))) (if1 .taken)));
+    }
 
 returns-2 : tie.Need-returns-2
 unfolding stored
 returns-2 c =
     let start = c .before .before in
-    record { count = refl; out = (rw (lt-leb (8 * start .args .n + 8) (length (now (start .args .out))) (c .if1 .left))) }
+    record { count = refl; length = refl; out = (rw (lt-leb (8 * start .args .n + 8) (length (now (start .args .out))) (c .if1 .left))) }
 
 pub put-spec : {M : Type 1} → statement M
 put-spec = tie.close (tie.spec mul-at add-m add-if1 write-requires same-length returns returns-2)

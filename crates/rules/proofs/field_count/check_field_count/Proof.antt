@@ -25,7 +25,8 @@ pgn-error-requires c κs = search needs
 put-if-requires : tie.Need-put-if-requires
 put-if-requires c κs =
     let start = c .before .before .before .before .before in
-    rw (viewed (now (start .args .s)) (start .args .t) (start .args .i) _ (start .args .g) (start .pre .1) _ (c .pgn-error .ensures)) at (start .pre .0)
+    rw (viewed (now (start .args .s)) (start .args .g .tree) (start .args .g .item) _ (start .args .g .view) (start .pre .is) _ (c .pgn-error .ensures)) at
+    (start .pre .fits)
 
 same-length : tie.Need-same-length
 same-length c = search needs
@@ -34,7 +35,7 @@ returns : tie.Need-returns
 returns c =
     let start = c .before .before .before .before .before .before .before .before in
     let pgn-error-call = c .before .before .before .pgn-error in
-    rw (viewed (now (start .args .s)) (start .args .t) (start .args .i) _ (start .args .g) (start .pre .1) _ (pgn-error-call .ensures))
+    rw (viewed (now (start .args .s)) (start .args .g .tree) (start .args .g .item) _ (start .args .g .view) (start .pre .is) _ (pgn-error-call .ensures))
     (c .before .before .put-if .ensures)
 
 pub check-field-count-spec : {M : Type 1} → statement M

@@ -1,15 +1,14 @@
-use Rattle.rules.proofs.Emits.{emitted-none, emitted-turn, fits-turn}
-use Rattle.rules.specs.Emit.{Emitted}
+use Rattle.rules.specs.Emit.{Reporting}
+use Rattle.rules.proofs.Emits.{fits-turn, reporting-none, reporting-turn}
 use Rattle.rules.specs.FieldTypeOverrides.{overrides-at, check-field-type-overrides}
 use Rattle.rules.specs.Model.{fieldtype-of}
 use Rattle.rules.specs.declared.Finding.{Finding}
 use Rattle.pack.proofs.Positions.{field-ft-law}
 use Rattle.pack.specs.Value.{Field, pgn-at, field-at}
-use Rattle.pack.specs.Notation.{concat-below}
 use Rattle.pack.specs.Meaning.{pack-of}
-use Prim.Native.Nat.{ℕ, _-_, _≤_}
+use Prim.Native.Nat.{ℕ, _-_}
 use native.Mathlib.Omega.{arith}
-use mathlib.Core.Path.{_≡_, refl, ap, _∙_}
+use mathlib.Core.Path.{_≡_, ap}
 use mathlib.Core.List.{List}
 use borrow.Author.Needs.{needs}
 use denote.Ref.{now}
@@ -23,18 +22,19 @@ abbrev of-field : List ℕ → ℕ → ℕ → ℕ → List Finding
 of-field s t i k = overrides-at t i k (field-at (pgn-at (pack-of s) t i) k) (fieldtype-of (pack-of s .fieldtypes) (field-at (pgn-at (pack-of s) t i) k))
 
 abbrev Inv-loop : tie.InvT-loop
-Inv-loop out₀ n s work t i p g m₀ k₀ out m k = (k ≤ g .fields) × (length out ≡ length out₀) × Emitted out₀ n (concat-below (of-field s t i) k) out m
+Inv-loop out₀ n s work g m₀ k₀ out m k =
+    Reporting out₀ n (of-field s (g .tree) (g .item)) (g .view .fields) k out m
 
 abbrev μ-loop : tie.MeasureT-loop
-μ-loop out₀ n s work t i p g m₀ k₀ out m k = g .fields - k
+μ-loop out₀ n s work g m₀ k₀ out m k = g .view .fields - k
 
 loop-holds : tie.Need-loop-holds Inv-loop μ-loop
-loop-holds c = (omega arith, refl, emitted-none _ _)
+loop-holds c = reporting-none _ _ _ _
 
 field-of-requires : tie.Need-field-of-requires Inv-loop μ-loop
 field-of-requires c κs =
     let start = c .before .before .before .before .before .before in
-    (start .pre .1, omega (arith, start .pre .2 .fields))
+    record { at = start .pre .pgn .at; field = omega (arith, start .pre .pgn .is .fields) }
 
 overrides-at-requires : tie.Need-overrides-at-requires Inv-loop μ-loop
 unfolding check-field-type-overrides
@@ -42,13 +42,18 @@ overrides-at-requires c κs =
     let start = c .before .before .before .before .before .before .before .before in
     let loop = c .before .before .before .before .loop in
     let if1 = c .before .before .if1 in
-    let s = now (start .args .s) in let t = start .args .t in let i = start .args .i in (
-      fits-turn (of-field s t i) (start .args .g .fields) (loop .k) (if1 .taken) (rw (← start .pre .2 .fields) at (start .pre .0)) (loop .inv .2),
-      c .before .field-of .ensures,
-      start .pre .1 .ready,
-      (let e : c .before .field-of .result .ft ≡ field-at (pgn-at (pack-of s) t i) (loop .k) .ft = ap (λ (F : Field). F .ft) (c .before .field-of .ensures) in
-          omega (arith, e, field-ft-law (start .pre .1) (loop .k) (omega (arith, if1 .taken, start .pre .2 .fields)))),
-    )
+    let s = now (start .args .s) in
+    let t = start .args .g .tree in
+    let i = start .args .g .item in
+    record {
+      fits = fits-turn (of-field s t i) (start .args .g .view .fields) (loop .k) (if1 .taken) (rw (← start .pre .pgn .is .fields) at (start .pre .fits))
+          (loop .inv .emitted);
+      means = c .before .field-of .ensures;
+      ready = start .pre .pgn .at .ready;
+      type = (let e : c .before .field-of .result .ft ≡ field-at (pgn-at (pack-of s) t i) (loop .k) .ft =
+          ap (λ (F : Field). F .ft) (c .before .field-of .ensures) in
+          omega (arith, e, field-ft-law (start .pre .pgn .at) (loop .k) (omega (arith, if1 .taken, start .pre .pgn .is .fields))));
+    }
 
 add-k : tie.Need-add-k Inv-loop μ-loop
 add-k c =
@@ -60,13 +65,8 @@ loop-less c = search needs
 
 loop-again : tie.Need-loop-again Inv-loop μ-loop
 loop-again c =
-    let start = c .before .before .before .before .before .before .before .before .before .before .before in
     let loop = c .before .before .before .before .before .before .before .loop in
-    let overrides-at-call = c .before .before .overrides-at in (
-      omega (arith, c),
-      overrides-at-call .kept .0 ∙ loop .inv .1,
-      emitted-turn (of-field (now (start .args .s)) (start .args .t) (start .args .i)) (loop .k) (loop .inv .2) (overrides-at-call .ensures),
-    )
+    let overrides-at-call = c .before .before .overrides-at in reporting-turn (loop .inv) (omega (arith, c)) (overrides-at-call .ensures)
 
 same-length : tie.Need-same-length Inv-loop μ-loop
 same-length c = search needs
@@ -76,8 +76,9 @@ unfolding check-field-type-overrides
 returns c =
     let start = c .before .before .before .before .before .before in
     let loop = c .before .before .loop in
-    let e : loop .k ≡ length (pgn-at (pack-of (now (start .args .s))) (start .args .t) (start .args .i) .fields) = omega (arith, start .pre .2 .fields) in
-    rw (← e) (loop .inv .2)
+    let e : loop .k ≡ length (pgn-at (pack-of (now (start .args .s))) (start .args .g .tree) (start .args .g .item) .fields) =
+    omega (arith, start .pre .pgn .is .fields) in
+    rw (← e) (loop .inv .emitted)
 
 pub check-field-type-overrides-spec : {M : Type 1} → statement M
 check-field-type-overrides-spec =

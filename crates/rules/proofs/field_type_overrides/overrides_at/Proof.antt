@@ -25,8 +25,8 @@ given-is false n = refl
 
 -- the rule at a field, said of the views
 viewed : (s : List ℕ) (fts : List FieldType) (t i k : ℕ) (F : Field) (v : FieldView) (u : FieldTypeView) → field-meaning s v ≡ F
-    → type-meaning s u ≡ getD fts (v .ft) no-field-type → (a b z : Bool) (f h : Finding) → a ≡ (v .flags .bits && not (u .size == 0)) → f ≡ pgn-error 14 1 t i k 0
-    → z ≡ float-eq (u .resolution) 0 → b ≡ (v .authored .resolution .given && not z) → h ≡ pgn-error 14 2 t i k 0
+    → type-meaning s u ≡ getD fts (v .ft) no-field-type → (a b z : Bool) (f h : Finding) → a ≡ (v .flags .bits && not (u .size == 0))
+    → f ≡ pgn-error 14 1 t i k 0 → z ≡ float-eq (u .resolution) 0 → b ≡ (v .authored .resolution .given && not z) → h ≡ pgn-error 14 2 t i k 0
     → overrides-at t i k F (fieldtype-of fts F) ≡ report-if a f ++ report-if b h
 unfolding overrides-at
 viewed s fts t i k F v u is tu a b z f h xa xf xz xb xh =
@@ -46,8 +46,8 @@ put-if-requires c κs =
     let start = c .before .before .before .before .before .before .before .before in
     let type-of = c .before .before .before .before .type-of in
     let s = now (start .args .s) in
-    fits-left _ _ (rw (viewed s (pack-of s .fieldtypes) (start .args .t) (start .args .i) (start .args .k) _ (start .args .f) (type-of .result) (start .pre .1)
-    (type-of .ensures) _ _ _ _ _ (c .before .before .and-not .ensures) (c .pgn-error .ensures) refl refl refl) at (start .pre .0))
+    fits-left _ _ (rw (viewed s (pack-of s .fieldtypes) (start .args .g .tree) (start .args .g .item) (start .args .k) _ (start .args .f) (type-of .result)
+    (start .pre .means) (type-of .ensures) _ _ _ _ _ (c .before .before .and-not .ensures) (c .pgn-error .ensures) refl refl refl) at (start .pre .fits))
 
 float-eq-requires : tie.Need-float-eq-requires
 float-eq-requires c κs = search needs
@@ -69,9 +69,9 @@ put-if-requires-2 c κs =
     let float-eq-call = c .before .before .before .float-eq in
     let s = now (start .args .s) in
     fits-right (report-if (and-not .result) (pgn-error-call .result)) _
-    (rw (viewed s (pack-of s .fieldtypes) (start .args .t) (start .args .i) (start .args .k) _ (start .args .f) (type-of .result) (start .pre .1)
-    (type-of .ensures) _ _ _ _ _ (and-not .ensures) (pgn-error-call .ensures) (float-eq-call .ensures) (c .before .before .and-not2 .ensures)
-    (c .pgn-error2 .ensures)) at (start .pre .0)) (put-if .ensures)
+    (rw (viewed s (pack-of s .fieldtypes) (start .args .g .tree) (start .args .g .item) (start .args .k) _ (start .args .f) (type-of .result)
+    (start .pre .means) (type-of .ensures) _ _ _ _ _ (and-not .ensures) (pgn-error-call .ensures) (float-eq-call .ensures)
+    (c .before .before .and-not2 .ensures) (c .pgn-error2 .ensures)) at (start .pre .fits)) (put-if .ensures)
 
 same-length : tie.Need-same-length
 same-length c = search needs
@@ -88,7 +88,7 @@ returns c =
     let and-not2 = c .before .before .before .before .before .and-not2 in
     let pgn-error2 = c .before .before .before .pgn-error2 in
     let s = now (start .args .s) in
-    rw (viewed s (pack-of s .fieldtypes) (start .args .t) (start .args .i) (start .args .k) _ (start .args .f) (type-of .result) (start .pre .1)
+    rw (viewed s (pack-of s .fieldtypes) (start .args .g .tree) (start .args .g .item) (start .args .k) _ (start .args .f) (type-of .result) (start .pre .means)
     (type-of .ensures) _ _ _ _ _ (and-not .ensures) (pgn-error-call .ensures) (float-eq-call .ensures) (and-not2 .ensures) (pgn-error2 .ensures))
     (emitted-append (put-if .ensures) (c .before .before .put-if2 .ensures))
 

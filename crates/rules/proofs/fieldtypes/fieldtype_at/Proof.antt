@@ -33,7 +33,7 @@ put-if-requires c κs =
     let start = c .before .before .before .before .before .before .before .before in
     let type-of = c .before .before .before .before .type-of in
     rw (viewed (now (start .args .s)) (start .args .i) _ (type-of .result) (type-of .ensures) _ (c .before .before .and-not .ensures) _
-    (c .fieldtype-error .ensures)) at (start .pre .0)
+    (c .fieldtype-error .ensures)) at (start .pre .fits)
 
 same-length : tie.Need-same-length
 same-length c = search needs

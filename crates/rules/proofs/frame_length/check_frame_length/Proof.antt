@@ -32,7 +32,7 @@ module _ (s : List ℕ) (t i : ℕ) (G : Pgn) (g : PgnView) (is : PgnIs s G g) w
 returns : tie.Need-returns
 returns c =
     let start = c .before .before .before .before in
-    rw (other (now (start .args .s)) (start .args .t) (start .args .i) _ (start .args .g) (start .pre .1) (c .if1 .taken))
+    rw (other (now (start .args .s)) (start .args .g .tree) (start .args .g .item) _ (start .args .g .view) (start .pre .is) (c .if1 .taken))
     (emitted-none (now (start .args .out)) (start .args .n))
 
 not-eight-requires : tie.Need-not-eight-requires
@@ -45,8 +45,8 @@ put-if-requires : tie.Need-put-if-requires
 put-if-requires c κs =
     let start = c .before .before .before .before .before .before .before in
     let if1 = c .before .before .before .if1 in
-    fits-left _ _ (rw (single (now (start .args .s)) (start .args .t) (start .args .i) _ (start .args .g) (start .pre .1) (if1 .left) _ _ _ _
-    (c .before .before .not-eight .ensures) (c .pgn-error .ensures) refl refl) at (start .pre .0))
+    fits-left _ _ (rw (single (now (start .args .s)) (start .args .g .tree) (start .args .g .item) _ (start .args .g .view) (start .pre .is) (if1 .left) _ _ _ _
+    (c .before .before .not-eight .ensures) (c .pgn-error .ensures) refl refl) at (start .pre .fits))
 
 too-long-requires : tie.Need-too-long-requires
 too-long-requires c κs = search needs
@@ -63,8 +63,8 @@ put-if-requires-2 c κs =
     let pgn-error-call = c .before .before .before .before .before .before .pgn-error in
     let put-if = c .before .before .before .before .before .put-if in
     fits-right (report-if (not-eight .result) (pgn-error-call .result)) _
-    (rw (single (now (start .args .s)) (start .args .t) (start .args .i) _ (start .args .g) (start .pre .1) (if1 .left) _ _ _ _ (not-eight .ensures)
-    (pgn-error-call .ensures) (c .before .before .too-long .ensures) (c .pgn-error2 .ensures)) at (start .pre .0)) (put-if .ensures)
+    (rw (single (now (start .args .s)) (start .args .g .tree) (start .args .g .item) _ (start .args .g .view) (start .pre .is) (if1 .left) _ _ _ _
+    (not-eight .ensures) (pgn-error-call .ensures) (c .before .before .too-long .ensures) (c .pgn-error2 .ensures)) at (start .pre .fits)) (put-if .ensures)
 
 same-length : tie.Need-same-length
 same-length c = search needs
@@ -79,8 +79,9 @@ returns-2 c =
     let put-if = c .before .before .before .before .before .before .before .before .put-if in
     let too-long = c .before .before .before .before .before .too-long in
     let pgn-error2 = c .before .before .before .pgn-error2 in
-    rw (single (now (start .args .s)) (start .args .t) (start .args .i) _ (start .args .g) (start .pre .1) (if1 .left) _ _ _ _ (not-eight .ensures)
-    (pgn-error-call .ensures) (too-long .ensures) (pgn-error2 .ensures)) (emitted-append (put-if .ensures) (c .before .before .put-if2 .ensures))
+    rw (single (now (start .args .s)) (start .args .g .tree) (start .args .g .item) _ (start .args .g .view) (start .pre .is) (if1 .left) _ _ _ _
+    (not-eight .ensures) (pgn-error-call .ensures) (too-long .ensures) (pgn-error2 .ensures))
+    (emitted-append (put-if .ensures) (c .before .before .put-if2 .ensures))
 
 pub check-frame-length-spec : {M : Type 1} → statement M
 check-frame-length-spec =

@@ -24,7 +24,12 @@ has s t name i = referenced-by-pgn name (pgn-at (pack-of s) t i)
 
 abbrev Inv-loop : tie.InvT-loop
 Inv-loop marks₀ s work lookups t count p₀ i₀ marks p i =
-    (i ≤ count) × (p ≡ place-of-pgn (pack-of s) t i) × (length marks ≡ length marks₀) × Marked (pack-of s) marks₀ (λ n. any-below (has s t n) i) marks
+    record {
+      turns : i ≤ count;
+      place : p ≡ place-of-pgn (pack-of s) t i;
+      length : length marks ≡ length marks₀;
+      marked : Marked (pack-of s) marks₀ (λ n. any-below (has s t n) i) marks;
+    }
 
 abbrev μ-loop : tie.MeasureT-loop
 μ-loop marks₀ s work lookups t count p₀ i₀ marks p i = count - i
@@ -32,30 +37,37 @@ abbrev μ-loop : tie.MeasureT-loop
 loop-holds : tie.Need-loop-holds Inv-loop μ-loop
 loop-holds c =
     let start = c .before .before .before in
-    (omega (arith, c), omega (arith, start .pre .6), refl, marked-none (pack-of (now (start .args .s))) (now (start .args .marks)))
+    record {
+      turns = omega (arith, c);
+      place = omega (arith, start .pre .pgns .place);
+      length = refl;
+      marked = marked-none (pack-of (now (start .args .s))) (now (start .args .marks));
+    }
 
 pgn-of-requires : tie.Need-pgn-of-requires Inv-loop μ-loop
 pgn-of-requires c κs =
     let start = c .before .before .before .before .before in
-    (at-pgn (start .pre .1) (start .pre .4) (omega (arith, start .pre .5)) (c .loop-test .taken) (c .before .loop .inv .1))
+    (at-pgn (start .pre .ready) (start .pre .trees) (omega (arith, start .pre .pgns .count)) (c .loop-test .taken) (c .before .loop .inv .place))
 
 mark-by-pgn-requires : tie.Need-mark-by-pgn-requires Inv-loop μ-loop
 mark-by-pgn-requires c κs =
     let start = c .before .before .before .before .before .before .before in
-    let loop = c .before .before .before .loop in (
-      omega (arith, loop .inv .2, start .pre .0),
-      (at-pgn (start .pre .1) (start .pre .4) (omega (arith, start .pre .5)) (c .before .before .loop-test .taken) (loop .inv .1)),
-      start .pre .2,
-      start .pre .3,
-      c .before .pgn-of .ensures .fields,
-    )
+    let loop = c .before .before .before .loop in
+    record {
+      marks = omega (arith, loop .inv .length, start .pre .marks);
+      pgn = record {
+        at = (at-pgn (start .pre .ready) (start .pre .trees) (omega (arith, start .pre .pgns .count)) (c .before .before .loop-test .taken) (loop .inv .place));
+        is = c .before .pgn-of .ensures;
+      };
+      lookups = start .pre .lookups;
+    }
 
 add-p : tie.Need-add-p Inv-loop μ-loop
 add-p c =
     let start = c .before .before .before .before .before .before .before .before .before .before in
     let loop = c .before .before .before .before .before .before .loop in
     let loop-test = c .before .before .before .before .before .loop-test in
-    omega (arith, fields-few (at-pgn (start .pre .1) (start .pre .4) (omega (arith, start .pre .5)) (loop-test .taken) (loop .inv .1)))
+    omega (arith, fields-few (at-pgn (start .pre .ready) (start .pre .trees) (omega (arith, start .pre .pgns .count)) (loop-test .taken) (loop .inv .place)))
 
 cast-p : tie.Need-cast-p Inv-loop μ-loop
 cast-p c =
@@ -63,7 +75,11 @@ cast-p c =
     let loop = c .before .before .before .before .before .before .before .loop in
     let loop-test = c .before .before .before .before .before .before .loop-test in
     let pgn-of = c .before .before .before .before .before .pgn-of in
-    omega (arith, fields-few (at-pgn (start .pre .1) (start .pre .4) (omega (arith, start .pre .5)) (loop-test .taken) (loop .inv .1)), pgn-of .ensures .fields)
+    omega (
+      arith,
+      fields-few (at-pgn (start .pre .ready) (start .pre .trees) (omega (arith, start .pre .pgns .count)) (loop-test .taken) (loop .inv .place)),
+      pgn-of .ensures .fields,
+    )
 
 add-p-2 : tie.Need-add-p-2 Inv-loop μ-loop
 add-p-2 c =
@@ -71,14 +87,18 @@ add-p-2 c =
     let loop = c .before .before .before .before .before .before .before .loop in
     let loop-test = c .before .before .before .before .before .before .loop-test in
     let pgn-of = c .before .before .before .before .before .pgn-of in
-    omega (arith, fields-few (at-pgn (start .pre .1) (start .pre .4) (omega (arith, start .pre .5)) (loop-test .taken) (loop .inv .1)), pgn-of .ensures .fields)
+    omega (
+      arith,
+      fields-few (at-pgn (start .pre .ready) (start .pre .trees) (omega (arith, start .pre .pgns .count)) (loop-test .taken) (loop .inv .place)),
+      pgn-of .ensures .fields,
+    )
 
 add-i : tie.Need-add-i Inv-loop μ-loop
 add-i c =
     let start = c .before .before .before .before .before .before .before .before .before .before .before in
     let loop = c .before .before .before .before .before .before .before .loop in
     let loop-test = c .before .before .before .before .before .before .loop-test in
-    omega (arith, pgns-few (at-pgn (start .pre .1) (start .pre .4) (omega (arith, start .pre .5)) (loop-test .taken) (loop .inv .1)))
+    omega (arith, pgns-few (at-pgn (start .pre .ready) (start .pre .trees) (omega (arith, start .pre .pgns .count)) (loop-test .taken) (loop .inv .place)))
 
 loop-less : tie.Need-loop-less Inv-loop μ-loop
 loop-less c = search needs
@@ -89,24 +109,25 @@ loop-again c =
     let loop = c .before .before .before .before .before .before .before .loop in
     let pgn-of = c .before .before .before .before .before .pgn-of in
     let mark-by-pgn = c .before .before .before .mark-by-pgn in
-    let s = now (start .args .s) in let t = start .args .t in (
-      omega (arith, c),
-      omega (arith, pgn-place-next (pack-of s) t (loop .i), pgn-of .ensures .fields, loop .inv .1),
-      mark-by-pgn .kept .0 ∙ loop .inv .2,
-      marked-turn (has s t) (loop .i) (loop .inv .3) (mark-by-pgn .ensures),
-    )
+    let s = now (start .args .s) in let t = start .args .t in
+    record {
+      turns = omega (arith, c);
+      place = omega (arith, pgn-place-next (pack-of s) t (loop .i), pgn-of .ensures .fields, loop .inv .place);
+      length = mark-by-pgn .kept .0 ∙ loop .inv .length;
+      marked = marked-turn (has s t) (loop .i) (loop .inv .marked) (mark-by-pgn .ensures);
+    }
 
 same-length : tie.Need-same-length Inv-loop μ-loop
-same-length c = c .before .loop .inv .2
+same-length c = c .before .loop .inv .length
 
 returns : tie.Need-returns Inv-loop μ-loop
 unfolding referenced-by-tree
 returns c =
     let start = c .before .before .before .before .before in
     let s = now (start .args .s) in let t = start .args .t in
-    let q : c .before .loop .i ≡ length (pgns-of (pack-of s) t) = omega (arith, start .pre .5, c .before .loop .inv .0, c .loop-test .left) in
+    let q : c .before .loop .i ≡ length (pgns-of (pack-of s) t) = omega (arith, start .pre .pgns .count, c .before .loop .inv .turns, c .loop-test .left) in
     marked-as (λ n. any-below (has s t n) (c .before .loop .i)) (λ n. referenced-by-tree (pack-of s) n t) (λ n. ap (any-below (has s t n)) q)
-    (c .before .loop .inv .3)
+    (c .before .loop .inv .marked)
 
 pub mark-by-tree-spec : {M : Type 1} → statement M
 mark-by-tree-spec =

@@ -20,7 +20,12 @@ abbrev has : List ℕ → List ℕ → ℕ → Bool
 has s name t = referenced-by-tree (pack-of s) name t
 
 abbrev Inv-loop : tie.InvT-loop
-Inv-loop marks₀ s work index t₀ marks t = (t ≤ 3) × (length marks ≡ length marks₀) × Marked (pack-of s) marks₀ (λ n. any-below (has s n) t) marks
+Inv-loop marks₀ s work index t₀ marks t =
+    record {
+      turns : t ≤ 3;
+      length : length marks ≡ length marks₀;
+      marked : Marked (pack-of s) marks₀ (λ n. any-below (has s n) t) marks;
+    }
 
 abbrev μ-loop : tie.MeasureT-loop
 μ-loop marks₀ s work index t₀ marks t = 3 - t
@@ -28,7 +33,7 @@ abbrev μ-loop : tie.MeasureT-loop
 loop-holds : tie.Need-loop-holds Inv-loop μ-loop
 loop-holds c =
     let start = c .before .before .before in
-    (omega (arith, c), refl, marked-none (pack-of (now (start .args .s))) (now (start .args .marks)))
+    record { turns = omega (arith, c); length = refl; marked = marked-none (pack-of (now (start .args .s))) (now (start .args .marks)) }
 
 of-tree-requires : tie.Need-of-tree-requires Inv-loop μ-loop
 of-tree-requires c κs = search needs
@@ -42,9 +47,15 @@ mark-by-tree-requires c κs =
     let loop = c .before .before .before .before .loop in
     let loop-test = c .before .before .before .loop-test in
     let of-tree = c .before .before .of-tree in
-    let a = at-tree (pack-of (now (start .args .s))) (start .args .index) (start .pre .2) (loop .t) (loop-test .taken) (of-tree .result)
+    let a = at-tree (pack-of (now (start .args .s))) (start .args .index) (start .pre .index) (loop .t) (loop-test .taken) (of-tree .result)
     (c .before .section .result) (of-tree .ensures) (c .before .section .ensures) in
-    (omega (arith, loop .inv .1, start .pre .0), start .pre .1, start .pre .2 .lookups, start .pre .2 .lookups-place, loop-test .taken, a .0, a .1)
+    record {
+      marks = omega (arith, loop .inv .length, start .pre .marks);
+      ready = start .pre .ready;
+      lookups = start .pre .index .lookups;
+      trees = loop-test .taken;
+      pgns = a;
+    }
 
 add-t : tie.Need-add-t Inv-loop μ-loop
 add-t c =
@@ -59,17 +70,21 @@ loop-again c =
     let start = c .before .before .before .before .before .before .before .before .before .before .before in
     let loop = c .before .before .before .before .before .before .before .loop in
     let mark-by-tree = c .before .before .mark-by-tree in
-    (omega (arith, c), mark-by-tree .kept .0 ∙ loop .inv .1, marked-turn (has (now (start .args .s))) (loop .t) (loop .inv .2) (mark-by-tree .ensures))
+    record {
+      turns = omega (arith, c);
+      length = mark-by-tree .kept .0 ∙ loop .inv .length;
+      marked = marked-turn (has (now (start .args .s))) (loop .t) (loop .inv .marked) (mark-by-tree .ensures);
+    }
 
 same-length : tie.Need-same-length Inv-loop μ-loop
-same-length c = c .before .loop .inv .1
+same-length c = c .before .loop .inv .length
 
 returns : tie.Need-returns Inv-loop μ-loop
 returns c =
     let start = c .before .before .before .before .before in
     let s = now (start .args .s) in
-    let q : c .before .loop .t ≡ 3 = omega (arith, c .before .loop .inv .0, c .loop-test .left) in
-    marked-as (λ n. any-below (has s n) (c .before .loop .t)) (λ n. any-below (has s n) 3) (λ n. ap (any-below (has s n)) q) (c .before .loop .inv .2)
+    let q : c .before .loop .t ≡ 3 = omega (arith, c .before .loop .inv .turns, c .loop-test .left) in
+    marked-as (λ n. any-below (has s n) (c .before .loop .t)) (λ n. any-below (has s n) 3) (λ n. ap (any-below (has s n)) q) (c .before .loop .inv .marked)
 
 pub mark-by-trees-spec : {M : Type 1} → statement M
 mark-by-trees-spec =

@@ -22,7 +22,7 @@ unnamed s o e n = rw e
 mark-requires : tie.Need-mark-requires
 mark-requires c κs =
     let start = c .before .before .before .before .before in
-    (start .pre .0, start .pre .1, start .pre .2, start .pre .3)
+    record { marks = start .pre .marks; ready = start .pre .ready; lookups = start .pre .lookups }
 
 same-length : tie.Need-same-length
 same-length c = search needs

@@ -13,13 +13,17 @@ use Rattle.rules.proofs.lookup_marks.mark_referenced.Tie as tie
 mark-by-trees-requires : tie.Need-mark-by-trees-requires
 mark-by-trees-requires c κs =
     let start = c .before .before .before .before in
-    (start .pre .0, start .pre .1, start .pre .2)
+    record { marks = start .pre .marks; ready = start .pre .ready; index = start .pre .index }
 
 mark-by-lookups-requires : tie.Need-mark-by-lookups-requires
 mark-by-lookups-requires c κs =
     let start = c .before .before .before .before .before .before .before .before in
     let mark-by-trees = c .before .before .before .mark-by-trees in
-    (omega (arith, start .pre .0, mark-by-trees .kept .0), start .pre .1, start .pre .2 .lookups, start .pre .2 .lookups-place)
+    record {
+      marks = omega (arith, start .pre .marks, mark-by-trees .kept .0);
+      ready = start .pre .ready;
+      lookups = start .pre .index .lookups;
+    }
 
 same-length : tie.Need-same-length
 same-length c =

@@ -23,22 +23,27 @@ named s l e d =
 
 said : (s : List ℕ) (l e d k : ℕ) (a b : EntryView) (r : Bool) → k ≡ lookup-at (pack-of s .lookups) l .kind
     → entry-meaning s a ≡ getD (lookup-at (pack-of s .lookups) l .entries) d no-entry
-    → entry-meaning s b ≡ getD (lookup-at (pack-of s .lookups) l .entries) e no-entry → r ≡ same-name k (entry-meaning s a) (entry-meaning s b) → r ≡ named s l e d
+    → entry-meaning s b ≡ getD (lookup-at (pack-of s .lookups) l .entries) e no-entry → r ≡ same-name k (entry-meaning s a) (entry-meaning s b)
+    → r ≡ named s l e d
 said s l e d k a b r x y z h = h ∙ (λ j. same-name (x j) (y j) (z j))
 
 abbrev Inv-loop : tie.InvT-loop
-Inv-loop s work l p kind e entry found₀ d₀ found d = (d ≤ e) × (optional-number found ≡ latest-below (named s l e) d)
+Inv-loop s work l p kind e entry found₀ d₀ found d =
+    record {
+      turns : d ≤ e;
+      found : optional-number found ≡ latest-below (named s l e) d;
+    }
 
 abbrev μ-loop : tie.MeasureT-loop
 μ-loop s work l p kind e entry found₀ d₀ found d = e - d
 
 loop-holds : tie.Need-loop-holds Inv-loop μ-loop
-loop-holds c = (search needs, refl)
+loop-holds c = record { turns = search needs; found = refl }
 
 entry-of-requires : tie.Need-entry-of-requires Inv-loop μ-loop
 entry-of-requires c κs =
     let start = c .before .before .before .before in
-    (start .pre .0, start .pre .1, omega (arith, start .pre .2, c .loop-test .taken))
+    record { at = start .pre .at; kind = start .pre .kind; entry = omega (arith, start .pre .entry, c .loop-test .taken) }
 
 same-name-requires : tie.Need-same-name-requires Inv-loop μ-loop
 same-name-requires c κs = search needs
@@ -58,15 +63,15 @@ loop-again c =
     let loop = c .before .before .before .before .loop in
     let entry-of = c .before .before .entry-of in
     let s = now (start .args .s) in let l = start .args .l in let e = start .args .e in
-    let h = said s l e (loop .d) (start .args .kind) (entry-of .result) (start .args .entry) (c .before .same-name .result) (start .pre .1) (entry-of .ensures)
-    (start .pre .3) (c .before .same-name .ensures) in
-    (omega (arith, c), c .latest .ensures ∙ (rw (latest-turn (named s l e) (loop .d), ← h, loop .inv .1)))
+    let h = said s l e (loop .d) (start .args .kind) (entry-of .result) (start .args .entry) (c .before .same-name .result) (start .pre .kind)
+    (entry-of .ensures) (start .pre .means) (c .before .same-name .ensures) in
+    record { turns = omega (arith, c); found = c .latest .ensures ∙ (rw (latest-turn (named s l e) (loop .d), ← h, loop .inv .found)) }
 
 returns : tie.Need-returns Inv-loop μ-loop
 returns c =
     let start = c .before .before .before .before in
-    let q : c .before .loop .d ≡ start .args .e = omega (arith, c .before .loop .inv .0, c .loop-test .left) in
-    c .before .loop .inv .1 ∙ ap (latest-below (named (now (start .args .s)) (start .args .l) (start .args .e))) q
+    let q : c .before .loop .d ≡ start .args .e = omega (arith, c .before .loop .inv .turns, c .loop-test .left) in
+    c .before .loop .inv .found ∙ ap (latest-below (named (now (start .args .s)) (start .args .l) (start .args .e))) q
 
 pub latest-same-name-spec : {M : Type 1} → statement M
 latest-same-name-spec =

@@ -27,12 +27,12 @@ module _ (l e : ℕ) (o : Option ℕ) (b : Bool) (v : ℕ) (x : optional b v ≡
 entry-of-requires : tie.Need-entry-of-requires
 entry-of-requires c κs =
     let start = c .before .before .before in
-    (start .pre .1, start .pre .2, start .pre .3)
+    record { at = start .pre .at; kind = start .pre .kind; entry = start .pre .entry }
 
 latest-same-name-requires : tie.Need-latest-same-name-requires
 latest-same-name-requires c κs =
     let start = c .before .before .before .before in
-    (start .pre .1, start .pre .2, start .pre .3, c .entry-of .ensures)
+    record { at = start .pre .at; kind = start .pre .kind; entry = start .pre .entry; means = c .entry-of .ensures }
 
 returns : tie.Need-returns
 returns c =
@@ -49,7 +49,7 @@ put-requires c κs =
     let start = c .before .before .before .before .before .before .before .before .before in
     let latest-same-name = c .before .before .before .before .latest-same-name in
     rw (other (start .args .l) (start .args .e) _ (latest-same-name .result .given) (latest-same-name .result .value) (latest-same-name .ensures)
-    (not-false (latest-same-name .result .given) (c .before .before .if1 .left)) (c .lookup-error .result) (c .lookup-error .ensures)) at (start .pre .0)
+    (not-false (latest-same-name .result .given) (c .before .before .if1 .left)) (c .lookup-error .result) (c .lookup-error .ensures)) at (start .pre .fits)
 
 same-length : tie.Need-same-length
 same-length c = search needs

@@ -37,16 +37,17 @@ emitted-as e f = rw e f
 mark-referenced-requires : tie.Need-mark-referenced-requires
 mark-referenced-requires c κs =
     let start = c .before .before .before .before .before in
-    (start .pre .2, start .pre .3, start .pre .4)
+    record { marks = start .pre .marks; ready = start .pre .ready; index = start .pre .index }
 
 report-unmarked-requires : tie.Need-report-unmarked-requires
 report-unmarked-requires c κs =
     let start = c .before .before .before .before .before .before .before .before .before .before in
-    let mark-referenced = c .before .before .before .before .mark-referenced in (
-      fits-as (said (pack-of (now (start .args .s))) (now (start .args .marks)) _ (start .args .index .lookups .count) (start .pre .4 .lookups) (start .pre .1)
-          (mark-referenced .ensures)) (start .pre .0),
-      omega (arith, start .pre .2, start .pre .4 .lookups, mark-referenced .kept .0),
-    )
+    let mark-referenced = c .before .before .before .before .mark-referenced in
+    record {
+      fits = fits-as (said (pack-of (now (start .args .s))) (now (start .args .marks)) _ (start .args .index .lookups .count)
+          (start .pre .index .lookups .count) (start .pre .clear) (mark-referenced .ensures)) (start .pre .fits);
+      marks = omega (arith, start .pre .marks, start .pre .index .lookups .count, mark-referenced .kept .0);
+    }
 
 same-length : tie.Need-same-length
 same-length c = search needs
@@ -59,8 +60,8 @@ returns c =
     let back12 = c .before .before .before .before .before .before .before .before .before .before .before .before in
     let start = back12 .before in
     let mark-referenced = c .before .before .before .before .before .before .before .mark-referenced in
-    emitted-as (said (pack-of (now (start .args .s))) (now (start .args .marks)) _ (start .args .index .lookups .count) (start .pre .4 .lookups) (start .pre .1)
-    (mark-referenced .ensures)) (c .before .before .report-unmarked .ensures)
+    emitted-as (said (pack-of (now (start .args .s))) (now (start .args .marks)) _ (start .args .index .lookups .count) (start .pre .index .lookups .count)
+    (start .pre .clear) (mark-referenced .ensures)) (c .before .before .report-unmarked .ensures)
 
 pub check-by-marks-spec : {M : Type 1} → statement M
 check-by-marks-spec =

@@ -10,7 +10,7 @@ use Rattle.rules.proofs.lookup_uses.check_lookup_uses.Tie as tie
 check-by-search-requires : tie.Need-check-by-search-requires
 check-by-search-requires c κs =
     let start = c .before .before .before .before .before .before in
-    (start .pre .0, start .pre .1, start .pre .2)
+    record { fits = start .pre .fits; ready = start .pre .ready; index = start .pre .index }
 
 same-length : tie.Need-same-length
 same-length c = search needs
@@ -23,13 +23,15 @@ slice-aggregate-check-by-marks c = search needs
 
 check-by-marks-requires : tie.Need-check-by-marks-requires
 check-by-marks-requires c κs =
-    let start = c .before .before .before .before .before .before .before in (
-      start .pre .0,
-      clear-replicate 4096,
-      room-replicate 4096 (length (pack-of (now (start .args .s)) .lookups)) (omega (arith, start .pre .2 .lookups, c .before .before .if1 .left)),
-      start .pre .1,
-      start .pre .2,
-    )
+    let start = c .before .before .before .before .before .before .before in
+    record {
+      fits = start .pre .fits;
+      clear = clear-replicate 4096;
+      marks = room-replicate 4096 (length (pack-of (now (start .args .s)) .lookups))
+          (omega (arith, start .pre .index .lookups .count, c .before .before .if1 .left));
+      ready = start .pre .ready;
+      index = start .pre .index;
+    }
 
 same-length-2 : tie.Need-same-length-2
 same-length-2 c = search needs

@@ -5,7 +5,7 @@ use Rattle.rules.proofs.lookup_uses.referenced.Tie as tie
 referenced-by-trees-requires : tie.Need-referenced-by-trees-requires
 referenced-by-trees-requires c κs =
     let start = c .before .before in
-    (start .pre .0, start .pre .1)
+    record { ready = start .pre .ready; index = start .pre .index }
 
 returns : tie.Need-returns
 unfolding referenced
@@ -14,7 +14,7 @@ returns c = rw (← c .before .referenced-by-trees .ensures, c .if1 .taken)
 referenced-by-lookups-requires : tie.Need-referenced-by-lookups-requires
 referenced-by-lookups-requires c κs =
     let start = c .before .before .before .before in
-    (start .pre .0, start .pre .1 .lookups, start .pre .1 .lookups-place)
+    record { ready = start .pre .ready; lookups = start .pre .index .lookups }
 
 returns-2 : tie.Need-returns-2
 unfolding referenced

@@ -26,27 +26,33 @@ said : (s : List ℕ) (l : ℕ) (name : List ℕ) (e : ℕ) (v : EntryView) (r :
 said s l name e v r y h = sym (h ∙ (λ j. is-text (y j .nested) name))
 
 abbrev Inv-loop : tie.InvT-loop
-Inv-loop s work l p name entries e₀ e = (e ≤ entries) × (any-below (nests s l (bytes-of s name)) e ≡ false)
+Inv-loop s work l name entries e₀ e =
+    record {
+      turns : e ≤ entries;
+      none-yet : any-below (nests s (l .item) (bytes-of s name)) e ≡ false;
+    }
 
 abbrev μ-loop : tie.MeasureT-loop
-μ-loop s work l p name entries e₀ e = entries - e
+μ-loop s work l name entries e₀ e = entries - e
 
 returns : tie.Need-returns Inv-loop μ-loop
 returns c =
     let start = c .before .before .before .before in
     let s = now (start .args .s) in
-    sym (not-nesting s (bytes-of s (start .args .name)) (lookup-at (pack-of s .lookups) (start .args .l)) (start .args .v) (start .pre .1) (c .if1 .taken))
+    sym (not-nesting s (bytes-of s (start .args .name)) (lookup-at (pack-of s .lookups) (start .args .l .item)) (start .args .l .view) (start .pre .is)
+    (c .if1 .taken))
 
 loop-holds : tie.Need-loop-holds Inv-loop μ-loop
-loop-holds c = (search needs, refl)
+loop-holds c = record { turns = search needs; none-yet = refl }
 
 entry-of-requires : tie.Need-entry-of-requires Inv-loop μ-loop
 entry-of-requires c κs =
-    let start = c .before .before .before .before .before .before in (
-      start .pre .0,
-      sym (c .before .before .if1 .left) ∙ ap (λ (L : Lookup). L .kind) (start .pre .1 .means),
-      omega (arith, start .pre .1 .entries, c .loop-test .taken),
-    )
+    let start = c .before .before .before .before .before .before in
+    record {
+      at = start .pre .at;
+      kind = sym (c .before .before .if1 .left) ∙ ap (λ (L : Lookup). L .kind) (start .pre .is .means);
+      entry = omega (arith, start .pre .is .entries, c .loop-test .taken);
+    }
 
 is-text-requires : tie.Need-is-text-requires Inv-loop μ-loop
 is-text-requires c κs = search needs
@@ -58,11 +64,12 @@ returns-2 c =
     let loop = c .before .before .before .before .loop in
     let loop-test = c .before .before .before .loop-test in
     let entry-of = c .before .before .entry-of in
-    let s = now (start .args .s) in let l = start .args .l in let name = start .args .name in
+    let s = now (start .args .s) in let name = start .args .name in
+    let l = start .args .l .item in
     let h = said s l (bytes-of s name) (loop .e) (entry-of .result) (c .before .is-text .result) (entry-of .ensures) (c .before .is-text .ensures) in
-    sym (nesting s (bytes-of s name) (lookup-at (pack-of s .lookups) l) (start .args .v) (start .pre .1) (if1 .left)
+    sym (nesting s (bytes-of s name) (lookup-at (pack-of s .lookups) l) (start .args .l .view) (start .pre .is) (if1 .left)
     ∙ any-hit (nests s l (bytes-of s name)) (length (lookup-at (pack-of s .lookups) l .entries)) (loop .e)
-    (omega (arith, start .pre .1 .entries, loop-test .taken)) (h ∙ c .if2 .taken))
+    (omega (arith, start .pre .is .entries, loop-test .taken)) (h ∙ c .if2 .taken))
 
 add-e : tie.Need-add-e Inv-loop μ-loop
 add-e c = search needs
@@ -75,18 +82,19 @@ loop-again c =
     let start = c .before .before .before .before .before .before .before .before .before in
     let loop = c .before .before .before .before .loop in
     let entry-of = c .before .before .entry-of in
-    let s = now (start .args .s) in let l = start .args .l in let name = start .args .name in
+    let s = now (start .args .s) in let name = start .args .name in
+    let l = start .args .l .item in
     let h = said s l (bytes-of s name) (loop .e) (entry-of .result) (c .before .is-text .result) (entry-of .ensures) (c .before .is-text .ensures) in
-    (omega (arith, c), any-turn (nests s l (bytes-of s name)) (loop .e) ∙ (rw (loop .inv .1, h ∙ c .if2 .left)))
+    record { turns = omega (arith, c); none-yet = any-turn (nests s l (bytes-of s name)) (loop .e) ∙ (rw (loop .inv .none-yet, h ∙ c .if2 .left)) }
 
 returns-3 : tie.Need-returns-3 Inv-loop μ-loop
 returns-3 c =
     let start = c .before .before .before .before .before .before in
-    let s = now (start .args .s) in let l = start .args .l in
+    let s = now (start .args .s) in let l = start .args .l .item in
     let q : length (lookup-at (pack-of s .lookups) l .entries) ≡ c .before .loop .e =
-    omega (arith, start .pre .1 .entries, c .before .loop .inv .0, c .loop-test .left) in
-    sym (nesting s (bytes-of s (start .args .name)) (lookup-at (pack-of s .lookups) l) (start .args .v) (start .pre .1) (c .before .before .if1 .left)
-    ∙ (rw (q, c .before .loop .inv .1)))
+    omega (arith, start .pre .is .entries, c .before .loop .inv .turns, c .loop-test .left) in
+    sym (nesting s (bytes-of s (start .args .name)) (lookup-at (pack-of s .lookups) l) (start .args .l .view) (start .pre .is) (c .before .before .if1 .left)
+    ∙ (rw (q, c .before .loop .inv .none-yet)))
 
 pub referenced-by-lookup-spec : {M : Type 1} → statement M
 referenced-by-lookup-spec =

@@ -23,23 +23,31 @@ abbrev has : List ℕ → List ℕ → ℕ → Bool
 has s name l = referenced-by-lookup name (lookup-at (pack-of s .lookups) l)
 
 abbrev Inv-loop : tie.InvT-loop
-Inv-loop s work name count p₀ l₀ p l = (l ≤ count) × (p ≡ place-of-lookup (pack-of s) l) × (any-below (has s (bytes-of s name)) l ≡ false)
+Inv-loop s work name count p₀ l₀ p l =
+    record {
+      turns : l ≤ count;
+      place : p ≡ place-of-lookup (pack-of s) l;
+      none-yet : any-below (has s (bytes-of s name)) l ≡ false;
+    }
 
 abbrev μ-loop : tie.MeasureT-loop
 μ-loop s work name count p₀ l₀ p l = count - l
 
 loop-holds : tie.Need-loop-holds Inv-loop μ-loop
-loop-holds c = (search needs, c .before .before .pre .2, refl)
+loop-holds c = record { turns = search needs; place = c .before .before .pre .lookups .place; none-yet = refl }
 
 lookup-of-requires : tie.Need-lookup-of-requires Inv-loop μ-loop
 lookup-of-requires c κs =
     let start = c .before .before .before .before in
-    (at-lookup (start .pre .0) (start .pre .1) (c .before .loop .inv .1) (c .loop-test .taken))
+    (at-lookup (start .pre .ready) (start .pre .lookups .count) (c .before .loop .inv .place) (c .loop-test .taken))
 
 referenced-by-lookup-requires : tie.Need-referenced-by-lookup-requires Inv-loop μ-loop
 referenced-by-lookup-requires c κs =
     let start = c .before .before .before .before .before in
-    ((at-lookup (start .pre .0) (start .pre .1) (c .before .before .loop .inv .1) (c .before .loop-test .taken)), c .lookup-of .ensures)
+    record {
+      at = (at-lookup (start .pre .ready) (start .pre .lookups .count) (c .before .before .loop .inv .place) (c .before .loop-test .taken));
+      is = c .lookup-of .ensures;
+    }
 
 returns : tie.Need-returns Inv-loop μ-loop
 returns c =
@@ -47,7 +55,7 @@ returns c =
     let loop = c .before .before .before .before .loop in
     let loop-test = c .before .before .before .loop-test in
     let s = now (start .args .s) in
-    sym (any-hit (has s (bytes-of s (start .args .name))) (length (pack-of s .lookups)) (loop .l) (omega (arith, start .pre .1, loop-test .taken))
+    sym (any-hit (has s (bytes-of s (start .args .name))) (length (pack-of s .lookups)) (loop .l) (omega (arith, start .pre .lookups .count, loop-test .taken))
     (sym (c .before .referenced-by-lookup .ensures) ∙ c .if1 .taken))
 
 add-p : tie.Need-add-p Inv-loop μ-loop
@@ -55,7 +63,7 @@ add-p c =
     let start = c .before .before .before .before .before .before .before in
     let loop = c .before .before .before .before .loop in
     let loop-test = c .before .before .before .loop-test in
-    omega (arith, entries-few (at-lookup (start .pre .0) (start .pre .1) (loop .inv .1) (loop-test .taken)))
+    omega (arith, entries-few (at-lookup (start .pre .ready) (start .pre .lookups .count) (loop .inv .place) (loop-test .taken)))
 
 cast-p : tie.Need-cast-p Inv-loop μ-loop
 cast-p c =
@@ -63,7 +71,7 @@ cast-p c =
     let loop = c .before .before .before .before .before .loop in
     let loop-test = c .before .before .before .before .loop-test in
     let lookup-of = c .before .before .before .lookup-of in
-    omega (arith, entries-few (at-lookup (start .pre .0) (start .pre .1) (loop .inv .1) (loop-test .taken)), lookup-of .ensures .entries)
+    omega (arith, entries-few (at-lookup (start .pre .ready) (start .pre .lookups .count) (loop .inv .place) (loop-test .taken)), lookup-of .ensures .entries)
 
 add-p-2 : tie.Need-add-p-2 Inv-loop μ-loop
 add-p-2 c =
@@ -71,14 +79,14 @@ add-p-2 c =
     let loop = c .before .before .before .before .before .loop in
     let loop-test = c .before .before .before .before .loop-test in
     let lookup-of = c .before .before .before .lookup-of in
-    omega (arith, entries-few (at-lookup (start .pre .0) (start .pre .1) (loop .inv .1) (loop-test .taken)), lookup-of .ensures .entries)
+    omega (arith, entries-few (at-lookup (start .pre .ready) (start .pre .lookups .count) (loop .inv .place) (loop-test .taken)), lookup-of .ensures .entries)
 
 add-l : tie.Need-add-l Inv-loop μ-loop
 add-l c =
     let start = c .before .before .before .before .before .before .before .before in
     let loop = c .before .before .before .before .before .loop in
     let loop-test = c .before .before .before .before .loop-test in
-    omega (arith, lookups-few (at-lookup (start .pre .0) (start .pre .1) (loop .inv .1) (loop-test .taken)))
+    omega (arith, lookups-few (at-lookup (start .pre .ready) (start .pre .lookups .count) (loop .inv .place) (loop-test .taken)))
 
 loop-less : tie.Need-loop-less Inv-loop μ-loop
 loop-less c = search needs
@@ -88,18 +96,20 @@ loop-again c =
     let start = c .before .before .before .before .before .before .before .before in
     let loop = c .before .before .before .before .before .loop in
     let lookup-of = c .before .before .before .lookup-of in
-    let s = now (start .args .s) in (
-      omega (arith, c),
-      omega (arith, lookup-place-next (pack-of s) (loop .l), lookup-of .ensures .entries, loop .inv .1),
-      any-turn (has s (bytes-of s (start .args .name))) (loop .l)
-          ∙ (rw (loop .inv .2, sym (c .before .before .referenced-by-lookup .ensures) ∙ c .before .if1 .left)),
-    )
+    let s = now (start .args .s) in
+    record {
+      turns = omega (arith, c);
+      place = omega (arith, lookup-place-next (pack-of s) (loop .l), lookup-of .ensures .entries, loop .inv .place);
+      none-yet = any-turn (has s (bytes-of s (start .args .name))) (loop .l)
+          ∙ (rw (loop .inv .none-yet, sym (c .before .before .referenced-by-lookup .ensures) ∙ c .before .if1 .left));
+    }
 
 returns-2 : tie.Need-returns-2 Inv-loop μ-loop
 returns-2 c =
     let start = c .before .before .before .before in
-    let q : length (pack-of (now (start .args .s)) .lookups) ≡ c .before .loop .l = omega (arith, start .pre .1, c .before .loop .inv .0, c .loop-test .left) in
-    rw (q, c .before .loop .inv .2)
+    let q : length (pack-of (now (start .args .s)) .lookups) ≡ c .before .loop .l =
+    omega (arith, start .pre .lookups .count, c .before .loop .inv .turns, c .loop-test .left) in
+    rw (q, c .before .loop .inv .none-yet)
 
 pub referenced-by-lookups-spec : {M : Type 1} → statement M
 referenced-by-lookups-spec =

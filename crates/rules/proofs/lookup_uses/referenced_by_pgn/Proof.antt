@@ -1,3 +1,4 @@
+use Rattle.rules.proofs.Sizes.{fields-few}
 use Rattle.pack.specs.declared.field.FieldView.{FieldView}
 use Rattle.pack.specs.Meaning.{optional-reference, pack-of, field-meaning}
 use Rattle.pack.specs.Items.{bytes-of}
@@ -25,18 +26,22 @@ said : (s : List ℕ) (t i : ℕ) (name : List ℕ) (k : ℕ) (v : FieldView) (r
 said s t i name k v r y h = sym (h ∙ (λ j. ref-is (y j .reference) name))
 
 abbrev Inv-loop : tie.InvT-loop
-Inv-loop s work t i p fields name k₀ k = (k ≤ fields) × (any-below (refers s t i (bytes-of s name)) k ≡ false)
+Inv-loop s work g name fields k₀ k =
+    record {
+      turns : k ≤ fields;
+      none-yet : any-below (refers s (g .tree) (g .item) (bytes-of s name)) k ≡ false;
+    }
 
 abbrev μ-loop : tie.MeasureT-loop
-μ-loop s work t i p fields name k₀ k = fields - k
+μ-loop s work g name fields k₀ k = fields - k
 
 loop-holds : tie.Need-loop-holds Inv-loop μ-loop
-loop-holds c = (search needs, refl)
+loop-holds c = record { turns = search needs; none-yet = refl }
 
 field-of-requires : tie.Need-field-of-requires Inv-loop μ-loop
 field-of-requires c κs =
     let start = c .before .before .before .before in
-    (start .pre .0, omega (arith, start .pre .1, c .loop-test .taken))
+    record { at = start .pre .at; field = omega (arith, start .pre .is .fields, c .loop-test .taken) }
 
 ref-is-requires : tie.Need-ref-is-requires Inv-loop μ-loop
 ref-is-requires c κs = search needs
@@ -48,13 +53,18 @@ returns c =
     let loop = c .before .before .before .before .loop in
     let loop-test = c .before .before .before .loop-test in
     let field-of = c .before .before .field-of in
-    let s = now (start .args .s) in let t = start .args .t in let i = start .args .i in let name = start .args .name in
+    let s = now (start .args .s) in let name = start .args .name in
+    let t = start .args .g .tree in
+    let i = start .args .g .item in
     let h = said s t i (bytes-of s name) (loop .k) (field-of .result) (c .before .ref-is .result) (field-of .ensures) (c .before .ref-is .ensures) in
-    sym (any-hit (refers s t i (bytes-of s name)) (length (pgn-at (pack-of s) t i .fields)) (loop .k) (omega (arith, start .pre .1, loop-test .taken))
+    sym (any-hit (refers s t i (bytes-of s name)) (length (pgn-at (pack-of s) t i .fields)) (loop .k) (omega (arith, start .pre .is .fields, loop-test .taken))
     (h ∙ c .if1 .taken))
 
 add-k : tie.Need-add-k Inv-loop μ-loop
-add-k c = search needs
+add-k c =
+    let start = c .before .before .before .before .before .before .before in
+    let loop-test = c .before .before .before .loop-test in
+    omega (arith, loop-test .taken, start .pre .is .fields, fields-few (start .pre .at))
 
 loop-less : tie.Need-loop-less Inv-loop μ-loop
 loop-less c = search needs
@@ -64,17 +74,19 @@ loop-again c =
     let start = c .before .before .before .before .before .before .before in
     let loop = c .before .before .before .before .loop in
     let field-of = c .before .before .field-of in
-    let s = now (start .args .s) in let t = start .args .t in let i = start .args .i in let name = start .args .name in
+    let s = now (start .args .s) in let name = start .args .name in
+    let t = start .args .g .tree in
+    let i = start .args .g .item in
     let h = said s t i (bytes-of s name) (loop .k) (field-of .result) (c .before .ref-is .result) (field-of .ensures) (c .before .ref-is .ensures) in
-    (omega (arith, c), any-turn (refers s t i (bytes-of s name)) (loop .k) ∙ (rw (loop .inv .1, h ∙ c .if1 .left)))
+    record { turns = omega (arith, c); none-yet = any-turn (refers s t i (bytes-of s name)) (loop .k) ∙ (rw (loop .inv .none-yet, h ∙ c .if1 .left)) }
 
 returns-2 : tie.Need-returns-2 Inv-loop μ-loop
 unfolding referenced-by-pgn
 returns-2 c =
     let start = c .before .before .before .before in
-    let q : length (pgn-at (pack-of (now (start .args .s))) (start .args .t) (start .args .i) .fields) ≡ c .before .loop .k =
-    omega (arith, start .pre .1, c .before .loop .inv .0, c .loop-test .left) in
-    rw (q, c .before .loop .inv .1)
+    let q : length (pgn-at (pack-of (now (start .args .s))) (start .args .g .tree) (start .args .g .item) .fields) ≡ c .before .loop .k =
+    omega (arith, start .pre .is .fields, c .before .loop .inv .turns, c .loop-test .left) in
+    rw (q, c .before .loop .inv .none-yet)
 
 pub referenced-by-pgn-spec : {M : Type 1} → statement M
 referenced-by-pgn-spec =

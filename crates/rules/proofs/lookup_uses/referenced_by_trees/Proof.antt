@@ -19,13 +19,17 @@ abbrev has : List ℕ → List ℕ → ℕ → Bool
 has s name t = referenced-by-tree (pack-of s) name t
 
 abbrev Inv-loop : tie.InvT-loop
-Inv-loop s work index name t₀ t = (t ≤ 3) × (any-below (has s (bytes-of s name)) t ≡ false)
+Inv-loop s work index name t₀ t =
+    record {
+      turns : t ≤ 3;
+      none-yet : any-below (has s (bytes-of s name)) t ≡ false;
+    }
 
 abbrev μ-loop : tie.MeasureT-loop
 μ-loop s work index name t₀ t = 3 - t
 
 loop-holds : tie.Need-loop-holds Inv-loop μ-loop
-loop-holds c = (search needs, refl)
+loop-holds c = record { turns = search needs; none-yet = refl }
 
 of-tree-requires : tie.Need-of-tree-requires Inv-loop μ-loop
 of-tree-requires c κs = search needs
@@ -38,9 +42,9 @@ referenced-by-tree-requires c κs =
     let start = c .before .before .before .before .before .before in
     let loop = c .before .before .before .loop in
     let loop-test = c .before .before .loop-test in
-    let a = at-tree (pack-of (now (start .args .s))) (start .args .index) (start .pre .1) (loop .t) (loop-test .taken) (c .before .of-tree .result)
+    let a = at-tree (pack-of (now (start .args .s))) (start .args .index) (start .pre .index) (loop .t) (loop-test .taken) (c .before .of-tree .result)
     (c .section .result) (c .before .of-tree .ensures) (c .section .ensures) in
-    (start .pre .0, loop-test .taken, a .0, a .1)
+    record { ready = start .pre .ready; trees = loop-test .taken; pgns = a }
 
 returns : tie.Need-returns Inv-loop μ-loop
 returns c =
@@ -62,17 +66,19 @@ loop-again : tie.Need-loop-again Inv-loop μ-loop
 loop-again c =
     let start = c .before .before .before .before .before .before .before .before in
     let loop = c .before .before .before .before .before .loop in
-    let s = now (start .args .s) in (
-      omega (arith, c),
-      any-turn (has s (bytes-of s (start .args .name))) (loop .t) ∙ (rw (loop .inv .1, sym (c .before .referenced-by-tree .ensures) ∙ c .if1 .left)),
-    )
+    let s = now (start .args .s) in
+    record {
+      turns = omega (arith, c);
+      none-yet = any-turn (has s (bytes-of s (start .args .name))) (loop .t)
+          ∙ (rw (loop .inv .none-yet, sym (c .before .referenced-by-tree .ensures) ∙ c .if1 .left));
+    }
 
 returns-2 : tie.Need-returns-2 Inv-loop μ-loop
 returns-2 c =
     let start = c .before .before .before .before in
     let s = now (start .args .s) in
-    let q : c .before .loop .t ≡ 3 = omega (arith, c .before .loop .inv .0, c .loop-test .left) in
-    sym (ap (any-below (has s (bytes-of s (start .args .name)))) (sym q) ∙ c .before .loop .inv .1)
+    let q : c .before .loop .t ≡ 3 = omega (arith, c .before .loop .inv .turns, c .loop-test .left) in
+    sym (ap (any-below (has s (bytes-of s (start .args .name)))) (sym q) ∙ c .before .loop .inv .none-yet)
 
 pub referenced-by-trees-spec : {M : Type 1} → statement M
 referenced-by-trees-spec =

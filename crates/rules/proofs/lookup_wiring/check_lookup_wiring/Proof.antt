@@ -26,23 +26,25 @@ check-all-refs-requires : tie.Need-check-all-refs-requires
 unfolding check-lookup-wiring
 check-all-refs-requires c κs =
     let start = c .before .before .before .before in
-    let s = now (start .args .s) in (
-      fits-left (refs (pack-of s)) (nested (pack-of s)) (fits-left (refs (pack-of s) ++ nested (pack-of s)) (unused (pack-of s)) (start .pre .0)),
-      start .pre .1,
-      start .pre .2,
-    )
+    let s = now (start .args .s) in
+    record {
+      fits = fits-left (refs (pack-of s)) (nested (pack-of s)) (fits-left (refs (pack-of s) ++ nested (pack-of s)) (unused (pack-of s)) (start .pre .fits));
+      ready = start .pre .ready;
+      index = start .pre .index;
+    }
 
 check-all-nested-refs-requires : tie.Need-check-all-nested-refs-requires
 unfolding check-lookup-wiring
 check-all-nested-refs-requires c κs =
     let start = c .before .before .before .before .before .before .before .before in
     let check-all-refs = c .before .before .before .check-all-refs in
-    let s = now (start .args .s) in (
-      fits-right (refs (pack-of s)) (nested (pack-of s)) (fits-left (refs (pack-of s) ++ nested (pack-of s)) (unused (pack-of s)) (start .pre .0))
-          (check-all-refs .ensures),
-      start .pre .1,
-      start .pre .2,
-    )
+    let s = now (start .args .s) in
+    record {
+      fits = fits-right (refs (pack-of s)) (nested (pack-of s)) (fits-left (refs (pack-of s) ++ nested (pack-of s)) (unused (pack-of s)) (start .pre .fits))
+          (check-all-refs .ensures);
+      ready = start .pre .ready;
+      index = start .pre .index;
+    }
 
 check-lookup-uses-requires : tie.Need-check-lookup-uses-requires
 unfolding check-lookup-wiring
@@ -50,12 +52,13 @@ check-lookup-uses-requires c κs =
     let start = c .before .before .before .before .before .before .before .before .before .before .before .before in
     let check-all-refs = c .before .before .before .before .before .before .before .check-all-refs in
     let check-all-nested-refs = c .before .before .before .check-all-nested-refs in
-    let s = now (start .args .s) in (
-      fits-right (refs (pack-of s) ++ nested (pack-of s)) (unused (pack-of s)) (start .pre .0)
-          (emitted-append {xs = refs (pack-of s)} {ys = nested (pack-of s)} (check-all-refs .ensures) (check-all-nested-refs .ensures)),
-      start .pre .1,
-      start .pre .2,
-    )
+    let s = now (start .args .s) in
+    record {
+      fits = fits-right (refs (pack-of s) ++ nested (pack-of s)) (unused (pack-of s)) (start .pre .fits)
+          (emitted-append {xs = refs (pack-of s)} {ys = nested (pack-of s)} (check-all-refs .ensures) (check-all-nested-refs .ensures));
+      ready = start .pre .ready;
+      index = start .pre .index;
+    }
 
 same-length : tie.Need-same-length
 same-length c = search needs

@@ -30,7 +30,7 @@ parted s ls t i k l f v is F y =
 lookup-of-requires : tie.Need-lookup-of-requires
 lookup-of-requires c κs =
     let start = c .before .before .before in
-    start .pre .1
+    start .pre .at
 
 pgn-error-requires : tie.Need-pgn-error-requires
 pgn-error-requires c κs = search needs
@@ -39,11 +39,13 @@ put-if-requires : tie.Need-put-if-requires
 put-if-requires c κs =
     let start = c .before .before .before .before .before .before .before .before in
     let lookup-of = c .before .before .before .before .lookup-of in
-    let t = start .args .t in let i = start .args .i in let k = start .args .k in let s = now (start .args .s) in let f = start .args .f in
-    let l = start .args .l in
+    let k = start .args .k in let s = now (start .args .s) in let f = start .args .f in
+    let t = start .args .g .tree in
+    let i = start .args .g .item in
+    let l = start .args .found .index in
     fits-left (report-if (not (lookup-of .result .kind == start .args .f .links .reference .kind)) (c .pgn-error .result))
     (lookup-width-at t i k (field-meaning s f) l (lookup-at (pack-of s .lookups) l))
-    (rw (parted s (pack-of s .lookups) t i k l f (lookup-of .result) (lookup-of .ensures) (c .pgn-error .result) (c .pgn-error .ensures)) at (start .pre .0))
+    (rw (parted s (pack-of s .lookups) t i k l f (lookup-of .result) (lookup-of .ensures) (c .pgn-error .result) (c .pgn-error .ensures)) at (start .pre .fits))
 
 lookup-width-at-requires : tie.Need-lookup-width-at-requires
 lookup-width-at-requires c κs =
@@ -51,15 +53,17 @@ lookup-width-at-requires c κs =
     let lookup-of = c .before .before .before .before .before .before .before .before .lookup-of in
     let pgn-error-call = c .before .before .before .before .pgn-error in
     let put-if = c .before .before .before .put-if in
-    let t = start .args .t in let i = start .args .i in let k = start .args .k in let s = now (start .args .s) in let f = start .args .f in
-    let l = start .args .l in (
-      fits-right (report-if (not (lookup-of .result .kind == start .args .f .links .reference .kind)) (pgn-error-call .result))
+    let k = start .args .k in let s = now (start .args .s) in let f = start .args .f in
+    let t = start .args .g .tree in
+    let i = start .args .g .item in
+    let l = start .args .found .index in
+    record {
+      fits = fits-right (report-if (not (lookup-of .result .kind == start .args .f .links .reference .kind)) (pgn-error-call .result))
           (lookup-width-at t i k (field-meaning s f) l (lookup-at (pack-of s .lookups) l))
           (rw (parted s (pack-of s .lookups) t i k l f (lookup-of .result) (lookup-of .ensures) (pgn-error-call .result) (pgn-error-call .ensures)) at
-          (start .pre .0)) (put-if .ensures),
-      start .pre .1,
-      lookup-of .ensures,
-    )
+          (start .pre .fits)) (put-if .ensures);
+      lookup = record { at = start .pre .at; is = lookup-of .ensures };
+    }
 
 same-length : tie.Need-same-length
 same-length c = search needs
@@ -71,8 +75,10 @@ returns c =
     let lookup-of = c .before .before .before .before .before .before .before .before .before .before .before .lookup-of in
     let pgn-error-call = c .before .before .before .before .before .before .before .pgn-error in
     let put-if = c .before .before .before .before .before .before .put-if in
-    let s = now (start .args .s) in let t = start .args .t in let i = start .args .i in let k = start .args .k in let l = start .args .l in
-    let f = start .args .f in
+    let s = now (start .args .s) in let k = start .args .k in let f = start .args .f in
+    let t = start .args .g .tree in
+    let i = start .args .g .item in
+    let l = start .args .found .index in
     rw (parted s (pack-of s .lookups) t i k l f (lookup-of .result) (lookup-of .ensures) (pgn-error-call .result) (pgn-error-call .ensures))
     (emitted-append {xs = report-if (not (lookup-of .result .kind == start .args .f .links .reference .kind)) (pgn-error-call .result)}
     {ys = lookup-width-at t i k (field-meaning s f) l (lookup-at (pack-of s .lookups) l)} (put-if .ensures) (c .before .before .lookup-width-at .ensures))

@@ -29,7 +29,8 @@ module _ (s : List ℕ) (ls : List Lookup) (t i k : ℕ) (F : Field) (r : OptRef
     unfolding lookup-ref-at lookup-found-at
     unknown d E y = rw (h, ← e, d, y)
 
-    known : g ≡ true → lookup-ref-at ls t i k F (optional-reference s r) ≡ lookup-found-at ls t i k F (record { kind = r .kind; name = bytes-of s (r .name) }) (some l)
+    known : g ≡ true
+        → lookup-ref-at ls t i k F (optional-reference s r) ≡ lookup-found-at ls t i k F (record { kind = r .kind; name = bytes-of s (r .name) }) (some l)
     unfolding lookup-ref-at
     known d = rw (h, ← e, d)
 
@@ -37,13 +38,14 @@ returns : tie.Need-returns
 returns c =
     let start = c .before .before .before .before .before in
     let s = now (start .args .s) in
-    rw (absent s (pack-of s .lookups) (start .args .t) (start .args .i) (start .args .k) (field-meaning s (start .args .f)) (start .args .f .links .reference)
-    (not-true (start .args .f .links .reference .given) (c .if1 .taken))) (emitted-none (now (start .args .out)) (start .args .n))
+    rw (absent s (pack-of s .lookups) (start .args .g .tree) (start .args .g .item) (start .args .k) (field-meaning s (start .args .f))
+    (start .args .f .links .reference) (not-true (start .args .f .links .reference .given) (c .if1 .taken)))
+    (emitted-none (now (start .args .out)) (start .args .n))
 
 find-lookup-requires : tie.Need-find-lookup-requires
 find-lookup-requires c κs =
     let start = c .before .before .before .before .before in
-    (start .pre .1, start .pre .2, start .pre .3)
+    record { ready = start .pre .ready; lookups = start .pre .lookups }
 
 pgn-error-requires : tie.Need-pgn-error-requires
 pgn-error-requires c κs = search needs
@@ -54,10 +56,10 @@ put-requires c κs =
     let if1 = c .before .before .before .before .before .if1 in
     let find-lookup-call = c .before .before .before .before .find-lookup in
     let s = now (start .args .s) in
-    rw (unknown s (pack-of s .lookups) (start .args .t) (start .args .i) (start .args .k) (field-meaning s (start .args .f)) (start .args .f .links .reference)
-    (not-false (start .args .f .links .reference .given) (if1 .left)) (find-lookup-call .result .given) (find-lookup-call .result .index)
-    (find-lookup-call .ensures .0) (not-true (find-lookup-call .result .given) (c .before .before .if2 .taken)) (c .pgn-error .result) (c .pgn-error .ensures))
-    at (start .pre .0)
+    rw (unknown s (pack-of s .lookups) (start .args .g .tree) (start .args .g .item) (start .args .k) (field-meaning s (start .args .f))
+    (start .args .f .links .reference) (not-false (start .args .f .links .reference .given) (if1 .left)) (find-lookup-call .result .given)
+    (find-lookup-call .result .index) (find-lookup-call .ensures .found) (not-true (find-lookup-call .result .given) (c .before .before .if2 .taken))
+    (c .pgn-error .result) (c .pgn-error .ensures)) at (start .pre .fits)
 
 same-length : tie.Need-same-length
 same-length c = search needs
@@ -71,22 +73,24 @@ returns-2 c =
     let if2 = c .before .before .before .before .before .if2 in
     let pgn-error-call = c .before .before .before .pgn-error in
     let s = now (start .args .s) in
-    rw (unknown s (pack-of s .lookups) (start .args .t) (start .args .i) (start .args .k) (field-meaning s (start .args .f)) (start .args .f .links .reference)
-    (not-false (start .args .f .links .reference .given) (if1 .left)) (find-lookup-call .result .given) (find-lookup-call .result .index)
-    (find-lookup-call .ensures .0) (not-true (find-lookup-call .result .given) (if2 .taken)) (pgn-error-call .result) (pgn-error-call .ensures))
-    (c .before .before .put .ensures)
+    rw (unknown s (pack-of s .lookups) (start .args .g .tree) (start .args .g .item) (start .args .k) (field-meaning s (start .args .f))
+    (start .args .f .links .reference) (not-false (start .args .f .links .reference .given) (if1 .left)) (find-lookup-call .result .given)
+    (find-lookup-call .result .index) (find-lookup-call .ensures .found) (not-true (find-lookup-call .result .given) (if2 .taken)) (pgn-error-call .result)
+    (pgn-error-call .ensures)) (c .before .before .put .ensures)
 
 lookup-found-at-requires : tie.Need-lookup-found-at-requires
 lookup-found-at-requires c κs =
     let start = c .before .before .before .before .before .before .before .before .before in
     let if1 = c .before .before .before .before .if1 in
     let find-lookup-call = c .before .before .before .find-lookup in
-    let s = now (start .args .s) in (
-      rw (known s (pack-of s .lookups) (start .args .t) (start .args .i) (start .args .k) (field-meaning s (start .args .f)) (start .args .f .links .reference)
-          (not-false (start .args .f .links .reference .given) (if1 .left)) (find-lookup-call .result .given) (find-lookup-call .result .index)
-          (find-lookup-call .ensures .0) (not-false (find-lookup-call .result .given) (c .before .if2 .left))) at (start .pre .0),
-      find-lookup-call .ensures .1 (not-false (find-lookup-call .result .given) (c .before .if2 .left)),
-    )
+    let s = now (start .args .s) in
+    record {
+      fits = rw (known s (pack-of s .lookups) (start .args .g .tree) (start .args .g .item) (start .args .k) (field-meaning s (start .args .f))
+          (start .args .f .links .reference) (not-false (start .args .f .links .reference .given) (if1 .left)) (find-lookup-call .result .given)
+          (find-lookup-call .result .index) (find-lookup-call .ensures .found) (not-false (find-lookup-call .result .given) (c .before .if2 .left))) at
+          (start .pre .fits);
+      at = find-lookup-call .ensures .at (not-false (find-lookup-call .result .given) (c .before .if2 .left));
+    }
 
 same-length-2 : tie.Need-same-length-2
 same-length-2 c = search needs
@@ -98,9 +102,10 @@ returns-3 c =
     let find-lookup-call = c .before .before .before .before .before .before .find-lookup in
     let if2 = c .before .before .before .before .if2 in
     let s = now (start .args .s) in
-    rw (known s (pack-of s .lookups) (start .args .t) (start .args .i) (start .args .k) (field-meaning s (start .args .f)) (start .args .f .links .reference)
-    (not-false (start .args .f .links .reference .given) (if1 .left)) (find-lookup-call .result .given) (find-lookup-call .result .index)
-    (find-lookup-call .ensures .0) (not-false (find-lookup-call .result .given) (if2 .left))) (c .before .before .lookup-found-at .ensures)
+    rw (known s (pack-of s .lookups) (start .args .g .tree) (start .args .g .item) (start .args .k) (field-meaning s (start .args .f))
+    (start .args .f .links .reference) (not-false (start .args .f .links .reference .given) (if1 .left)) (find-lookup-call .result .given)
+    (find-lookup-call .result .index) (find-lookup-call .ensures .found) (not-false (find-lookup-call .result .given) (if2 .left)))
+    (c .before .before .lookup-found-at .ensures)
 
 pub lookup-ref-at-spec : {M : Type 1} → statement M
 lookup-ref-at-spec =

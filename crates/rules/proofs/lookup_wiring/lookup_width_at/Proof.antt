@@ -55,7 +55,7 @@ value-bits-requires c κs = search needs
 unreachable-requires : tie.Need-unreachable-requires
 unreachable-requires c κs =
     let start = c .before .before .before .before in
-    (start .pre .1, start .pre .2)
+    start .pre .lookup
 
 shares-bits-requires : tie.Need-shares-bits-requires
 shares-bits-requires c κs = search needs
@@ -73,10 +73,12 @@ put-requires c κs =
     let unreachable-call = c .before .before .before .before .before .unreachable in
     let shares-bits = c .before .before .before .before .shares-bits in
     let and-not = c .before .before .before .and-not in
-    let s = now (start .args .s) in let l = start .args .l in
-    rw (beyond s (start .args .t) (start .args .i) (start .args .k) l (value-bits-call .result) (start .args .f) (lookup-at (pack-of s .lookups) l)
-    (start .args .v) (start .pre .2) (value-bits-call .ensures) (unreachable-call .result) (shares-bits .result) (and-not .result) (unreachable-call .ensures)
-    (shares-bits .ensures) (and-not .ensures) (c .before .before .if1 .taken) (c .pgn-error .result) (c .pgn-error .ensures)) at (start .pre .0)
+    let s = now (start .args .s) in
+    let l = start .args .l .item in
+    rw (beyond s (start .args .g .tree) (start .args .g .item) (start .args .k) l (value-bits-call .result) (start .args .f) (lookup-at (pack-of s .lookups) l)
+    (start .args .l .view) (start .pre .lookup .is) (value-bits-call .ensures) (unreachable-call .result) (shares-bits .result) (and-not .result)
+    (unreachable-call .ensures) (shares-bits .ensures) (and-not .ensures) (c .before .before .if1 .taken) (c .pgn-error .result) (c .pgn-error .ensures)) at
+    (start .pre .fits)
 
 same-length : tie.Need-same-length
 same-length c = search needs
@@ -91,10 +93,12 @@ returns c =
     let and-not = c .before .before .before .before .before .before .and-not in
     let if1 = c .before .before .before .before .before .if1 in
     let pgn-error-call = c .before .before .before .pgn-error in
-    let s = now (start .args .s) in let l = start .args .l in
-    rw (beyond s (start .args .t) (start .args .i) (start .args .k) l (value-bits-call .result) (start .args .f) (lookup-at (pack-of s .lookups) l)
-    (start .args .v) (start .pre .2) (value-bits-call .ensures) (unreachable-call .result) (shares-bits .result) (and-not .result) (unreachable-call .ensures)
-    (shares-bits .ensures) (and-not .ensures) (if1 .taken) (pgn-error-call .result) (pgn-error-call .ensures)) (c .before .before .put .ensures)
+    let s = now (start .args .s) in
+    let l = start .args .l .item in
+    rw (beyond s (start .args .g .tree) (start .args .g .item) (start .args .k) l (value-bits-call .result) (start .args .f) (lookup-at (pack-of s .lookups) l)
+    (start .args .l .view) (start .pre .lookup .is) (value-bits-call .ensures) (unreachable-call .result) (shares-bits .result) (and-not .result)
+    (unreachable-call .ensures) (shares-bits .ensures) (and-not .ensures) (if1 .taken) (pgn-error-call .result) (pgn-error-call .ensures))
+    (c .before .before .put .ensures)
 
 cast-if2 : tie.Need-cast-if2
 cast-if2 c = search needs
@@ -110,10 +114,12 @@ put-if-requires c κs =
     let shares-bits = c .before .before .before .before .before .before .shares-bits in
     let and-not = c .before .before .before .before .before .and-not in
     let if1 = c .before .before .before .before .if1 in
-    let s = now (start .args .s) in let l = start .args .l in
-    rw (other s (start .args .t) (start .args .i) (start .args .k) l (value-bits-call .result) (start .args .f) (lookup-at (pack-of s .lookups) l)
-    (start .args .v) (start .pre .2) (value-bits-call .ensures) (unreachable-call .result) (shares-bits .result) (and-not .result) (unreachable-call .ensures)
-    (shares-bits .ensures) (and-not .ensures) (if1 .left) (c .before .before .if2 .taken) (c .pgn-error2 .result) (c .pgn-error2 .ensures)) at (start .pre .0)
+    let s = now (start .args .s) in
+    let l = start .args .l .item in
+    rw (other s (start .args .g .tree) (start .args .g .item) (start .args .k) l (value-bits-call .result) (start .args .f) (lookup-at (pack-of s .lookups) l)
+    (start .args .l .view) (start .pre .lookup .is) (value-bits-call .ensures) (unreachable-call .result) (shares-bits .result) (and-not .result)
+    (unreachable-call .ensures) (shares-bits .ensures) (and-not .ensures) (if1 .left) (c .before .before .if2 .taken) (c .pgn-error2 .result)
+    (c .pgn-error2 .ensures)) at (start .pre .fits)
 
 same-length-2 : tie.Need-same-length-2
 same-length-2 c = search needs
@@ -129,10 +135,12 @@ returns-2 c =
     let if1 = c .before .before .before .before .before .before .before .if1 in
     let if2 = c .before .before .before .before .before .if2 in
     let pgn-error2 = c .before .before .before .pgn-error2 in
-    let s = now (start .args .s) in let l = start .args .l in
-    rw (other s (start .args .t) (start .args .i) (start .args .k) l (value-bits-call .result) (start .args .f) (lookup-at (pack-of s .lookups) l)
-    (start .args .v) (start .pre .2) (value-bits-call .ensures) (unreachable-call .result) (shares-bits .result) (and-not .result) (unreachable-call .ensures)
-    (shares-bits .ensures) (and-not .ensures) (if1 .left) (if2 .taken) (pgn-error2 .result) (pgn-error2 .ensures)) (c .before .before .put-if .ensures)
+    let s = now (start .args .s) in
+    let l = start .args .l .item in
+    rw (other s (start .args .g .tree) (start .args .g .item) (start .args .k) l (value-bits-call .result) (start .args .f) (lookup-at (pack-of s .lookups) l)
+    (start .args .l .view) (start .pre .lookup .is) (value-bits-call .ensures) (unreachable-call .result) (shares-bits .result) (and-not .result)
+    (unreachable-call .ensures) (shares-bits .ensures) (and-not .ensures) (if1 .left) (if2 .taken) (pgn-error2 .result) (pgn-error2 .ensures))
+    (c .before .before .put-if .ensures)
 
 pgn-warning-requires : tie.Need-pgn-warning-requires
 pgn-warning-requires c κs = search needs
@@ -145,10 +153,12 @@ put-if-requires-2 c κs =
     let shares-bits = c .before .before .before .before .before .before .shares-bits in
     let and-not = c .before .before .before .before .before .and-not in
     let if1 = c .before .before .before .before .if1 in
-    let s = now (start .args .s) in let l = start .args .l in
-    rw (same s (start .args .t) (start .args .i) (start .args .k) l (value-bits-call .result) (start .args .f) (lookup-at (pack-of s .lookups) l)
-    (start .args .v) (start .pre .2) (value-bits-call .ensures) (unreachable-call .result) (shares-bits .result) (and-not .result) (unreachable-call .ensures)
-    (shares-bits .ensures) (and-not .ensures) (if1 .left) (c .before .before .if2 .left) (c .pgn-warning .result) (c .pgn-warning .ensures)) at (start .pre .0)
+    let s = now (start .args .s) in
+    let l = start .args .l .item in
+    rw (same s (start .args .g .tree) (start .args .g .item) (start .args .k) l (value-bits-call .result) (start .args .f) (lookup-at (pack-of s .lookups) l)
+    (start .args .l .view) (start .pre .lookup .is) (value-bits-call .ensures) (unreachable-call .result) (shares-bits .result) (and-not .result)
+    (unreachable-call .ensures) (shares-bits .ensures) (and-not .ensures) (if1 .left) (c .before .before .if2 .left) (c .pgn-warning .result)
+    (c .pgn-warning .ensures)) at (start .pre .fits)
 
 same-length-3 : tie.Need-same-length-3
 same-length-3 c = search needs
@@ -164,10 +174,11 @@ returns-3 c =
     let if1 = c .before .before .before .before .before .before .before .if1 in
     let if2 = c .before .before .before .before .before .if2 in
     let pgn-warning-call = c .before .before .before .pgn-warning in
-    let s = now (start .args .s) in let l = start .args .l in
-    rw (same s (start .args .t) (start .args .i) (start .args .k) l (value-bits-call .result) (start .args .f) (lookup-at (pack-of s .lookups) l)
-    (start .args .v) (start .pre .2) (value-bits-call .ensures) (unreachable-call .result) (shares-bits .result) (and-not .result) (unreachable-call .ensures)
-    (shares-bits .ensures) (and-not .ensures) (if1 .left) (if2 .left) (pgn-warning-call .result) (pgn-warning-call .ensures))
+    let s = now (start .args .s) in
+    let l = start .args .l .item in
+    rw (same s (start .args .g .tree) (start .args .g .item) (start .args .k) l (value-bits-call .result) (start .args .f) (lookup-at (pack-of s .lookups) l)
+    (start .args .l .view) (start .pre .lookup .is) (value-bits-call .ensures) (unreachable-call .result) (shares-bits .result) (and-not .result)
+    (unreachable-call .ensures) (shares-bits .ensures) (and-not .ensures) (if1 .left) (if2 .left) (pgn-warning-call .result) (pgn-warning-call .ensures))
     (c .before .before .put-if2 .ensures)
 
 pub lookup-width-at-spec : {M : Type 1} → statement M

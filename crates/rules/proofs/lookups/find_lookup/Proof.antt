@@ -25,18 +25,23 @@ abbrev named : List ℕ → List ℕ → ℕ → Bool
 named s name l = lookup-at (pack-of s .lookups) l .name ≐ name
 
 abbrev Inv-loop : tie.InvT-loop
-Inv-loop s work name n place₀ index₀ place index = (index ≤ n) × (place ≡ place-of-lookup (pack-of s) index) × (first-below (named s (bytes-of s name)) index ≡ none)
+Inv-loop s work name n place₀ index₀ place index =
+    record {
+      turns : index ≤ n;
+      place : place ≡ place-of-lookup (pack-of s) index;
+      none-yet : first-below (named s (bytes-of s name)) index ≡ none;
+    }
 
 abbrev μ-loop : tie.MeasureT-loop
 μ-loop s work name n place₀ index₀ place index = n - index
 
 loop-holds : tie.Need-loop-holds Inv-loop μ-loop
-loop-holds c = (search needs, c .before .before .pre .2, refl)
+loop-holds c = record { turns = search needs; place = c .before .before .pre .lookups .place; none-yet = refl }
 
 lookup-of-requires : tie.Need-lookup-of-requires Inv-loop μ-loop
 lookup-of-requires c κs =
     let start = c .before .before .before .before in
-    at-lookup (start .pre .0) (start .pre .1) (c .before .loop .inv .1) (c .loop-test .taken)
+    at-lookup (start .pre .ready) (start .pre .lookups .count) (c .before .loop .inv .place) (c .loop-test .taken)
 
 same-text-requires : tie.Need-same-text-requires Inv-loop μ-loop
 same-text-requires c κs = search needs
@@ -50,17 +55,19 @@ returns c =
     let s = now (start .args .s) in
     let b = bytes-of s (start .args .name) in
     let e : named s b (loop .index) ≡ true =
-    rw (← ap (λ (L : Lookup). L .name) (c .before .before .lookup-of .ensures .means), ← c .before .same-text .ensures) (c .if1 .taken) in (
-      sym (rw (start .pre .1) at (first-hit (named s b) (start .args .lookups .count) (loop .index) (loop-test .taken) (loop .inv .2) e)),
-      λ _. at-lookup (start .pre .0) (start .pre .1) (loop .inv .1) (loop-test .taken),
-    )
+    rw (← ap (λ (L : Lookup). L .name) (c .before .before .lookup-of .ensures .means), ← c .before .same-text .ensures) (c .if1 .taken) in
+    record {
+      found = sym
+          (rw (start .pre .lookups .count) at (first-hit (named s b) (start .args .lookups .count) (loop .index) (loop-test .taken) (loop .inv .none-yet) e));
+      at = λ _. at-lookup (start .pre .ready) (start .pre .lookups .count) (loop .inv .place) (loop-test .taken);
+    }
 
 add-place : tie.Need-add-place Inv-loop μ-loop
 add-place c =
     let start = c .before .before .before .before .before .before .before in
     let loop = c .before .before .before .before .loop in
     let loop-test = c .before .before .before .loop-test in
-    omega (arith, lookup-room (at-lookup (start .pre .0) (start .pre .1) (loop .inv .1) (loop-test .taken)))
+    omega (arith, lookup-room (at-lookup (start .pre .ready) (start .pre .lookups .count) (loop .inv .place) (loop-test .taken)))
 
 cast-place : tie.Need-cast-place Inv-loop μ-loop
 cast-place c = search needs
@@ -71,7 +78,7 @@ add-place-2 c =
     let loop = c .before .before .before .before .before .loop in
     let loop-test = c .before .before .before .before .loop-test in
     let lookup-of = c .before .before .before .lookup-of in
-    omega (arith, lookup-of .ensures .entries, lookup-room (at-lookup (start .pre .0) (start .pre .1) (loop .inv .1) (loop-test .taken)))
+    omega (arith, lookup-of .ensures .entries, lookup-room (at-lookup (start .pre .ready) (start .pre .lookups .count) (loop .inv .place) (loop-test .taken)))
 
 add-index : tie.Need-add-index Inv-loop μ-loop
 add-index c = search needs
@@ -87,19 +94,20 @@ loop-again c =
     let s = now (start .args .s) in
     let b = bytes-of s (start .args .name) in
     let e : named s b (loop .index) ≡ false =
-    rw (← ap (λ (L : Lookup). L .name) (lookup-of .ensures .means), ← c .before .before .same-text .ensures) (c .before .if1 .left) in (
-      omega (arith, c),
-      omega (arith, lookup-place-next (pack-of s) (loop .index), lookup-of .ensures .entries, loop .inv .1),
-      first-turn (named s b) (loop .index) ∙ (rw (loop .inv .2, e)),
-    )
+    rw (← ap (λ (L : Lookup). L .name) (lookup-of .ensures .means), ← c .before .before .same-text .ensures) (c .before .if1 .left) in
+    record {
+      turns = omega (arith, c);
+      place = omega (arith, lookup-place-next (pack-of s) (loop .index), lookup-of .ensures .entries, loop .inv .place);
+      none-yet = first-turn (named s b) (loop .index) ∙ (rw (loop .inv .none-yet, e));
+    }
 
 returns-2 : tie.Need-returns-2 Inv-loop μ-loop
 unfolding find-lookup
 returns-2 c =
     let start = c .before .before .before .before in
     let e : length (pack-of (now (start .args .s)) .lookups) ≡ c .before .loop .index =
-    omega (arith, start .pre .1, c .before .loop .inv .0, c .loop-test .left) in
-    ((rw (e, c .before .loop .inv .2)), λ z. absurd (false≢true z))
+    omega (arith, start .pre .lookups .count, c .before .loop .inv .turns, c .loop-test .left) in
+    record { found = (rw (e, c .before .loop .inv .none-yet)); at = λ z. absurd (false≢true z) }
 
 pub find-lookup-spec : {M : Type 1} → statement M
 find-lookup-spec =

@@ -1,5 +1,5 @@
 use borrow.Author.Tests.{not-true, not-false}
-use Rattle.pack.specs.Value.{Pgn, pgn-at}
+use Rattle.pack.specs.Value.{Pgn}
 use Rattle.rules.proofs.MatchKeys.{same-keys}
 use Rattle.rules.specs.MatchKeys.{pieces-from}
 use Rattle.rules.specs.Variants.{has-match, duplicates}
@@ -9,7 +9,7 @@ use mathlib.Core.Bool.{true, false}
 use lib.ListN.{length}
 use denote.Ref.{now}
 use Rattle.pack.specs.Notation.{_≐_}
-use Rattle.pack.specs.Meaning.{pack-of}
+use Rattle.pack.specs.Ready.{pgn-in}
 use borrow.Author.Needs.{needs}
 use Rattle.rules.proofs.match_keys.duplicates.Statement.{statement}
 use Rattle.rules.proofs.match_keys.duplicates.Tie as tie
@@ -36,8 +36,8 @@ has-match-requires c κs = search needs
 returns : tie.Need-returns
 returns c =
     let start = c .before .before .before .before in
-    let s = now (start .args .s) in let t = start .args .t in
-    first-none (pgn-at (pack-of s) t (start .args .i)) (pgn-at (pack-of s) t (start .args .j)) (start .args .m) (start .args .n) (start .pre .1) (start .pre .3)
+    let s = now (start .args .s) in let g = start .args .g in let h = start .args .h in
+    first-none (pgn-in s g) (pgn-in s h) (g .view .fields) (h .view .fields) (start .pre .pgn .is .fields) (start .pre .other .is .fields)
     (sym (c .before .has-match .ensures) ∙ not-true (c .before .has-match .result) (c .if1 .taken))
 
 has-match-requires-2 : tie.Need-has-match-requires-2
@@ -47,8 +47,8 @@ returns-2 : tie.Need-returns-2
 returns-2 c =
     let start = c .before .before .before .before .before .before in
     let has-match-call = c .before .before .before .has-match in
-    let s = now (start .args .s) in let t = start .args .t in
-    second-none (pgn-at (pack-of s) t (start .args .i)) (pgn-at (pack-of s) t (start .args .j)) (start .args .m) (start .args .n) (start .pre .1) (start .pre .3)
+    let s = now (start .args .s) in let g = start .args .g in let h = start .args .h in
+    second-none (pgn-in s g) (pgn-in s h) (g .view .fields) (h .view .fields) (start .pre .pgn .is .fields) (start .pre .other .is .fields)
     (sym (has-match-call .ensures) ∙ not-false (has-match-call .result) (c .before .before .if1 .left))
     (sym (c .before .has-match2 .ensures) ∙ not-true (c .before .has-match2 .result) (c .if2 .taken))
 
@@ -61,9 +61,9 @@ returns-3 c =
     let has-match-call = c .before .before .before .before .has-match in
     let if1 = c .before .before .before .if1 in
     let has-match2 = c .before .before .has-match2 in
-    let s = now (start .args .s) in let t = start .args .t in
+    let s = now (start .args .s) in let g = start .args .g in let h = start .args .h in
     c .same-key .ensures
-    ∙ both (pgn-at (pack-of s) t (start .args .i)) (pgn-at (pack-of s) t (start .args .j)) (start .args .m) (start .args .n) (start .pre .1) (start .pre .3)
+    ∙ both (pgn-in s g) (pgn-in s h) (g .view .fields) (h .view .fields) (start .pre .pgn .is .fields) (start .pre .other .is .fields)
     (sym (has-match-call .ensures) ∙ not-false (has-match-call .result) (if1 .left))
     (sym (has-match2 .ensures) ∙ not-false (has-match2 .result) (c .before .if2 .left))
 

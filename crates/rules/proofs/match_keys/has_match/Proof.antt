@@ -1,3 +1,4 @@
+use Rattle.rules.proofs.Sizes.{fields-few}
 use Rattle.pack.specs.declared.field.FieldView.{FieldView}
 use Rattle.pack.specs.Items.{bytes-of}
 use Rattle.pack.specs.Value.{Pgn, Field, pgn-at, field-at}
@@ -25,30 +26,36 @@ said : (s : List ℕ) (p : Pgn) (k : ℕ) (f : FieldView) → field-meaning s f 
 said s p k f e = ap (λ (x : Field). given (x .match)) (sym e) ∙ given-is (f .authored .matched .given) (bytes-of s (f .authored .matched .text))
 
 abbrev Inv-loop : tie.InvT-loop
-Inv-loop s work t i p fields k₀ k = (k ≤ fields) × (any-below (has (pgn-at (pack-of s) t i)) k ≡ false)
+Inv-loop s work g fields k₀ k =
+    record {
+      turns : k ≤ fields;
+      none-yet : any-below (has (pgn-at (pack-of s) (g .tree) (g .item))) k ≡ false;
+    }
 
 abbrev μ-loop : tie.MeasureT-loop
-μ-loop s work t i p fields k₀ k = fields - k
+μ-loop s work g fields k₀ k = fields - k
 
 loop-holds : tie.Need-loop-holds Inv-loop μ-loop
-loop-holds c = (search needs, refl)
+loop-holds c = record { turns = search needs; none-yet = refl }
 
 field-of-requires : tie.Need-field-of-requires Inv-loop μ-loop
 field-of-requires c κs =
     let start = c .before .before .before .before in
-    (start .pre .0, omega (arith, start .pre .1, c .loop-test .taken))
+    record { at = start .pre .at; field = omega (arith, start .pre .is .fields, c .loop-test .taken) }
 
 returns : tie.Need-returns Inv-loop μ-loop
 unfolding has-match
 returns c =
     let start = c .before .before .before .before .before .before in
     let loop = c .before .before .before .loop in
-    let s = now (start .args .s) in let t = start .args .t in let i = start .args .i in
-    sym (any-hit (has (pgn-at (pack-of s) t i)) (start .args .fields) (loop .k) (c .before .before .loop-test .taken)
+    let s = now (start .args .s) in let t = start .args .g .tree in let i = start .args .g .item in
+    sym (any-hit (has (pgn-at (pack-of s) t i)) (start .args .g .view .fields) (loop .k) (c .before .before .loop-test .taken)
     (said s (pgn-at (pack-of s) t i) (loop .k) (c .before .field-of .result) (c .before .field-of .ensures) ∙ c .if1 .taken))
 
 add-k : tie.Need-add-k Inv-loop μ-loop
-add-k c = search needs
+add-k c =
+    let start = c .before .before .before .before .before .before in
+    omega (arith, c .before .before .loop-test .taken, start .pre .is .fields, fields-few (start .pre .at))
 
 loop-less : tie.Need-loop-less Inv-loop μ-loop
 loop-less c = search needs
@@ -57,18 +64,19 @@ loop-again : tie.Need-loop-again Inv-loop μ-loop
 loop-again c =
     let start = c .before .before .before .before .before .before in
     let loop = c .before .before .before .loop in
-    let s = now (start .args .s) in let t = start .args .t in let i = start .args .i in (
-      omega (arith, c),
-      any-turn (has (pgn-at (pack-of s) t i)) (loop .k)
-          ∙ (rw (loop .inv .1) (said s (pgn-at (pack-of s) t i) (loop .k) (c .before .field-of .result) (c .before .field-of .ensures) ∙ c .if1 .left)),
-    )
+    let s = now (start .args .s) in let t = start .args .g .tree in let i = start .args .g .item in
+    record {
+      turns = omega (arith, c);
+      none-yet = any-turn (has (pgn-at (pack-of s) t i)) (loop .k)
+          ∙ (rw (loop .inv .none-yet) (said s (pgn-at (pack-of s) t i) (loop .k) (c .before .field-of .result) (c .before .field-of .ensures) ∙ c .if1 .left));
+    }
 
 returns-2 : tie.Need-returns-2 Inv-loop μ-loop
 unfolding has-match
 returns-2 c =
     let start = c .before .before .before .before in
-    let e : start .args .fields ≡ c .before .loop .k = omega (arith, c .before .loop .inv .0, c .loop-test .left) in
-    rw e (sym (c .before .loop .inv .1))
+    let e : start .args .g .view .fields ≡ c .before .loop .k = omega (arith, c .before .loop .inv .turns, c .loop-test .left) in
+    rw e (sym (c .before .loop .inv .none-yet))
 
 pub has-match-spec : {M : Type 1} → statement M
 has-match-spec =

@@ -2,8 +2,7 @@ use Rattle.rules.proofs.MatchKeys.{text-ended, text-there, text-byte}
 use native.Mathlib.Omega.{arith}
 use mathlib.Core.Path.{_∙_}
 use denote.Ref.{now}
-use Rattle.pack.specs.Meaning.{pack-of}
-use Rattle.pack.specs.Value.{pgn-at}
+use Rattle.pack.specs.Ready.{pgn-in}
 use borrow.Author.Needs.{needs}
 use Rattle.rules.proofs.match_keys.next_of_text.Statement.{statement}
 use Rattle.rules.proofs.match_keys.next_of_text.Tie as tie
@@ -18,32 +17,34 @@ returns : tie.Need-returns
 returns c =
     let start = c .before .before .before .before .before in
     let part = c .before .before .part in
-    let s = now (start .args .s) in (
-      text-ended s (pgn-at (pack-of s) (start .args .t) (start .args .i)) (start .args .key) (omega (arith, start .pre .3, start .pre .4)) (now (part .result))
+    let s = now (start .args .s) in
+    record {
+      came = text-ended s (pgn-in s (start .args .g)) (start .args .key) (omega (arith, start .pre .head, start .pre .written)) (now (part .result))
           (part .ensures) (c .before .if1 .taken)
-          ∙ (rw (← start .pre .1) (c .next-piece .ensures .0)),
-      c .next-piece .ensures .1,
-    )
+          ∙ (rw (← start .pre .pgn .is .fields) (c .next-piece .ensures .came));
+      field = c .next-piece .ensures .field;
+      head = c .next-piece .ensures .head;
+    }
 
 shared-slice-read-byte : tie.Need-shared-slice-read-byte
 shared-slice-read-byte c = search needs
 
-add-t13 : tie.Need-add-t13
-add-t13 c =
+add-t10 : tie.Need-add-t10
+add-t10 c =
     let start = c .before .before .before .before .before .before in
     let part = c .before .before .before .part in
     let s = now (start .args .s) in
-    let x = text-there s (pgn-at (pack-of s) (start .args .t) (start .args .i)) (start .args .key) (omega (arith, start .pre .3, start .pre .4))
+    let x = text-there s (pgn-in s (start .args .g)) (start .args .key) (omega (arith, start .pre .head, start .pre .written))
     (now (part .result)) (part .ensures) (c .before .before .if1 .left) in
     omega (arith, x .0)
 
-sub-t17 : tie.Need-sub-t17
-sub-t17 c =
+sub-t14 : tie.Need-sub-t14
+sub-t14 c =
     let start = c .before .before .before .before .before .before .before in
     let part = c .before .before .before .before .part in
     let if1 = c .before .before .before .if1 in
     let s = now (start .args .s) in
-    let x = text-there s (pgn-at (pack-of s) (start .args .t) (start .args .i)) (start .args .key) (omega (arith, start .pre .3, start .pre .4))
+    let x = text-there s (pgn-in s (start .args .g)) (start .args .key) (omega (arith, start .pre .head, start .pre .written))
     (now (part .result)) (part .ensures) (if1 .left) in
     omega (arith, x .1)
 
@@ -52,11 +53,13 @@ returns-2 c =
     let start = c .before .before .before .before .before .before .before .before in
     let part = c .before .before .before .before .before .part in
     let if1 = c .before .before .before .before .if1 in
-    let s = now (start .args .s) in (
-      text-byte s (pgn-at (pack-of s) (start .args .t) (start .args .i)) (start .args .key) (omega (arith, start .pre .3, start .pre .4)) (now (part .result))
-          (part .ensures) (if1 .left),
-      (start .pre .2, start .pre .3),
-    )
+    let s = now (start .args .s) in
+    record {
+      came = text-byte s (pgn-in s (start .args .g)) (start .args .key) (omega (arith, start .pre .head, start .pre .written)) (now (part .result))
+          (part .ensures) (if1 .left);
+      field = start .pre .field;
+      head = start .pre .head;
+    }
 
 pub next-of-text-spec : {M : Type 1} → statement M
 next-of-text-spec =
@@ -66,6 +69,6 @@ next-of-text-spec =
     next-piece-requires
     returns
     shared-slice-read-byte
-    add-t13
-    sub-t17
+    add-t10
+    sub-t14
     returns-2)

@@ -45,14 +45,14 @@ module _ (s : List ℕ) (ls : List Lookup) (t i k : ℕ) (p : Pgn) (f : FieldVie
 returns : tie.Need-returns
 returns c =
     let start = c .before .before .before .before .before in
-    let s = now (start .args .s) in let t = start .args .t in let i = start .args .i in
-    rw (unmatched s (pack-of s .lookups) t i (start .args .k) (pgn-at (pack-of s) t i) (start .args .f) (start .pre .4)
+    let s = now (start .args .s) in let t = start .args .g .tree in let i = start .args .g .item in
+    rw (unmatched s (pack-of s .lookups) t i (start .args .k) (pgn-at (pack-of s) t i) (start .args .f) (start .pre .means)
     (not-true (start .args .f .authored .matched .given) (c .if1 .taken))) (emitted-none (now (start .args .out)) (start .args .n))
 
 resolve-match-requires : tie.Need-resolve-match-requires
 resolve-match-requires c κs =
     let start = c .before .before .before .before .before in
-    (start .pre .1, start .pre .2, start .pre .3)
+    record { ready = start .pre .ready; lookups = start .pre .lookups }
 
 pgn-error-requires : tie.Need-pgn-error-requires
 pgn-error-requires c κs = search needs
@@ -62,11 +62,11 @@ put-requires c κs =
     let start = c .before .before .before .before .before .before .before .before .before .before in
     let if1 = c .before .before .before .before .before .if1 in
     let resolve-match-call = c .before .before .before .before .resolve-match in
-    let s = now (start .args .s) in let t = start .args .t in let i = start .args .i in
-    rw (unresolved s (pack-of s .lookups) t i (start .args .k) (pgn-at (pack-of s) t i) (start .args .f) (start .pre .4)
+    let s = now (start .args .s) in let t = start .args .g .tree in let i = start .args .g .item in
+    rw (unresolved s (pack-of s .lookups) t i (start .args .k) (pgn-at (pack-of s) t i) (start .args .f) (start .pre .means)
     (not-false (start .args .f .authored .matched .given) (if1 .left)) (resolve-match-call .result .given) (resolve-match-call .result .value)
     (resolve-match-call .ensures) (not-true (resolve-match-call .result .given) (c .before .before .if2 .taken)) (c .pgn-error .result)
-    (c .pgn-error .ensures)) at (start .pre .0)
+    (c .pgn-error .ensures)) at (start .pre .fits)
 
 same-length : tie.Need-same-length
 same-length c = search needs
@@ -79,8 +79,8 @@ returns-2 c =
     let resolve-match-call = c .before .before .before .before .before .before .before .resolve-match in
     let if2 = c .before .before .before .before .before .if2 in
     let pgn-error-call = c .before .before .before .pgn-error in
-    let s = now (start .args .s) in let t = start .args .t in let i = start .args .i in
-    rw (unresolved s (pack-of s .lookups) t i (start .args .k) (pgn-at (pack-of s) t i) (start .args .f) (start .pre .4)
+    let s = now (start .args .s) in let t = start .args .g .tree in let i = start .args .g .item in
+    rw (unresolved s (pack-of s .lookups) t i (start .args .k) (pgn-at (pack-of s) t i) (start .args .f) (start .pre .means)
     (not-false (start .args .f .authored .matched .given) (if1 .left)) (resolve-match-call .result .given) (resolve-match-call .result .value)
     (resolve-match-call .ensures) (not-true (resolve-match-call .result .given) (if2 .taken)) (pgn-error-call .result) (pgn-error-call .ensures))
     (c .before .before .put .ensures)
@@ -98,11 +98,11 @@ put-if-requires c κs =
     let resolve-match-call = c .before .before .before .before .before .resolve-match in
     let if2 = c .before .before .before .if2 in
     let exceeds = c .before .before .exceeds in
-    let s = now (start .args .s) in let t = start .args .t in let i = start .args .i in
-    rw (resolved s (pack-of s .lookups) t i (start .args .k) (pgn-at (pack-of s) t i) (start .args .f) (start .pre .4)
+    let s = now (start .args .s) in let t = start .args .g .tree in let i = start .args .g .item in
+    rw (resolved s (pack-of s .lookups) t i (start .args .k) (pgn-at (pack-of s) t i) (start .args .f) (start .pre .means)
     (not-false (start .args .f .authored .matched .given) (if1 .left)) (resolve-match-call .result .given) (resolve-match-call .result .value)
     (resolve-match-call .ensures) (not-false (resolve-match-call .result .given) (if2 .left)) (exceeds .result) (exceeds .ensures) (c .pgn-error2 .result)
-    (c .pgn-error2 .ensures)) at (start .pre .0)
+    (c .pgn-error2 .ensures)) at (start .pre .fits)
 
 same-length-2 : tie.Need-same-length-2
 same-length-2 c = search needs
@@ -116,8 +116,8 @@ returns-3 c =
     let if2 = c .before .before .before .before .before .before .if2 in
     let exceeds = c .before .before .before .before .before .exceeds in
     let pgn-error2 = c .before .before .before .pgn-error2 in
-    let s = now (start .args .s) in let t = start .args .t in let i = start .args .i in
-    rw (resolved s (pack-of s .lookups) t i (start .args .k) (pgn-at (pack-of s) t i) (start .args .f) (start .pre .4)
+    let s = now (start .args .s) in let t = start .args .g .tree in let i = start .args .g .item in
+    rw (resolved s (pack-of s .lookups) t i (start .args .k) (pgn-at (pack-of s) t i) (start .args .f) (start .pre .means)
     (not-false (start .args .f .authored .matched .given) (if1 .left)) (resolve-match-call .result .given) (resolve-match-call .result .value)
     (resolve-match-call .ensures) (not-false (resolve-match-call .result .given) (if2 .left)) (exceeds .result) (exceeds .ensures) (pgn-error2 .result)
     (pgn-error2 .ensures)) (c .before .before .put-if .ensures)

@@ -49,13 +49,17 @@ turn r v x [] h k l = rw (le-leb 48 x h, le-leb x 57 k, lt-ltb _ _ l)
 turn r v x (y ∷ ys) h k l = rw (le-leb 48 x h, le-leb x 57 k)
 
 abbrev Inv-loop : tie.InvT-loop
-Inv-loop b from given₀ value₀ i₀ given value i = (i ≤ length b) × (parse-digits (drop from b) ≡ left given value (drop i b))
+Inv-loop b from given₀ value₀ i₀ given value i =
+    record {
+      turns : i ≤ length b;
+      rest : parse-digits (drop from b) ≡ left given value (drop i b);
+    }
 
 abbrev μ-loop : tie.MeasureT-loop
 μ-loop b from given₀ value₀ i₀ given value i = length b - i
 
 loop-holds : tie.Need-loop-holds Inv-loop μ-loop
-loop-holds c = (c .pre, begin (drop (c .args .from) (now (c .args .b))))
+loop-holds c = record { turns = c .pre; rest = begin (drop (c .args .from) (now (c .args .b))) }
 
 shared-slice-read-c : tie.Need-shared-slice-read-c Inv-loop μ-loop
 shared-slice-read-c c = search needs
@@ -65,7 +69,7 @@ returns c =
     let start = c .before .before .before .before in
     let loop = c .before .before .before .loop in
     let b = now (start .args .b) in
-    sym (loop .inv .1
+    sym (loop .inv .rest
     ∙ (rw (drop-cons b (loop .i) 0 (c .before .before .loop-test .taken))
     (low (loop .given) (loop .value) (getD b (loop .i) 0) (drop (suc (loop .i)) b) (c .if1 .taken))))
 
@@ -75,7 +79,7 @@ returns-2 c =
     let loop = c .before .before .before .before .loop in
     let loop-test = c .before .before .before .loop-test in
     let b = now (start .args .b) in
-    sym (loop .inv .1
+    sym (loop .inv .rest
     ∙ (rw (drop-cons b (loop .i) 0 (loop-test .taken)) (high (loop .given) (loop .value) (getD b (loop .i) 0) (drop (suc (loop .i)) b) (c .if2 .taken))))
 
 cast-digit : tie.Need-cast-digit Inv-loop μ-loop
@@ -90,7 +94,7 @@ returns-3 c =
     let loop = c .before .before .before .before .before .loop in
     let loop-test = c .before .before .before .before .loop-test in
     let b = now (start .args .b) in
-    sym (loop .inv .1
+    sym (loop .inv .rest
     ∙ (rw (drop-cons b (loop .i) 0 (loop-test .taken)) (big (loop .given) (loop .value) (getD b (loop .i) 0) (drop (suc (loop .i)) b)
     (omega (arith, c .before .before .if1 .left, c .before .if2 .left, c .if3 .taken)))))
 
@@ -112,17 +116,18 @@ loop-again c =
     let loop = c .before .before .before .before .before .loop in
     let loop-test = c .before .before .before .before .loop-test in
     let if1 = c .before .before .if1 in
-    let b = now (start .args .b) in (
-      omega (arith, c),
-      loop .inv .1
+    let b = now (start .args .b) in
+    record {
+      turns = omega (arith, c);
+      rest = loop .inv .rest
           ∙ (rw (add-one (loop .i), drop-cons b (loop .i) 0 (loop-test .taken))
           (turn (loop .given) (loop .value) (getD b (loop .i) 0) (drop (suc (loop .i)) b) (omega (arith, if1 .left)) (omega (arith, c .before .if2 .left))
-          (omega (arith, if1 .left, c .before .if2 .left, c .if3 .left)))),
-    )
+          (omega (arith, if1 .left, c .before .if2 .left, c .if3 .left))));
+    }
 
 returns-4 : tie.Need-returns-4 Inv-loop μ-loop
 returns-4 c =
-    sym (c .before .loop .inv .1 ∙ (rw (drop-of-length-le (now (c .before .before .args .b)) {i = c .before .loop .i} (omega (arith, c .loop-test .left)))))
+    sym (c .before .loop .inv .rest ∙ (rw (drop-of-length-le (now (c .before .before .args .b)) {i = c .before .loop .i} (omega (arith, c .loop-test .left)))))
 
 pub parse-digits-spec : {M : Type 1} → statement M
 parse-digits-spec =

@@ -54,12 +54,12 @@ returns-2 c =
     let s = now (start .args .s) in
     rw (not-false (start .args .r .given) (if1 .left)) (sym (unknown (pack-of s .lookups) (bytes-of s (start .args .m))
     (record { kind = start .args .r .kind; name = bytes-of s (start .args .r .name) }) (find-lookup-call .result .index) (find-lookup-call .result .given)
-    (find-lookup-call .ensures .0) (not-true (find-lookup-call .result .given) (c .if2 .taken))))
+    (find-lookup-call .ensures .found) (not-true (find-lookup-call .result .given) (c .if2 .taken))))
 
 lookup-of-requires : tie.Need-lookup-of-requires
 lookup-of-requires c κs =
     let find-lookup-call = c .before .before .find-lookup in
-    find-lookup-call .ensures .1 (not-false (find-lookup-call .result .given) (c .if2 .left))
+    find-lookup-call .ensures .at (not-false (find-lookup-call .result .given) (c .if2 .left))
 
 has-entries-requires : tie.Need-has-entries-requires
 has-entries-requires c κs = search needs
@@ -74,7 +74,7 @@ returns-3 c =
     let s = now (start .args .s) in
     let e = known (pack-of s .lookups) (bytes-of s (start .args .m)) (record { kind = start .args .r .kind; name = bytes-of s (start .args .r .name) })
     (find-lookup-call .result .index) (lookup-of .result .kind) (find-lookup-call .result .given) (c .before .has-entries .result)
-    (find-lookup-call .ensures .0) (not-false (find-lookup-call .result .given) (if2 .left)) (ap (λ (L : Lookup). L .kind) (lookup-of .ensures .means))
+    (find-lookup-call .ensures .found) (not-false (find-lookup-call .result .given) (if2 .left)) (ap (λ (L : Lookup). L .kind) (lookup-of .ensures .means))
     (c .before .has-entries .ensures) in
     rw (not-false (start .args .r .given) (if1 .left), e, not-true (c .before .has-entries .result) (c .if3 .taken))
 
@@ -82,11 +82,12 @@ value-named-requires : tie.Need-value-named-requires
 value-named-requires c κs =
     let find-lookup-call = c .before .before .before .before .before .find-lookup in
     let if2 = c .before .before .before .if2 in
-    let lookup-of = c .before .before .lookup-of in (
-      find-lookup-call .ensures .1 (not-false (find-lookup-call .result .given) (if2 .left)),
-      ap (λ (L : Lookup). L .kind) (lookup-of .ensures .means),
-      lookup-of .ensures .entries,
-    )
+    let lookup-of = c .before .before .lookup-of in
+    record {
+      at = find-lookup-call .ensures .at (not-false (find-lookup-call .result .given) (if2 .left));
+      kind = ap (λ (L : Lookup). L .kind) (lookup-of .ensures .means);
+      entries = lookup-of .ensures .entries;
+    }
 
 returns-4 : tie.Need-returns-4
 returns-4 c =
@@ -98,7 +99,7 @@ returns-4 c =
     let has-entries = c .before .before .has-entries in
     let s = now (start .args .s) in
     let e = known (pack-of s .lookups) (bytes-of s (start .args .m)) (record { kind = start .args .r .kind; name = bytes-of s (start .args .r .name) })
-    (find-lookup-call .result .index) (lookup-of .result .kind) (find-lookup-call .result .given) (has-entries .result) (find-lookup-call .ensures .0)
+    (find-lookup-call .result .index) (lookup-of .result .kind) (find-lookup-call .result .given) (has-entries .result) (find-lookup-call .ensures .found)
     (not-false (find-lookup-call .result .given) (if2 .left)) (ap (λ (L : Lookup). L .kind) (lookup-of .ensures .means)) (has-entries .ensures) in
     rw (not-false (start .args .r .given) (if1 .left), e, not-false (has-entries .result) (c .before .if3 .left)) (c .value-named .ensures)
 

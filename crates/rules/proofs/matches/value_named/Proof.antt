@@ -22,18 +22,22 @@ abbrev named : List ℕ → ℕ → List ℕ → ℕ → Bool
 named s l name e = getD (lookup-at (pack-of s .lookups) l .entries) e no-entry .name ≐ name
 
 abbrev Inv-loop : tie.InvT-loop
-Inv-loop s work l p kind n name e₀ e = (e ≤ n) × (first-below (named s l (bytes-of s name)) e ≡ none)
+Inv-loop s work l p kind n name e₀ e =
+    record {
+      turns : e ≤ n;
+      none-yet : first-below (named s l (bytes-of s name)) e ≡ none;
+    }
 
 abbrev μ-loop : tie.MeasureT-loop
 μ-loop s work l p kind n name e₀ e = n - e
 
 loop-holds : tie.Need-loop-holds Inv-loop μ-loop
-loop-holds c = (search needs, refl)
+loop-holds c = record { turns = search needs; none-yet = refl }
 
 entry-of-requires : tie.Need-entry-of-requires Inv-loop μ-loop
 entry-of-requires c κs =
     let start = c .before .before .before .before in
-    (start .pre .0, start .pre .1, omega (arith, start .pre .2, c .loop-test .taken))
+    record { at = start .pre .at; kind = start .pre .kind; entry = omega (arith, start .pre .entries, c .loop-test .taken) }
 
 same-text-requires : tie.Need-same-text-requires Inv-loop μ-loop
 same-text-requires c κs = search needs
@@ -48,7 +52,7 @@ returns c =
     let s = now (start .args .s) in let l = start .args .l in
     let b = bytes-of s (start .args .name) in
     let h : named s l b (loop .e) ≡ true = rw (← ap (λ (x : Entry). x .name) (entry-of .ensures), ← c .before .same-text .ensures) (c .if1 .taken) in
-    rw (← start .pre .2, first-hit (named s l b) (start .args .n) (loop .e) (loop-test .taken) (loop .inv .1) h, ← entry-of .ensures)
+    rw (← start .pre .entries, first-hit (named s l b) (start .args .n) (loop .e) (loop-test .taken) (loop .inv .none-yet) h, ← entry-of .ensures)
 
 add-e : tie.Need-add-e Inv-loop μ-loop
 add-e c = search needs
@@ -64,15 +68,15 @@ loop-again c =
     let b = bytes-of s (start .args .name) in
     let h : named s l b (loop .e) ≡ false =
     rw (← ap (λ (x : Entry). x .name) (c .before .before .entry-of .ensures), ← c .before .same-text .ensures) (c .if1 .left) in
-    (omega (arith, c), first-turn (named s l b) (loop .e) ∙ (rw (loop .inv .1, h)))
+    record { turns = omega (arith, c); none-yet = first-turn (named s l b) (loop .e) ∙ (rw (loop .inv .none-yet, h)) }
 
 returns-2 : tie.Need-returns-2 Inv-loop μ-loop
 unfolding value-named
 returns-2 c =
     let start = c .before .before .before .before in
     let e : length (lookup-at (pack-of (now (start .args .s)) .lookups) (start .args .l) .entries) ≡ c .before .loop .e =
-    omega (arith, start .pre .2, c .before .loop .inv .0, c .loop-test .left) in
-    rw (e, c .before .loop .inv .1)
+    omega (arith, start .pre .entries, c .before .loop .inv .turns, c .loop-test .left) in
+    rw (e, c .before .loop .inv .none-yet)
 
 pub value-named-spec : {M : Type 1} → statement M
 value-named-spec =

@@ -29,11 +29,13 @@ module _ (s : List ℕ) (t i : ℕ) (G : Pgn) (g : PgnView) (is : PgnIs s G g) w
 
 min-length-at-requires : tie.Need-min-length-at-requires
 min-length-at-requires c κs =
-    let start = c .before .before .before .before .before .before in (
-      rw (given (now (start .args .s)) (start .args .t) (start .args .i) _ (start .args .g) (start .pre .2) (c .before .if1 .taken)) at (start .pre .0),
-      start .pre .1,
-      start .pre .2,
-    )
+    let start = c .before .before .before .before .before .before in
+    record {
+      fits = rw
+          (given (now (start .args .s)) (start .args .g .tree) (start .args .g .item) _ (start .args .g .view) (start .pre .pgn .is) (c .before .if1 .taken)) at
+          (start .pre .fits);
+      pgn = start .pre .pgn;
+    }
 
 same-length : tie.Need-same-length
 same-length c = search needs
@@ -42,13 +44,13 @@ returns : tie.Need-returns
 returns c =
     let start = c .before .before .before .before .before .before .before .before .before in
     let if1 = c .before .before .before .before .if1 in
-    rw (given (now (start .args .s)) (start .args .t) (start .args .i) _ (start .args .g) (start .pre .2) (if1 .taken))
+    rw (given (now (start .args .s)) (start .args .g .tree) (start .args .g .item) _ (start .args .g .view) (start .pre .pgn .is) (if1 .taken))
     (c .before .before .min-length-at .ensures)
 
 returns-2 : tie.Need-returns-2
 returns-2 c =
     let start = c .before .before .before .before .before in
-    rw (absent (now (start .args .s)) (start .args .t) (start .args .i) _ (start .args .g) (start .pre .2) (c .if1 .left))
+    rw (absent (now (start .args .s)) (start .args .g .tree) (start .args .g .item) _ (start .args .g .view) (start .pre .pgn .is) (c .if1 .left))
     (emitted-none (now (start .args .out)) (start .args .n))
 
 pub check-min-length-spec : {M : Type 1} → statement M

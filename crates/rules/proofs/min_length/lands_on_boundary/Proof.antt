@@ -1,3 +1,4 @@
+use Rattle.rules.proofs.Sizes.{fields-few}
 use Rattle.rules.specs.SearchLaws.{any-turn, any-hit, sum-turn}
 use Rattle.rules.specs.Search.{any-below, sum-below}
 use Rattle.rules.specs.MinLength.{lands-on-boundary}
@@ -24,7 +25,8 @@ width s t i j = field-at (pgn-at (pack-of s) t i) j .res-bits
 abbrev ends : List ℕ → ℕ → ℕ → ℕ → ℕ → Bool
 ends s t i least k = sum-below (width s t i) (suc k) == least * 8
 
-module _ (s : List ℕ) (t i least bits k : ℕ) (v : FieldView) (is : field-meaning s v ≡ field-at (pgn-at (pack-of s) t i) k) (sum : bits ≡ sum-below (width s t i) k) where
+module _ (s : List ℕ) (t i least bits k : ℕ) (v : FieldView) (is : field-meaning s v ≡ field-at (pgn-at (pack-of s) t i) k)
+    (sum : bits ≡ sum-below (width s t i) k) where
   grown : bits + v .scaling .bits ≡ sum-below (width s t i) k + width s t i k
   grown = let e : v .scaling .bits ≡ width s t i k = ap (λ (F : Field). F .res-bits) is in rw (sum, e)
 
@@ -35,28 +37,36 @@ module _ (s : List ℕ) (t i least bits k : ℕ) (v : FieldView) (is : field-mea
   missed a e = rw (any-turn (ends s t i least) k, a) (ne-eqb (sum-below (width s t i) k + width s t i k) (least * 8) (λ q. e (grown ∙ q)))
 
 abbrev Inv-loop : tie.InvT-loop
-Inv-loop s work t i p fields least boundary bits₀ k₀ bits k =
-    (k ≤ fields) × (bits ≡ sum-below (width s t i) k) × (bits ≤ k * 4294967295) × (any-below (ends s t i least) k ≡ false)
+Inv-loop s work g least fields boundary bits₀ k₀ bits k =
+    record {
+      turns : k ≤ fields;
+      sum : bits ≡ sum-below (width s (g .tree) (g .item)) k;
+      small : bits ≤ k * 4294967295;
+      none-yet : any-below (ends s (g .tree) (g .item) least) k ≡ false;
+    }
 
 abbrev μ-loop : tie.MeasureT-loop
-μ-loop s work t i p fields least boundary bits₀ k₀ bits k = fields - k
+μ-loop s work g least fields boundary bits₀ k₀ bits k = fields - k
 
 mul-boundary : tie.Need-mul-boundary Inv-loop μ-loop
 mul-boundary c = search needs
 
 loop-holds : tie.Need-loop-holds Inv-loop μ-loop
-loop-holds c = (omega arith, refl, omega arith, refl)
+loop-holds c = record { turns = omega arith; sum = refl; small = omega arith; none-yet = refl }
 
 field-of-requires : tie.Need-field-of-requires Inv-loop μ-loop
 field-of-requires c κs =
     let start = c .before .before .before .before in
-    (start .pre .0, omega (arith, start .pre .1))
+    record { at = start .pre .at; field = omega (arith, start .pre .is .fields) }
 
 cast-bits : tie.Need-cast-bits Inv-loop μ-loop
 cast-bits c = search needs
 
 add-bits : tie.Need-add-bits Inv-loop μ-loop
-add-bits c = search needs
+add-bits c =
+    let start = c .before .before .before .before .before .before in
+    let loop = c .before .before .before .loop in
+    omega (arith, c .before .before .loop-test .taken, loop .inv .small, c .struct-known .given, start .pre .is .fields, fields-few (start .pre .at))
 
 returns : tie.Need-returns Inv-loop μ-loop
 unfolding lands-on-boundary
@@ -64,12 +74,15 @@ returns c =
     let start = c .before .before .before .before .before .before .before in
     let loop = c .before .before .before .before .loop in
     let field-of = c .before .before .field-of in
-    let s = now (start .args .s) in let t = start .args .t in let i = start .args .i in
-    sym (hit s t i (start .args .least) (loop .bits) (loop .k) (field-of .result) (field-of .ensures) (loop .inv .1) (length (pgn-at (pack-of s) t i .fields))
-    (omega (arith, start .pre .1)) (c .if1 .taken))
+    let s = now (start .args .s) in let t = start .args .g .tree in let i = start .args .g .item in
+    sym (hit s t i (start .args .least) (loop .bits) (loop .k) (field-of .result) (field-of .ensures) (loop .inv .sum) (length (pgn-at (pack-of s) t i .fields))
+    (omega (arith, start .pre .is .fields)) (c .if1 .taken))
 
 add-k : tie.Need-add-k Inv-loop μ-loop
-add-k c = search needs
+add-k c =
+    let start = c .before .before .before .before .before .before .before in
+    let loop-test = c .before .before .before .loop-test in
+    omega (arith, loop-test .taken, start .pre .is .fields, fields-few (start .pre .at))
 
 loop-less : tie.Need-loop-less Inv-loop μ-loop
 loop-less c = search needs
@@ -79,19 +92,23 @@ loop-again c =
     let start = c .before .before .before .before .before .before .before in
     let loop = c .before .before .before .before .loop in
     let field-of = c .before .before .field-of in
-    let s = now (start .args .s) in let t = start .args .t in let i = start .args .i in let least = start .args .least in (
-      omega (arith, c),
-      grown s t i least (loop .bits) (loop .k) (field-of .result) (field-of .ensures) (loop .inv .1) ∙ sym (sum-turn (width s t i) (loop .k)),
-      omega (arith, c .before .struct-known .given),
-      missed s t i least (loop .bits) (loop .k) (field-of .result) (field-of .ensures) (loop .inv .1) (loop .inv .3) (c .if1 .left),
-    )
+    let s = now (start .args .s) in let least = start .args .least in
+    let t = start .args .g .tree in
+    let i = start .args .g .item in
+    record {
+      turns = omega (arith, c);
+      sum = grown s t i least (loop .bits) (loop .k) (field-of .result) (field-of .ensures) (loop .inv .sum) ∙ sym (sum-turn (width s t i) (loop .k));
+      small = omega (arith, c .before .struct-known .given);
+      none-yet = missed s t i least (loop .bits) (loop .k) (field-of .result) (field-of .ensures) (loop .inv .sum) (loop .inv .none-yet) (c .if1 .left);
+    }
 
 returns-2 : tie.Need-returns-2 Inv-loop μ-loop
 unfolding lands-on-boundary
 returns-2 c =
     let start = c .before .before .before .before in
-    let e : c .before .loop .k ≡ length (pgn-at (pack-of (now (start .args .s))) (start .args .t) (start .args .i) .fields) = omega (arith, start .pre .1) in
-    rw (← e) (sym (c .before .loop .inv .3))
+    let e : c .before .loop .k ≡ length (pgn-at (pack-of (now (start .args .s))) (start .args .g .tree) (start .args .g .item) .fields) =
+    omega (arith, start .pre .is .fields) in
+    rw (← e) (sym (c .before .loop .inv .none-yet))
 
 pub lands-on-boundary-spec : {M : Type 1} → statement M
 lands-on-boundary-spec =

@@ -49,8 +49,8 @@ pgn-error-requires c κs = search needs
 put-requires : tie.Need-put-requires
 put-requires c κs =
     let start = c .before .before .before .before .before .before in
-    rw (variable (now (start .args .s)) (start .args .t) (start .args .i) (start .args .least) _ (start .args .g) (start .pre .2) _
-    (c .before .before .if1 .taken) (c .pgn-error .ensures)) at (start .pre .0)
+    rw (variable (now (start .args .s)) (start .args .g .tree) (start .args .g .item) (start .args .least) _ (start .args .g .view) (start .pre .pgn .is) _
+    (c .before .before .if1 .taken) (c .pgn-error .ensures)) at (start .pre .fits)
 
 same-length : tie.Need-same-length
 same-length c = search needs
@@ -60,8 +60,8 @@ returns c =
     let start = c .before .before .before .before .before .before .before .before .before in
     let if1 = c .before .before .before .before .before .if1 in
     let pgn-error-call = c .before .before .before .pgn-error in
-    rw (variable (now (start .args .s)) (start .args .t) (start .args .i) (start .args .least) _ (start .args .g) (start .pre .2) _ (if1 .taken)
-    (pgn-error-call .ensures)) (c .before .before .put .ensures)
+    rw (variable (now (start .args .s)) (start .args .g .tree) (start .args .g .item) (start .args .least) _ (start .args .g .view) (start .pre .pgn .is) _
+    (if1 .taken) (pgn-error-call .ensures)) (c .before .before .put .ensures)
 
 not-shorter-requires : tie.Need-not-shorter-requires
 not-shorter-requires c κs = search needs
@@ -74,8 +74,8 @@ put-requires-2 c κs =
     let start = c .before .before .before .before .before .before .before .before in
     let if1 = c .before .before .before .before .if1 in
     let not-shorter = c .before .before .before .not-shorter in
-    rw (unfit (now (start .args .s)) (start .args .t) (start .args .i) (start .args .least) _ (start .args .g) (start .pre .2) _ (if1 .left)
-    (sym (not-shorter .ensures) ∙ c .before .before .if2 .taken) (c .pgn-error2 .ensures)) at (start .pre .0)
+    rw (unfit (now (start .args .s)) (start .args .g .tree) (start .args .g .item) (start .args .least) _ (start .args .g .view) (start .pre .pgn .is) _
+    (if1 .left) (sym (not-shorter .ensures) ∙ c .before .before .if2 .taken) (c .pgn-error2 .ensures)) at (start .pre .fits)
 
 same-length-2 : tie.Need-same-length-2
 same-length-2 c = search needs
@@ -87,13 +87,13 @@ returns-2 c =
     let not-shorter = c .before .before .before .before .before .before .not-shorter in
     let if2 = c .before .before .before .before .before .if2 in
     let pgn-error2 = c .before .before .before .pgn-error2 in
-    rw (unfit (now (start .args .s)) (start .args .t) (start .args .i) (start .args .least) _ (start .args .g) (start .pre .2) _ (if1 .left)
-    (sym (not-shorter .ensures) ∙ if2 .taken) (pgn-error2 .ensures)) (c .before .before .put2 .ensures)
+    rw (unfit (now (start .args .s)) (start .args .g .tree) (start .args .g .item) (start .args .least) _ (start .args .g .view) (start .pre .pgn .is) _
+    (if1 .left) (sym (not-shorter .ensures) ∙ if2 .taken) (pgn-error2 .ensures)) (c .before .before .put2 .ensures)
 
 lands-on-boundary-requires : tie.Need-lands-on-boundary-requires
 lands-on-boundary-requires c κs =
     let start = c .before .before .before .before .before .before in
-    (start .pre .1, start .pre .2 .fields)
+    start .pre .pgn
 
 pgn-error-requires-3 : tie.Need-pgn-error-requires-3
 pgn-error-requires-3 c κs = search needs
@@ -104,8 +104,8 @@ put-if-requires c κs =
     let if1 = c .before .before .before .before .before .if1 in
     let not-shorter = c .before .before .before .before .not-shorter in
     let if2 = c .before .before .before .if2 in
-    rw (fit (now (start .args .s)) (start .args .t) (start .args .i) (start .args .least) _ (start .args .g) (start .pre .2) _ (if1 .left)
-    (sym (not-shorter .ensures) ∙ if2 .left) _ (c .before .before .lands-on-boundary .ensures) (c .pgn-error3 .ensures)) at (start .pre .0)
+    rw (fit (now (start .args .s)) (start .args .g .tree) (start .args .g .item) (start .args .least) _ (start .args .g .view) (start .pre .pgn .is) _
+    (if1 .left) (sym (not-shorter .ensures) ∙ if2 .left) _ (c .before .before .lands-on-boundary .ensures) (c .pgn-error3 .ensures)) at (start .pre .fits)
 
 same-length-3 : tie.Need-same-length-3
 same-length-3 c = search needs
@@ -118,8 +118,8 @@ returns-3 c =
     let if2 = c .before .before .before .before .before .before .if2 in
     let lands-on-boundary-call = c .before .before .before .before .before .lands-on-boundary in
     let pgn-error3 = c .before .before .before .pgn-error3 in
-    rw (fit (now (start .args .s)) (start .args .t) (start .args .i) (start .args .least) _ (start .args .g) (start .pre .2) _ (if1 .left)
-    (sym (not-shorter .ensures) ∙ if2 .left) _ (lands-on-boundary-call .ensures) (pgn-error3 .ensures)) (c .before .before .put-if .ensures)
+    rw (fit (now (start .args .s)) (start .args .g .tree) (start .args .g .item) (start .args .least) _ (start .args .g .view) (start .pre .pgn .is) _
+    (if1 .left) (sym (not-shorter .ensures) ∙ if2 .left) _ (lands-on-boundary-call .ensures) (pgn-error3 .ensures)) (c .before .before .put-if .ensures)
 
 pub min-length-at-spec : {M : Type 1} → statement M
 min-length-at-spec =

@@ -24,7 +24,7 @@ parted s P l e v b x F y = rw (x, y)
 is-fieldtype-requires : tie.Need-is-fieldtype-requires
 is-fieldtype-requires c κs =
     let start = c .before .before .before in
-    (start .pre .1, start .pre .2 .types)
+    record { ready = start .pre .ready; types = start .pre .index .types }
 
 lookup-error-requires : tie.Need-lookup-error-requires
 lookup-error-requires c κs = search needs
@@ -36,9 +36,8 @@ put-if-requires c κs =
     let s = now (start .args .s) in let l = start .args .l in let e = start .args .e in
     fits-left (report-if (not (is-fieldtype-call .result)) (c .lookup-error .result))
     (nested-lookup-at (pack-of s .lookups) l e (optional-bytes s (start .args .entry .nested)))
-    (rw
-    (parted s (pack-of s) l e (start .args .entry) (is-fieldtype-call .result) (is-fieldtype-call .ensures) (c .lookup-error .result) (c .lookup-error .ensures))
-    at (start .pre .0))
+    (rw (parted s (pack-of s) l e (start .args .entry) (is-fieldtype-call .result) (is-fieldtype-call .ensures) (c .lookup-error .result)
+    (c .lookup-error .ensures)) at (start .pre .fits))
 
 nested-lookup-at-requires : tie.Need-nested-lookup-at-requires
 nested-lookup-at-requires c κs =
@@ -46,15 +45,15 @@ nested-lookup-at-requires c κs =
     let is-fieldtype-call = c .before .before .before .before .before .before .is-fieldtype in
     let lookup-error-call = c .before .before .before .before .lookup-error in
     let put-if = c .before .before .before .put-if in
-    let s = now (start .args .s) in let l = start .args .l in let e = start .args .e in (
-      fits-right (report-if (not (is-fieldtype-call .result)) (lookup-error-call .result))
+    let s = now (start .args .s) in let l = start .args .l in let e = start .args .e in
+    record {
+      fits = fits-right (report-if (not (is-fieldtype-call .result)) (lookup-error-call .result))
           (nested-lookup-at (pack-of s .lookups) l e (optional-bytes s (start .args .entry .nested)))
           (rw (parted s (pack-of s) l e (start .args .entry) (is-fieldtype-call .result) (is-fieldtype-call .ensures) (lookup-error-call .result)
-          (lookup-error-call .ensures)) at (start .pre .0)) (put-if .ensures),
-      start .pre .1,
-      start .pre .2 .lookups,
-      start .pre .2 .lookups-place,
-    )
+          (lookup-error-call .ensures)) at (start .pre .fits)) (put-if .ensures);
+      ready = start .pre .ready;
+      lookups = start .pre .index .lookups;
+    }
 
 same-length : tie.Need-same-length
 same-length c = search needs
@@ -69,7 +68,8 @@ returns c =
     let s = now (start .args .s) in let l = start .args .l in let e = start .args .e in
     rw (parted s (pack-of s) l e (start .args .entry) (is-fieldtype-call .result) (is-fieldtype-call .ensures) (lookup-error-call .result)
     (lookup-error-call .ensures)) (emitted-append {xs = report-if (not (is-fieldtype-call .result)) (lookup-error-call .result)}
-    {ys = nested-lookup-at (pack-of s .lookups) l e (optional-bytes s (start .args .entry .nested))} (put-if .ensures) (c .before .before .nested-lookup-at .ensures))
+    {ys = nested-lookup-at (pack-of s .lookups) l e (optional-bytes s (start .args .entry .nested))} (put-if .ensures)
+    (c .before .before .nested-lookup-at .ensures))
 
 pub fieldtype-entry-at-spec : {M : Type 1} → statement M
 fieldtype-entry-at-spec =

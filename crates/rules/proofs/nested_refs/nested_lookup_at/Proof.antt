@@ -49,8 +49,8 @@ put-if-requires c κs =
     let find-lookup-call = c .before .before .before .find-lookup in
     let s = now (start .args .s) in
     rw (nested s (pack-of s .lookups) (start .args .l) (start .args .e) (start .args .nested) (not-false (start .args .nested .given) (if1 .left))
-    (find-lookup-call .result .given) (find-lookup-call .result .index) (find-lookup-call .ensures .0) (c .lookup-error .result) (c .lookup-error .ensures)) at
-    (start .pre .0)
+    (find-lookup-call .result .given) (find-lookup-call .result .index) (find-lookup-call .ensures .found) (c .lookup-error .result)
+    (c .lookup-error .ensures)) at (start .pre .fits)
 
 same-length : tie.Need-same-length
 same-length c = search needs
@@ -63,7 +63,7 @@ returns-2 c =
     let lookup-error-call = c .before .before .before .lookup-error in
     let s = now (start .args .s) in
     rw (nested s (pack-of s .lookups) (start .args .l) (start .args .e) (start .args .nested) (not-false (start .args .nested .given) (if1 .left))
-    (find-lookup-call .result .given) (find-lookup-call .result .index) (find-lookup-call .ensures .0) (lookup-error-call .result)
+    (find-lookup-call .result .given) (find-lookup-call .result .index) (find-lookup-call .ensures .found) (lookup-error-call .result)
     (lookup-error-call .ensures)) (c .before .before .put-if .ensures)
 
 pub nested-lookup-at-spec : {M : Type 1} → statement M

@@ -45,7 +45,7 @@ neither (inr e) = omega arith
 returns : tie.Need-returns
 returns c =
     let start = c .before .before .before .before in
-    rw (pseudo (now (start .args .s)) (start .args .t) (start .args .i) _ (start .args .g) (start .pre .1) (c .if1 .taken))
+    rw (pseudo (now (start .args .s)) (start .args .g .tree) (start .args .g .item) _ (start .args .g .view) (start .pre .is) (c .if1 .taken))
     (emitted-none (now (start .args .out)) (start .args .n))
 
 of-tree-requires : tie.Need-of-tree-requires
@@ -59,11 +59,12 @@ quick-range-requires c κs =
     let start = c .before .before .before .before .before .before .before .before in
     let if1 = c .before .before .before .before .if1 in
     let of-tree = c .before .before .before .of-tree in
-    let t = start .args .t in (
-      rw (in-quick (now (start .args .s)) t (start .args .i) _ (start .args .g) (start .pre .1) (if1 .left)
-          (sym (tree-of t (start .pre .2)) ∙ ap tree-number (sym (of-tree .ensures) ∙ c .before .enum-told .given .1))) at (start .pre .0),
-      start .pre .1,
-    )
+    let t = start .args .g .tree in
+    record {
+      fits = rw (in-quick (now (start .args .s)) t (start .args .g .item) _ (start .args .g .view) (start .pre .is) (if1 .left)
+          (sym (tree-of t (start .pre .trees)) ∙ ap tree-number (sym (of-tree .ensures) ∙ c .before .enum-told .given .1))) at (start .pre .fits);
+      is = start .pre .is;
+    }
 
 same-length : tie.Need-same-length
 same-length c = search needs
@@ -74,9 +75,9 @@ returns-2 c =
     let if1 = c .before .before .before .before .before .before .before .if1 in
     let of-tree = c .before .before .before .before .before .before .of-tree in
     let enum-told-here = c .before .before .before .before .enum-told in
-    let t = start .args .t in
-    rw (in-quick (now (start .args .s)) t (start .args .i) _ (start .args .g) (start .pre .1) (if1 .left)
-    (sym (tree-of t (start .pre .2)) ∙ ap tree-number (sym (of-tree .ensures) ∙ enum-told-here .given .1))) (c .before .before .quick-range .ensures)
+    let t = start .args .g .tree in
+    rw (in-quick (now (start .args .s)) t (start .args .g .item) _ (start .args .g .view) (start .pre .is) (if1 .left)
+    (sym (tree-of t (start .pre .trees)) ∙ ap tree-number (sym (of-tree .ensures) ∙ enum-told-here .given .1))) (c .before .before .quick-range .ensures)
 
 find-range-requires : tie.Need-find-range-requires
 find-range-requires c κs = search needs
@@ -86,12 +87,13 @@ found-range-requires c κs =
     let start = c .before .before .before .before .before .before .before .before in
     let if1 = c .before .before .before .before .if1 in
     let of-tree = c .before .before .before .of-tree in
-    let t = start .args .t in (
-      rw (in-range (now (start .args .s)) t (start .args .i) _ (start .args .g) (start .pre .1) (if1 .left)
-          (λ e. neither (rw (of-tree .ensures, e) at (c .before .before .match .keys2)))) at (start .pre .0),
-      start .pre .1,
-      (rw (of-tree .ensures, tree-of t (start .pre .2)) at (c .before .find-range .ensures)),
-    )
+    let t = start .args .g .tree in
+    record {
+      fits = rw (in-range (now (start .args .s)) t (start .args .g .item) _ (start .args .g .view) (start .pre .is) (if1 .left)
+          (λ e. neither (rw (of-tree .ensures, e) at (c .before .before .match .keys2)))) at (start .pre .fits);
+      is = start .pre .is;
+      found = (rw (of-tree .ensures, tree-of t (start .pre .trees)) at (c .before .find-range .ensures));
+    }
 
 same-length-2 : tie.Need-same-length-2
 same-length-2 c = search needs
@@ -102,7 +104,7 @@ returns-3 c =
     let if1 = c .before .before .before .before .before .before .before .if1 in
     let of-tree = c .before .before .before .before .before .before .of-tree in
     let match = c .before .before .before .before .before .match in
-    rw (in-range (now (start .args .s)) (start .args .t) (start .args .i) _ (start .args .g) (start .pre .1) (if1 .left)
+    rw (in-range (now (start .args .s)) (start .args .g .tree) (start .args .g .item) _ (start .args .g .view) (start .pre .is) (if1 .left)
     (λ e. neither (rw (of-tree .ensures, e) at (match .keys2)))) (c .before .before .found-range .ensures)
 
 pub check-pgn-range-spec : {M : Type 1} → statement M

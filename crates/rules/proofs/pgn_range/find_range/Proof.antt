@@ -27,9 +27,11 @@ ended rs n j h = let x = drop-of-length-le rs {i = j} h in rw x
 
 abbrev Inv-loop : tie.InvT-loop
 Inv-loop protocol pgn count j₀ j =
-    (count ≡ length (ranges-of (tree-number protocol)))
-    × (j ≤ count)
-    × (find-range (ranges-of (tree-number protocol)) pgn ≡ find-range (drop j (ranges-of (tree-number protocol))) pgn)
+    record {
+      table : count ≡ length (ranges-of (tree-number protocol));
+      turns : j ≤ count;
+      rest : find-range (ranges-of (tree-number protocol)) pgn ≡ find-range (drop j (ranges-of (tree-number protocol))) pgn;
+    }
 
 abbrev μ-loop : tie.MeasureT-loop
 μ-loop protocol pgn count j₀ j = count - j
@@ -38,7 +40,7 @@ range-count-requires : tie.Need-range-count-requires Inv-loop μ-loop
 range-count-requires c κs = search needs
 
 loop-holds : tie.Need-loop-holds Inv-loop μ-loop
-loop-holds c = (c .range-count .ensures, omega arith, refl)
+loop-holds c = record { table = c .range-count .ensures; turns = omega arith; rest = refl }
 
 range-at-requires : tie.Need-range-at-requires Inv-loop μ-loop
 range-at-requires c κs = omega arith
@@ -47,7 +49,8 @@ returns : tie.Need-returns Inv-loop μ-loop
 returns c =
     let start = c .before .before .before .before .before .before in
     let loop = c .before .before .before .before .loop in
-    loop .inv .2 ∙ hit (ranges-of (tree-number (start .args .protocol))) (start .args .pgn) (loop .j) _ (c .before .before .range-at .ensures) (c .if1 .taken)
+    loop .inv .rest
+    ∙ hit (ranges-of (tree-number (start .args .protocol))) (start .args .pgn) (loop .j) _ (c .before .before .range-at .ensures) (c .if1 .taken)
 
 add-j : tie.Need-add-j Inv-loop μ-loop
 add-j c = search needs
@@ -58,17 +61,18 @@ loop-less c = search needs
 loop-again : tie.Need-loop-again Inv-loop μ-loop
 loop-again c =
     let start = c .before .before .before .before .before .before in
-    let loop = c .before .before .before .before .loop in (
-      loop .inv .0,
-      omega (arith, c),
-      loop .inv .2
-          ∙ missed (ranges-of (tree-number (start .args .protocol))) (start .args .pgn) (loop .j) _ (c .before .before .range-at .ensures) (c .if1 .left),
-    )
+    let loop = c .before .before .before .before .loop in
+    record {
+      table = loop .inv .table;
+      turns = omega (arith, c);
+      rest = loop .inv .rest
+          ∙ missed (ranges-of (tree-number (start .args .protocol))) (start .args .pgn) (loop .j) _ (c .before .before .range-at .ensures) (c .if1 .left);
+    }
 
 returns-2 : tie.Need-returns-2 Inv-loop μ-loop
 returns-2 c =
     let start = c .before .before .before in
-    c .before .loop .inv .2 ∙ ended (ranges-of (tree-number (start .args .protocol))) (start .args .pgn) (c .before .loop .j) (omega (arith, c))
+    c .before .loop .inv .rest ∙ ended (ranges-of (tree-number (start .args .protocol))) (start .args .pgn) (c .before .loop .j) (omega (arith, c))
 
 pub find-range-spec : {M : Type 1} → statement M
 find-range-spec =

@@ -22,7 +22,8 @@ abbrev ranged : OptRange → Range
 ranged v = range (v .range .start) (v .range .end) (if pdu1 (v .range .start) then 256 else 1) (v .range .kind)
 
 -- the rule's part, said of the view: no range, before the range, in it
-module _ (s : List ℕ) (t i : ℕ) (G : Pgn) (g : PgnView) (is : PgnIs s G g) (v : OptRange) (found : find-range (ranges-of t) (g .pgn) ≡ optional (v .given) (ranged v)) where
+module _ (s : List ℕ) (t i : ℕ) (G : Pgn) (g : PgnView) (is : PgnIs s G g) (v : OptRange)
+    (found : find-range (ranges-of t) (g .pgn) ≡ optional (v .given) (ranged v)) where
   beyond : v .given ≡ false → (f : Finding) → f ≡ pgn-error 2 3 t i 0 0 → found-range t i G (find-range (ranges-of t) (g .pgn)) ≡ f ∷ []
   unfolding found-range
   beyond e f x = rw (found, e, x)
@@ -47,8 +48,8 @@ put-requires : tie.Need-put-requires
 put-requires c κs =
     let start = c .before .before .before .before .before .before .before .before in
     let if1 = c .before .before .before .before .before .if1 in
-    rw (outside (now (start .args .s)) (start .args .t) (start .args .i) _ (start .args .g) (start .pre .1) (start .args .found) (start .pre .2) (if1 .taken)
-    (c .before .before .if2 .taken) _ (c .pgn-error .ensures)) at (start .pre .0)
+    rw (outside (now (start .args .s)) (start .args .g .tree) (start .args .g .item) _ (start .args .g .view) (start .pre .is) (start .args .found)
+    (start .pre .found) (if1 .taken) (c .before .before .if2 .taken) _ (c .pgn-error .ensures)) at (start .pre .fits)
 
 same-length : tie.Need-same-length
 same-length c = search needs
@@ -59,8 +60,8 @@ returns c =
     let if1 = c .before .before .before .before .before .before .before .before .if1 in
     let if2 = c .before .before .before .before .before .if2 in
     let pgn-error-call = c .before .before .before .pgn-error in
-    rw (outside (now (start .args .s)) (start .args .t) (start .args .i) _ (start .args .g) (start .pre .1) (start .args .found) (start .pre .2) (if1 .taken)
-    (if2 .taken) _ (pgn-error-call .ensures)) (c .before .before .put .ensures)
+    rw (outside (now (start .args .s)) (start .args .g .tree) (start .args .g .item) _ (start .args .g .view) (start .pre .is) (start .args .found)
+    (start .pre .found) (if1 .taken) (if2 .taken) _ (pgn-error-call .ensures)) (c .before .before .put .ensures)
 
 pdu1-unended-requires : tie.Need-pdu1-unended-requires
 pdu1-unended-requires c κs = search needs
@@ -73,8 +74,9 @@ put-if-requires c κs =
     let start = c .before .before .before .before .before .before .before .before .before in
     let if1 = c .before .before .before .before .before .before .if1 in
     let if2 = c .before .before .before .if2 in
-    fits-left _ _ (rw (inside (now (start .args .s)) (start .args .t) (start .args .i) _ (start .args .g) (start .pre .1) (start .args .found) (start .pre .2)
-    (if1 .taken) (if2 .left) _ _ _ _ (c .before .before .pdu1-unended .ensures) (c .pgn-error2 .ensures) refl refl) at (start .pre .0))
+    fits-left _ _ (rw (inside (now (start .args .s)) (start .args .g .tree) (start .args .g .item) _ (start .args .g .view) (start .pre .is)
+    (start .args .found) (start .pre .found) (if1 .taken) (if2 .left) _ _ _ _ (c .before .before .pdu1-unended .ensures) (c .pgn-error2 .ensures) refl refl) at
+    (start .pre .fits))
 
 disagrees-requires : tie.Need-disagrees-requires
 disagrees-requires c κs = search needs
@@ -92,9 +94,9 @@ put-if-requires-2 c κs =
     let pgn-error2 = c .before .before .before .before .before .before .pgn-error2 in
     let put-if = c .before .before .before .before .before .put-if in
     fits-right (report-if (pdu1-unended .result) (pgn-error2 .result)) _
-    (rw (inside (now (start .args .s)) (start .args .t) (start .args .i) _ (start .args .g) (start .pre .1) (start .args .found) (start .pre .2) (if1 .taken)
-    (if2 .left) _ _ _ _ (pdu1-unended .ensures) (pgn-error2 .ensures) (c .before .before .disagrees .ensures) (c .pgn-error3 .ensures)) at (start .pre .0))
-    (put-if .ensures)
+    (rw (inside (now (start .args .s)) (start .args .g .tree) (start .args .g .item) _ (start .args .g .view) (start .pre .is) (start .args .found)
+    (start .pre .found) (if1 .taken) (if2 .left) _ _ _ _ (pdu1-unended .ensures) (pgn-error2 .ensures) (c .before .before .disagrees .ensures)
+    (c .pgn-error3 .ensures)) at (start .pre .fits)) (put-if .ensures)
 
 same-length-2 : tie.Need-same-length-2
 same-length-2 c = search needs
@@ -110,8 +112,8 @@ returns-2 c =
     let put-if = c .before .before .before .before .before .before .before .before .put-if in
     let disagrees = c .before .before .before .before .before .disagrees in
     let pgn-error3 = c .before .before .before .pgn-error3 in
-    rw (inside (now (start .args .s)) (start .args .t) (start .args .i) _ (start .args .g) (start .pre .1) (start .args .found) (start .pre .2) (if1 .taken)
-    (if2 .left) _ _ _ _ (pdu1-unended .ensures) (pgn-error2 .ensures) (disagrees .ensures) (pgn-error3 .ensures))
+    rw (inside (now (start .args .s)) (start .args .g .tree) (start .args .g .item) _ (start .args .g .view) (start .pre .is) (start .args .found)
+    (start .pre .found) (if1 .taken) (if2 .left) _ _ _ _ (pdu1-unended .ensures) (pgn-error2 .ensures) (disagrees .ensures) (pgn-error3 .ensures))
     (emitted-append (put-if .ensures) (c .before .before .put-if2 .ensures))
 
 pgn-error-requires-4 : tie.Need-pgn-error-requires-4
@@ -120,8 +122,8 @@ pgn-error-requires-4 c κs = search needs
 put-requires-2 : tie.Need-put-requires-2
 put-requires-2 c κs =
     let start = c .before .before .before .before .before in
-    rw (beyond (now (start .args .s)) (start .args .t) (start .args .i) _ (start .args .g) (start .pre .1) (start .args .found) (start .pre .2)
-    (c .before .before .if1 .left) _ (c .pgn-error4 .ensures)) at (start .pre .0)
+    rw (beyond (now (start .args .s)) (start .args .g .tree) (start .args .g .item) _ (start .args .g .view) (start .pre .is) (start .args .found)
+    (start .pre .found) (c .before .before .if1 .left) _ (c .pgn-error4 .ensures)) at (start .pre .fits)
 
 same-length-3 : tie.Need-same-length-3
 same-length-3 c = search needs
@@ -131,8 +133,8 @@ returns-3 c =
     let start = c .before .before .before .before .before .before .before .before in
     let if1 = c .before .before .before .before .before .if1 in
     let pgn-error4 = c .before .before .before .pgn-error4 in
-    rw (beyond (now (start .args .s)) (start .args .t) (start .args .i) _ (start .args .g) (start .pre .1) (start .args .found) (start .pre .2) (if1 .left) _
-    (pgn-error4 .ensures)) (c .before .before .put2 .ensures)
+    rw (beyond (now (start .args .s)) (start .args .g .tree) (start .args .g .item) _ (start .args .g .view) (start .pre .is) (start .args .found)
+    (start .pre .found) (if1 .left) _ (pgn-error4 .ensures)) (c .before .before .put2 .ensures)
 
 pub found-range-spec : {M : Type 1} → statement M
 found-range-spec =

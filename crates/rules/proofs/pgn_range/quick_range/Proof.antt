@@ -27,8 +27,9 @@ pgn-error-requires c κs = search needs
 put-if-requires : tie.Need-put-if-requires
 put-if-requires c κs =
     let start = c .before .before .before .before .before in
-    fits-left _ _ (rw (viewed (now (start .args .s)) (start .args .t) (start .args .i) _ (start .args .g) (start .pre .1) _ _ (c .pgn-error .ensures) refl) at
-    (start .pre .0))
+    fits-left _ _ (rw
+    (viewed (now (start .args .s)) (start .args .g .tree) (start .args .g .item) _ (start .args .g .view) (start .pre .is) _ _ (c .pgn-error .ensures) refl) at
+    (start .pre .fits))
 
 pgn-error-requires-2 : tie.Need-pgn-error-requires-2
 pgn-error-requires-2 c κs = search needs
@@ -38,10 +39,9 @@ put-if-requires-2 c κs =
     let start = c .before .before .before .before .before .before .before .before .before .before .before in
     let pgn-error-call = c .before .before .before .before .before .before .pgn-error in
     let put-if = c .before .before .before .before .before .put-if in
-    fits-right (report-if (2047 <ᵇ start .args .g .pgn) (pgn-error-call .result)) _
-    (rw
-    (viewed (now (start .args .s)) (start .args .t) (start .args .i) _ (start .args .g) (start .pre .1) _ _ (pgn-error-call .ensures) (c .pgn-error2 .ensures))
-    at (start .pre .0)) (put-if .ensures)
+    fits-right (report-if (2047 <ᵇ start .args .g .view .pgn) (pgn-error-call .result)) _
+    (rw (viewed (now (start .args .s)) (start .args .g .tree) (start .args .g .item) _ (start .args .g .view) (start .pre .is) _ _ (pgn-error-call .ensures)
+    (c .pgn-error2 .ensures)) at (start .pre .fits)) (put-if .ensures)
 
 same-length : tie.Need-same-length
 same-length c = search needs
@@ -53,8 +53,8 @@ returns c =
     let pgn-error-call = c .before .before .before .before .before .before .before .before .before .pgn-error in
     let put-if = c .before .before .before .before .before .before .before .before .put-if in
     let pgn-error2 = c .before .before .before .pgn-error2 in
-    rw (viewed (now (start .args .s)) (start .args .t) (start .args .i) _ (start .args .g) (start .pre .1) _ _ (pgn-error-call .ensures) (pgn-error2 .ensures))
-    (emitted-append (put-if .ensures) (c .before .before .put-if2 .ensures))
+    rw (viewed (now (start .args .s)) (start .args .g .tree) (start .args .g .item) _ (start .args .g .view) (start .pre .is) _ _ (pgn-error-call .ensures)
+    (pgn-error2 .ensures)) (emitted-append (put-if .ensures) (c .before .before .put-if2 .ensures))
 
 pub quick-range-spec : {M : Type 1} → statement M
 quick-range-spec =

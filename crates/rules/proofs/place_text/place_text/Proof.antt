@@ -23,7 +23,7 @@ write-named-requires c κs =
     let index = c .before .before .before .index in
     let pack = now (start .args .pack) in
     let l = load-law pack (now (start .args .work)) (index .given .0 .0) (sym (load .ensures .answer) ∙ index .given .1) in
-    (rw (load .ensures .work) (l .0), rw (l .1) (index-law pack))
+    record { ready = rw (load .ensures .work) (l .0); index = rw (l .1) (index-law pack) }
 
 same-length : tie.Need-same-length
 same-length c = search needs
@@ -50,7 +50,8 @@ returns-2 c =
     let index = c .before .before .before .before .before .before .index in
     let write-named = c .before .before .write-named in
     let a = is-loaded (now (start .args .pack)) (length (now (start .args .work))) (start .args .place) (start .args .tree) (start .args .item)
-    (now (start .args .text)) (index .given .0 .0) (sym (load .ensures .answer) ∙ index .given .1) _ _ (write-named .ensures .0) (write-named .ensures .1) in
+    (now (start .args .text)) (index .given .0 .0) (sym (load .ensures .answer) ∙ index .given .1) _ _ (write-named .ensures .answer)
+    (write-named .ensures .text) in
     promised _ _ _ _ _ _ _ _ _ a (load .ensures .work)
 
 pub place-text-spec : {M : Type 1} → statement M

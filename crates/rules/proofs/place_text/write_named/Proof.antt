@@ -20,7 +20,7 @@ returns c =
     let pack = now (start .args .pack) in
     let a = not-there (place-text (pack-of pack) (start .args .place) (start .args .tree) (start .args .item)) (find-loc .result .given)
     (loc-text pack (find-loc .result .loc)) (find-loc .ensures) (now (start .args .text)) (not-true (find-loc .result .given) (c .if1 .taken)) in
-    (a .answer, a .text)
+    record { answer = a .answer; text = a .text }
 
 slice-relend-prefix-put-loc : tie.Need-slice-relend-prefix-put-loc
 slice-relend-prefix-put-loc c = search needs
@@ -45,7 +45,7 @@ returns-2 c =
     let a = too-short (place-text (pack-of pack) (start .args .place) (start .args .tree) (start .args .item)) (find-loc .result .given)
     (loc-text pack (find-loc .result .loc)) (find-loc .ensures) text (not-false (find-loc .result .given) (if1 .left)) (put-loc .result)
     (put-loc .ensures .count) (rw x at (c .if2 .taken)) in
-    (a .answer, x ∙ a .text)
+    record { answer = a .answer; text = x ∙ a .text }
 
 put-loc-requires-2 : tie.Need-put-loc-requires-2
 put-loc-requires-2 c κs = search needs
@@ -67,7 +67,7 @@ returns-3 c =
     let a = all-written (place-text (pack-of pack) (start .args .place) (start .args .tree) (start .args .item)) (find-loc .result .given)
     (loc-text pack (find-loc .result .loc)) (find-loc .ensures) text (not-false (find-loc .result .given) (if1 .left)) (put-loc .result)
     (put-loc .ensures .count) (rw x at (if2 .left)) (put-loc2 .last .0) (put-loc2 .result) (rw x at (put-loc2 .ensures)) in
-    (a .answer, a .text)
+    record { answer = a .answer; text = a .text }
 
 pub write-named-spec : {M : Type 1} → statement M
 write-named-spec =

@@ -11,7 +11,7 @@ returns : tie.Need-returns
 unfolding place-text
 returns c =
     let start = c .before .before .before .before in
-    rw (eq-eqb (start .args .place) 0 (c .before .if1 .taken), ← start .pre .1 .types, c .in-first-tree .ensures)
+    rw (eq-eqb (start .args .place) 0 (c .before .if1 .taken), ← start .pre .index .types, c .in-first-tree .ensures)
 
 pgn-loc-requires : tie.Need-pgn-loc-requires
 pgn-loc-requires c κs = search needs

@@ -24,9 +24,9 @@ has-number-requires : tie.Need-has-number-requires
 has-number-requires c κs =
     let start = c .before .before .before .before .before in
     let if1 = c .before .before .if1 in
-    let a = at-tree (pack-of (now (start .args .s))) (start .args .index) (start .pre .1) (start .args .tree) (if1 .left) (c .before .of-tree .result)
+    let a = at-tree (pack-of (now (start .args .s))) (start .args .index) (start .pre .index) (start .args .tree) (if1 .left) (c .before .of-tree .result)
     (c .section .result) (c .before .of-tree .ensures) (c .section .ensures) in
-    (start .pre .0, if1 .left, a .0, a .1)
+    record { ready = start .pre .ready; trees = if1 .left; pgns = a }
 
 returns-2 : tie.Need-returns-2
 returns-2 c =

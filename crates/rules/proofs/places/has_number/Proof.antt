@@ -24,18 +24,23 @@ abbrev numbered : List ℕ → ℕ → ℕ → ℕ → Bool
 numbered s t number i = pgn-at (pack-of s) t i .pgn == number
 
 abbrev Inv-loop : tie.InvT-loop
-Inv-loop s work t number n p₀ i₀ p i = (i ≤ n) × (p ≡ place-of-pgn (pack-of s) t i) × (any-below (numbered s t number) i ≡ false)
+Inv-loop s work t number n p₀ i₀ p i =
+    record {
+      turns : i ≤ n;
+      place : p ≡ place-of-pgn (pack-of s) t i;
+      none-yet : any-below (numbered s t number) i ≡ false;
+    }
 
 abbrev μ-loop : tie.MeasureT-loop
 μ-loop s work t number n p₀ i₀ p i = n - i
 
 loop-holds : tie.Need-loop-holds Inv-loop μ-loop
-loop-holds c = (omega arith, omega (arith, c .before .before .pre .3), refl)
+loop-holds c = record { turns = omega arith; place = omega (arith, c .before .before .pre .pgns .place); none-yet = refl }
 
 pgn-of-requires : tie.Need-pgn-of-requires Inv-loop μ-loop
 pgn-of-requires c κs =
     let start = c .before .before .before .before in
-    at-pgn (start .pre .0) (start .pre .1) (omega (arith, start .pre .2)) (c .loop-test .taken) (c .before .loop .inv .1)
+    at-pgn (start .pre .ready) (start .pre .trees) (omega (arith, start .pre .pgns .count)) (c .loop-test .taken) (c .before .loop .inv .place)
 
 returns : tie.Need-returns Inv-loop μ-loop
 unfolding has-number
@@ -45,14 +50,14 @@ returns c =
     let loop-test = c .before .before .before .loop-test in
     let s = now (start .args .s) in let t = start .args .t in let number = start .args .number in
     let e : numbered s t number (loop .i) ≡ true = eq-eqb _ _ (sym (ap (λ (G : Pgn). G .pgn) (c .before .before .pgn-of .ensures .means)) ∙ c .if1 .taken) in
-    sym (any-hit (numbered s t number) (length (pgns-of (pack-of s) t)) (loop .i) (omega (arith, loop-test .taken, start .pre .2)) e)
+    sym (any-hit (numbered s t number) (length (pgns-of (pack-of s) t)) (loop .i) (omega (arith, loop-test .taken, start .pre .pgns .count)) e)
 
 add-p : tie.Need-add-p Inv-loop μ-loop
 add-p c =
     let start = c .before .before .before .before .before .before .before in
     let loop = c .before .before .before .before .loop in
     let loop-test = c .before .before .before .loop-test in
-    omega (arith, fields-few (at-pgn (start .pre .0) (start .pre .1) (omega (arith, start .pre .2)) (loop-test .taken) (loop .inv .1)))
+    omega (arith, fields-few (at-pgn (start .pre .ready) (start .pre .trees) (omega (arith, start .pre .pgns .count)) (loop-test .taken) (loop .inv .place)))
 
 cast-p : tie.Need-cast-p Inv-loop μ-loop
 cast-p c =
@@ -60,7 +65,11 @@ cast-p c =
     let loop = c .before .before .before .before .before .loop in
     let loop-test = c .before .before .before .before .loop-test in
     let pgn-of = c .before .before .before .pgn-of in
-    omega (arith, fields-few (at-pgn (start .pre .0) (start .pre .1) (omega (arith, start .pre .2)) (loop-test .taken) (loop .inv .1)), pgn-of .ensures .fields)
+    omega (
+      arith,
+      fields-few (at-pgn (start .pre .ready) (start .pre .trees) (omega (arith, start .pre .pgns .count)) (loop-test .taken) (loop .inv .place)),
+      pgn-of .ensures .fields,
+    )
 
 add-p-2 : tie.Need-add-p-2 Inv-loop μ-loop
 add-p-2 c =
@@ -68,14 +77,18 @@ add-p-2 c =
     let loop = c .before .before .before .before .before .loop in
     let loop-test = c .before .before .before .before .loop-test in
     let pgn-of = c .before .before .before .pgn-of in
-    omega (arith, fields-few (at-pgn (start .pre .0) (start .pre .1) (omega (arith, start .pre .2)) (loop-test .taken) (loop .inv .1)), pgn-of .ensures .fields)
+    omega (
+      arith,
+      fields-few (at-pgn (start .pre .ready) (start .pre .trees) (omega (arith, start .pre .pgns .count)) (loop-test .taken) (loop .inv .place)),
+      pgn-of .ensures .fields,
+    )
 
 add-i : tie.Need-add-i Inv-loop μ-loop
 add-i c =
     let start = c .before .before .before .before .before .before .before .before in
     let loop = c .before .before .before .before .before .loop in
     let loop-test = c .before .before .before .before .loop-test in
-    omega (arith, pgns-few (at-pgn (start .pre .0) (start .pre .1) (omega (arith, start .pre .2)) (loop-test .taken) (loop .inv .1)))
+    omega (arith, pgns-few (at-pgn (start .pre .ready) (start .pre .trees) (omega (arith, start .pre .pgns .count)) (loop-test .taken) (loop .inv .place)))
 
 loop-less : tie.Need-loop-less Inv-loop μ-loop
 loop-less c = search needs
@@ -88,19 +101,20 @@ loop-again c =
     let pgn-of = c .before .before .before .pgn-of in
     let s = now (start .args .s) in let t = start .args .t in let number = start .args .number in
     let e : numbered s t number (loop .i) ≡ false =
-    rw (← ap (λ (G : Pgn). G .pgn) (pgn-of .ensures .means)) (ne-eqb (pgn-of .result .pgn) number (c .before .if1 .left)) in (
-      omega (arith, loop-test .taken),
-      omega (arith, pgn-place-next (pack-of s) t (loop .i), pgn-of .ensures .fields, loop .inv .1),
-      any-turn (numbered s t number) (loop .i) ∙ (rw (loop .inv .2, e)),
-    )
+    rw (← ap (λ (G : Pgn). G .pgn) (pgn-of .ensures .means)) (ne-eqb (pgn-of .result .pgn) number (c .before .if1 .left)) in
+    record {
+      turns = omega (arith, loop-test .taken);
+      place = omega (arith, pgn-place-next (pack-of s) t (loop .i), pgn-of .ensures .fields, loop .inv .place);
+      none-yet = any-turn (numbered s t number) (loop .i) ∙ (rw (loop .inv .none-yet, e));
+    }
 
 returns-2 : tie.Need-returns-2 Inv-loop μ-loop
 unfolding has-number
 returns-2 c =
     let start = c .before .before .before .before in
     let e : length (pgns-of (pack-of (now (start .args .s))) (start .args .t)) ≡ c .before .loop .i =
-    omega (arith, c .before .loop .inv .0, c .loop-test .left, start .pre .2) in
-    rw e (sym (c .before .loop .inv .2))
+    omega (arith, c .before .loop .inv .turns, c .loop-test .left, start .pre .pgns .count) in
+    rw e (sym (c .before .loop .inv .none-yet))
 
 pub has-number-spec : {M : Type 1} → statement M
 has-number-spec =

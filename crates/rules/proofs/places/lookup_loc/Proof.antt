@@ -32,21 +32,22 @@ returns c =
     let start = c .before .before .before .before .before in
     let in-first-tree = c .before .before .in-first-tree in
     let e : ((start .args .tree == 0) && (start .args .item <ᵇ length (pack-of (now (start .args .s)) .lookups))) ≡ false =
-    rw (← start .pre .1) (sym (in-first-tree .ensures) ∙ not-true (in-first-tree .result) (c .before .if1 .taken)) in
+    rw (← start .pre .lookups .count) (sym (in-first-tree .ensures) ∙ not-true (in-first-tree .result) (c .before .if1 .taken)) in
     rw (c .absent .ensures, e)
 
 lookup-position-requires : tie.Need-lookup-position-requires
 lookup-position-requires c κs =
-    let start = c .before .before .before .before in (
-      start .pre .0,
-      start .pre .2,
-      omega (
+    let start = c .before .before .before .before in
+    record {
+      ready = start .pre .ready;
+      first = start .pre .lookups .place;
+      item = omega (
         arith,
-        start .pre .1,
+        start .pre .lookups .count,
         inside (start .args .tree) (start .args .item) (start .args .lookups .count)
             (sym (c .before .in-first-tree .ensures) ∙ not-false (c .before .in-first-tree .result) (c .if1 .left)),
-      ),
-    )
+      );
+    }
 
 lookup-name-of-requires : tie.Need-lookup-name-of-requires
 lookup-name-of-requires c κs = search needs
@@ -56,7 +57,7 @@ returns-2 c =
     let start = c .before .before .before .before .before .before in
     let in-first-tree = c .before .before .before .in-first-tree in
     let e : ((start .args .tree == 0) && (start .args .item <ᵇ length (pack-of (now (start .args .s)) .lookups))) ≡ true =
-    rw (← start .pre .1) (sym (in-first-tree .ensures) ∙ not-false (in-first-tree .result) (c .before .before .if1 .left)) in
+    rw (← start .pre .lookups .count) (sym (in-first-tree .ensures) ∙ not-false (in-first-tree .result) (c .before .before .if1 .left)) in
     rw e (ap (λ (x : Bytes). some (lookup-loc x)) (c .lookup-name-of .ensures))
 
 pub lookup-loc-spec : {M : Type 1} → statement M

@@ -16,19 +16,23 @@ there : (s w : List ℕ) (item l p : ℕ) → Ready s w → item < length (pack-
 there s w item l p r h k e = record { ready = r; lookup = omega arith; place = e }
 
 abbrev Inv-loop : tie.InvT-loop
-Inv-loop s work first item p₀ l₀ p l = (l ≤ item) × (p ≡ place-of-lookup (pack-of s) l)
+Inv-loop s work first item p₀ l₀ p l =
+    record {
+      turns : l ≤ item;
+      place : p ≡ place-of-lookup (pack-of s) l;
+    }
 
 abbrev μ-loop : tie.MeasureT-loop
 μ-loop s work first item p₀ l₀ p l = item - l
 
 loop-holds : tie.Need-loop-holds Inv-loop μ-loop
-loop-holds c = (omega arith, c .before .before .pre .1)
+loop-holds c = record { turns = omega arith; place = c .before .before .pre .first }
 
 lookup-of-requires : tie.Need-lookup-of-requires Inv-loop μ-loop
 lookup-of-requires c κs =
     let start = c .before .before .before .before in
-    there (now (start .args .s)) (now (start .args .work)) (start .args .item) (c .before .loop .l) (c .before .loop .p) (start .pre .0) (start .pre .2)
-    (c .loop-test .taken) (c .before .loop .inv .1)
+    there (now (start .args .s)) (now (start .args .work)) (start .args .item) (c .before .loop .l) (c .before .loop .p) (start .pre .ready) (start .pre .item)
+    (c .loop-test .taken) (c .before .loop .inv .place)
 
 add-p : tie.Need-add-p Inv-loop μ-loop
 add-p c =
@@ -36,8 +40,8 @@ add-p c =
     let loop = c .before .before .loop in
     omega (
       arith,
-      entries-few (there (now (start .args .s)) (now (start .args .work)) (start .args .item) (loop .l) (loop .p) (start .pre .0) (start .pre .2)
-          (c .before .loop-test .taken) (loop .inv .1)),
+      entries-few (there (now (start .args .s)) (now (start .args .work)) (start .args .item) (loop .l) (loop .p) (start .pre .ready) (start .pre .item)
+          (c .before .loop-test .taken) (loop .inv .place)),
     )
 
 cast-p : tie.Need-cast-p Inv-loop μ-loop
@@ -46,8 +50,8 @@ cast-p c =
     let loop = c .before .before .before .loop in
     omega (
       arith,
-      entries-few (there (now (start .args .s)) (now (start .args .work)) (start .args .item) (loop .l) (loop .p) (start .pre .0) (start .pre .2)
-          (c .before .before .loop-test .taken) (loop .inv .1)),
+      entries-few (there (now (start .args .s)) (now (start .args .work)) (start .args .item) (loop .l) (loop .p) (start .pre .ready) (start .pre .item)
+          (c .before .before .loop-test .taken) (loop .inv .place)),
       c .before .lookup-of .ensures .entries,
     )
 
@@ -57,8 +61,8 @@ add-p-2 c =
     let loop = c .before .before .before .loop in
     omega (
       arith,
-      entries-few (there (now (start .args .s)) (now (start .args .work)) (start .args .item) (loop .l) (loop .p) (start .pre .0) (start .pre .2)
-          (c .before .before .loop-test .taken) (loop .inv .1)),
+      entries-few (there (now (start .args .s)) (now (start .args .work)) (start .args .item) (loop .l) (loop .p) (start .pre .ready) (start .pre .item)
+          (c .before .before .loop-test .taken) (loop .inv .place)),
       c .before .lookup-of .ensures .entries,
     )
 
@@ -71,16 +75,17 @@ loop-less c = search needs
 loop-again : tie.Need-loop-again Inv-loop μ-loop
 loop-again c =
     let start = c .before .before .before .before .before .before in
-    let loop = c .before .before .before .loop in (
-      omega (arith, c .before .before .loop-test .taken),
-      omega (arith, lookup-place-next (pack-of (now (start .args .s))) (loop .l), c .before .lookup-of .ensures .entries, loop .inv .1),
-    )
+    let loop = c .before .before .before .loop in
+    record {
+      turns = omega (arith, c .before .before .loop-test .taken);
+      place = omega (arith, lookup-place-next (pack-of (now (start .args .s))) (loop .l), c .before .lookup-of .ensures .entries, loop .inv .place);
+    }
 
 returns : tie.Need-returns Inv-loop μ-loop
 returns c =
     let start = c .before .before .before .before in
-    let e : c .before .loop .l ≡ start .args .item = omega (arith, c .before .loop .inv .0, c .loop-test .left) in
-    record { ready = start .pre .0; lookup = start .pre .2; place = (rw (← e) (c .before .loop .inv .1)) }
+    let e : c .before .loop .l ≡ start .args .item = omega (arith, c .before .loop .inv .turns, c .loop-test .left) in
+    record { ready = start .pre .ready; lookup = start .pre .item; place = (rw (← e) (c .before .loop .inv .place)) }
 
 pub lookup-position-spec : {M : Type 1} → statement M
 lookup-position-spec =

@@ -47,9 +47,12 @@ returns-2 c =
     let section = c .before .before .before .section in
     let s = now (start .args .s) in let tree = start .args .tree in
     let a =
-    at-tree (pack-of s) (start .args .index) (start .pre .1) tree (if1 .left) (of-tree .result) (section .result) (of-tree .ensures) (section .ensures) in
-    rw
-    (c .absent2 .ensures, lt-ltb tree 3 (if1 .left), le-ltb (start .args .item) (length (pgns-of (pack-of s) tree)) (omega (arith, a .0, c .before .if2 .taken)))
+    at-tree (pack-of s) (start .args .index) (start .pre .index) tree (if1 .left) (of-tree .result) (section .result) (of-tree .ensures) (section .ensures) in
+    rw (
+      c .absent2 .ensures,
+      lt-ltb tree 3 (if1 .left),
+      le-ltb (start .args .item) (length (pgns-of (pack-of s) tree)) (omega (arith, a .count, c .before .if2 .taken)),
+    )
 
 pgn-position-requires : tie.Need-pgn-position-requires
 pgn-position-requires c κs =
@@ -57,9 +60,9 @@ pgn-position-requires c κs =
     let if1 = c .before .before .before .before .if1 in
     let of-tree = c .before .before .before .of-tree in
     let section = c .before .before .section in
-    let a = at-tree (pack-of (now (start .args .s))) (start .args .index) (start .pre .1) (start .args .tree) (if1 .left) (of-tree .result) (section .result)
-    (of-tree .ensures) (section .ensures) in
-    (start .pre .0, if1 .left, a .1, omega (arith, a .0, c .if2 .left))
+    let a = at-tree (pack-of (now (start .args .s))) (start .args .index) (start .pre .index) (start .args .tree) (if1 .left) (of-tree .result)
+    (section .result) (of-tree .ensures) (section .ensures) in
+    record { ready = start .pre .ready; trees = if1 .left; first = a .place; item = omega (arith, a .count, c .if2 .left) }
 
 pgn-of-requires : tie.Need-pgn-of-requires
 pgn-of-requires c κs = search needs
@@ -73,8 +76,8 @@ returns-3 c =
     let if2 = c .before .before .before .if2 in
     let s = now (start .args .s) in let tree = start .args .tree in let item = start .args .item in
     let a =
-    at-tree (pack-of s) (start .args .index) (start .pre .1) tree (if1 .left) (of-tree .result) (section .result) (of-tree .ensures) (section .ensures) in
-    rw (lt-ltb tree 3 (if1 .left), lt-ltb item (length (pgns-of (pack-of s) tree)) (omega (arith, a .0, if2 .left)))
+    at-tree (pack-of s) (start .args .index) (start .pre .index) tree (if1 .left) (of-tree .result) (section .result) (of-tree .ensures) (section .ensures) in
+    rw (lt-ltb tree 3 (if1 .left), lt-ltb item (length (pgns-of (pack-of s) tree)) (omega (arith, a .count, if2 .left)))
     (ap some (text-is s tree (pgn-at (pack-of s) tree item) (c .before .pgn-of .result) (c .before .pgn-of .ensures)))
 
 pub pgn-loc-spec : {M : Type 1} → statement M

@@ -11,24 +11,31 @@ use Rattle.rules.proofs.places.pgn_position.Statement.{statement}
 use Rattle.rules.proofs.places.pgn_position.Tie as tie
 
 abbrev Inv-loop : tie.InvT-loop
-Inv-loop s work t first item p₀ i₀ p i = (i ≤ item) × (p ≡ place-of-pgn (pack-of s) t i)
+Inv-loop s work t first item p₀ i₀ p i =
+    record {
+      turns : i ≤ item;
+      place : p ≡ place-of-pgn (pack-of s) t i;
+    }
 
 abbrev μ-loop : tie.MeasureT-loop
 μ-loop s work t first item p₀ i₀ p i = item - i
 
 loop-holds : tie.Need-loop-holds Inv-loop μ-loop
-loop-holds c = (omega arith, omega (arith, c .before .before .pre .2))
+loop-holds c = record { turns = omega arith; place = omega (arith, c .before .before .pre .first) }
 
 pgn-of-requires : tie.Need-pgn-of-requires Inv-loop μ-loop
 pgn-of-requires c κs =
     let start = c .before .before .before .before in
-    at-pgn (start .pre .0) (start .pre .1) (omega (arith, start .pre .3)) (c .loop-test .taken) (c .before .loop .inv .1)
+    at-pgn (start .pre .ready) (start .pre .trees) (omega (arith, start .pre .item)) (c .loop-test .taken) (c .before .loop .inv .place)
 
 add-p : tie.Need-add-p Inv-loop μ-loop
 add-p c =
     let start = c .before .before .before .before .before in
-    omega
-    (arith, fields-few (at-pgn (start .pre .0) (start .pre .1) (omega (arith, start .pre .3)) (c .before .loop-test .taken) (c .before .before .loop .inv .1)))
+    omega (
+      arith,
+      fields-few (at-pgn (start .pre .ready) (start .pre .trees) (omega (arith, start .pre .item)) (c .before .loop-test .taken)
+          (c .before .before .loop .inv .place)),
+    )
 
 cast-p : tie.Need-cast-p Inv-loop μ-loop
 cast-p c =
@@ -36,7 +43,7 @@ cast-p c =
     let loop = c .before .before .before .loop in
     omega (
       arith,
-      fields-few (at-pgn (start .pre .0) (start .pre .1) (omega (arith, start .pre .3)) (c .before .before .loop-test .taken) (loop .inv .1)),
+      fields-few (at-pgn (start .pre .ready) (start .pre .trees) (omega (arith, start .pre .item)) (c .before .before .loop-test .taken) (loop .inv .place)),
       c .before .pgn-of .ensures .fields,
     )
 
@@ -46,7 +53,7 @@ add-p-2 c =
     let loop = c .before .before .before .loop in
     omega (
       arith,
-      fields-few (at-pgn (start .pre .0) (start .pre .1) (omega (arith, start .pre .3)) (c .before .before .loop-test .taken) (loop .inv .1)),
+      fields-few (at-pgn (start .pre .ready) (start .pre .trees) (omega (arith, start .pre .item)) (c .before .before .loop-test .taken) (loop .inv .place)),
       c .before .pgn-of .ensures .fields,
     )
 
@@ -59,16 +66,17 @@ loop-less c = search needs
 loop-again : tie.Need-loop-again Inv-loop μ-loop
 loop-again c =
     let start = c .before .before .before .before .before .before in
-    let loop = c .before .before .before .loop in (
-      omega (arith, c .before .before .loop-test .taken),
-      omega (arith, pgn-place-next (pack-of (now (start .args .s))) (start .args .t) (loop .i), c .before .pgn-of .ensures .fields, loop .inv .1),
-    )
+    let loop = c .before .before .before .loop in
+    record {
+      turns = omega (arith, c .before .before .loop-test .taken);
+      place = omega (arith, pgn-place-next (pack-of (now (start .args .s))) (start .args .t) (loop .i), c .before .pgn-of .ensures .fields, loop .inv .place);
+    }
 
 returns : tie.Need-returns Inv-loop μ-loop
 returns c =
     let start = c .before .before .before .before in
-    let e : c .before .loop .i ≡ start .args .item = omega (arith, c .before .loop .inv .0, c .loop-test .left) in
-    record { ready = start .pre .0; tree = start .pre .1; pgn = start .pre .3; place = (rw (← e) (c .before .loop .inv .1)) }
+    let e : c .before .loop .i ≡ start .args .item = omega (arith, c .before .loop .inv .turns, c .loop-test .left) in
+    record { ready = start .pre .ready; tree = start .pre .trees; pgn = start .pre .item; place = (rw (← e) (c .before .loop .inv .place)) }
 
 pub pgn-position-spec : {M : Type 1} → statement M
 pgn-position-spec =

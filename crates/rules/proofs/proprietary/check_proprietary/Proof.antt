@@ -48,21 +48,20 @@ returns : tie.Need-returns
 returns c =
     let start = c .before .before .before .before .before in
     let s = now (start .args .s) in
-    rw
-    (free s (pack-of s .fieldtypes) (start .args .t) (start .args .i) _ (start .args .g) (start .pre .2) (sym (c .before .is-exempt .ensures) ∙ c .if1 .taken))
-    (emitted-none (now (start .args .out)) (start .args .n))
+    rw (free s (pack-of s .fieldtypes) (start .args .g .tree) (start .args .g .item) _ (start .args .g .view) (start .pre .pgn .is)
+    (sym (c .before .is-exempt .ensures) ∙ c .if1 .taken)) (emitted-none (now (start .args .out)) (start .args .n))
 
 returns-2 : tie.Need-returns-2
 returns-2 c =
     let start = c .before .before .before .before .before .before in
     let s = now (start .args .s) in
-    rw (declared s (pack-of s .fieldtypes) (start .args .t) (start .args .i) _ (start .args .g) (start .pre .2)
+    rw (declared s (pack-of s .fieldtypes) (start .args .g .tree) (start .args .g .item) _ (start .args .g .view) (start .pre .pgn .is)
     (sym (c .before .before .is-exempt .ensures) ∙ c .before .if1 .left) (c .if2 .taken)) (emitted-none (now (start .args .out)) (start .args .n))
 
 company-fields-requires : tie.Need-company-fields-requires
 company-fields-requires c κs =
     let start = c .before .before .before .before .before .before in
-    (start .pre .1, start .pre .2 .fields)
+    start .pre .pgn
 
 pgn-error-requires : tie.Need-pgn-error-requires
 pgn-error-requires c κs = search needs
@@ -74,8 +73,8 @@ put-if-requires c κs =
     let if1 = c .before .before .before .before .if1 in
     let if2 = c .before .before .before .if2 in
     let s = now (start .args .s) in
-    rw (judged s (pack-of s .fieldtypes) (start .args .t) (start .args .i) _ (start .args .g) (start .pre .2) (sym (is-exempt .ensures) ∙ if1 .left) (if2 .left)
-    _ (c .before .before .company-fields .ensures) _ (c .pgn-error .ensures)) at (start .pre .0)
+    rw (judged s (pack-of s .fieldtypes) (start .args .g .tree) (start .args .g .item) _ (start .args .g .view) (start .pre .pgn .is)
+    (sym (is-exempt .ensures) ∙ if1 .left) (if2 .left) _ (c .before .before .company-fields .ensures) _ (c .pgn-error .ensures)) at (start .pre .fits)
 
 same-length : tie.Need-same-length
 same-length c = search needs
@@ -89,8 +88,8 @@ returns-3 c =
     let company-fields-call = c .before .before .before .before .before .company-fields in
     let pgn-error-call = c .before .before .before .pgn-error in
     let s = now (start .args .s) in
-    rw (judged s (pack-of s .fieldtypes) (start .args .t) (start .args .i) _ (start .args .g) (start .pre .2) (sym (is-exempt .ensures) ∙ if1 .left) (if2 .left)
-    _ (company-fields-call .ensures) _ (pgn-error-call .ensures)) (c .before .before .put-if .ensures)
+    rw (judged s (pack-of s .fieldtypes) (start .args .g .tree) (start .args .g .item) _ (start .args .g .view) (start .pre .pgn .is)
+    (sym (is-exempt .ensures) ∙ if1 .left) (if2 .left) _ (company-fields-call .ensures) _ (pgn-error-call .ensures)) (c .before .before .put-if .ensures)
 
 pub check-proprietary-spec : {M : Type 1} → statement M
 check-proprietary-spec =

@@ -81,12 +81,13 @@ returns : tie.Need-returns
 returns c =
     let start = c .before .before .before in
     let s = now (start .args .s) in
-    sym (few s (pack-of s .fieldtypes) (pgn-at (pack-of s) (start .args .t) (start .args .i)) (omega (arith, start .pre .1, c .if1 .taken)))
+    sym
+    (few s (pack-of s .fieldtypes) (pgn-at (pack-of s) (start .args .g .tree) (start .args .g .item)) (omega (arith, start .pre .is .fields, c .if1 .taken)))
 
 field-of-requires : tie.Need-field-of-requires
 field-of-requires c κs =
     let start = c .before .before .before in
-    (start .pre .0, omega (arith, start .pre .1, c .if1 .left))
+    record { at = start .pre .at; field = omega (arith, start .pre .is .fields, c .if1 .left) }
 
 slice-aggregate-is-pair : tie.Need-slice-aggregate-is-pair
 slice-aggregate-is-pair c = search needs
@@ -99,38 +100,39 @@ returns-2 c =
     let start = c .before .before .before .before .before .before .before in
     let field-of = c .before .before .before .field-of in
     let s = now (start .args .s) in
-    sym (first s (pack-of s .fieldtypes) (pgn-at (pack-of s) (start .args .t) (start .args .i)) (field-of .result) (field-of .ensures)
+    sym (first s (pack-of s .fieldtypes) (pgn-at (pack-of s) (start .args .g .tree) (start .args .g .item)) (field-of .result) (field-of .ensures)
     (sym (c .before .is-pair .ensures) ∙ not-true (c .before .is-pair .result) (c .if2 .taken)))
 
 field-of-requires-2 : tie.Need-field-of-requires-2
 field-of-requires-2 c κs =
     let start = c .before .before .before .before .before .before .before in
     let if1 = c .before .before .before .before .if1 in
-    (start .pre .0, omega (arith, start .pre .1, if1 .left))
+    record { at = start .pre .at; field = omega (arith, start .pre .is .fields, if1 .left) }
 
 is-reserved-requires : tie.Need-is-reserved-requires
 is-reserved-requires c κs =
     let start = c .before .before .before .before .before .before .before .before in
-    let if1 = c .before .before .before .before .before .if1 in (
-      start .pre .0 .ready,
-      (let e : c .field-of2 .result .ft ≡ field-at (pgn-at (pack-of (now (start .args .s))) (start .args .t) (start .args .i)) 1 .ft =
+    let if1 = c .before .before .before .before .before .if1 in
+    record {
+      ready = start .pre .at .ready;
+      type = (let e : c .field-of2 .result .ft ≡ field-at (pgn-at (pack-of (now (start .args .s))) (start .args .g .tree) (start .args .g .item)) 1 .ft =
           ap (λ (F : Field). F .ft) (c .field-of2 .ensures) in
-          omega (arith, e, field-ft-law (start .pre .0) 1 (omega (arith, start .pre .1, if1 .left)))),
-    )
+          omega (arith, e, field-ft-law (start .pre .at) 1 (omega (arith, start .pre .is .fields, if1 .left))));
+    }
 
 returns-3 : tie.Need-returns-3
 returns-3 c =
     let start = c .before .before .before .before .before .before .before .before .before .before in
     let field-of2 = c .before .before .field-of2 in
     let s = now (start .args .s) in
-    sym (second s (pack-of s .fieldtypes) (pgn-at (pack-of s) (start .args .t) (start .args .i)) (field-of2 .result) (field-of2 .ensures)
+    sym (second s (pack-of s .fieldtypes) (pgn-at (pack-of s) (start .args .g .tree) (start .args .g .item)) (field-of2 .result) (field-of2 .ensures)
     (sym (c .before .is-reserved .ensures) ∙ not-true (c .before .is-reserved .result) (c .if3 .taken)))
 
 field-of-requires-3 : tie.Need-field-of-requires-3
 field-of-requires-3 c κs =
     let start = c .before .before .before .before .before .before .before .before .before .before in
     let if1 = c .before .before .before .before .before .before .before .if1 in
-    (start .pre .0, omega (arith, start .pre .1, if1 .left))
+    record { at = start .pre .at; field = omega (arith, start .pre .is .fields, if1 .left) }
 
 slice-aggregate-is-pair-2 : tie.Need-slice-aggregate-is-pair-2
 slice-aggregate-is-pair-2 c = search needs
@@ -152,8 +154,8 @@ returns-4 c =
     let field-of3 = c .before .before .field-of3 in
     let s = now (start .args .s) in
     c .is-pair2 .ensures
-    ∙ sym (third s (pack-of s .fieldtypes) (pgn-at (pack-of s) (start .args .t) (start .args .i)) (field-of .result) (field-of2 .result) (field-of3 .result)
-    (omega (arith, start .pre .1, if1 .left)) (field-of .ensures) (field-of2 .ensures) (field-of3 .ensures)
+    ∙ sym (third s (pack-of s .fieldtypes) (pgn-at (pack-of s) (start .args .g .tree) (start .args .g .item)) (field-of .result) (field-of2 .result)
+    (field-of3 .result) (omega (arith, start .pre .is .fields, if1 .left)) (field-of .ensures) (field-of2 .ensures) (field-of3 .ensures)
     (sym (is-pair .ensures) ∙ not-false (is-pair .result) (if2 .left)) (sym (is-reserved .ensures) ∙ not-false (is-reserved .result) (if3 .left)))
 
 pub company-fields-spec : {M : Type 1} → statement M

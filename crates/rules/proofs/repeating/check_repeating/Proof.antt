@@ -24,15 +24,16 @@ viewed s t i G g is = rw (is .fields, ← is .means)
 check-set-requires : tie.Need-check-set-requires
 check-set-requires c κs =
     let start = c .before .before .before .before .before .before in
-    fits-left _ _ (rw (viewed (now (start .args .s)) (start .args .t) (start .args .i) _ (start .args .g) (start .pre .1)) at (start .pre .0))
+    fits-left _ _
+    (rw (viewed (now (start .args .s)) (start .args .g .tree) (start .args .g .item) _ (start .args .g .view) (start .pre .is)) at (start .pre .fits))
 
 check-set-requires-2 : tie.Need-check-set-requires-2
 check-set-requires-2 c κs =
     let start = c .before .before .before .before .before .before .before .before .before .before in
     let check-set-call = c .before .before .before .check-set in
-    let t = start .args .t in let i = start .args .i in
-    fits-right (check-set t i 1 (start .args .g .fields) none (optional-repeating (start .args .g .repeating1))) _
-    (rw (viewed (now (start .args .s)) t i _ (start .args .g) (start .pre .1)) at (start .pre .0)) (check-set-call .ensures)
+    let t = start .args .g .tree in let i = start .args .g .item in
+    fits-right (check-set t i 1 (start .args .g .view .fields) none (optional-repeating (start .args .g .view .repeating1))) _
+    (rw (viewed (now (start .args .s)) t i _ (start .args .g .view) (start .pre .is)) at (start .pre .fits)) (check-set-call .ensures)
 
 same-length : tie.Need-same-length
 same-length c = search needs
@@ -42,7 +43,7 @@ returns c =
     let back12 = c .before .before .before .before .before .before .before .before .before .before .before .before in
     let start = back12 .before in
     let check-set-call = c .before .before .before .before .before .before .check-set in
-    rw (viewed (now (start .args .s)) (start .args .t) (start .args .i) _ (start .args .g) (start .pre .1))
+    rw (viewed (now (start .args .s)) (start .args .g .tree) (start .args .g .item) _ (start .args .g .view) (start .pre .is))
     (emitted-append (check-set-call .ensures) (c .before .before .check-set2 .ensures))
 
 pub check-repeating-spec : {M : Type 1} → statement M

@@ -46,8 +46,9 @@ set-bounds-requires c κs =
     let start = c .before .before .before .before .before .before in
     let is-nonempty = c .before .before .before .before .is-nonempty in
     let if1 = c .before .before .before .if1 in
-    fits-left _ _ (fits-left _ _ (rw (filled (start .args .t) (start .args .i) (start .args .part) (start .args .fields) (optional-repeating (start .args .outer))
-    (start .args .set .given) (start .args .set .set) (sym (is-nonempty .ensures) ∙ if1 .taken) _ refl) at (start .pre)))
+    fits-left _ _ (fits-left _ _ (rw (filled (start .args .t) (start .args .i) (start .args .part) (start .args .fields)
+    (optional-repeating (start .args .outer)) (start .args .set .given) (start .args .set .set) (sym (is-nonempty .ensures) ∙ if1 .taken) _ refl) at
+    (start .pre)))
 
 set-count-field-requires : tie.Need-set-count-field-requires
 set-count-field-requires c κs =

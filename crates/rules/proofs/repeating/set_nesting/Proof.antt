@@ -17,8 +17,8 @@ abbrev inside : Bool → RepeatingView → RepeatingView → Bool
 inside given o v = given && ((o .start <ᵇ v .start) && (v .start + v .count ≤ᵇ o .start + o .count))
 
 module _ (t i part : ℕ) where
-  nested : (given : Bool) (o v : RepeatingView) → inside given o v ≡ true → (a : Bool) → a ≡ none-or-below (optional-number (v .counter)) (o .start) → (f : Finding)
-      → f ≡ pgn-error 5 4 t i part 0 → set-nesting t i part (optional given (repeating-meaning o)) (repeating-meaning v) ≡ report-if a f
+  nested : (given : Bool) (o v : RepeatingView) → inside given o v ≡ true → (a : Bool) → a ≡ none-or-below (optional-number (v .counter)) (o .start)
+      → (f : Finding) → f ≡ pgn-error 5 4 t i part 0 → set-nesting t i part (optional given (repeating-meaning o)) (repeating-meaning v) ≡ report-if a f
   unfolding set-nesting
   nested true o v e a d f x = rw (e, d, x)
   nested false o v e a d f x = absurd (false≢true e)

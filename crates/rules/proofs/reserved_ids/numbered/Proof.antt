@@ -27,19 +27,23 @@ module _ (want id : List ℕ) (k : ℕ) (h : k < length want) where
   agree l e = rw (add-one, drop-cons want k 0 h, drop-cons id k 0 l, eq-eqb _ _ e)
 
 abbrev Inv-loop : tie.InvT-loop
-Inv-loop want id k₀ k = (k ≤ length want) × (numbered want id ≡ numbered (drop k want) (drop k id))
+Inv-loop want id k₀ k =
+    record {
+      turns : k ≤ length want;
+      rest : numbered want id ≡ numbered (drop k want) (drop k id);
+    }
 
 abbrev μ-loop : tie.MeasureT-loop
 μ-loop want id k₀ k = length want - k
 
 loop-holds : tie.Need-loop-holds Inv-loop μ-loop
-loop-holds c = (omega arith, refl)
+loop-holds c = record { turns = omega arith; rest = refl }
 
 returns : tie.Need-returns Inv-loop μ-loop
 returns c =
     let start = c .before .before .before .before .before in
     let loop = c .before .before .loop in
-    sym (loop .inv .1 ∙ short (now (start .args .want)) (now (start .args .id)) (loop .k) (omega (arith, c)) (omega (arith, c)))
+    sym (loop .inv .rest ∙ short (now (start .args .want)) (now (start .args .id)) (loop .k) (omega (arith, c)) (omega (arith, c)))
 
 shared-slice-read-if2 : tie.Need-shared-slice-read-if2 Inv-loop μ-loop
 shared-slice-read-if2 c = search needs
@@ -51,7 +55,7 @@ returns-2 : tie.Need-returns-2 Inv-loop μ-loop
 returns-2 c =
     let start = c .before .before .before .before .before .before .before .before in
     let loop = c .before .before .before .before .before .loop in
-    sym (loop .inv .1 ∙ differ (now (start .args .want)) (now (start .args .id)) (loop .k) (omega (arith, c)) (omega (arith, c)) (c .if2 .taken))
+    sym (loop .inv .rest ∙ differ (now (start .args .want)) (now (start .args .id)) (loop .k) (omega (arith, c)) (omega (arith, c)) (c .if2 .taken))
 
 add-k : tie.Need-add-k Inv-loop μ-loop
 add-k c = search needs
@@ -63,7 +67,10 @@ loop-again : tie.Need-loop-again Inv-loop μ-loop
 loop-again c =
     let start = c .before .before .before .before .before .before .before .before in
     let loop = c .before .before .before .before .before .loop in
-    (omega (arith, c), loop .inv .1 ∙ agree (now (start .args .want)) (now (start .args .id)) (loop .k) (omega (arith, c)) (omega (arith, c)) (c .if2 .left))
+    record {
+      turns = omega (arith, c);
+      rest = loop .inv .rest ∙ agree (now (start .args .want)) (now (start .args .id)) (loop .k) (omega (arith, c)) (omega (arith, c)) (c .if2 .left);
+    }
 
 digits-from-requires : tie.Need-digits-from-requires Inv-loop μ-loop
 digits-from-requires c κs = search needs
@@ -74,7 +81,7 @@ returns-3 c =
     let start = c .before .before .before .before .before in
     let loop = c .before .before .loop in
     let x = drop-of-length-le (now (start .args .want)) {i = loop .k} (omega (arith, c)) in
-    rw (loop .inv .1, x) (c .digits-from .ensures)
+    rw (loop .inv .rest, x) (c .digits-from .ensures)
 
 pub numbered-spec : {M : Type 1} → statement M
 numbered-spec =

@@ -24,8 +24,8 @@ spread false false a b f = refl
 -- the rule at a field, said of the view
 viewed : (s : List ℕ) (t i k : ℕ) (F : Field) (v : FieldView) → field-meaning s v ≡ F → (a : Bool)
     → a
-    ≡ (if bytes-of s (v .names .name) ≐ bytes "Reserved" then not (numbered (bytes "reserved") (bytes-of s (v .names .id))) else if bytes-of s (v .names .name) ≐
-    bytes "Spare" then not (numbered (bytes "spare") (bytes-of s (v .names .id))) else false) → (f : Finding) → f ≡ pgn-error 12 1 t i k 0
+    ≡ (if bytes-of s (v .names .name) ≐ bytes "Reserved" then not (numbered (bytes "reserved") (bytes-of s (v .names .id))) else if bytes-of s (v .names .name)
+    ≐ bytes "Spare" then not (numbered (bytes "spare") (bytes-of s (v .names .id))) else false) → (f : Finding) → f ≡ pgn-error 12 1 t i k 0
     → reserved-id-at t i k F ≡ report-if a f
 unfolding reserved-id-at
 viewed s t i k F v is a d f x =
@@ -40,8 +40,8 @@ pgn-error-requires c κs = search needs
 put-if-requires : tie.Need-put-if-requires
 put-if-requires c κs =
     let start = c .before .before .before .before .before in
-    rw (viewed (now (start .args .s)) (start .args .t) (start .args .i) (start .args .k) _ (start .args .f) (start .pre .1) _
-    (c .before .before .misnamed .ensures) _ (c .pgn-error .ensures)) at (start .pre .0)
+    rw (viewed (now (start .args .s)) (start .args .g .tree) (start .args .g .item) (start .args .k) _ (start .args .f) (start .pre .means) _
+    (c .before .before .misnamed .ensures) _ (c .pgn-error .ensures)) at (start .pre .fits)
 
 same-length : tie.Need-same-length
 same-length c = search needs
@@ -51,8 +51,8 @@ returns c =
     let start = c .before .before .before .before .before .before .before .before in
     let misnamed = c .before .before .before .before .before .misnamed in
     let pgn-error-call = c .before .before .before .pgn-error in
-    rw (viewed (now (start .args .s)) (start .args .t) (start .args .i) (start .args .k) _ (start .args .f) (start .pre .1) _ (misnamed .ensures) _
-    (pgn-error-call .ensures)) (c .before .before .put-if .ensures)
+    rw (viewed (now (start .args .s)) (start .args .g .tree) (start .args .g .item) (start .args .k) _ (start .args .f) (start .pre .means) _
+    (misnamed .ensures) _ (pgn-error-call .ensures)) (c .before .before .put-if .ensures)
 
 pub reserved-id-at-spec : {M : Type 1} → statement M
 reserved-id-at-spec =

@@ -1,13 +1,12 @@
-use Rattle.rules.proofs.Emits.{emitted-none, emitted-turn, fits-turn}
-use Rattle.rules.specs.Emit.{Emitted}
+use Rattle.rules.specs.Emit.{Reporting}
+use Rattle.rules.proofs.Emits.{fits-turn, reporting-none, reporting-turn}
 use Rattle.rules.specs.SpecialValues.{special-values-at, check-special-values}
 use Rattle.rules.specs.declared.Finding.{Finding}
-use Rattle.pack.specs.Notation.{concat-below}
 use Rattle.pack.specs.Meaning.{pack-of}
 use Rattle.pack.specs.Value.{pgn-at, field-at}
-use Prim.Native.Nat.{ℕ, _-_, _≤_}
+use Prim.Native.Nat.{ℕ, _-_}
 use native.Mathlib.Omega.{arith}
-use mathlib.Core.Path.{_≡_, refl, _∙_}
+use mathlib.Core.Path.{_≡_}
 use mathlib.Core.List.{List}
 use borrow.Author.Needs.{needs}
 use denote.Ref.{now}
@@ -19,28 +18,30 @@ abbrev of-field : List ℕ → ℕ → ℕ → ℕ → List Finding
 of-field s t i k = special-values-at t i k (field-at (pgn-at (pack-of s) t i) k .res-bits) (field-at (pgn-at (pack-of s) t i) k .special-values)
 
 abbrev Inv-loop : tie.InvT-loop
-Inv-loop out₀ n s work t i p g m₀ k₀ out m k = (k ≤ g .fields) × (length out ≡ length out₀) × Emitted out₀ n (concat-below (of-field s t i) k) out m
+Inv-loop out₀ n s work g m₀ k₀ out m k =
+    Reporting out₀ n (of-field s (g .tree) (g .item)) (g .view .fields) k out m
 
 abbrev μ-loop : tie.MeasureT-loop
-μ-loop out₀ n s work t i p g m₀ k₀ out m k = g .fields - k
+μ-loop out₀ n s work g m₀ k₀ out m k = g .view .fields - k
 
 loop-holds : tie.Need-loop-holds Inv-loop μ-loop
-loop-holds c = (omega arith, refl, emitted-none _ _)
+loop-holds c = reporting-none _ _ _ _
 
 field-of-requires : tie.Need-field-of-requires Inv-loop μ-loop
 field-of-requires c κs =
     let start = c .before .before .before .before .before .before in
-    (start .pre .1, omega (arith, start .pre .2 .fields))
+    record { at = start .pre .pgn .at; field = omega (arith, start .pre .pgn .is .fields) }
 
 special-values-at-requires : tie.Need-special-values-at-requires Inv-loop μ-loop
 unfolding check-special-values
 special-values-at-requires c κs =
     let start = c .before .before .before .before .before .before .before .before in
-    let loop = c .before .before .before .before .loop in (
-      fits-turn (of-field (now (start .args .s)) (start .args .t) (start .args .i)) (start .args .g .fields) (loop .k) (c .before .before .if1 .taken)
-          (rw (← start .pre .2 .fields) at (start .pre .0)) (loop .inv .2),
-      c .before .field-of .ensures,
-    )
+    let loop = c .before .before .before .before .loop in
+    record {
+      fits = fits-turn (of-field (now (start .args .s)) (start .args .g .tree) (start .args .g .item)) (start .args .g .view .fields) (loop .k)
+          (c .before .before .if1 .taken) (rw (← start .pre .pgn .is .fields) at (start .pre .fits)) (loop .inv .emitted);
+      means = c .before .field-of .ensures;
+    }
 
 add-k : tie.Need-add-k Inv-loop μ-loop
 add-k c =
@@ -52,13 +53,8 @@ loop-less c = search needs
 
 loop-again : tie.Need-loop-again Inv-loop μ-loop
 loop-again c =
-    let start = c .before .before .before .before .before .before .before .before .before .before .before in
     let loop = c .before .before .before .before .before .before .before .loop in
-    let special-values-at-call = c .before .before .special-values-at in (
-      omega (arith, c),
-      special-values-at-call .kept .0 ∙ loop .inv .1,
-      emitted-turn (of-field (now (start .args .s)) (start .args .t) (start .args .i)) (loop .k) (loop .inv .2) (special-values-at-call .ensures),
-    )
+    let special-values-at-call = c .before .before .special-values-at in reporting-turn (loop .inv) (omega (arith, c)) (special-values-at-call .ensures)
 
 same-length : tie.Need-same-length Inv-loop μ-loop
 same-length c = search needs
@@ -68,8 +64,9 @@ unfolding check-special-values
 returns c =
     let start = c .before .before .before .before .before .before in
     let loop = c .before .before .loop in
-    let e : loop .k ≡ length (pgn-at (pack-of (now (start .args .s))) (start .args .t) (start .args .i) .fields) = omega (arith, start .pre .2 .fields) in
-    rw (← e) (loop .inv .2)
+    let e : loop .k ≡ length (pgn-at (pack-of (now (start .args .s))) (start .args .g .tree) (start .args .g .item) .fields) =
+    omega (arith, start .pre .pgn .is .fields) in
+    rw (← e) (loop .inv .emitted)
 
 pub check-special-values-spec : {M : Type 1} → statement M
 check-special-values-spec =

@@ -36,8 +36,8 @@ put-if-requires : tie.Need-put-if-requires
 put-if-requires c κs =
     let start = c .before .before .before .before .before .before .before in
     let if1 = c .before .before .before .if1 in
-    rw (given (now (start .args .s)) (start .args .t) (start .args .i) (start .args .k) _ (start .args .f) (start .pre .1) (if1 .taken) _
-    (c .before .before .out-of-range .ensures) _ (c .pgn-error .ensures)) at (start .pre .0)
+    rw (given (now (start .args .s)) (start .args .g .tree) (start .args .g .item) (start .args .k) _ (start .args .f) (start .pre .means) (if1 .taken) _
+    (c .before .before .out-of-range .ensures) _ (c .pgn-error .ensures)) at (start .pre .fits)
 
 same-length : tie.Need-same-length
 same-length c = search needs
@@ -48,13 +48,13 @@ returns c =
     let if1 = c .before .before .before .before .before .before .if1 in
     let out-of-range = c .before .before .before .before .before .out-of-range in
     let pgn-error-call = c .before .before .before .pgn-error in
-    rw (given (now (start .args .s)) (start .args .t) (start .args .i) (start .args .k) _ (start .args .f) (start .pre .1) (if1 .taken) _
+    rw (given (now (start .args .s)) (start .args .g .tree) (start .args .g .item) (start .args .k) _ (start .args .f) (start .pre .means) (if1 .taken) _
     (out-of-range .ensures) _ (pgn-error-call .ensures)) (c .before .before .put-if .ensures)
 
 returns-2 : tie.Need-returns-2
 returns-2 c =
     let start = c .before .before .before .before in
-    rw (absent (now (start .args .s)) (start .args .t) (start .args .i) (start .args .k) _ (start .args .f) (start .pre .1) (c .if1 .left))
+    rw (absent (now (start .args .s)) (start .args .g .tree) (start .args .g .item) (start .args .k) _ (start .args .f) (start .pre .means) (c .if1 .left))
     (emitted-none (now (start .args .out)) (start .args .n))
 
 pub special-values-at-spec : {M : Type 1} → statement M

@@ -22,7 +22,12 @@ abbrev has : List ℕ → Bytes → ℕ → ℕ → Bool
 has s name spn j = other-in name spn (pgn-at (pack-of s) 1 j)
 
 abbrev Inv-loop : tie.InvT-loop
-Inv-loop s work first i name spn q₀ j₀ q j = (j ≤ i + 1) × (q ≡ place-of-pgn (pack-of s) 1 j) × (any-below (has s (bytes-of s name) (spn .value)) j ≡ false)
+Inv-loop s work first i name spn q₀ j₀ q j =
+    record {
+      turns : j ≤ i + 1;
+      place : q ≡ place-of-pgn (pack-of s) 1 j;
+      none-yet : any-below (has s (bytes-of s name) (spn .value)) j ≡ false;
+    }
 
 abbrev μ-loop : tie.MeasureT-loop
 μ-loop s work first i name spn q₀ j₀ q j = i + 1 - j
@@ -35,22 +40,23 @@ returns c =
 loop-holds : tie.Need-loop-holds Inv-loop μ-loop
 loop-holds c =
     let start = c .before .before .before .before in
-    (omega (arith, c), omega (arith, start .pre .1), refl)
+    record { turns = omega (arith, c); place = omega (arith, start .pre .first); none-yet = refl }
 
 pgn-of-requires : tie.Need-pgn-of-requires Inv-loop μ-loop
 pgn-of-requires c κs =
     let start = c .before .before .before .before .before .before in
-    (at-pgn {t = 1} {i = c .before .loop .j} {n = start .args .i + 1} (start .pre .0) (omega (arith, c)) (omega (arith, start .pre .2))
-    (omega (arith, c .loop-test .taken)) (c .before .loop .inv .1))
+    (at-pgn {t = 1} {i = c .before .loop .j} {n = start .args .i + 1} (start .pre .ready) (omega (arith, c)) (omega (arith, start .pre .item))
+    (omega (arith, c .loop-test .taken)) (c .before .loop .inv .place))
 
 other-in-requires : tie.Need-other-in-requires Inv-loop μ-loop
 other-in-requires c κs =
     let start = c .before .before .before .before .before .before .before in
-    let loop = c .before .before .loop in (
-      (at-pgn {t = 1} {i = loop .j} {n = start .args .i + 1} (start .pre .0) (omega (arith, c)) (omega (arith, start .pre .2))
-          (omega (arith, c .before .loop-test .taken)) (loop .inv .1)),
-      c .pgn-of .ensures .fields,
-    )
+    let loop = c .before .before .loop in
+    record {
+      at = (at-pgn {t = 1} {i = loop .j} {n = start .args .i + 1} (start .pre .ready) (omega (arith, c)) (omega (arith, start .pre .item))
+          (omega (arith, c .before .loop-test .taken)) (loop .inv .place));
+      fields = c .pgn-of .ensures .fields;
+    }
 
 returns-2 : tie.Need-returns-2 Inv-loop μ-loop
 returns-2 c =
@@ -69,8 +75,8 @@ add-q c =
     let loop-test = c .before .before .before .loop-test in
     omega (
       arith,
-      fields-few (at-pgn {t = 1} {i = loop .j} {n = start .args .i + 1} (start .pre .0) (omega (arith, c)) (omega (arith, start .pre .2))
-          (omega (arith, loop-test .taken)) (loop .inv .1)),
+      fields-few (at-pgn {t = 1} {i = loop .j} {n = start .args .i + 1} (start .pre .ready) (omega (arith, c)) (omega (arith, start .pre .item))
+          (omega (arith, loop-test .taken)) (loop .inv .place)),
     )
 
 cast-q : tie.Need-cast-q Inv-loop μ-loop
@@ -81,8 +87,8 @@ cast-q c =
     let pgn-of = c .before .before .before .pgn-of in
     omega (
       arith,
-      fields-few (at-pgn {t = 1} {i = loop .j} {n = start .args .i + 1} (start .pre .0) (omega (arith, c)) (omega (arith, start .pre .2))
-          (omega (arith, loop-test .taken)) (loop .inv .1)),
+      fields-few (at-pgn {t = 1} {i = loop .j} {n = start .args .i + 1} (start .pre .ready) (omega (arith, c)) (omega (arith, start .pre .item))
+          (omega (arith, loop-test .taken)) (loop .inv .place)),
       pgn-of .ensures .fields,
     )
 
@@ -94,8 +100,8 @@ add-q-2 c =
     let pgn-of = c .before .before .before .pgn-of in
     omega (
       arith,
-      fields-few (at-pgn {t = 1} {i = loop .j} {n = start .args .i + 1} (start .pre .0) (omega (arith, c)) (omega (arith, start .pre .2))
-          (omega (arith, loop-test .taken)) (loop .inv .1)),
+      fields-few (at-pgn {t = 1} {i = loop .j} {n = start .args .i + 1} (start .pre .ready) (omega (arith, c)) (omega (arith, start .pre .item))
+          (omega (arith, loop-test .taken)) (loop .inv .place)),
       pgn-of .ensures .fields,
     )
 
@@ -106,8 +112,8 @@ add-j c =
     let loop-test = c .before .before .before .before .loop-test in
     omega (
       arith,
-      pgns-few (at-pgn {t = 1} {i = loop .j} {n = start .args .i + 1} (start .pre .0) (omega (arith, c)) (omega (arith, start .pre .2))
-          (omega (arith, loop-test .taken)) (loop .inv .1)),
+      pgns-few (at-pgn {t = 1} {i = loop .j} {n = start .args .i + 1} (start .pre .ready) (omega (arith, c)) (omega (arith, start .pre .item))
+          (omega (arith, loop-test .taken)) (loop .inv .place)),
     )
 
 loop-less : tie.Need-loop-less Inv-loop μ-loop
@@ -121,18 +127,19 @@ loop-again c =
     let loop = c .before .before .before .before .before .loop in
     let loop-test = c .before .before .before .before .loop-test in
     let pgn-of = c .before .before .before .pgn-of in
-    let s = now (start .args .s) in (
-      omega (arith, loop-test .taken),
-      omega (arith, pgn-place-next (pack-of s) 1 (loop .j), pgn-of .ensures .fields, loop .inv .1),
-      any-turn (has s (bytes-of s (start .args .name)) (start .args .spn .value)) (loop .j)
-          ∙ (rw (loop .inv .2, sym (c .before .before .other-in .ensures) ∙ c .before .if2 .left)),
-    )
+    let s = now (start .args .s) in
+    record {
+      turns = omega (arith, loop-test .taken);
+      place = omega (arith, pgn-place-next (pack-of s) 1 (loop .j), pgn-of .ensures .fields, loop .inv .place);
+      none-yet = any-turn (has s (bytes-of s (start .args .name)) (start .args .spn .value)) (loop .j)
+          ∙ (rw (loop .inv .none-yet, sym (c .before .before .other-in .ensures) ∙ c .before .if2 .left));
+    }
 
 returns-3 : tie.Need-returns-3 Inv-loop μ-loop
 returns-3 c =
     let start = c .before .before .before .before .before .before in
-    let e : start .args .i + 1 ≡ c .before .loop .j = omega (arith, c .before .loop .inv .0, c .loop-test .left) in
-    rw (not-false (start .args .spn .given) (c .before .before .if1 .left), e, c .before .loop .inv .2)
+    let e : start .args .i + 1 ≡ c .before .loop .j = omega (arith, c .before .loop .inv .turns, c .loop-test .left) in
+    rw (not-false (start .args .spn .given) (c .before .before .if1 .left), e, c .before .loop .inv .none-yet)
 
 pub other-among-spec : {M : Type 1} → statement M
 other-among-spec =

@@ -86,27 +86,27 @@ comes-after-requires c κs = search needs
 returns : tie.Need-returns
 returns c =
     let start = c .before .before .before .before in
-    first-stays (now (start .args .s)) (now (start .args .work)) (start .args .spn) (start .args .j) (start .args .best) (start .pre .0) (start .args .g)
-    (start .pre .2) (sym (c .before .comes-after .ensures) ∙ c .if1 .taken)
+    first-stays (now (start .args .s)) (now (start .args .work)) (start .args .spn) (start .args .j) (start .args .best) (start .pre .names) (start .args .g)
+    (start .pre .is) (sym (c .before .comes-after .ensures) ∙ c .if1 .taken)
 
 spn-field-requires : tie.Need-spn-field-requires
 spn-field-requires c κs =
     let start = c .before .before .before .before in
-    (start .pre .1, start .pre .2 .fields)
+    record { at = start .pre .at; fields = start .pre .is .fields }
 
 returns-2 : tie.Need-returns-2
 returns-2 c =
     let start = c .before .before .before .before .before .before in
     let comes-after = c .before .before .before .comes-after in
-    is-better (now (start .args .s)) (now (start .args .work)) (start .args .spn) (start .args .j) (start .args .best) (start .pre .0) (start .args .g)
-    (start .pre .2) (start .args .p) (start .pre .1) (sym (comes-after .ensures) ∙ c .before .before .if1 .left) (c .before .spn-field .result .given)
+    is-better (now (start .args .s)) (now (start .args .work)) (start .args .spn) (start .args .j) (start .args .best) (start .pre .names) (start .args .g)
+    (start .pre .is) (start .args .p) (start .pre .at) (sym (comes-after .ensures) ∙ c .before .before .if1 .left) (c .before .spn-field .result .given)
     (c .before .spn-field .result .value) (c .before .spn-field .ensures) (c .if2 .taken)
 
 returns-3 : tie.Need-returns-3
 returns-3 c =
     let start = c .before .before .before .before .before .before in
-    stays-unmet (now (start .args .s)) (now (start .args .work)) (start .args .spn) (start .args .j) (start .args .best) (start .pre .0) (start .args .g)
-    (start .pre .2) (c .before .spn-field .result .given) (c .before .spn-field .result .value) (c .before .spn-field .ensures) (c .if2 .left)
+    stays-unmet (now (start .args .s)) (now (start .args .work)) (start .args .spn) (start .args .j) (start .args .best) (start .pre .names) (start .args .g)
+    (start .pre .is) (c .before .spn-field .result .given) (c .before .spn-field .result .value) (c .before .spn-field .ensures) (c .if2 .left)
 
 pub better-spec : {M : Type 1} → statement M
 better-spec =

@@ -33,18 +33,22 @@ said s name b i k v h is e =
     ∙ ap (λ (F : Field). candidate-at name b (F .name) (F .spn)) is
 
 abbrev Inv-loop : tie.InvT-loop
-Inv-loop s work b name i p fields found₀ k₀ found k = (k ≤ fields) × (optional-number found ≡ max-below (cand s (bytes-of s name) b i) k)
+Inv-loop s work b name i p fields found₀ k₀ found k =
+    record {
+      turns : k ≤ fields;
+      found : optional-number found ≡ max-below (cand s (bytes-of s name) b i) k;
+    }
 
 abbrev μ-loop : tie.MeasureT-loop
 μ-loop s work b name i p fields found₀ k₀ found k = fields - k
 
 loop-holds : tie.Need-loop-holds Inv-loop μ-loop
-loop-holds c = (omega arith, refl)
+loop-holds c = record { turns = omega arith; found = refl }
 
 field-of-requires : tie.Need-field-of-requires Inv-loop μ-loop
 field-of-requires c κs =
     let start = c .before .before .before .before in
-    (start .pre .0, omega (arith, c .loop-test .taken, start .pre .1))
+    record { at = start .pre .at; field = omega (arith, c .loop-test .taken, start .pre .fields) }
 
 is-candidate-requires : tie.Need-is-candidate-requires Inv-loop μ-loop
 is-candidate-requires c κs = search needs
@@ -67,22 +71,23 @@ loop-again c =
     let loop-test = c .before .before .before .loop-test in
     let field-of = c .before .before .field-of in
     let s = now (start .args .s) in let name = start .args .name in let b = start .args .b in let i = start .args .i in
-    let f = cand s (bytes-of s name) b i in (
-      omega (arith, loop-test .taken),
-      c .larger .ensures
-          ∙ ap (λ (x : Option ℕ). larger x (optional (c .before .is-candidate .result) (field-of .result .authored .spn .value))) (loop .inv .1)
+    let f = cand s (bytes-of s name) b i in
+    record {
+      turns = omega (arith, loop-test .taken);
+      found = c .larger .ensures
+          ∙ ap (λ (x : Option ℕ). larger x (optional (c .before .is-candidate .result) (field-of .result .authored .spn .value))) (loop .inv .found)
           ∙ ap (larger (max-below f (loop .k)))
           (said s (bytes-of s name) b i (loop .k) (field-of .result) (c .before .is-candidate .result) (field-of .ensures) (c .before .is-candidate .ensures))
-          ∙ sym (max-turn f (loop .k)),
-    )
+          ∙ sym (max-turn f (loop .k));
+    }
 
 returns : tie.Need-returns Inv-loop μ-loop
 unfolding candidate-in
 returns c =
     let start = c .before .before .before .before in
     let s = now (start .args .s) in let i = start .args .i in
-    let e : length (pgn-at (pack-of s) 1 i .fields) ≡ c .before .loop .k = omega (arith, start .pre .1, c .before .loop .inv .0, c .loop-test .left) in
-    c .before .loop .inv .1 ∙ ap (max-below (cand s (bytes-of s (start .args .name)) (start .args .b) i)) (sym e)
+    let e : length (pgn-at (pack-of s) 1 i .fields) ≡ c .before .loop .k = omega (arith, start .pre .fields, c .before .loop .inv .turns, c .loop-test .left) in
+    c .before .loop .inv .found ∙ ap (max-below (cand s (bytes-of s (start .args .name)) (start .args .b) i)) (sym e)
 
 pub candidate-in-spec : {M : Type 1} → statement M
 candidate-in-spec =

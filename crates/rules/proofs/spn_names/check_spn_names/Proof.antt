@@ -10,7 +10,7 @@ use Rattle.rules.proofs.spn_names.check_spn_names.Tie as tie
 may-clash-requires : tie.Need-may-clash-requires
 may-clash-requires c κs =
     let start = c .before .before .before in
-    (start .pre .1, start .pre .2, start .pre .3)
+    record { ready = start .pre .ready; pgns = start .pre .pgns }
 
 spn-clashes-requires : tie.Need-spn-clashes-requires
 spn-clashes-requires c κs =

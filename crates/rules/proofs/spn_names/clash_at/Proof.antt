@@ -37,12 +37,12 @@ two pgns earlier spn i j e F G h k = rw (e, h, k)
 pgn-of-requires : tie.Need-pgn-of-requires
 pgn-of-requires c κs =
     let start = c .before .before .before in
-    start .pre .1
+    start .pre .other-at
 
 pgn-of-requires-2 : tie.Need-pgn-of-requires-2
 pgn-of-requires-2 c κs =
     let start = c .before .before .before .before in
-    start .pre .2
+    start .pre .at
 
 same-place-requires : tie.Need-same-place-requires
 same-place-requires c κs = search needs
@@ -57,9 +57,9 @@ put-requires c κs =
     let pgn-of2 = c .before .before .before .before .pgn-of2 in
     let same-place = c .before .before .before .same-place in
     let s = now (start .args .s) in
-    rw (one (pack-of s .pgns-j1939) (start .args .earlier) (start .args .spn) (start .args .i) (start .args .j)
+    rw (one (pack-of s .pgns-j1939) (start .args .earlier) (start .args .spn) (start .args .other .pgn) (start .args .namer .pgn)
     (placed s _ _ (pgn-of .result) (pgn-of2 .result) (pgn-of .ensures) (pgn-of2 .ensures) (same-place .result) true (same-place .ensures)
-    (c .before .before .if1 .taken)) (c .pgn-error .result) (c .pgn-error .ensures)) at (start .pre .0)
+    (c .before .before .if1 .taken)) (c .pgn-error .result) (c .pgn-error .ensures)) at (start .pre .fits)
 
 same-length : tie.Need-same-length
 same-length c = search needs
@@ -73,7 +73,7 @@ returns c =
     let if1 = c .before .before .before .before .before .if1 in
     let pgn-error-call = c .before .before .before .pgn-error in
     let s = now (start .args .s) in
-    rw (one (pack-of s .pgns-j1939) (start .args .earlier) (start .args .spn) (start .args .i) (start .args .j)
+    rw (one (pack-of s .pgns-j1939) (start .args .earlier) (start .args .spn) (start .args .other .pgn) (start .args .namer .pgn)
     (placed s _ _ (pgn-of .result) (pgn-of2 .result) (pgn-of .ensures) (pgn-of2 .ensures) (same-place .result) true (same-place .ensures) (if1 .taken))
     (pgn-error-call .result) (pgn-error-call .ensures)) (c .before .before .put .ensures)
 
@@ -86,11 +86,12 @@ put-requires-2 c κs =
     let pgn-of = c .before .before .before .before .before .pgn-of in
     let pgn-of2 = c .before .before .before .before .pgn-of2 in
     let same-place = c .before .before .before .same-place in
-    let j = start .args .j in let earlier = start .args .earlier in let spn = start .args .spn in let s = now (start .args .s) in
+    let earlier = start .args .earlier in let spn = start .args .spn in let s = now (start .args .s) in
+    let j = start .args .namer .pgn in
     let G = pgn-error 24 2 1 j earlier spn in
-    fits-left (c .pgn-error2 .result ∷ []) (G ∷ []) (rw (two (pack-of s .pgns-j1939) earlier spn (start .args .i) j
+    fits-left (c .pgn-error2 .result ∷ []) (G ∷ []) (rw (two (pack-of s .pgns-j1939) earlier spn (start .args .other .pgn) j
     (placed s _ _ (pgn-of .result) (pgn-of2 .result) (pgn-of .ensures) (pgn-of2 .ensures) (same-place .result) false (same-place .ensures)
-    (c .before .before .if1 .left)) (c .pgn-error2 .result) G (c .pgn-error2 .ensures) refl) at (start .pre .0))
+    (c .before .before .if1 .left)) (c .pgn-error2 .result) G (c .pgn-error2 .ensures) refl) at (start .pre .fits))
 
 pgn-error-requires-3 : tie.Need-pgn-error-requires-3
 pgn-error-requires-3 c κs = search needs
@@ -107,9 +108,9 @@ put-requires-3 c κs =
     let put2 = c .before .before .before .before .put2 in
     let s = now (start .args .s) in
     fits-right (pgn-error2 .result ∷ []) (c .pgn-error3 .result ∷ [])
-    (rw (two (pack-of s .pgns-j1939) (start .args .earlier) (start .args .spn) (start .args .i) (start .args .j)
+    (rw (two (pack-of s .pgns-j1939) (start .args .earlier) (start .args .spn) (start .args .other .pgn) (start .args .namer .pgn)
     (placed s _ _ (pgn-of .result) (pgn-of2 .result) (pgn-of .ensures) (pgn-of2 .ensures) (same-place .result) false (same-place .ensures) (if1 .left))
-    (pgn-error2 .result) (c .pgn-error3 .result) (pgn-error2 .ensures) (c .pgn-error3 .ensures)) at (start .pre .0)) (put2 .ensures)
+    (pgn-error2 .result) (c .pgn-error3 .result) (pgn-error2 .ensures) (c .pgn-error3 .ensures)) at (start .pre .fits)) (put2 .ensures)
 
 same-length-2 : tie.Need-same-length-2
 same-length-2 c = search needs
@@ -126,7 +127,7 @@ returns-2 c =
     let put2 = c .before .before .before .before .before .before .before .put2 in
     let pgn-error3 = c .before .before .before .pgn-error3 in
     let s = now (start .args .s) in
-    rw (two (pack-of s .pgns-j1939) (start .args .earlier) (start .args .spn) (start .args .i) (start .args .j)
+    rw (two (pack-of s .pgns-j1939) (start .args .earlier) (start .args .spn) (start .args .other .pgn) (start .args .namer .pgn)
     (placed s _ _ (pgn-of .result) (pgn-of2 .result) (pgn-of .ensures) (pgn-of2 .ensures) (same-place .result) false (same-place .ensures) (if1 .left))
     (pgn-error2 .result) (pgn-error3 .result) (pgn-error2 .ensures) (pgn-error3 .ensures))
     (emitted-append {xs = pgn-error2 .result ∷ []} {ys = pgn-error3 .result ∷ []} (put2 .ensures) (c .before .before .put3 .ensures))

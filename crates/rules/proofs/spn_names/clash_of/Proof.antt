@@ -27,19 +27,20 @@ paired pgns spn g e i j h q x y = rw (← h, q, x, y)
 spn-pgn-requires : tie.Need-spn-pgn-requires
 spn-pgn-requires c κs =
     let start = c .before .before .before in
-    (start .pre .1, start .pre .2, start .pre .3)
+    record { ready = start .pre .ready; pgns = start .pre .pgns }
 
 spn-name-requires : tie.Need-spn-name-requires
 spn-name-requires c κs =
-    let start = c .before .before .before .before in (
-      c .spn-pgn .ensures,
-      given-both (now (start .args .s)) (now (start .args .work)) (start .args .spn) (c .spn-pgn .result) (c .spn-pgn .ensures) ∙ start .pre .4,
-    )
+    let start = c .before .before .before .before in
+    record {
+      names = c .spn-pgn .ensures;
+      given = given-both (now (start .args .s)) (now (start .args .work)) (start .args .spn) (c .spn-pgn .result) (c .spn-pgn .ensures) ∙ start .pre .named;
+    }
 
 earlier-spn-requires : tie.Need-earlier-spn-requires
 earlier-spn-requires c κs =
     let start = c .before .before .before .before .before in
-    (start .pre .1, start .pre .2, start .pre .3, c .spn-name .ensures)
+    record { ready = start .pre .ready; pgns = start .pre .pgns; name = c .spn-name .ensures }
 
 returns : tie.Need-returns
 returns c =
@@ -51,7 +52,7 @@ returns c =
 spn-pgn-requires-2 : tie.Need-spn-pgn-requires-2
 spn-pgn-requires-2 c κs =
     let start = c .before .before .before .before .before .before .before .before in
-    (start .pre .1, start .pre .2, start .pre .3)
+    record { ready = start .pre .ready; pgns = start .pre .pgns }
 
 clash-at-requires : tie.Need-clash-at-requires
 clash-at-requires c κs =
@@ -64,14 +65,15 @@ clash-at-requires c κs =
     (c .before .spn-pgn2 .ensures)
     ∙ earlier-named (pack-of s .pgns-j1939) spn (earlier-spn-call .result .value)
     (sym (earlier-spn-call .ensures) ∙ ap (λ (b : Bool). optional b (earlier-spn-call .result .value)) e) in
-    let m : spn-pgn-call .result .given ≡ true = given-both s work spn (spn-pgn-call .result) (spn-pgn-call .ensures) ∙ start .pre .4 in (
-      rw (paired (pack-of s .pgns-j1939) spn (earlier-spn-call .result .given) (earlier-spn-call .result .value) (c .before .spn-pgn2 .result .pgn)
+    let m : spn-pgn-call .result .given ≡ true = given-both s work spn (spn-pgn-call .result) (spn-pgn-call .ensures) ∙ start .pre .named in
+    record {
+      fits = rw (paired (pack-of s .pgns-j1939) spn (earlier-spn-call .result .given) (earlier-spn-call .result .value) (c .before .spn-pgn2 .result .pgn)
           (spn-pgn-call .result .pgn) (earlier-spn-call .ensures) e
           (pgn-is s work (earlier-spn-call .result .value) (c .before .spn-pgn2 .result) (c .before .spn-pgn2 .ensures) n)
-          (pgn-is s work spn (spn-pgn-call .result) (spn-pgn-call .ensures) m)) at (start .pre .0),
-      c .before .spn-pgn2 .ensures .at n,
-      spn-pgn-call .ensures .at m,
-    )
+          (pgn-is s work spn (spn-pgn-call .result) (spn-pgn-call .ensures) m)) at (start .pre .fits);
+      other-at = c .before .spn-pgn2 .ensures .at n;
+      at = spn-pgn-call .ensures .at m;
+    }
 
 same-length : tie.Need-same-length
 same-length c = search needs
@@ -89,7 +91,7 @@ returns-2 c =
     let n : spn-pgn2 .result .given ≡ true = given-both s work (earlier-spn-call .result .value) (spn-pgn2 .result) (spn-pgn2 .ensures)
     ∙ earlier-named (pack-of s .pgns-j1939) spn (earlier-spn-call .result .value)
     (sym (earlier-spn-call .ensures) ∙ ap (λ (b : Bool). optional b (earlier-spn-call .result .value)) e) in
-    let m : spn-pgn-call .result .given ≡ true = given-both s work spn (spn-pgn-call .result) (spn-pgn-call .ensures) ∙ start .pre .4 in
+    let m : spn-pgn-call .result .given ≡ true = given-both s work spn (spn-pgn-call .result) (spn-pgn-call .ensures) ∙ start .pre .named in
     rw (paired (pack-of s .pgns-j1939) spn (earlier-spn-call .result .given) (earlier-spn-call .result .value) (spn-pgn2 .result .pgn)
     (spn-pgn-call .result .pgn) (earlier-spn-call .ensures) e (pgn-is s work (earlier-spn-call .result .value) (spn-pgn2 .result) (spn-pgn2 .ensures) n)
     (pgn-is s work spn (spn-pgn-call .result) (spn-pgn-call .ensures) m)) (c .before .before .clash-at .ensures)

@@ -29,12 +29,12 @@ loop-holds : tie.Need-loop-holds Inv-loop μ-loop
 loop-holds c =
     let start = c .before .before in
     let s = now (start .args .s) in let spn = start .args .spn in
-    ap (λ (t : Bytes). upto (pack-of s .pgns-j1939) t spn) (start .pre .3) ∙ sym (upto-earlier (pack-of s .pgns-j1939) spn)
+    ap (λ (t : Bytes). upto (pack-of s .pgns-j1939) t spn) (start .pre .name) ∙ sym (upto-earlier (pack-of s .pgns-j1939) spn)
 
 candidate-requires : tie.Need-candidate-requires Inv-loop μ-loop
 candidate-requires c κs =
     let start = c .before .before .before in
-    (start .pre .0, start .pre .1, start .pre .2)
+    record { ready = start .pre .ready; pgns = start .pre .pgns }
 
 returns : tie.Need-returns Inv-loop μ-loop
 returns c =
@@ -58,7 +58,7 @@ has-name-requires c κs =
     let n = bytes-of s (start .args .name) in
     let e = told s n (loop .b) (candidate-call .result .given) true (candidate-call .result .value) (candidate-call .ensures)
     (not-false (candidate-call .result .given) (c .if1 .left)) in
-    (start .pre .0, start .pre .1, start .pre .2, candidate-met P n (loop .b) (candidate-call .result .value) e .1)
+    record { ready = start .pre .ready; pgns = start .pre .pgns; named = candidate-met P n (loop .b) (candidate-call .result .value) e .1 }
 
 returns-2 : tie.Need-returns-2 Inv-loop μ-loop
 returns-2 c =

@@ -23,18 +23,23 @@ total-few pgns zero = omega arith
 total-few pgns (suc i) = omega (arith, total-few pgns i)
 
 abbrev Inv-loop : tie.InvT-loop
-Inv-loop s work count total₀ p₀ i₀ total p i = (i ≤ count) × (p ≡ place-of-pgn (pack-of s) 1 i) × (total ≡ sum-below (fields-in (pack-of s .pgns-j1939)) i)
+Inv-loop s work count total₀ p₀ i₀ total p i =
+    record {
+      turns : i ≤ count;
+      place : p ≡ place-of-pgn (pack-of s) 1 i;
+      total : total ≡ sum-below (fields-in (pack-of s .pgns-j1939)) i;
+    }
 
 abbrev μ-loop : tie.MeasureT-loop
 μ-loop s work count total₀ p₀ i₀ total p i = count - i
 
 loop-holds : tie.Need-loop-holds Inv-loop μ-loop
-loop-holds c = (omega arith, omega (arith, c .before .before .pre .2), refl)
+loop-holds c = record { turns = omega arith; place = omega (arith, c .before .before .pre .pgns .place); total = refl }
 
 pgn-of-requires : tie.Need-pgn-of-requires Inv-loop μ-loop
 pgn-of-requires c κs =
     let start = c .before .before .before .before in
-    (at-pgn {t = 1} (start .pre .0) (omega (arith, c)) (omega (arith, start .pre .1)) (c .loop-test .taken) (c .before .loop .inv .1))
+    (at-pgn {t = 1} (start .pre .ready) (omega (arith, c)) (omega (arith, start .pre .pgns .count)) (c .loop-test .taken) (c .before .loop .inv .place))
 
 add-total : tie.Need-add-total Inv-loop μ-loop
 add-total c =
@@ -42,10 +47,11 @@ add-total c =
     let loop = c .before .before .before .loop in
     omega (
       arith,
-      fields-few (at-pgn {t = 1} (start .pre .0) (omega (arith, c)) (omega (arith, start .pre .1)) (c .before .before .loop-test .taken) (loop .inv .1)),
+      fields-few (at-pgn {t = 1} (start .pre .ready) (omega (arith, c)) (omega (arith, start .pre .pgns .count)) (c .before .before .loop-test .taken)
+          (loop .inv .place)),
       c .before .pgn-of .ensures .fields,
-      loop .inv .1,
-      loop .inv .2,
+      loop .inv .place,
+      loop .inv .total,
       total-few (pack-of (now (start .args .s)) .pgns-j1939) (loop .i),
     )
 
@@ -53,8 +59,11 @@ add-p : tie.Need-add-p Inv-loop μ-loop
 add-p c =
     let start = c .before .before .before .before .before .before in
     let loop = c .before .before .before .loop in
-    omega
-    (arith, fields-few (at-pgn {t = 1} (start .pre .0) (omega (arith, c)) (omega (arith, start .pre .1)) (c .before .before .loop-test .taken) (loop .inv .1)))
+    omega (
+      arith,
+      fields-few (at-pgn {t = 1} (start .pre .ready) (omega (arith, c)) (omega (arith, start .pre .pgns .count)) (c .before .before .loop-test .taken)
+          (loop .inv .place)),
+    )
 
 cast-p : tie.Need-cast-p Inv-loop μ-loop
 cast-p c =
@@ -63,7 +72,7 @@ cast-p c =
     let loop-test = c .before .before .before .loop-test in
     omega (
       arith,
-      fields-few (at-pgn {t = 1} (start .pre .0) (omega (arith, c)) (omega (arith, start .pre .1)) (loop-test .taken) (loop .inv .1)),
+      fields-few (at-pgn {t = 1} (start .pre .ready) (omega (arith, c)) (omega (arith, start .pre .pgns .count)) (loop-test .taken) (loop .inv .place)),
       c .before .before .pgn-of .ensures .fields,
     )
 
@@ -74,7 +83,7 @@ add-p-2 c =
     let loop-test = c .before .before .before .loop-test in
     omega (
       arith,
-      fields-few (at-pgn {t = 1} (start .pre .0) (omega (arith, c)) (omega (arith, start .pre .1)) (loop-test .taken) (loop .inv .1)),
+      fields-few (at-pgn {t = 1} (start .pre .ready) (omega (arith, c)) (omega (arith, start .pre .pgns .count)) (loop-test .taken) (loop .inv .place)),
       c .before .before .pgn-of .ensures .fields,
     )
 
@@ -83,7 +92,8 @@ add-i c =
     let start = c .before .before .before .before .before .before .before in
     let loop = c .before .before .before .before .loop in
     let loop-test = c .before .before .before .loop-test in
-    omega (arith, pgns-few (at-pgn {t = 1} (start .pre .0) (omega (arith, c)) (omega (arith, start .pre .1)) (loop-test .taken) (loop .inv .1)))
+    omega
+    (arith, pgns-few (at-pgn {t = 1} (start .pre .ready) (omega (arith, c)) (omega (arith, start .pre .pgns .count)) (loop-test .taken) (loop .inv .place)))
 
 loop-less : tie.Need-loop-less Inv-loop μ-loop
 loop-less c =
@@ -96,18 +106,19 @@ loop-again c =
     let loop = c .before .before .before .before .loop in
     let loop-test = c .before .before .before .loop-test in
     let pgn-of = c .before .before .pgn-of in
-    let s = now (start .args .s) in (
-      omega (arith, loop-test .taken),
-      omega (arith, pgn-place-next (pack-of s) 1 (loop .i), pgn-of .ensures .fields, loop .inv .1),
-      omega (arith, sum-turn (fields-in (pack-of s .pgns-j1939)) (loop .i), pgn-of .ensures .fields, loop .inv .2),
-    )
+    let s = now (start .args .s) in
+    record {
+      turns = omega (arith, loop-test .taken);
+      place = omega (arith, pgn-place-next (pack-of s) 1 (loop .i), pgn-of .ensures .fields, loop .inv .place);
+      total = omega (arith, sum-turn (fields-in (pack-of s .pgns-j1939)) (loop .i), pgn-of .ensures .fields, loop .inv .total);
+    }
 
 returns : tie.Need-returns Inv-loop μ-loop
 returns c =
     let start = c .before .before .before .before in
     let s = now (start .args .s) in
-    let e : length (pack-of s .pgns-j1939) ≡ c .before .loop .i = omega (arith, start .pre .1, c .before .loop .inv .0, c .loop-test .left) in
-    c .before .loop .inv .2 ∙ ap (sum-below (fields-in (pack-of s .pgns-j1939))) (sym e)
+    let e : length (pack-of s .pgns-j1939) ≡ c .before .loop .i = omega (arith, start .pre .pgns .count, c .before .loop .inv .turns, c .loop-test .left) in
+    c .before .loop .inv .total ∙ ap (sum-below (fields-in (pack-of s .pgns-j1939))) (sym e)
 
 pub field-total-spec : {M : Type 1} → statement M
 field-total-spec =

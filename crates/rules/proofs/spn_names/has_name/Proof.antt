@@ -12,14 +12,15 @@ use Rattle.rules.proofs.spn_names.has_name.Tie as tie
 spn-pgn-requires : tie.Need-spn-pgn-requires
 spn-pgn-requires c κs =
     let start = c .before .before in
-    (start .pre .0, start .pre .1, start .pre .2)
+    record { ready = start .pre .ready; pgns = start .pre .pgns }
 
 spn-name-requires : tie.Need-spn-name-requires
 spn-name-requires c κs =
-    let start = c .before .before .before in (
-      c .spn-pgn .ensures,
-      given-both (now (start .args .s)) (now (start .args .work)) (start .args .spn) (c .spn-pgn .result) (c .spn-pgn .ensures) ∙ start .pre .3,
-    )
+    let start = c .before .before .before in
+    record {
+      names = c .spn-pgn .ensures;
+      given = given-both (now (start .args .s)) (now (start .args .work)) (start .args .spn) (c .spn-pgn .result) (c .spn-pgn .ensures) ∙ start .pre .named;
+    }
 
 same-text-requires : tie.Need-same-text-requires
 same-text-requires c κs = search needs

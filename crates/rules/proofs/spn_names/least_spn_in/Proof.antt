@@ -31,18 +31,22 @@ said s b i k v h is e =
     ∙ ap (λ (F : Field). spn-from (pack-of s .pgns-j1939) b (F .spn)) is
 
 abbrev Inv-loop : tie.InvT-loop
-Inv-loop s work b i p fields found₀ k₀ found k = (k ≤ fields) × (optional-number found ≡ min-below (from s b i) k)
+Inv-loop s work b i p fields found₀ k₀ found k =
+    record {
+      turns : k ≤ fields;
+      found : optional-number found ≡ min-below (from s b i) k;
+    }
 
 abbrev μ-loop : tie.MeasureT-loop
 μ-loop s work b i p fields found₀ k₀ found k = fields - k
 
 loop-holds : tie.Need-loop-holds Inv-loop μ-loop
-loop-holds c = (omega arith, refl)
+loop-holds c = record { turns = omega arith; found = refl }
 
 field-of-requires : tie.Need-field-of-requires Inv-loop μ-loop
 field-of-requires c κs =
     let start = c .before .before .before .before in
-    (start .pre .0, omega (arith, c .loop-test .taken, start .pre .1))
+    record { at = start .pre .at; field = omega (arith, c .loop-test .taken, start .pre .fields) }
 
 is-from-requires : tie.Need-is-from-requires Inv-loop μ-loop
 is-from-requires c κs = search needs
@@ -65,22 +69,23 @@ loop-again c =
     let loop-test = c .before .before .before .loop-test in
     let field-of = c .before .before .field-of in
     let s = now (start .args .s) in let b = start .args .b in let i = start .args .i in
-    let f = from s b i in (
-      omega (arith, loop-test .taken),
-      c .smaller .ensures
-          ∙ ap (λ (x : Option ℕ). smaller x (optional (c .before .is-from .result) (field-of .result .authored .spn .value))) (loop .inv .1)
+    let f = from s b i in
+    record {
+      turns = omega (arith, loop-test .taken);
+      found = c .smaller .ensures
+          ∙ ap (λ (x : Option ℕ). smaller x (optional (c .before .is-from .result) (field-of .result .authored .spn .value))) (loop .inv .found)
           ∙ ap (smaller (min-below f (loop .k)))
           (said s b i (loop .k) (field-of .result) (c .before .is-from .result) (field-of .ensures) (c .before .is-from .ensures))
-          ∙ sym (min-turn f (loop .k)),
-    )
+          ∙ sym (min-turn f (loop .k));
+    }
 
 returns : tie.Need-returns Inv-loop μ-loop
 unfolding least-spn-in
 returns c =
     let start = c .before .before .before .before in
     let s = now (start .args .s) in let i = start .args .i in
-    let e : length (pgn-at (pack-of s) 1 i .fields) ≡ c .before .loop .k = omega (arith, start .pre .1, c .before .loop .inv .0, c .loop-test .left) in
-    c .before .loop .inv .1 ∙ ap (min-below (from s (start .args .b) i)) (sym e)
+    let e : length (pgn-at (pack-of s) 1 i .fields) ≡ c .before .loop .k = omega (arith, start .pre .fields, c .before .loop .inv .turns, c .loop-test .left) in
+    c .before .loop .inv .found ∙ ap (min-below (from s (start .args .b) i)) (sym e)
 
 pub least-spn-in-spec : {M : Type 1} → statement M
 least-spn-in-spec =

@@ -1,5 +1,6 @@
+use Rattle.rules.specs.Emit.{Reporting}
 -- the findings of an SPN by its rank
-use Rattle.rules.proofs.Emits.{emitted-turn, emitted-none, fits-turn}
+use Rattle.rules.proofs.Emits.{fits-turn, reporting-none, reporting-turn}
 use borrow.Author.Tests.{not-true, not-false}
 use Rattle.rules.proofs.SpnLaws.{least-named}
 use Rattle.rules.specs.SpnNames.{clash-of, least-spn, check-spn-names}
@@ -17,7 +18,6 @@ use denote.Ref.{now}
 use Rattle.pack.specs.Notation.{concat-below, optional}
 use Rattle.pack.specs.Meaning.{pack-of}
 use Rattle.rules.specs.declared.Finding.{Finding}
-use Rattle.rules.specs.Emit.{Emitted}
 use Rattle.rules.proofs.spn_names.spn_clashes.Statement.{statement}
 use Rattle.rules.proofs.spn_names.spn_clashes.Tie as tie
 
@@ -38,10 +38,10 @@ rank-is s r b g d v e h q = e ∙ sym h ∙ ap (λ (x : Bool). optional x v) q
 
 abbrev Inv-loop : tie.InvT-loop
 Inv-loop out₀ n s work j1939 total m₀ b₀ rank₀ out m b rank =
-    (rank ≤ total)
-    × (ranked (least-spn (pack-of s .pgns-j1939)) rank ≡ least-spn (pack-of s .pgns-j1939) b)
-    × (length out ≡ length out₀)
-    × Emitted out₀ n (concat-below (of-rank s) rank) out m
+    record {
+      reporting : Reporting out₀ n (of-rank s) total rank out m;
+      ranked : ranked (least-spn (pack-of s .pgns-j1939)) rank ≡ least-spn (pack-of s .pgns-j1939) b;
+    }
 
 abbrev μ-loop : tie.MeasureT-loop
 μ-loop out₀ n s work j1939 total m₀ b₀ rank₀ out m b rank = total - rank
@@ -49,22 +49,20 @@ abbrev μ-loop : tie.MeasureT-loop
 field-total-requires : tie.Need-field-total-requires Inv-loop μ-loop
 field-total-requires c κs =
     let start = c .before .before .before in
-    (start .pre .1, start .pre .2, start .pre .3)
+    record { ready = start .pre .ready; pgns = start .pre .pgns }
 
 loop-holds : tie.Need-loop-holds Inv-loop μ-loop
-loop-holds c =
-    let start = c .before .before .before .before in
-    (omega (arith, c), refl, refl, emitted-none (now (start .args .out)) (start .args .n))
+loop-holds c = record { reporting = reporting-none _ _ _ _; ranked = refl }
 
 least-spn-requires : tie.Need-least-spn-requires Inv-loop μ-loop
 least-spn-requires c κs =
     let start = c .before .before .before .before .before .before in
-    (start .pre .1, start .pre .2, start .pre .3)
+    record { ready = start .pre .ready; pgns = start .pre .pgns }
 
 same-length : tie.Need-same-length Inv-loop μ-loop
 same-length c =
     let loop = c .before .before .before .before .loop in
-    loop .inv .2
+    loop .inv .reporting .emitted .length
 
 returns : tie.Need-returns Inv-loop μ-loop
 unfolding check-spn-names
@@ -74,9 +72,9 @@ returns c =
     let loop = c .before .before .before .before .loop in
     let least-spn-call = c .before .before .least-spn in
     let s = now (start .args .s) in
-    let e = rank-is s (loop .rank) (loop .b) (least-spn-call .result .given) false (least-spn-call .result .value) (loop .inv .1) (least-spn-call .ensures)
+    let e = rank-is s (loop .rank) (loop .b) (least-spn-call .result .given) false (least-spn-call .result .value) (loop .inv .ranked) (least-spn-call .ensures)
     (not-true (least-spn-call .result .given) (c .if1 .taken)) in
-    rw (← field-total .ensures, ended s (loop .rank) (field-total .result) (loop .inv .0) e) (loop .inv .3)
+    rw (← field-total .ensures, ended s (loop .rank) (field-total .result) (loop .inv .reporting .turns) e) (loop .inv .reporting .emitted)
 
 clash-of-requires : tie.Need-clash-of-requires Inv-loop μ-loop
 unfolding check-spn-names
@@ -88,14 +86,16 @@ clash-of-requires c κs =
     let least-spn-call = c .before .before .before .least-spn in
     let s = now (start .args .s) in
     let g = not-false (least-spn-call .result .given) (c .before .if1 .left) in
-    let e = rank-is s (loop .rank) (loop .b) (least-spn-call .result .given) true (least-spn-call .result .value) (loop .inv .1) (least-spn-call .ensures) g in (
-      rw e at (fits-turn (of-rank s) (field-total .result) (loop .rank) (loop-test .taken) (rw (← field-total .ensures) at (start .pre .0)) (loop .inv .3)),
-      start .pre .1,
-      start .pre .2,
-      start .pre .3,
-      least-named (pack-of s .pgns-j1939) (loop .b) (least-spn-call .result .value)
-          (sym (least-spn-call .ensures) ∙ ap (λ (x : Bool). optional x (least-spn-call .result .value)) g),
-    )
+    let e =
+    rank-is s (loop .rank) (loop .b) (least-spn-call .result .given) true (least-spn-call .result .value) (loop .inv .ranked) (least-spn-call .ensures) g in
+    record {
+      fits = rw e at (fits-turn (of-rank s) (field-total .result) (loop .rank) (loop-test .taken) (rw (← field-total .ensures) at (start .pre .fits))
+          (loop .inv .reporting .emitted));
+      ready = start .pre .ready;
+      pgns = start .pre .pgns;
+      named = least-named (pack-of s .pgns-j1939) (loop .b) (least-spn-call .result .value)
+          (sym (least-spn-call .ensures) ∙ ap (λ (x : Bool). optional x (least-spn-call .result .value)) g);
+    }
 
 cast-b : tie.Need-cast-b Inv-loop μ-loop
 cast-b c = search needs
@@ -124,23 +124,22 @@ loop-again c =
     let if1 = c .before .before .before .before .before .if1 in
     let clash-of-call = c .before .before .before .clash-of in
     let s = now (start .args .s) in
-    let e = rank-is s (loop .rank) (loop .b) (least-spn-call .result .given) true (least-spn-call .result .value) (loop .inv .1) (least-spn-call .ensures)
-    (not-false (least-spn-call .result .given) (if1 .left)) in (
-      omega (arith, loop-test .taken),
-      ranked-turn (least-spn (pack-of s .pgns-j1939)) (loop .rank) ∙ ap (next-rank (least-spn (pack-of s .pgns-j1939))) e,
-      clash-of-call .kept .0 ∙ loop .inv .2,
-      emitted-turn (of-rank s) (loop .rank) (loop .inv .3) (rw e (clash-of-call .ensures)),
-    )
+    let e = rank-is s (loop .rank) (loop .b) (least-spn-call .result .given) true (least-spn-call .result .value) (loop .inv .ranked) (least-spn-call .ensures)
+    (not-false (least-spn-call .result .given) (if1 .left)) in
+    record {
+      reporting = reporting-turn (loop .inv .reporting) (omega (arith, loop-test .taken)) (rw e (clash-of-call .ensures));
+      ranked = ranked-turn (least-spn (pack-of s .pgns-j1939)) (loop .rank) ∙ ap (next-rank (least-spn (pack-of s .pgns-j1939))) e;
+    }
 
 same-length-2 : tie.Need-same-length-2 Inv-loop μ-loop
-same-length-2 c = c .before .loop .inv .2
+same-length-2 c = c .before .loop .inv .reporting .emitted .length
 
 returns-2 : tie.Need-returns-2 Inv-loop μ-loop
 unfolding check-spn-names
 returns-2 c =
     let field-total = c .before .before .field-total in
-    let q : field-total .result ≡ c .before .loop .rank = omega (arith, c .before .loop .inv .0, c .loop-test .left) in
-    rw (← field-total .ensures, q) (c .before .loop .inv .3)
+    let q : field-total .result ≡ c .before .loop .rank = omega (arith, c .before .loop .inv .reporting .turns, c .loop-test .left) in
+    rw (← field-total .ensures, q) (c .before .loop .inv .reporting .emitted)
 
 pub spn-clashes-spec : {M : Type 1} → statement M
 spn-clashes-spec =

@@ -25,18 +25,22 @@ told : (s : List ℕ) (spn j k : ℕ) (v : FieldView) (b d : Bool) → field-mea
 told s spn j k v b d is e t = ap (λ (F : Field). is-number (F .spn) spn) (sym is) ∙ sym e ∙ t
 
 abbrev Inv-loop : tie.InvT-loop
-Inv-loop s work j p fields spn k₀ k = (k ≤ fields) × (first-below (carries s spn j) k ≡ none)
+Inv-loop s work j p fields spn k₀ k =
+    record {
+      turns : k ≤ fields;
+      none-yet : first-below (carries s spn j) k ≡ none;
+    }
 
 abbrev μ-loop : tie.MeasureT-loop
 μ-loop s work j p fields spn k₀ k = fields - k
 
 loop-holds : tie.Need-loop-holds Inv-loop μ-loop
-loop-holds c = (omega arith, refl)
+loop-holds c = record { turns = omega arith; none-yet = refl }
 
 field-of-requires : tie.Need-field-of-requires Inv-loop μ-loop
 field-of-requires c κs =
     let start = c .before .before .before .before in
-    (start .pre .0, omega (arith, c .loop-test .taken, start .pre .1))
+    record { at = start .pre .at; field = omega (arith, c .loop-test .taken, start .pre .fields) }
 
 is-number-requires : tie.Need-is-number-requires Inv-loop μ-loop
 is-number-requires c κs = search needs
@@ -49,7 +53,8 @@ returns c =
     let loop-test = c .before .before .before .loop-test in
     let field-of = c .before .before .field-of in
     let s = now (start .args .s) in let spn = start .args .spn in let j = start .args .j in
-    sym (first-hit (carries s spn j) (length (pgn-at (pack-of s) 1 j .fields)) (loop .k) (omega (arith, loop-test .taken, start .pre .1)) (loop .inv .1)
+    sym (first-hit (carries s spn j) (length (pgn-at (pack-of s) 1 j .fields)) (loop .k) (omega (arith, loop-test .taken, start .pre .fields))
+    (loop .inv .none-yet)
     (told s spn j (loop .k) (field-of .result) (c .before .is-number .result) true (field-of .ensures) (c .before .is-number .ensures) (c .if1 .taken)))
 
 add-k : tie.Need-add-k Inv-loop μ-loop
@@ -68,15 +73,15 @@ loop-again c =
     let field-of = c .before .before .field-of in
     let s = now (start .args .s) in let spn = start .args .spn in let j = start .args .j in
     let e = told s spn j (loop .k) (field-of .result) (c .before .is-number .result) false (field-of .ensures) (c .before .is-number .ensures) (c .if1 .left) in
-    (omega (arith, loop-test .taken), first-turn (carries s spn j) (loop .k) ∙ (rw (loop .inv .1, e)))
+    record { turns = omega (arith, loop-test .taken); none-yet = first-turn (carries s spn j) (loop .k) ∙ (rw (loop .inv .none-yet, e)) }
 
 returns-2 : tie.Need-returns-2 Inv-loop μ-loop
 unfolding spn-field
 returns-2 c =
     let start = c .before .before .before .before in
     let s = now (start .args .s) in let j = start .args .j in
-    let e : length (pgn-at (pack-of s) 1 j .fields) ≡ c .before .loop .k = omega (arith, start .pre .1, c .before .loop .inv .0, c .loop-test .left) in
-    sym (ap (first-below (carries s (start .args .spn) j)) e ∙ c .before .loop .inv .1)
+    let e : length (pgn-at (pack-of s) 1 j .fields) ≡ c .before .loop .k = omega (arith, start .pre .fields, c .before .loop .inv .turns, c .loop-test .left) in
+    sym (ap (first-below (carries s (start .args .spn) j)) e ∙ c .before .loop .inv .none-yet)
 
 pub spn-field-spec : {M : Type 1} → statement M
 spn-field-spec =

@@ -18,15 +18,17 @@ field-in s spn j h e = first-is (λ k. is-number (field-at (pgn-at (pack-of s) 1
 
 field-of-requires : tie.Need-field-of-requires
 field-of-requires c κs =
-    let start = c .before .before in (
-      start .pre .0 .at (start .pre .1),
-      field-in (now (start .args .s)) (start .args .spn) (start .args .namer .pgn) (start .args .namer .field) (start .pre .0 .field (start .pre .1)),
-    )
+    let start = c .before .before in
+    record {
+      at = start .pre .names .at (start .pre .given);
+      field = field-in (now (start .args .s)) (start .args .spn) (start .args .namer .pgn) (start .args .namer .field)
+          (start .pre .names .field (start .pre .given));
+    }
 
 returns : tie.Need-returns
 returns c =
     let start = c .before .before .before .before in
-    name-is (now (start .args .s)) (now (start .args .work)) (start .args .spn) (start .args .namer) (start .pre .0) (start .pre .1)
+    name-is (now (start .args .s)) (now (start .args .work)) (start .args .spn) (start .args .namer) (start .pre .names) (start .pre .given)
     (c .before .field-of .result) (c .before .field-of .ensures)
 
 pub spn-name-spec : {M : Type 1} → statement M

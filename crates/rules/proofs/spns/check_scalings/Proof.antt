@@ -1,18 +1,17 @@
+use Rattle.rules.specs.Emit.{Reporting}
 -- the findings of field k
 use Rattle.rules.specs.Spns.{spn-at, check-scalings}
 use borrow.Author.Needs.{needs}
 use native.Mathlib.Omega.{arith}
-use Prim.Native.Nat.{ℕ, _-_, _≤_}
-use mathlib.Core.Path.{_≡_, refl, _∙_}
+use Prim.Native.Nat.{ℕ, _-_}
+use mathlib.Core.Path.{_≡_}
 use mathlib.Core.List.{List}
 use lib.ListN.{length}
 use denote.Ref.{now}
-use Rattle.pack.specs.Notation.{concat-below}
 use Rattle.pack.specs.Meaning.{pack-of}
 use Rattle.pack.specs.Value.{pgns-of, pgn-at, field-at}
 use Rattle.rules.specs.declared.Finding.{Finding}
-use Rattle.rules.specs.Emit.{Emitted}
-use Rattle.rules.proofs.Emits.{emitted-none, emitted-turn, fits-turn}
+use Rattle.rules.proofs.Emits.{fits-turn, reporting-none, reporting-turn}
 use Rattle.rules.proofs.spns.check_scalings.Statement.{statement}
 use Rattle.rules.proofs.spns.check_scalings.Tie as tie
 
@@ -20,33 +19,35 @@ abbrev of-field : List ℕ → ℕ → ℕ → List Finding
 of-field s i k = spn-at (pgns-of (pack-of s) 1) i k (field-at (pgn-at (pack-of s) 1 i) k .spn)
 
 abbrev Inv-loop : tie.InvT-loop
-Inv-loop out₀ n s work first i p g m₀ k₀ out m k = (k ≤ g .fields) × (length out ≡ length out₀) × Emitted out₀ n (concat-below (of-field s i) k) out m
+Inv-loop out₀ n s work first i p g m₀ k₀ out m k =
+    Reporting out₀ n (of-field s i) (g .fields) k out m
 
 abbrev μ-loop : tie.MeasureT-loop
 μ-loop out₀ n s work first i p g m₀ k₀ out m k = g .fields - k
 
 loop-holds : tie.Need-loop-holds Inv-loop μ-loop
-loop-holds c = (omega arith, refl, emitted-none _ _)
+loop-holds c = reporting-none _ _ _ _
 
 field-of-requires : tie.Need-field-of-requires Inv-loop μ-loop
 field-of-requires c κs =
     let start = c .before .before .before .before .before .before in
-    (start .pre .1, omega (arith, c .if1 .taken, start .pre .3 .fields))
+    record { at = start .pre .at; field = omega (arith, c .if1 .taken, start .pre .is .fields) }
 
 spn-at-requires : tie.Need-spn-at-requires Inv-loop μ-loop
 unfolding check-scalings
 spn-at-requires c κs =
     let start = c .before .before .before .before .before .before .before .before in
     let loop = c .before .before .before .before .loop in
-    let if1 = c .before .before .if1 in (
-      fits-turn (of-field (now (start .args .s)) (start .args .i)) (start .args .g .fields) (loop .k) (if1 .taken)
-          (rw (← start .pre .3 .fields) at (start .pre .0)) (loop .inv .2),
-      start .pre .1 .ready,
-      start .pre .2,
-      start .pre .1 .pgn,
-      omega (arith, if1 .taken, start .pre .3 .fields),
-      c .before .field-of .ensures,
-    )
+    let if1 = c .before .before .if1 in
+    record {
+      fits = fits-turn (of-field (now (start .args .s)) (start .args .i)) (start .args .g .fields) (loop .k) (if1 .taken)
+          (rw (← start .pre .is .fields) at (start .pre .fits)) (loop .inv .emitted);
+      ready = start .pre .at .ready;
+      first = start .pre .first;
+      item = start .pre .at .pgn;
+      field = omega (arith, if1 .taken, start .pre .is .fields);
+      means = c .before .field-of .ensures;
+    }
 
 add-k : tie.Need-add-k Inv-loop μ-loop
 add-k c =
@@ -58,14 +59,9 @@ loop-less c = search needs
 
 loop-again : tie.Need-loop-again Inv-loop μ-loop
 loop-again c =
-    let start = c .before .before .before .before .before .before .before .before .before .before .before in
     let loop = c .before .before .before .before .before .before .before .loop in
     let if1 = c .before .before .before .before .before .if1 in
-    let spn-at-call = c .before .before .spn-at in (
-      omega (arith, if1 .taken),
-      spn-at-call .kept .0 ∙ loop .inv .1,
-      emitted-turn (of-field (now (start .args .s)) (start .args .i)) (loop .k) (loop .inv .2) (spn-at-call .ensures),
-    )
+    let spn-at-call = c .before .before .spn-at in reporting-turn (loop .inv) (omega (arith, if1 .taken)) (spn-at-call .ensures)
 
 same-length : tie.Need-same-length Inv-loop μ-loop
 same-length c = search needs
@@ -75,8 +71,8 @@ unfolding check-scalings
 returns c =
     let start = c .before .before .before .before .before .before in
     let loop = c .before .before .loop in
-    let e : loop .k ≡ length (pgn-at (pack-of (now (start .args .s))) 1 (start .args .i) .fields) = omega (arith, start .pre .3 .fields) in
-    rw (← e) (loop .inv .2)
+    let e : loop .k ≡ length (pgn-at (pack-of (now (start .args .s))) 1 (start .args .i) .fields) = omega (arith, start .pre .is .fields) in
+    rw (← e) (loop .inv .emitted)
 
 pub check-scalings-spec : {M : Type 1} → statement M
 check-scalings-spec =

@@ -1,10 +1,10 @@
+use mathlib.Core.Path.{refl}
+use Rattle.rules.proofs.Sections.{at-tree}
 -- the three parts
-use Rattle.pack.specs.declared.load.Section.{Section}
 use Rattle.pack.specs.Value.{Pack, pgns-of, pgn-at}
 use Rattle.rules.specs.Spns.{spns-elsewhere, check-scalings, check-spns}
 use native.Mathlib.Omega.{arith}
 use Prim.Native.Nat.{ℕ}
-use mathlib.Core.Path.{_∙_, ap}
 use mathlib.Core.List.{List, _++_}
 use lib.ListN.{length}
 use denote.Ref.{now}
@@ -29,13 +29,13 @@ elsewhere-requires : tie.Need-elsewhere-requires
 unfolding check-spns
 elsewhere-requires c κs =
     let start = c .before .before .before .before .before in
-    let P = pack-of (now (start .args .s)) in (
-      fits-left (elsewhere-in P 0) (elsewhere-in P 2) (fits-left (elsewhere-in P 0 ++ elsewhere-in P 2) (scalings-in P) (start .pre .0)),
-      start .pre .1,
-      omega (arith, c),
-      ap (λ (x : Section). x .count) (c .section .ensures) ∙ start .pre .2 .trees 0 (omega (arith, c)),
-      ap (λ (x : Section). x .place) (c .section .ensures) ∙ start .pre .2 .trees-place 0 (omega (arith, c)),
-    )
+    let P = pack-of (now (start .args .s)) in
+    record {
+      fits = fits-left (elsewhere-in P 0) (elsewhere-in P 2) (fits-left (elsewhere-in P 0 ++ elsewhere-in P 2) (scalings-in P) (start .pre .fits));
+      ready = start .pre .ready;
+      trees = omega (arith, c);
+      pgns = at-tree P _ (start .pre .index) 0 (omega (arith, c)) _ _ refl (c .section .ensures);
+    }
 
 section-requires-2 : tie.Need-section-requires-2
 section-requires-2 c κs = search needs
@@ -45,13 +45,14 @@ unfolding check-spns
 elsewhere-requires-2 c κs =
     let start = c .before .before .before .before .before .before .before .before .before .before in
     let elsewhere = c .before .before .before .before .elsewhere in
-    let P = pack-of (now (start .args .s)) in (
-      fits-right (elsewhere-in P 0) (elsewhere-in P 2) (fits-left (elsewhere-in P 0 ++ elsewhere-in P 2) (scalings-in P) (start .pre .0)) (elsewhere .ensures),
-      start .pre .1,
-      omega (arith, c),
-      ap (λ (x : Section). x .count) (c .section2 .ensures) ∙ start .pre .2 .trees 2 (omega (arith, c)),
-      ap (λ (x : Section). x .place) (c .section2 .ensures) ∙ start .pre .2 .trees-place 2 (omega (arith, c)),
-    )
+    let P = pack-of (now (start .args .s)) in
+    record {
+      fits = fits-right (elsewhere-in P 0) (elsewhere-in P 2) (fits-left (elsewhere-in P 0 ++ elsewhere-in P 2) (scalings-in P) (start .pre .fits))
+          (elsewhere .ensures);
+      ready = start .pre .ready;
+      trees = omega (arith, c);
+      pgns = at-tree P _ (start .pre .index) 2 (omega (arith, c)) _ _ refl (c .section2 .ensures);
+    }
 
 section-requires-3 : tie.Need-section-requires-3
 section-requires-3 c κs = search needs
@@ -63,13 +64,13 @@ scalings-requires c κs =
     let start = back12 .before .before .before in
     let elsewhere = c .before .before .before .before .before .before .before .before .before .elsewhere in
     let elsewhere2 = c .before .before .before .before .elsewhere2 in
-    let P = pack-of (now (start .args .s)) in (
-      fits-right (elsewhere-in P 0 ++ elsewhere-in P 2) (scalings-in P) (start .pre .0)
-          (emitted-append {xs = elsewhere-in P 0} {ys = elsewhere-in P 2} (elsewhere .ensures) (elsewhere2 .ensures)),
-      start .pre .1,
-      ap (λ (x : Section). x .count) (c .section3 .ensures) ∙ start .pre .2 .trees 1 (omega (arith, c)),
-      ap (λ (x : Section). x .place) (c .section3 .ensures) ∙ start .pre .2 .trees-place 1 (omega (arith, c)),
-    )
+    let P = pack-of (now (start .args .s)) in
+    record {
+      fits = fits-right (elsewhere-in P 0 ++ elsewhere-in P 2) (scalings-in P) (start .pre .fits)
+          (emitted-append {xs = elsewhere-in P 0} {ys = elsewhere-in P 2} (elsewhere .ensures) (elsewhere2 .ensures));
+      ready = start .pre .ready;
+      pgns = at-tree P _ (start .pre .index) 1 (omega (arith, c)) _ _ refl (c .section3 .ensures);
+    }
 
 same-length : tie.Need-same-length
 same-length c = search needs

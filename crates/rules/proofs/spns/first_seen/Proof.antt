@@ -66,35 +66,47 @@ here : {s w : List ℕ} {i j p : ℕ} → Ready s w → i < length (pgns-of (pac
 here r h l e = record { ready = r; tree = omega arith; pgn = omega arith; place = e }
 
 abbrev Inv-loop : tie.InvT-loop
-Inv-loop s work first i k spn pgn place field₀ g field = (field ≤ g .fields) × (first-below (carries (pack-of s) spn pgn) field ≡ none)
+Inv-loop s work first i k spn pgn place field₀ g field =
+    record {
+      turns : field ≤ g .fields;
+      none-yet : first-below (carries (pack-of s) spn pgn) field ≡ none;
+    }
 
 abbrev μ-loop : tie.MeasureT-loop
 μ-loop s work first i k spn pgn place field₀ g field = g .fields - field
 
 abbrev Inv-search : tie.InvT-search
 Inv-search s work first i k spn pgn₀ place₀ field₀ pgn place field =
-    (field ≡ 0) × (pgn ≤ i) × (place ≡ place-of-pgn (pack-of s) 1 pgn) × (first-below (carried (pack-of s) spn) pgn ≡ none)
+    record {
+      field : field ≡ 0;
+      turns : pgn ≤ i;
+      place : place ≡ place-of-pgn (pack-of s) 1 pgn;
+      none-yet : first-below (carried (pack-of s) spn) pgn ≡ none;
+    }
 
 abbrev μ-search : tie.MeasureT-search
 μ-search s work first i k spn pgn₀ place₀ field₀ pgn place field = i - pgn
 
 search-holds : tie.Need-search-holds Inv-loop μ-loop Inv-search μ-search
-search-holds c = (refl, omega arith, omega (arith, c .before .before .pre .1), refl)
+search-holds c = record { field = refl; turns = omega arith; place = omega (arith, c .before .before .pre .first); none-yet = refl }
 
 pgn-of-requires : tie.Need-pgn-of-requires Inv-loop μ-loop Inv-search μ-search
 pgn-of-requires c κs =
     let start = c .before .before .before in
-    here (start .pre .0) (start .pre .2) (c .search .inv .1) (c .search .inv .2)
+    here (start .pre .ready) (start .pre .item) (c .search .inv .turns) (c .search .inv .place)
 
 loop-holds : tie.Need-loop-holds Inv-loop μ-loop Inv-search μ-search
-loop-holds c = (omega (arith, c .before .search .inv .0), rw (c .before .search .inv .0))
+loop-holds c = record { turns = omega (arith, c .before .search .inv .field); none-yet = rw (c .before .search .inv .field) }
 
 field-of-requires : tie.Need-field-of-requires Inv-loop μ-loop Inv-search μ-search
 field-of-requires c κs =
     let start = c .before .before .before .before .before .before .before in
     let search-here = c .before .before .before .before .search in
     let pgn-of = c .before .before .before .pgn-of in
-    (here (start .pre .0) (start .pre .2) (search-here .inv .1) (search-here .inv .2), omega (arith, c .if1 .taken, pgn-of .ensures .fields))
+    record {
+      at = here (start .pre .ready) (start .pre .item) (search-here .inv .turns) (search-here .inv .place);
+      field = omega (arith, c .if1 .taken, pgn-of .ensures .fields);
+    }
 
 is-number-requires : tie.Need-is-number-requires Inv-loop μ-loop Inv-search μ-search
 is-number-requires c κs = search needs
@@ -118,33 +130,33 @@ loop-again c =
     let P = pack-of s in
     let e = told P s spn (search-here .pgn) (loop .field) (field-of .result) (c .before .is-number .result) false (field-of .ensures)
     (c .before .is-number .ensures) (c .if2 .left) in
-    (omega (arith, if1 .taken), first-turn (carries P spn (search-here .pgn)) (loop .field) ∙ (rw (loop .inv .1, e)))
+    record { turns = omega (arith, if1 .taken); none-yet = first-turn (carries P spn (search-here .pgn)) (loop .field) ∙ (rw (loop .inv .none-yet, e)) }
 
 add-place : tie.Need-add-place Inv-loop μ-loop Inv-search μ-search
 add-place c =
     let start = c .before .before .before .before .before .before .before in
     let search-here = c .before .before .before .before .search in
-    omega (arith, fields-few (here (start .pre .0) (start .pre .2) (search-here .inv .1) (search-here .inv .2)))
+    omega (arith, fields-few (here (start .pre .ready) (start .pre .item) (search-here .inv .turns) (search-here .inv .place)))
 
 cast-place : tie.Need-cast-place Inv-loop μ-loop Inv-search μ-search
 cast-place c =
     let start = c .before .before .before .before .before .before .before .before in
     let search-here = c .before .before .before .before .before .search in
     let pgn-of = c .before .before .before .before .pgn-of in
-    omega (arith, fields-few (here (start .pre .0) (start .pre .2) (search-here .inv .1) (search-here .inv .2)), pgn-of .ensures .fields)
+    omega (arith, fields-few (here (start .pre .ready) (start .pre .item) (search-here .inv .turns) (search-here .inv .place)), pgn-of .ensures .fields)
 
 add-place-2 : tie.Need-add-place-2 Inv-loop μ-loop Inv-search μ-search
 add-place-2 c =
     let start = c .before .before .before .before .before .before .before .before in
     let search-here = c .before .before .before .before .before .search in
     let pgn-of = c .before .before .before .before .pgn-of in
-    omega (arith, fields-few (here (start .pre .0) (start .pre .2) (search-here .inv .1) (search-here .inv .2)), pgn-of .ensures .fields)
+    omega (arith, fields-few (here (start .pre .ready) (start .pre .item) (search-here .inv .turns) (search-here .inv .place)), pgn-of .ensures .fields)
 
 add-pgn : tie.Need-add-pgn Inv-loop μ-loop Inv-search μ-search
 add-pgn c =
     let start = c .before .before .before .before .before .before .before .before in
     let search-here = c .before .before .before .before .before .search in
-    omega (arith, pgns-few (here (start .pre .0) (start .pre .2) (search-here .inv .1) (search-here .inv .2)))
+    omega (arith, pgns-few (here (start .pre .ready) (start .pre .item) (search-here .inv .turns) (search-here .inv .place)))
 
 search-less : tie.Need-search-less Inv-loop μ-loop Inv-search μ-search
 search-less c =
@@ -154,9 +166,9 @@ search-less c =
     let loop = c .before .before .before .loop in
     let spn = start .args .spn in
     let P = pack-of (now (start .args .s)) in
-    let e =
-    missed P spn (search-here .pgn) (pgn-of .result .fields) (loop .field) (pgn-of .ensures .fields) (loop .inv .0) (c .before .if1 .left) (loop .inv .1) in
-    omega (arith, before P spn (start .args .i) (start .args .k) (search-here .pgn) (start .pre .3) (start .pre .4) (search-here .inv .1) e)
+    let e = missed P spn (search-here .pgn) (pgn-of .result .fields) (loop .field) (pgn-of .ensures .fields) (loop .inv .turns) (c .before .if1 .left)
+    (loop .inv .none-yet) in
+    omega (arith, before P spn (start .args .i) (start .args .k) (search-here .pgn) (start .pre .field) (start .pre .spn) (search-here .inv .turns) e)
 
 search-again : tie.Need-search-again Inv-loop μ-loop Inv-search μ-search
 search-again c =
@@ -166,13 +178,15 @@ search-again c =
     let loop = c .before .before .before .loop in
     let spn = start .args .spn in
     let P = pack-of (now (start .args .s)) in
-    let e =
-    missed P spn (search-here .pgn) (pgn-of .result .fields) (loop .field) (pgn-of .ensures .fields) (loop .inv .0) (c .before .if1 .left) (loop .inv .1) in (
-      refl,
-      omega (arith, before P spn (start .args .i) (start .args .k) (search-here .pgn) (start .pre .3) (start .pre .4) (search-here .inv .1) e),
-      omega (arith, pgn-place-next P 1 (search-here .pgn), pgn-of .ensures .fields, search-here .inv .2),
-      first-turn (carried P spn) (search-here .pgn) ∙ (rw (search-here .inv .3, e)),
-    )
+    let e = missed P spn (search-here .pgn) (pgn-of .result .fields) (loop .field) (pgn-of .ensures .fields) (loop .inv .turns) (c .before .if1 .left)
+    (loop .inv .none-yet) in
+    record {
+      field = refl;
+      turns = omega
+          (arith, before P spn (start .args .i) (start .args .k) (search-here .pgn) (start .pre .field) (start .pre .spn) (search-here .inv .turns) e);
+      place = omega (arith, pgn-place-next P 1 (search-here .pgn), pgn-of .ensures .fields, search-here .inv .place);
+      none-yet = first-turn (carried P spn) (search-here .pgn) ∙ (rw (search-here .inv .none-yet, e));
+    }
 
 returns : tie.Need-returns Inv-loop μ-loop Inv-search μ-search
 returns c =
@@ -186,9 +200,9 @@ returns c =
     let P = pack-of s in
     let hit = told P s spn (search-here .pgn) (loop .field) (field-of .result) (c .before .is-number .result) true (field-of .ensures)
     (c .before .is-number .ensures) (c .if2 .taken) in
-    let e = found P spn (search-here .pgn) (loop .field) (pgn-of .result .fields) (pgn-of .ensures .fields) (if1 .taken) (loop .inv .1) hit in
-    let a = here (start .pre .0) (start .pre .2) (search-here .inv .1) (search-here .inv .2) in
-    (seen-first P spn (search-here .pgn) (loop .field) (a .pgn) (search-here .inv .3) e, e, a)
+    let e = found P spn (search-here .pgn) (loop .field) (pgn-of .result .fields) (pgn-of .ensures .fields) (if1 .taken) (loop .inv .none-yet) hit in
+    let a = here (start .pre .ready) (start .pre .item) (search-here .inv .turns) (search-here .inv .place) in
+    record { seen = seen-first P spn (search-here .pgn) (loop .field) (a .pgn) (search-here .inv .none-yet) e; field = e; at = a }
 
 pub first-seen-spec : {M : Type 1} → statement M
 first-seen-spec =

@@ -18,7 +18,10 @@ use Rattle.rules.proofs.spns.same_scaling.Tie as tie
 -- scalings compared as the code does
 abbrev compared : List ℕ → Scaling → Scaling → Bool
 compared s x y =
-    (x .width == y .width) && eq (x .resolution) (y .resolution) && eq (x .offset) (y .offset) && same-unit (optional-bytes s (x .unit)) (optional-bytes s (y .unit))
+    (x .width == y .width)
+    && eq (x .resolution) (y .resolution)
+    && eq (x .offset) (y .offset)
+    && same-unit (optional-bytes s (x .unit)) (optional-bytes s (y .unit))
 
 abbrev scaling : ScalingView → Scaling
 scaling v = record { width = v .bits; resolution = ofBits binary64 (v .resolution); offset = ofBits binary64 (v .offset); unit = v .unit }

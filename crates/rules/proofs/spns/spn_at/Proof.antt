@@ -38,8 +38,8 @@ put-requires c κs =
     let start = c .before .before .before .before .before .before .before .before .before in
     let if1 = c .before .before .before .before .if1 in
     let s = now (start .args .s) in
-    rw (beyond s (pgns-of (pack-of s) 1) (start .args .i) (start .args .k) _ (start .args .f) (start .pre .5) (if1 .taken) (c .before .before .if2 .taken)
-    (c .pgn-error .result) (c .pgn-error .ensures)) at (start .pre .0)
+    rw (beyond s (pgns-of (pack-of s) 1) (start .args .i) (start .args .k) _ (start .args .f) (start .pre .means) (if1 .taken) (c .before .before .if2 .taken)
+    (c .pgn-error .result) (c .pgn-error .ensures)) at (start .pre .fits)
 
 same-length : tie.Need-same-length
 same-length c = search needs
@@ -51,23 +51,24 @@ returns c =
     let if2 = c .before .before .before .before .before .if2 in
     let pgn-error-call = c .before .before .before .pgn-error in
     let s = now (start .args .s) in
-    rw (beyond s (pgns-of (pack-of s) 1) (start .args .i) (start .args .k) _ (start .args .f) (start .pre .5) (if1 .taken) (if2 .taken) (pgn-error-call .result)
-    (pgn-error-call .ensures)) (c .before .before .put .ensures)
+    rw (beyond s (pgns-of (pack-of s) 1) (start .args .i) (start .args .k) _ (start .args .f) (start .pre .means) (if1 .taken) (if2 .taken)
+    (pgn-error-call .result) (pgn-error-call .ensures)) (c .before .before .put .ensures)
 
 unlike-first-requires : tie.Need-unlike-first-requires
 unlike-first-requires c κs =
     let start = c .before .before .before .before .before .before .before .before in
     let if1 = c .before .before .before .if1 in
-    let s = now (start .args .s) in (
-      rw (within s (pgns-of (pack-of s) 1) (start .args .i) (start .args .k) _ (start .args .f) (start .pre .5) (if1 .taken) (c .before .if2 .left)) at
-          (start .pre .0),
-      start .pre .1,
-      start .pre .2,
-      start .pre .3,
-      start .pre .4,
-      start .pre .5,
-      if1 .taken,
-    )
+    let s = now (start .args .s) in
+    record {
+      fits = rw (within s (pgns-of (pack-of s) 1) (start .args .i) (start .args .k) _ (start .args .f) (start .pre .means) (if1 .taken) (c .before .if2 .left))
+          at (start .pre .fits);
+      ready = start .pre .ready;
+      first = start .pre .first;
+      item = start .pre .item;
+      field = start .pre .field;
+      means = start .pre .means;
+      spn = if1 .taken;
+    }
 
 same-length-2 : tie.Need-same-length-2
 same-length-2 c = search needs
@@ -78,14 +79,14 @@ returns-2 c =
     let if1 = c .before .before .before .before .before .before .if1 in
     let if2 = c .before .before .before .before .if2 in
     let s = now (start .args .s) in
-    rw (within s (pgns-of (pack-of s) 1) (start .args .i) (start .args .k) _ (start .args .f) (start .pre .5) (if1 .taken) (if2 .left))
+    rw (within s (pgns-of (pack-of s) 1) (start .args .i) (start .args .k) _ (start .args .f) (start .pre .means) (if1 .taken) (if2 .left))
     (c .before .before .unlike-first .ensures)
 
 returns-3 : tie.Need-returns-3
 returns-3 c =
     let start = c .before .before .before .before .before in
     let s = now (start .args .s) in
-    rw (absent s (pgns-of (pack-of s) 1) (start .args .i) (start .args .k) _ (start .args .f) (start .pre .5) (c .if1 .left))
+    rw (absent s (pgns-of (pack-of s) 1) (start .args .i) (start .args .k) _ (start .args .f) (start .pre .means) (c .if1 .left))
     (emitted-none (now (start .args .out)) (start .args .n))
 
 pub spn-at-spec : {M : Type 1} → statement M

@@ -1,3 +1,4 @@
+use Rattle.rules.specs.Emit.{Reporting}
 -- the findings of field k
 use Rattle.pack.specs.Value.{Field, pgn-at, field-at}
 use Rattle.pack.specs.declared.field.FieldView.{FieldView}
@@ -6,17 +7,15 @@ use Rattle.rules.specs.Model.{given}
 use Rattle.rules.specs.Spns.{spns-elsewhere}
 use borrow.Author.Needs.{needs}
 use native.Mathlib.Omega.{arith}
-use Prim.Native.Nat.{ℕ, _-_, _≤_}
-use mathlib.Core.Path.{_≡_, refl, sym, _∙_, ap}
+use Prim.Native.Nat.{ℕ, _-_}
+use mathlib.Core.Path.{_≡_, sym, _∙_, ap}
 use mathlib.Core.List.{List}
 use lib.ListN.{length}
 use denote.Ref.{now}
-use Rattle.pack.specs.Notation.{concat-below}
 use Rattle.pack.specs.Meaning.{pack-of, field-meaning}
 use Rattle.rules.specs.declared.Finding.{Finding}
-use Rattle.rules.specs.Emit.{Emitted}
 use Rattle.rules.specs.Findings.{report-if, pgn-error}
-use Rattle.rules.proofs.Emits.{emitted-none, emitted-turn, fits-turn}
+use Rattle.rules.proofs.Emits.{fits-turn, reporting-none, reporting-turn}
 use Rattle.rules.proofs.spns.spns_elsewhere.Statement.{statement}
 use Rattle.rules.proofs.spns.spns_elsewhere.Tie as tie
 
@@ -31,18 +30,19 @@ said s t i k f F is q =
     rw (q, e)
 
 abbrev Inv-loop : tie.InvT-loop
-Inv-loop out₀ n s work t i p g m₀ k₀ out m k = (k ≤ g .fields) × (length out ≡ length out₀) × Emitted out₀ n (concat-below (of-field s t i) k) out m
+Inv-loop out₀ n s work g m₀ k₀ out m k =
+    Reporting out₀ n (of-field s (g .tree) (g .item)) (g .view .fields) k out m
 
 abbrev μ-loop : tie.MeasureT-loop
-μ-loop out₀ n s work t i p g m₀ k₀ out m k = g .fields - k
+μ-loop out₀ n s work g m₀ k₀ out m k = g .view .fields - k
 
 loop-holds : tie.Need-loop-holds Inv-loop μ-loop
-loop-holds c = (omega arith, refl, emitted-none _ _)
+loop-holds c = reporting-none _ _ _ _
 
 field-of-requires : tie.Need-field-of-requires Inv-loop μ-loop
 field-of-requires c κs =
     let start = c .before .before .before .before .before .before in
-    (start .pre .1, omega (arith, c .if1 .taken, start .pre .2 .fields))
+    record { at = start .pre .pgn .at; field = omega (arith, c .if1 .taken, start .pre .pgn .is .fields) }
 
 pgn-error-requires : tie.Need-pgn-error-requires Inv-loop μ-loop
 pgn-error-requires c κs = search needs
@@ -54,9 +54,12 @@ put-if-requires c κs =
     let loop = c .before .before .before .before .before .loop in
     let if1 = c .before .before .before .if1 in
     let field-of = c .before .before .field-of in
-    let s = now (start .args .s) in let t = start .args .t in let i = start .args .i in
+    let s = now (start .args .s) in
+    let t = start .args .g .tree in
+    let i = start .args .g .item in
     rw (said s t i (loop .k) (field-of .result) (c .pgn-error .result) (field-of .ensures) (c .pgn-error .ensures)) at
-    (fits-turn (of-field s t i) (start .args .g .fields) (loop .k) (if1 .taken) (rw (← start .pre .2 .fields) at (start .pre .0)) (loop .inv .2))
+    (fits-turn (of-field s t i) (start .args .g .view .fields) (loop .k) (if1 .taken) (rw (← start .pre .pgn .is .fields) at (start .pre .fits))
+    (loop .inv .emitted))
 
 add-k : tie.Need-add-k Inv-loop μ-loop
 add-k c =
@@ -74,12 +77,11 @@ loop-again c =
     let field-of = c .before .before .before .before .before .field-of in
     let pgn-error-call = c .before .before .before .pgn-error in
     let put-if = c .before .before .put-if in
-    let s = now (start .args .s) in let t = start .args .t in let i = start .args .i in (
-      omega (arith, if1 .taken),
-      put-if .kept .0 ∙ loop .inv .1,
-      emitted-turn (of-field s t i) (loop .k) (loop .inv .2)
-          (rw (said s t i (loop .k) (field-of .result) (pgn-error-call .result) (field-of .ensures) (pgn-error-call .ensures)) (put-if .ensures)),
-    )
+    let s = now (start .args .s) in
+    let t = start .args .g .tree in
+    let i = start .args .g .item in
+    reporting-turn (loop .inv) (omega (arith, if1 .taken))
+    (rw (said s t i (loop .k) (field-of .result) (pgn-error-call .result) (field-of .ensures) (pgn-error-call .ensures)) (put-if .ensures))
 
 same-length : tie.Need-same-length Inv-loop μ-loop
 same-length c = search needs
@@ -89,8 +91,9 @@ unfolding spns-elsewhere
 returns c =
     let start = c .before .before .before .before .before .before in
     let loop = c .before .before .loop in
-    let e : loop .k ≡ length (pgn-at (pack-of (now (start .args .s))) (start .args .t) (start .args .i) .fields) = omega (arith, start .pre .2 .fields) in
-    rw (← e) (loop .inv .2)
+    let e : loop .k ≡ length (pgn-at (pack-of (now (start .args .s))) (start .args .g .tree) (start .args .g .item) .fields) =
+    omega (arith, start .pre .pgn .is .fields) in
+    rw (← e) (loop .inv .emitted)
 
 pub spns-elsewhere-spec : {M : Type 1} → statement M
 spns-elsewhere-spec =

@@ -59,7 +59,13 @@ carried s f F is e = ap (λ (X : Field). X .spn) (sym is) ∙ ap (λ (b : Bool).
 first-seen-requires : tie.Need-first-seen-requires
 first-seen-requires c κs =
     let start = c .before .before .before in
-    (start .pre .1, start .pre .2, start .pre .3, start .pre .4, carried (now (start .args .s)) (start .args .f) _ (start .pre .5) (start .pre .6))
+    record {
+      ready = start .pre .ready;
+      first = start .pre .first;
+      item = start .pre .item;
+      field = start .pre .field;
+      spn = carried (now (start .args .s)) (start .args .f) _ (start .pre .means) (start .pre .spn);
+    }
 
 is-at-requires : tie.Need-is-at-requires
 is-at-requires c κs = search needs
@@ -69,17 +75,19 @@ returns c =
     let start = c .before .before .before .before .before .before in
     let first-seen-call = c .before .before .first-seen in
     rw (itself (pack-of (now (start .args .s))) (start .args .i) (start .args .k) (start .args .f .authored .spn .value) (first-seen-call .result .pgn)
-    (first-seen-call .result .field) (first-seen-call .ensures .0) (first-seen-call .ensures .1) (c .before .is-at .result) (c .before .is-at .ensures)
+    (first-seen-call .result .field) (first-seen-call .ensures .seen) (first-seen-call .ensures .field) (c .before .is-at .result) (c .before .is-at .ensures)
     (c .if1 .taken)) (emitted-none (now (start .args .out)) (start .args .n))
 
 field-of-requires : tie.Need-field-of-requires
 field-of-requires c κs =
     let start = c .before .before .before .before .before .before in
-    let first-seen-call = c .before .before .first-seen in (
-      first-seen-call .ensures .2,
-      field-of-it (pack-of (now (start .args .s))) (start .args .i) (start .args .k) (start .args .f .authored .spn .value) (first-seen-call .result .pgn)
-          (first-seen-call .result .field) (first-seen-call .ensures .0) (first-seen-call .ensures .1) (c .before .is-at .result) (c .before .is-at .ensures),
-    )
+    let first-seen-call = c .before .before .first-seen in
+    record {
+      at = first-seen-call .ensures .at;
+      field = field-of-it (pack-of (now (start .args .s))) (start .args .i) (start .args .k) (start .args .f .authored .spn .value)
+          (first-seen-call .result .pgn) (first-seen-call .result .field) (first-seen-call .ensures .seen) (first-seen-call .ensures .field)
+          (c .before .is-at .result) (c .before .is-at .ensures);
+    }
 
 same-scaling-requires : tie.Need-same-scaling-requires
 same-scaling-requires c κs = search needs
@@ -96,11 +104,12 @@ put-if-requires c κs =
     let field-of = c .before .before .before .field-of in
     let same-scaling-call = c .before .before .same-scaling in
     let s = now (start .args .s) in
-    let same = alike s (field-of .result) (start .args .f) _ _ (field-of .ensures) (start .pre .5) (same-scaling-call .result) (same-scaling-call .ensures) in
+    let same =
+    alike s (field-of .result) (start .args .f) _ _ (field-of .ensures) (start .pre .means) (same-scaling-call .result) (same-scaling-call .ensures) in
     let reported = another (pack-of s) (start .args .i) (start .args .k) (start .args .f .authored .spn .value) (first-seen-call .result .pgn)
-    (first-seen-call .result .field) (first-seen-call .ensures .0) (first-seen-call .ensures .1) (is-at .result) (is-at .ensures) (if1 .left)
+    (first-seen-call .result .field) (first-seen-call .ensures .seen) (first-seen-call .ensures .field) (is-at .result) (is-at .ensures) (if1 .left)
     (same-scaling-call .result) same (c .pgn-error .result) (c .pgn-error .ensures) in
-    rw reported at (start .pre .0)
+    rw reported at (start .pre .fits)
 
 same-length : tie.Need-same-length
 same-length c = search needs
@@ -116,9 +125,10 @@ returns-2 c =
     let same-scaling-call = c .before .before .before .before .before .same-scaling in
     let pgn-error-call = c .before .before .before .pgn-error in
     let s = now (start .args .s) in
-    let same = alike s (field-of .result) (start .args .f) _ _ (field-of .ensures) (start .pre .5) (same-scaling-call .result) (same-scaling-call .ensures) in
+    let same =
+    alike s (field-of .result) (start .args .f) _ _ (field-of .ensures) (start .pre .means) (same-scaling-call .result) (same-scaling-call .ensures) in
     let reported = another (pack-of s) (start .args .i) (start .args .k) (start .args .f .authored .spn .value) (first-seen-call .result .pgn)
-    (first-seen-call .result .field) (first-seen-call .ensures .0) (first-seen-call .ensures .1) (is-at .result) (is-at .ensures) (if1 .left)
+    (first-seen-call .result .field) (first-seen-call .ensures .seen) (first-seen-call .ensures .field) (is-at .result) (is-at .ensures) (if1 .left)
     (same-scaling-call .result) same (pgn-error-call .result) (pgn-error-call .ensures) in
     rw reported (c .before .before .put-if .ensures)
 

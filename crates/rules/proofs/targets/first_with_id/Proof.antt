@@ -20,18 +20,22 @@ abbrev has : List ℕ → ℕ → ℕ → List ℕ → ℕ → Bool
 has s t i id j = field-at (pgn-at (pack-of s) t i) j .id ≐ id
 
 abbrev Inv-loop : tie.InvT-loop
-Inv-loop s work t i p n id j₀ j = (j ≤ n) × (first-below (has s t i (bytes-of s id)) j ≡ none)
+Inv-loop s work t i p n id j₀ j =
+    record {
+      turns : j ≤ n;
+      none-yet : first-below (has s t i (bytes-of s id)) j ≡ none;
+    }
 
 abbrev μ-loop : tie.MeasureT-loop
 μ-loop s work t i p n id j₀ j = n - j
 
 loop-holds : tie.Need-loop-holds Inv-loop μ-loop
-loop-holds c = (search needs, refl)
+loop-holds c = record { turns = search needs; none-yet = refl }
 
 field-id-of-requires : tie.Need-field-id-of-requires Inv-loop μ-loop
 field-id-of-requires c κs =
     let start = c .before .before .before .before in
-    (start .pre .0, omega (arith, start .pre .1, c .loop-test .taken))
+    record { at = start .pre .at; field = omega (arith, start .pre .fields, c .loop-test .taken) }
 
 same-text-requires : tie.Need-same-text-requires Inv-loop μ-loop
 same-text-requires c κs = search needs
@@ -42,7 +46,7 @@ returns c =
     let loop = c .before .before .before .before .loop in
     let loop-test = c .before .before .before .loop-test in
     let s = now (start .args .s) in
-    sym (first-hit (has s (start .args .t) (start .args .i) (bytes-of s (start .args .id))) (start .args .n) (loop .j) (loop-test .taken) (loop .inv .1)
+    sym (first-hit (has s (start .args .t) (start .args .i) (bytes-of s (start .args .id))) (start .args .n) (loop .j) (loop-test .taken) (loop .inv .none-yet)
     (rw (← c .before .before .field-id-of .ensures, ← c .before .same-text .ensures) (c .if1 .taken)))
 
 add-j : tie.Need-add-j Inv-loop μ-loop
@@ -57,13 +61,13 @@ loop-again c =
     let loop = c .before .before .before .before .loop in
     let s = now (start .args .s) in let t = start .args .t in let i = start .args .i in let id = start .args .id in
     let e : has s t i (bytes-of s id) (loop .j) ≡ false = rw (← c .before .before .field-id-of .ensures, ← c .before .same-text .ensures) (c .if1 .left) in
-    (omega (arith, c), first-turn (has s t i (bytes-of s id)) (loop .j) ∙ (rw (loop .inv .1, e)))
+    record { turns = omega (arith, c); none-yet = first-turn (has s t i (bytes-of s id)) (loop .j) ∙ (rw (loop .inv .none-yet, e)) }
 
 returns-2 : tie.Need-returns-2 Inv-loop μ-loop
 returns-2 c =
     let start = c .before .before .before .before in
     let e : start .args .n ≡ c .before .loop .j = omega (arith, c) in
-    rw (e, c .before .loop .inv .1)
+    rw (e, c .before .loop .inv .none-yet)
 
 pub first-with-id-spec : {M : Type 1} → statement M
 first-with-id-spec =

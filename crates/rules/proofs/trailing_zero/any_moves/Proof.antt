@@ -18,18 +18,22 @@ abbrev moving : List ℕ → ℕ → ℕ → ℕ → Bool
 moving s t i k = (field-at (pgn-at (pack-of s) t i) k .res-bits == 0) || field-at (pgn-at (pack-of s) t i) k .proprietary
 
 abbrev Inv-loop : tie.InvT-loop
-Inv-loop s work t i p n k₀ k = (k ≤ n) × (any-below (moving s t i) k ≡ false)
+Inv-loop s work g n k₀ k =
+    record {
+      turns : k ≤ n;
+      none-yet : any-below (moving s (g .tree) (g .item)) k ≡ false;
+    }
 
 abbrev μ-loop : tie.MeasureT-loop
-μ-loop s work t i p n k₀ k = n - k
+μ-loop s work g n k₀ k = n - k
 
 loop-holds : tie.Need-loop-holds Inv-loop μ-loop
-loop-holds c = (search needs, refl)
+loop-holds c = record { turns = search needs; none-yet = refl }
 
 field-of-requires : tie.Need-field-of-requires Inv-loop μ-loop
 field-of-requires c κs =
     let start = c .before .before .before .before in
-    (start .pre .0, omega (arith, start .pre .1, c .loop-test .taken))
+    record { at = start .pre .at; field = omega (arith, start .pre .fields, c .loop-test .taken) }
 
 moves-requires : tie.Need-moves-requires Inv-loop μ-loop
 moves-requires c κs = search needs
@@ -39,7 +43,7 @@ returns c =
     let start = c .before .before .before .before .before .before .before in
     let loop = c .before .before .before .before .loop in
     let loop-test = c .before .before .before .loop-test in
-    sym (any-hit (moving (now (start .args .s)) (start .args .t) (start .args .i)) (start .args .n) (loop .k) (loop-test .taken)
+    sym (any-hit (moving (now (start .args .s)) (start .args .g .tree) (start .args .g .item)) (start .args .n) (loop .k) (loop-test .taken)
     (rw (← c .before .before .field-of .ensures) (sym (c .before .moves .ensures) ∙ c .if1 .taken)))
 
 add-k : tie.Need-add-k Inv-loop μ-loop
@@ -52,15 +56,15 @@ loop-again : tie.Need-loop-again Inv-loop μ-loop
 loop-again c =
     let start = c .before .before .before .before .before .before .before in
     let loop = c .before .before .before .before .loop in
-    let s = now (start .args .s) in let t = start .args .t in let i = start .args .i in
+    let s = now (start .args .s) in let t = start .args .g .tree in let i = start .args .g .item in
     let e : moving s t i (loop .k) ≡ false = rw (← c .before .before .field-of .ensures) (sym (c .before .moves .ensures) ∙ c .if1 .left) in
-    (omega (arith, c), any-turn (moving s t i) (loop .k) ∙ (rw (loop .inv .1, e)))
+    record { turns = omega (arith, c); none-yet = any-turn (moving s t i) (loop .k) ∙ (rw (loop .inv .none-yet, e)) }
 
 returns-2 : tie.Need-returns-2 Inv-loop μ-loop
 returns-2 c =
     let start = c .before .before .before .before in
     let e : start .args .n ≡ c .before .loop .k = omega (arith, c) in
-    rw (e, c .before .loop .inv .1)
+    rw (e, c .before .loop .inv .none-yet)
 
 pub any-moves-spec : {M : Type 1} → statement M
 any-moves-spec =

@@ -1,14 +1,13 @@
+use Rattle.rules.specs.Emit.{Reporting}
 use Rattle.rules.specs.TrailingZero.{trailing-zero-at, check-trailing-zero-is-digit}
 use Rattle.rules.proofs.Sizes.{fields-few}
-use Rattle.rules.proofs.Emits.{emitted-none, emitted-turn, fits-turn}
-use Rattle.rules.specs.Emit.{Emitted}
+use Rattle.rules.proofs.Emits.{fits-turn, reporting-none, reporting-turn}
 use Rattle.rules.specs.declared.Finding.{Finding}
 use Rattle.pack.specs.Meaning.{pack-of}
-use Rattle.pack.specs.Notation.{concat-below}
 use Rattle.pack.specs.Value.{pgn-at, field-at}
-use Prim.Native.Nat.{ℕ, _-_, _≤_}
+use Prim.Native.Nat.{ℕ, _-_}
 use native.Mathlib.Omega.{arith}
-use mathlib.Core.Path.{_≡_, refl, _∙_}
+use mathlib.Core.Path.{_≡_}
 use mathlib.Core.List.{List}
 use borrow.Author.Needs.{needs}
 use denote.Ref.{now}
@@ -21,64 +20,58 @@ abbrev of-field : List ℕ → ℕ → ℕ → ℕ → List Finding
 of-field s t i k = trailing-zero-at (pack-of s .fieldtypes) t i (pgn-at (pack-of s) t i) k (field-at (pgn-at (pack-of s) t i) k .trailing-zero)
 
 abbrev Inv-loop : tie.InvT-loop
-Inv-loop out₀ n s work t i p g fields m₀ k₀ out m k = (k ≤ fields) × (length out ≡ length out₀) × Emitted out₀ n (concat-below (of-field s t i) k) out m
+Inv-loop out₀ n s work g fields m₀ k₀ out m k =
+    Reporting out₀ n (of-field s (g .tree) (g .item)) fields k out m
 
 abbrev μ-loop : tie.MeasureT-loop
-μ-loop out₀ n s work t i p g fields m₀ k₀ out m k = fields - k
+μ-loop out₀ n s work g fields m₀ k₀ out m k = fields - k
 
 loop-holds : tie.Need-loop-holds Inv-loop μ-loop
-loop-holds c =
-    let start = c .before .before .before in
-    (omega (arith, c), refl, emitted-none (now (start .args .out)) (start .args .n))
+loop-holds c = reporting-none _ _ _ _
 
 field-of-requires : tie.Need-field-of-requires Inv-loop μ-loop
 field-of-requires c κs =
     let start = c .before .before .before .before .before in
-    (start .pre .1, omega (arith, start .pre .2 .fields, c .loop-test .taken))
+    record { at = start .pre .pgn .at; field = omega (arith, start .pre .pgn .is .fields, c .loop-test .taken) }
 
 trailing-zero-at-requires : tie.Need-trailing-zero-at-requires Inv-loop μ-loop
 unfolding check-trailing-zero-is-digit
 trailing-zero-at-requires c κs =
     let start = c .before .before .before .before .before .before .before in
     let loop = c .before .before .before .loop in
-    let loop-test = c .before .before .loop-test in (
-      fits-turn (of-field (now (start .args .s)) (start .args .t) (start .args .i)) (start .args .g .fields) (loop .k) (loop-test .taken)
-          (rw (← start .pre .2 .fields) at (start .pre .0)) (loop .inv .2),
-      start .pre .1,
-      start .pre .2,
-      loop-test .taken,
-      c .before .field-of .ensures,
-    )
+    let loop-test = c .before .before .loop-test in
+    record {
+      fits = fits-turn (of-field (now (start .args .s)) (start .args .g .tree) (start .args .g .item)) (start .args .g .view .fields) (loop .k)
+          (loop-test .taken) (rw (← start .pre .pgn .is .fields) at (start .pre .fits)) (loop .inv .emitted);
+      pgn = start .pre .pgn;
+      field = loop-test .taken;
+      means = c .before .field-of .ensures;
+    }
 
 add-k : tie.Need-add-k Inv-loop μ-loop
 add-k c =
     let start = c .before .before .before .before .before .before .before .before .before .before in
     let loop-test = c .before .before .before .before .before .loop-test in
-    omega (arith, loop-test .taken, start .pre .2 .fields, fields-few (start .pre .1))
+    omega (arith, loop-test .taken, start .pre .pgn .is .fields, fields-few (start .pre .pgn .at))
 
 loop-less : tie.Need-loop-less Inv-loop μ-loop
 loop-less c = search needs
 
 loop-again : tie.Need-loop-again Inv-loop μ-loop
 loop-again c =
-    let start = c .before .before .before .before .before .before .before .before .before .before in
     let loop = c .before .before .before .before .before .before .loop in
-    let trailing-zero-at-call = c .before .before .trailing-zero-at in (
-      omega (arith, c),
-      trailing-zero-at-call .kept .0 ∙ loop .inv .1,
-      emitted-turn (of-field (now (start .args .s)) (start .args .t) (start .args .i)) (loop .k) (loop .inv .2) (trailing-zero-at-call .ensures),
-    )
+    let trailing-zero-at-call = c .before .before .trailing-zero-at in reporting-turn (loop .inv) (omega (arith, c)) (trailing-zero-at-call .ensures)
 
 same-length : tie.Need-same-length Inv-loop μ-loop
-same-length c = c .before .loop .inv .1
+same-length c = c .before .loop .inv .emitted .length
 
 returns : tie.Need-returns Inv-loop μ-loop
 unfolding check-trailing-zero-is-digit
 returns c =
     let start = c .before .before .before .before .before in
-    let e : length (pgn-at (pack-of (now (start .args .s))) (start .args .t) (start .args .i) .fields) ≡ c .before .loop .k =
-    omega (arith, start .pre .2 .fields, c .before .loop .inv .0, c .loop-test .left) in
-    rw e (c .before .loop .inv .2)
+    let e : length (pgn-at (pack-of (now (start .args .s))) (start .args .g .tree) (start .args .g .item) .fields) ≡ c .before .loop .k =
+    omega (arith, start .pre .pgn .is .fields, c .before .loop .inv .turns, c .loop-test .left) in
+    rw e (c .before .loop .inv .emitted)
 
 pub check-trailing-zero-is-digit-spec : {M : Type 1} → statement M
 check-trailing-zero-is-digit-spec =

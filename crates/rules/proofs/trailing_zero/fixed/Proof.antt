@@ -26,22 +26,22 @@ said s p g is j a b c x y z = rw (x, y, z, ap (λ (G : Pgn). G .repeating1) (is 
 any-moves-requires : tie.Need-any-moves-requires
 any-moves-requires c κs =
     let start = c .before .before in
-    (start .pre .0, omega (arith, start .pre .2))
+    record { at = start .pre .pgn .at; fields = omega (arith, start .pre .field) }
 
 returns : tie.Need-returns
 returns c =
     let start = c .before .before .before .before in
     let s = now (start .args .s) in
     rw (
-      said s (pgn-at (pack-of s) (start .args .t) (start .args .i)) (start .args .g) (start .pre .1) (start .args .j) (c .before .any-moves .result) _ _
-          (c .before .any-moves .ensures) refl refl,
+      said s (pgn-at (pack-of s) (start .args .g .tree) (start .args .g .item)) (start .args .g .view) (start .pre .pgn .is) (start .args .j)
+          (c .before .any-moves .result) _ _ (c .before .any-moves .ensures) refl refl,
       c .if1 .taken,
     )
 
 order-requires : tie.Need-order-requires
 order-requires c κs =
     let start = c .before .before .before .before in
-    omega (arith, start .pre .2, fields-few (start .pre .0))
+    omega (arith, start .pre .field, fields-few (start .pre .pgn .at))
 
 starts-behind-requires : tie.Need-starts-behind-requires
 starts-behind-requires c κs = search needs
@@ -56,12 +56,13 @@ returns-2 c =
     let if1 = c .before .before .before .before .if1 in
     let order = c .before .before .before .order in
     let starts-behind-call = c .before .before .starts-behind in
-    let g = start .args .g in let s = now (start .args .s) in
+    let s = now (start .args .s) in
+    let g = start .args .g .view in
     let behind-1 = starts-behind-call .ensures ∙ ap (starts-behind (optional-repeating (g .repeating1))) (order .ensures) in
     let behind-2 = c .starts-behind2 .ensures ∙ ap (starts-behind (optional-repeating (g .repeating2))) (order .ensures) in
     rw (
-      said s (pgn-at (pack-of s) (start .args .t) (start .args .i)) g (start .pre .1) (start .args .j) (any-moves .result) (starts-behind-call .result)
-          (c .starts-behind2 .result) (any-moves .ensures) behind-1 behind-2,
+      said s (pgn-at (pack-of s) (start .args .g .tree) (start .args .g .item)) g (start .pre .pgn .is) (start .args .j) (any-moves .result)
+          (starts-behind-call .result) (c .starts-behind2 .result) (any-moves .ensures) behind-1 behind-2,
       if1 .left,
       c .before .if2 .taken,
     )
@@ -71,11 +72,12 @@ returns-3 c =
     let start = c .before .before .before .before .before .before .before in
     let any-moves = c .before .before .before .before .any-moves in
     let if1 = c .before .before .before .if1 in
-    let g = start .args .g in let s = now (start .args .s) in
+    let s = now (start .args .s) in
+    let g = start .args .g .view in
     let behind-1 = c .before .starts-behind .ensures ∙ ap (starts-behind (optional-repeating (g .repeating1))) (c .before .before .order .ensures) in
     rw (
-      said s (pgn-at (pack-of s) (start .args .t) (start .args .i)) g (start .pre .1) (start .args .j) (any-moves .result) (c .before .starts-behind .result) _
-          (any-moves .ensures) behind-1 refl,
+      said s (pgn-at (pack-of s) (start .args .g .tree) (start .args .g .item)) g (start .pre .pgn .is) (start .args .j) (any-moves .result)
+          (c .before .starts-behind .result) _ (any-moves .ensures) behind-1 refl,
       if1 .left,
       c .if2 .left,
     )

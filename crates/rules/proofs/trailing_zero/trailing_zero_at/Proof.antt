@@ -38,8 +38,8 @@ module _ (s : List ℕ) (fts : List FieldType) (t i k : ℕ) (p : Pgn) (f : Fiel
 returns : tie.Need-returns
 returns c =
     let start = c .before .before .before .before .before in
-    let s = now (start .args .s) in let t = start .args .t in let i = start .args .i in
-    rw (without s (pack-of s .fieldtypes) t i (start .args .k) (pgn-at (pack-of s) t i) (start .args .f) (start .pre .4)
+    let s = now (start .args .s) in let t = start .args .g .tree in let i = start .args .g .item in
+    rw (without s (pack-of s .fieldtypes) t i (start .args .k) (pgn-at (pack-of s) t i) (start .args .f) (start .pre .means)
     (not-true (start .args .f .links .trailing .given) (c .if1 .taken))) (emitted-none (now (start .args .out)) (start .args .n))
 
 slice-aggregate-text-is : tie.Need-slice-aggregate-text-is
@@ -56,10 +56,10 @@ put-requires c κs =
     let start = c .before .before .before .before .before .before .before .before .before .before in
     let if1 = c .before .before .before .before .before .if1 in
     let text-is = c .before .before .before .text-is in
-    let s = now (start .args .s) in let t = start .args .t in let i = start .args .i in
-    rw (other s (pack-of s .fieldtypes) t i (start .args .k) (pgn-at (pack-of s) t i) (start .args .f) (start .pre .4)
+    let s = now (start .args .s) in let t = start .args .g .tree in let i = start .args .g .item in
+    rw (other s (pack-of s .fieldtypes) t i (start .args .k) (pgn-at (pack-of s) t i) (start .args .f) (start .pre .means)
     (not-false (start .args .f .links .trailing .given) (if1 .left)) (text-is .result) (text-is .ensures)
-    (not-true (text-is .result) (c .before .before .if2 .taken)) (c .pgn-error .result) (c .pgn-error .ensures)) at (start .pre .0)
+    (not-true (text-is .result) (c .before .before .if2 .taken)) (c .pgn-error .result) (c .pgn-error .ensures)) at (start .pre .fits)
 
 same-length : tie.Need-same-length
 same-length c = search needs
@@ -72,30 +72,30 @@ returns-2 c =
     let text-is = c .before .before .before .before .before .before .text-is in
     let if2 = c .before .before .before .before .before .if2 in
     let pgn-error-call = c .before .before .before .pgn-error in
-    let s = now (start .args .s) in let t = start .args .t in let i = start .args .i in
-    rw (other s (pack-of s .fieldtypes) t i (start .args .k) (pgn-at (pack-of s) t i) (start .args .f) (start .pre .4)
+    let s = now (start .args .s) in let t = start .args .g .tree in let i = start .args .g .item in
+    rw (other s (pack-of s .fieldtypes) t i (start .args .k) (pgn-at (pack-of s) t i) (start .args .f) (start .pre .means)
     (not-false (start .args .f .links .trailing .given) (if1 .left)) (text-is .result) (text-is .ensures) (not-true (text-is .result) (if2 .taken))
     (pgn-error-call .result) (pgn-error-call .ensures)) (c .before .before .put .ensures)
 
 target-requires : tie.Need-target-requires
 target-requires c κs =
     let start = c .before .before .before .before .before .before .before .before in
-    (start .pre .1, start .pre .2 .fields)
+    record { at = start .pre .pgn .at; fields = start .pre .pgn .is .fields }
 
 trailing-zero-target-at-requires : tie.Need-trailing-zero-target-at-requires
 trailing-zero-target-at-requires c κs =
     let start = c .before .before .before .before .before .before .before .before .before .before in
     let if1 = c .before .before .before .before .before .if1 in
     let text-is = c .before .before .before .text-is in
-    let s = now (start .args .s) in let t = start .args .t in let i = start .args .i in (
-      (rw (with-target s (pack-of s .fieldtypes) t i (start .args .k) (pgn-at (pack-of s) t i) (start .args .f) (start .pre .4)
+    let s = now (start .args .s) in let t = start .args .g .tree in let i = start .args .g .item in
+    record {
+      fits = (rw (with-target s (pack-of s .fieldtypes) t i (start .args .k) (pgn-at (pack-of s) t i) (start .args .f) (start .pre .means)
           (not-false (start .args .f .links .trailing .given) (if1 .left)) (text-is .result) (text-is .ensures)
           (not-false (text-is .result) (c .before .before .if2 .left)) (optional-number (c .before .target .result)) (c .before .target .ensures)) at
-          (start .pre .0)),
-      start .pre .1,
-      start .pre .2,
-      start .pre .3,
-    )
+          (start .pre .fits));
+      pgn = start .pre .pgn;
+      field = start .pre .field;
+    }
 
 same-length-2 : tie.Need-same-length-2
 same-length-2 c = search needs
@@ -108,8 +108,8 @@ returns-3 c =
     let text-is = c .before .before .before .before .before .before .text-is in
     let if2 = c .before .before .before .before .before .if2 in
     let target-call = c .before .before .before .before .target in
-    let s = now (start .args .s) in let t = start .args .t in let i = start .args .i in
-    rw (with-target s (pack-of s .fieldtypes) t i (start .args .k) (pgn-at (pack-of s) t i) (start .args .f) (start .pre .4)
+    let s = now (start .args .s) in let t = start .args .g .tree in let i = start .args .g .item in
+    rw (with-target s (pack-of s .fieldtypes) t i (start .args .k) (pgn-at (pack-of s) t i) (start .args .f) (start .pre .means)
     (not-false (start .args .f .links .trailing .given) (if1 .left)) (text-is .result) (text-is .ensures) (not-false (text-is .result) (if2 .left))
     (optional-number (target-call .result)) (target-call .ensures)) (c .before .before .trailing-zero-target-at .ensures)
 

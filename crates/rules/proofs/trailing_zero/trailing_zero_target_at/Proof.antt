@@ -23,7 +23,8 @@ module _ (s : List ℕ) (fts : List FieldType) (t i k : ℕ) (p : Pgn) (j : OptN
   unfolding trailing-zero-target-at
   absent h F y = rw (h, y)
 
-  later : j .given ≡ true → k ≤ j .value → (F : Finding) → F ≡ pgn-error 44 3 t i k (j .value) → trailing-zero-target-at fts t i p k (optional-number j) ≡ F ∷ []
+  later : j .given ≡ true → k ≤ j .value → (F : Finding) → F ≡ pgn-error 44 3 t i k (j .value)
+      → trailing-zero-target-at fts t i p k (optional-number j) ≡ F ∷ []
   unfolding trailing-zero-target-at
   later h l F y = rw (h, le-leb k (j .value) l, y)
 
@@ -43,9 +44,9 @@ pgn-error-requires c κs = search needs
 put-requires : tie.Need-put-requires
 put-requires c κs =
     let start = c .before .before .before .before .before .before .before in
-    let s = now (start .args .s) in let t = start .args .t in let i = start .args .i in
+    let s = now (start .args .s) in let t = start .args .g .tree in let i = start .args .g .item in
     rw (absent s (pack-of s .fieldtypes) t i (start .args .k) (pgn-at (pack-of s) t i) (start .args .j)
-    (not-true (start .args .j .given) (c .before .before .if1 .taken)) (c .pgn-error .result) (c .pgn-error .ensures)) at (start .pre .0)
+    (not-true (start .args .j .given) (c .before .before .if1 .taken)) (c .pgn-error .result) (c .pgn-error .ensures)) at (start .pre .fits)
 
 same-length : tie.Need-same-length
 same-length c = search needs
@@ -55,7 +56,7 @@ returns c =
     let start = c .before .before .before .before .before .before .before .before .before .before in
     let if1 = c .before .before .before .before .before .if1 in
     let pgn-error-call = c .before .before .before .pgn-error in
-    let s = now (start .args .s) in let t = start .args .t in let i = start .args .i in
+    let s = now (start .args .s) in let t = start .args .g .tree in let i = start .args .g .item in
     rw (absent s (pack-of s .fieldtypes) t i (start .args .k) (pgn-at (pack-of s) t i) (start .args .j) (not-true (start .args .j .given) (if1 .taken))
     (pgn-error-call .result) (pgn-error-call .ensures)) (c .before .before .put .ensures)
 
@@ -66,9 +67,9 @@ put-requires-2 : tie.Need-put-requires-2
 put-requires-2 c κs =
     let start = c .before .before .before .before .before .before .before .before .before in
     let if1 = c .before .before .before .before .if1 in
-    let s = now (start .args .s) in let t = start .args .t in let i = start .args .i in
+    let s = now (start .args .s) in let t = start .args .g .tree in let i = start .args .g .item in
     rw (later s (pack-of s .fieldtypes) t i (start .args .k) (pgn-at (pack-of s) t i) (start .args .j) (not-false (start .args .j .given) (if1 .left))
-    (c .before .before .if2 .taken) (c .pgn-error2 .result) (c .pgn-error2 .ensures)) at (start .pre .0)
+    (c .before .before .if2 .taken) (c .pgn-error2 .result) (c .pgn-error2 .ensures)) at (start .pre .fits)
 
 same-length-2 : tie.Need-same-length-2
 same-length-2 c = search needs
@@ -79,14 +80,14 @@ returns-2 c =
     let if1 = c .before .before .before .before .before .before .before .if1 in
     let if2 = c .before .before .before .before .before .if2 in
     let pgn-error2 = c .before .before .before .pgn-error2 in
-    let s = now (start .args .s) in let t = start .args .t in let i = start .args .i in
+    let s = now (start .args .s) in let t = start .args .g .tree in let i = start .args .g .item in
     rw (later s (pack-of s .fieldtypes) t i (start .args .k) (pgn-at (pack-of s) t i) (start .args .j) (not-false (start .args .j .given) (if1 .left))
     (if2 .taken) (pgn-error2 .result) (pgn-error2 .ensures)) (c .before .before .put2 .ensures)
 
 fixed-requires : tie.Need-fixed-requires
 fixed-requires c κs =
     let start = c .before .before .before .before .before .before .before in
-    (start .pre .1, start .pre .2, omega (arith, start .pre .2 .fields, start .pre .3, c .if2 .left))
+    record { pgn = start .pre .pgn; field = omega (arith, start .pre .pgn .is .fields, start .pre .field, c .if2 .left) }
 
 pgn-error-requires-3 : tie.Need-pgn-error-requires-3
 pgn-error-requires-3 c κs = search needs
@@ -97,10 +98,12 @@ put-requires-3 c κs =
     let if1 = c .before .before .before .before .before .before .if1 in
     let if2 = c .before .before .before .before .if2 in
     let fixed-call = c .before .before .before .fixed in
-    let s = now (start .args .s) in let t = start .args .t in let i = start .args .i in
-    rw (loose s (pack-of s .fieldtypes) t i (start .args .k) (pgn-at (pack-of s) t i) (start .args .j) (not-false (start .args .j .given) (if1 .left)) (if2 .left)
-    (fixed-call .result) (fixed-call .ensures) (not-true (fixed-call .result) (c .before .before .if3 .taken)) (c .pgn-error3 .result)
-    (c .pgn-error3 .ensures)) at (start .pre .0)
+    let s = now (start .args .s) in
+    let t = start .args .g .tree in
+    let i = start .args .g .item in
+    rw (loose s (pack-of s .fieldtypes) t i (start .args .k) (pgn-at (pack-of s) t i) (start .args .j) (not-false (start .args .j .given) (if1 .left))
+    (if2 .left) (fixed-call .result) (fixed-call .ensures) (not-true (fixed-call .result) (c .before .before .if3 .taken)) (c .pgn-error3 .result)
+    (c .pgn-error3 .ensures)) at (start .pre .fits)
 
 same-length-3 : tie.Need-same-length-3
 same-length-3 c = search needs
@@ -114,27 +117,30 @@ returns-3 c =
     let fixed-call = c .before .before .before .before .before .before .fixed in
     let if3 = c .before .before .before .before .before .if3 in
     let pgn-error3 = c .before .before .before .pgn-error3 in
-    let s = now (start .args .s) in let t = start .args .t in let i = start .args .i in
-    rw (loose s (pack-of s .fieldtypes) t i (start .args .k) (pgn-at (pack-of s) t i) (start .args .j) (not-false (start .args .j .given) (if1 .left)) (if2 .left)
-    (fixed-call .result) (fixed-call .ensures) (not-true (fixed-call .result) (if3 .taken)) (pgn-error3 .result) (pgn-error3 .ensures))
+    let s = now (start .args .s) in
+    let t = start .args .g .tree in
+    let i = start .args .g .item in
+    rw (loose s (pack-of s .fieldtypes) t i (start .args .k) (pgn-at (pack-of s) t i) (start .args .j) (not-false (start .args .j .given) (if1 .left))
+    (if2 .left) (fixed-call .result) (fixed-call .ensures) (not-true (fixed-call .result) (if3 .taken)) (pgn-error3 .result) (pgn-error3 .ensures))
     (c .before .before .put3 .ensures)
 
 field-of-requires : tie.Need-field-of-requires
 field-of-requires c κs =
     let start = c .before .before .before .before .before .before .before .before .before in
-    (start .pre .1, omega (arith, start .pre .2 .fields, start .pre .3, c .before .before .if2 .left))
+    record { at = start .pre .pgn .at; field = omega (arith, start .pre .pgn .is .fields, start .pre .field, c .before .before .if2 .left) }
 
 unsigned-integer-requires : tie.Need-unsigned-integer-requires
 unsigned-integer-requires c κs =
     let start = c .before .before .before .before .before .before .before .before .before .before in
-    let if2 = c .before .before .before .if2 in (
-      start .pre .1 .ready,
-      omega (
+    let if2 = c .before .before .before .if2 in
+    record {
+      ready = start .pre .pgn .at .ready;
+      type = omega (
         arith,
         ap (λ (F : Field). F .ft) (c .field-of .ensures),
-        field-ft-law (start .pre .1) (start .args .j .value) (omega (arith, start .pre .2 .fields, start .pre .3, if2 .left)),
-      ),
-    )
+        field-ft-law (start .pre .pgn .at) (start .args .j .value) (omega (arith, start .pre .pgn .is .fields, start .pre .field, if2 .left)),
+      );
+    }
 
 pgn-error-requires-4 : tie.Need-pgn-error-requires-4
 pgn-error-requires-4 c κs = search needs
@@ -149,10 +155,10 @@ put-if-requires c κs =
     let if3 = c .before .before .before .before .if3 in
     let field-of = c .before .before .before .field-of in
     let unsigned-integer-call = c .before .before .unsigned-integer in
-    let s = now (start .args .s) in let t = start .args .t in let i = start .args .i in
+    let s = now (start .args .s) in let t = start .args .g .tree in let i = start .args .g .item in
     rw (earlier s (pack-of s .fieldtypes) t i (start .args .k) (pgn-at (pack-of s) t i) (start .args .j) (not-false (start .args .j .given) (if1 .left))
     (if2 .left) (fixed-call .result) (fixed-call .ensures) (not-false (fixed-call .result) (if3 .left)) (field-of .result) (field-of .ensures)
-    (unsigned-integer-call .result) (unsigned-integer-call .ensures) (c .pgn-error4 .result) (c .pgn-error4 .ensures)) at (start .pre .0)
+    (unsigned-integer-call .result) (unsigned-integer-call .ensures) (c .pgn-error4 .result) (c .pgn-error4 .ensures)) at (start .pre .fits)
 
 same-length-4 : tie.Need-same-length-4
 same-length-4 c = search needs
@@ -168,7 +174,7 @@ returns-4 c =
     let field-of = c .before .before .before .before .before .before .field-of in
     let unsigned-integer-call = c .before .before .before .before .before .unsigned-integer in
     let pgn-error4 = c .before .before .before .pgn-error4 in
-    let s = now (start .args .s) in let t = start .args .t in let i = start .args .i in
+    let s = now (start .args .s) in let t = start .args .g .tree in let i = start .args .g .item in
     rw (earlier s (pack-of s .fieldtypes) t i (start .args .k) (pgn-at (pack-of s) t i) (start .args .j) (not-false (start .args .j .given) (if1 .left))
     (if2 .left) (fixed-call .result) (fixed-call .ensures) (not-false (fixed-call .result) (if3 .left)) (field-of .result) (field-of .ensures)
     (unsigned-integer-call .result) (unsigned-integer-call .ensures) (pgn-error4 .result) (pgn-error4 .ensures)) (c .before .before .put-if .ensures)

@@ -59,33 +59,41 @@ parts P t i p =
 check-pgn-range-requires : tie.Need-check-pgn-range-requires
 check-pgn-range-requires c κs =
     let start = c .before .before .before .before in
-    let s = now (start .args .s) in let t = start .args .t in let i = start .args .i in
-    (record { small = omega (arith, start .pre .0 .small, parts (pack-of s) t i (pgn-at (pack-of s) t i)) }, start .pre .2, start .pre .1 .tree)
+    let s = now (start .args .s) in let t = start .args .g .tree in let i = start .args .g .item in
+    record {
+      fits = record { small = omega (arith, start .pre .fits .small, parts (pack-of s) t i (pgn-at (pack-of s) t i)) };
+      is = start .pre .pgn .is;
+      trees = start .pre .pgn .at .tree;
+    }
 
 check-frame-length-requires : tie.Need-check-frame-length-requires
 check-frame-length-requires c κs =
     let start = c .before .before .before .before .before .before .before .before in
     let check-pgn-range-call = c .before .before .before .check-pgn-range in
-    let s = now (start .args .s) in let t = start .args .t in let i = start .args .i in
-    (record { small = omega (arith, start .pre .0 .small, parts (pack-of s) t i (pgn-at (pack-of s) t i), check-pgn-range-call .ensures .count) }, start .pre .2)
+    let s = now (start .args .s) in let t = start .args .g .tree in let i = start .args .g .item in
+    record {
+      fits = record { small = omega (arith, start .pre .fits .small, parts (pack-of s) t i (pgn-at (pack-of s) t i), check-pgn-range-call .ensures .count) };
+      is = start .pre .pgn .is;
+    }
 
 check-repeating-requires : tie.Need-check-repeating-requires
 check-repeating-requires c κs =
     let start = c .before .before .before .before .before .before .before .before .before .before .before .before in
     let check-pgn-range-call = c .before .before .before .before .before .before .before .check-pgn-range in
     let check-frame-length-call = c .before .before .before .check-frame-length in
-    let s = now (start .args .s) in let t = start .args .t in let i = start .args .i in (
-      record {
+    let s = now (start .args .s) in let t = start .args .g .tree in let i = start .args .g .item in
+    record {
+      fits = record {
         small = omega (
           arith,
-          start .pre .0 .small,
+          start .pre .fits .small,
           parts (pack-of s) t i (pgn-at (pack-of s) t i),
           check-pgn-range-call .ensures .count,
           check-frame-length-call .ensures .count,
         );
-      },
-      start .pre .2,
-    )
+      };
+      is = start .pre .pgn .is;
+    }
 
 check-dynamic-length-requires : tie.Need-check-dynamic-length-requires
 check-dynamic-length-requires c κs =
@@ -94,20 +102,20 @@ check-dynamic-length-requires c κs =
     let check-pgn-range-call = c .before .before .before .before .before .before .before .before .before .before .before .check-pgn-range in
     let check-frame-length-call = c .before .before .before .before .before .before .before .check-frame-length in
     let check-repeating-call = c .before .before .before .check-repeating in
-    let s = now (start .args .s) in let t = start .args .t in let i = start .args .i in (
-      record {
+    let s = now (start .args .s) in let t = start .args .g .tree in let i = start .args .g .item in
+    record {
+      fits = record {
         small = omega (
           arith,
-          start .pre .0 .small,
+          start .pre .fits .small,
           parts (pack-of s) t i (pgn-at (pack-of s) t i),
           check-pgn-range-call .ensures .count,
           check-frame-length-call .ensures .count,
           check-repeating-call .ensures .count,
         );
-      },
-      start .pre .1,
-      start .pre .2,
-    )
+      };
+      pgn = start .pre .pgn;
+    }
 
 check-proprietary-requires : tie.Need-check-proprietary-requires
 check-proprietary-requires c κs =
@@ -117,21 +125,21 @@ check-proprietary-requires c κs =
     let check-frame-length-call = c .before .before .before .before .before .before .before .before .before .before .before .check-frame-length in
     let check-repeating-call = c .before .before .before .before .before .before .before .check-repeating in
     let check-dynamic-length-call = c .before .before .before .check-dynamic-length in
-    let s = now (start .args .s) in let t = start .args .t in let i = start .args .i in (
-      record {
+    let s = now (start .args .s) in let t = start .args .g .tree in let i = start .args .g .item in
+    record {
+      fits = record {
         small = omega (
           arith,
-          start .pre .0 .small,
+          start .pre .fits .small,
           parts (pack-of s) t i (pgn-at (pack-of s) t i),
           check-pgn-range-call .ensures .count,
           check-frame-length-call .ensures .count,
           check-repeating-call .ensures .count,
           check-dynamic-length-call .ensures .count,
         );
-      },
-      start .pre .1,
-      start .pre .2,
-    )
+      };
+      pgn = start .pre .pgn;
+    }
 
 check-special-values-requires : tie.Need-check-special-values-requires
 check-special-values-requires c κs =
@@ -142,11 +150,12 @@ check-special-values-requires c κs =
     let check-repeating-call = c .before .before .before .before .before .before .before .before .before .before .before .check-repeating in
     let check-dynamic-length-call = c .before .before .before .before .before .before .before .check-dynamic-length in
     let check-proprietary-call = c .before .before .before .check-proprietary in
-    let s = now (start .args .s) in let t = start .args .t in let i = start .args .i in (
-      record {
+    let s = now (start .args .s) in let t = start .args .g .tree in let i = start .args .g .item in
+    record {
+      fits = record {
         small = omega (
           arith,
-          start .pre .0 .small,
+          start .pre .fits .small,
           parts (pack-of s) t i (pgn-at (pack-of s) t i),
           check-pgn-range-call .ensures .count,
           check-frame-length-call .ensures .count,
@@ -154,10 +163,9 @@ check-special-values-requires c κs =
           check-dynamic-length-call .ensures .count,
           check-proprietary-call .ensures .count,
         );
-      },
-      start .pre .1,
-      start .pre .2,
-    )
+      };
+      pgn = start .pre .pgn;
+    }
 
 check-field-count-requires : tie.Need-check-field-count-requires
 check-field-count-requires c κs =
@@ -170,11 +178,12 @@ check-field-count-requires c κs =
     let check-dynamic-length-call = c .before .before .before .before .before .before .before .before .before .before .before .check-dynamic-length in
     let check-proprietary-call = c .before .before .before .before .before .before .before .check-proprietary in
     let check-special-values-call = c .before .before .before .check-special-values in
-    let s = now (start .args .s) in let t = start .args .t in let i = start .args .i in (
-      record {
+    let s = now (start .args .s) in let t = start .args .g .tree in let i = start .args .g .item in
+    record {
+      fits = record {
         small = omega (
           arith,
-          start .pre .0 .small,
+          start .pre .fits .small,
           parts (pack-of s) t i (pgn-at (pack-of s) t i),
           check-pgn-range-call .ensures .count,
           check-frame-length-call .ensures .count,
@@ -183,9 +192,9 @@ check-field-count-requires c κs =
           check-proprietary-call .ensures .count,
           check-special-values-call .ensures .count,
         );
-      },
-      start .pre .2,
-    )
+      };
+      is = start .pre .pgn .is;
+    }
 
 check-reserved-ids-requires : tie.Need-check-reserved-ids-requires
 check-reserved-ids-requires c κs =
@@ -199,11 +208,12 @@ check-reserved-ids-requires c κs =
     let check-proprietary-call = c .before .before .before .before .before .before .before .before .before .before .before .check-proprietary in
     let check-special-values-call = c .before .before .before .before .before .before .before .check-special-values in
     let check-field-count-call = c .before .before .before .check-field-count in
-    let s = now (start .args .s) in let t = start .args .t in let i = start .args .i in (
-      record {
+    let s = now (start .args .s) in let t = start .args .g .tree in let i = start .args .g .item in
+    record {
+      fits = record {
         small = omega (
           arith,
-          start .pre .0 .small,
+          start .pre .fits .small,
           parts (pack-of s) t i (pgn-at (pack-of s) t i),
           check-pgn-range-call .ensures .count,
           check-frame-length-call .ensures .count,
@@ -213,10 +223,9 @@ check-reserved-ids-requires c κs =
           check-special-values-call .ensures .count,
           check-field-count-call .ensures .count,
         );
-      },
-      start .pre .1,
-      start .pre .2,
-    )
+      };
+      pgn = start .pre .pgn;
+    }
 
 check-match-values-requires : tie.Need-check-match-values-requires
 check-match-values-requires c κs =
@@ -231,11 +240,12 @@ check-match-values-requires c κs =
     let check-special-values-call = c .before .before .before .before .before .before .before .before .before .before .before .check-special-values in
     let check-field-count-call = c .before .before .before .before .before .before .before .check-field-count in
     let check-reserved-ids-call = c .before .before .before .check-reserved-ids in
-    let s = now (start .args .s) in let t = start .args .t in let i = start .args .i in (
-      record {
+    let s = now (start .args .s) in let t = start .args .g .tree in let i = start .args .g .item in
+    record {
+      fits = record {
         small = omega (
           arith,
-          start .pre .0 .small,
+          start .pre .fits .small,
           parts (pack-of s) t i (pgn-at (pack-of s) t i),
           check-pgn-range-call .ensures .count,
           check-frame-length-call .ensures .count,
@@ -246,12 +256,10 @@ check-match-values-requires c κs =
           check-field-count-call .ensures .count,
           check-reserved-ids-call .ensures .count,
         );
-      },
-      start .pre .1,
-      start .pre .3,
-      start .pre .4,
-      start .pre .2,
-    )
+      };
+      pgn = start .pre .pgn;
+      lookups = start .pre .lookups;
+    }
 
 check-field-type-overrides-requires : tie.Need-check-field-type-overrides-requires
 check-field-type-overrides-requires c κs =
@@ -268,11 +276,12 @@ check-field-type-overrides-requires c κs =
     let check-field-count-call = c .before .before .before .before .before .before .before .before .before .before .before .check-field-count in
     let check-reserved-ids-call = c .before .before .before .before .before .before .before .check-reserved-ids in
     let check-match-values-call = c .before .before .before .check-match-values in
-    let s = now (start .args .s) in let t = start .args .t in let i = start .args .i in (
-      record {
+    let s = now (start .args .s) in let t = start .args .g .tree in let i = start .args .g .item in
+    record {
+      fits = record {
         small = omega (
           arith,
-          start .pre .0 .small,
+          start .pre .fits .small,
           parts (pack-of s) t i (pgn-at (pack-of s) t i),
           check-pgn-range-call .ensures .count,
           check-frame-length-call .ensures .count,
@@ -284,10 +293,9 @@ check-field-type-overrides-requires c κs =
           check-reserved-ids-call .ensures .count,
           check-match-values-call .ensures .count,
         );
-      },
-      start .pre .1,
-      start .pre .2,
-    )
+      };
+      pgn = start .pre .pgn;
+    }
 
 check-bit-length-field-requires : tie.Need-check-bit-length-field-requires
 check-bit-length-field-requires c κs =
@@ -305,11 +313,12 @@ check-bit-length-field-requires c κs =
     let check-reserved-ids-call = c .before .before .before .before .before .before .before .before .before .before .before .check-reserved-ids in
     let check-match-values-call = c .before .before .before .before .before .before .before .check-match-values in
     let check-field-type-overrides-call = c .before .before .before .check-field-type-overrides in
-    let s = now (start .args .s) in let t = start .args .t in let i = start .args .i in (
-      record {
+    let s = now (start .args .s) in let t = start .args .g .tree in let i = start .args .g .item in
+    record {
+      fits = record {
         small = omega (
           arith,
-          start .pre .0 .small,
+          start .pre .fits .small,
           parts (pack-of s) t i (pgn-at (pack-of s) t i),
           check-pgn-range-call .ensures .count,
           check-frame-length-call .ensures .count,
@@ -322,10 +331,9 @@ check-bit-length-field-requires c κs =
           check-match-values-call .ensures .count,
           check-field-type-overrides-call .ensures .count,
         );
-      },
-      start .pre .1,
-      start .pre .2,
-    )
+      };
+      pgn = start .pre .pgn;
+    }
 
 check-trailing-zero-is-digit-requires : tie.Need-check-trailing-zero-is-digit-requires
 check-trailing-zero-is-digit-requires c κs =
@@ -344,11 +352,12 @@ check-trailing-zero-is-digit-requires c κs =
     let check-match-values-call = c .before .before .before .before .before .before .before .before .before .before .before .check-match-values in
     let check-field-type-overrides-call = c .before .before .before .before .before .before .before .check-field-type-overrides in
     let check-bit-length-field-call = c .before .before .before .check-bit-length-field in
-    let s = now (start .args .s) in let t = start .args .t in let i = start .args .i in (
-      record {
+    let s = now (start .args .s) in let t = start .args .g .tree in let i = start .args .g .item in
+    record {
+      fits = record {
         small = omega (
           arith,
-          start .pre .0 .small,
+          start .pre .fits .small,
           parts (pack-of s) t i (pgn-at (pack-of s) t i),
           check-pgn-range-call .ensures .count,
           check-frame-length-call .ensures .count,
@@ -362,10 +371,9 @@ check-trailing-zero-is-digit-requires c κs =
           check-field-type-overrides-call .ensures .count,
           check-bit-length-field-call .ensures .count,
         );
-      },
-      start .pre .1,
-      start .pre .2,
-    )
+      };
+      pgn = start .pre .pgn;
+    }
 
 check-min-length-requires : tie.Need-check-min-length-requires
 check-min-length-requires c κs =
@@ -387,11 +395,12 @@ check-min-length-requires c κs =
     c .before .before .before .before .before .before .before .before .before .before .before .check-field-type-overrides in
     let check-bit-length-field-call = c .before .before .before .before .before .before .before .check-bit-length-field in
     let check-trailing-zero-is-digit-call = c .before .before .before .check-trailing-zero-is-digit in
-    let s = now (start .args .s) in let t = start .args .t in let i = start .args .i in (
-      record {
+    let s = now (start .args .s) in let t = start .args .g .tree in let i = start .args .g .item in
+    record {
+      fits = record {
         small = omega (
           arith,
-          start .pre .0 .small,
+          start .pre .fits .small,
           parts (pack-of s) t i (pgn-at (pack-of s) t i),
           check-pgn-range-call .ensures .count,
           check-frame-length-call .ensures .count,
@@ -406,10 +415,9 @@ check-min-length-requires c κs =
           check-bit-length-field-call .ensures .count,
           check-trailing-zero-is-digit-call .ensures .count,
         );
-      },
-      start .pre .1,
-      start .pre .2,
-    )
+      };
+      pgn = start .pre .pgn;
+    }
 
 same-length : tie.Need-same-length
 same-length c =

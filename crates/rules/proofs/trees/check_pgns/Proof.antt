@@ -1,3 +1,4 @@
+use Rattle.rules.specs.Emit.{Reporting}
 -- the findings of PGN i
 use Rattle.rules.specs.Check.{check-pgn}
 use Rattle.pack.specs.Ready.{place-of-pgn}
@@ -5,17 +6,15 @@ use Rattle.pack.proofs.Positions.{pgn-place-next}
 use Rattle.rules.proofs.Sizes.{at-pgn, fields-few, pgns-few}
 use borrow.Author.Needs.{needs}
 use native.Mathlib.Omega.{arith}
-use Prim.Native.Nat.{ℕ, _-_, _≤_}
-use mathlib.Core.Path.{_≡_, refl, _∙_}
+use Prim.Native.Nat.{ℕ, _-_}
+use mathlib.Core.Path.{_≡_}
 use mathlib.Core.List.{List}
 use lib.ListN.{length}
 use denote.Ref.{now}
-use Rattle.pack.specs.Notation.{concat-below}
 use Rattle.pack.specs.Meaning.{pack-of}
 use Rattle.pack.specs.Value.{pgn-at}
 use Rattle.rules.specs.declared.Finding.{Finding}
-use Rattle.rules.specs.Emit.{Emitted}
-use Rattle.rules.proofs.Emits.{emitted-none, emitted-turn, fits-turn}
+use Rattle.rules.proofs.Emits.{fits-turn, reporting-none, reporting-turn}
 use Rattle.rules.proofs.trees.check_pgns.Statement.{statement}
 use Rattle.rules.proofs.trees.check_pgns.Tie as tie
 
@@ -24,7 +23,10 @@ of-pgn s t i = check-pgn (pack-of s) t i (pgn-at (pack-of s) t i)
 
 abbrev Inv-loop : tie.InvT-loop
 Inv-loop out₀ n s work lookups t count m₀ p₀ i₀ out m p i =
-    (i ≤ count) × (p ≡ place-of-pgn (pack-of s) t i) × (length out ≡ length out₀) × Emitted out₀ n (concat-below (of-pgn s t) i) out m
+    record {
+      reporting : Reporting out₀ n (of-pgn s t) count i out m;
+      place : p ≡ place-of-pgn (pack-of s) t i;
+    }
 
 abbrev μ-loop : tie.MeasureT-loop
 μ-loop out₀ n s work lookups t count m₀ p₀ i₀ out m p i = count - i
@@ -32,32 +34,34 @@ abbrev μ-loop : tie.MeasureT-loop
 loop-holds : tie.Need-loop-holds Inv-loop μ-loop
 loop-holds c =
     let start = c .before .before .before in
-    (omega (arith, c), omega (arith, start .pre .4), refl, emitted-none (now (start .args .out)) (start .args .n))
+    record { reporting = reporting-none _ _ _ _; place = omega (arith, start .pre .pgns .place) }
 
 pgn-of-requires : tie.Need-pgn-of-requires Inv-loop μ-loop
 pgn-of-requires c κs =
     let start = c .before .before .before .before .before in
-    at-pgn (start .pre .1) (start .pre .2) (omega (arith, start .pre .3)) (c .loop-test .taken) (c .before .loop .inv .1)
+    at-pgn (start .pre .ready) (start .pre .trees) (omega (arith, start .pre .pgns .count)) (c .loop-test .taken) (c .before .loop .inv .place)
 
 check-pgn-requires : tie.Need-check-pgn-requires Inv-loop μ-loop
 check-pgn-requires c κs =
     let start = c .before .before .before .before .before .before .before in
     let loop = c .before .before .before .loop in
-    let loop-test = c .before .before .loop-test in (
-      fits-turn (of-pgn (now (start .args .s)) (start .args .t)) (start .args .tree .count) (loop .i) (loop-test .taken)
-          (rw (← start .pre .3) at (start .pre .0)) (loop .inv .3),
-      at-pgn (start .pre .1) (start .pre .2) (omega (arith, start .pre .3)) (loop-test .taken) (loop .inv .1),
-      c .before .pgn-of .ensures,
-      start .pre .5,
-      start .pre .6,
-    )
+    let loop-test = c .before .before .loop-test in
+    record {
+      fits = fits-turn (of-pgn (now (start .args .s)) (start .args .t)) (start .args .tree .count) (loop .i) (loop-test .taken)
+          (rw (← start .pre .pgns .count) at (start .pre .fits)) (loop .inv .reporting .emitted);
+      pgn = record {
+        at = at-pgn (start .pre .ready) (start .pre .trees) (omega (arith, start .pre .pgns .count)) (loop-test .taken) (loop .inv .place);
+        is = c .before .pgn-of .ensures;
+      };
+      lookups = start .pre .lookups;
+    }
 
 add-p : tie.Need-add-p Inv-loop μ-loop
 add-p c =
     let start = c .before .before .before .before .before .before .before .before .before .before in
     let loop = c .before .before .before .before .before .before .loop in
     let loop-test = c .before .before .before .before .before .loop-test in
-    omega (arith, fields-few (at-pgn (start .pre .1) (start .pre .2) (omega (arith, start .pre .3)) (loop-test .taken) (loop .inv .1)))
+    omega (arith, fields-few (at-pgn (start .pre .ready) (start .pre .trees) (omega (arith, start .pre .pgns .count)) (loop-test .taken) (loop .inv .place)))
 
 cast-p : tie.Need-cast-p Inv-loop μ-loop
 cast-p c =
@@ -65,7 +69,11 @@ cast-p c =
     let loop = c .before .before .before .before .before .before .before .loop in
     let loop-test = c .before .before .before .before .before .before .loop-test in
     let pgn-of = c .before .before .before .before .before .pgn-of in
-    omega (arith, fields-few (at-pgn (start .pre .1) (start .pre .2) (omega (arith, start .pre .3)) (loop-test .taken) (loop .inv .1)), pgn-of .ensures .fields)
+    omega (
+      arith,
+      fields-few (at-pgn (start .pre .ready) (start .pre .trees) (omega (arith, start .pre .pgns .count)) (loop-test .taken) (loop .inv .place)),
+      pgn-of .ensures .fields,
+    )
 
 add-p-2 : tie.Need-add-p-2 Inv-loop μ-loop
 add-p-2 c =
@@ -73,14 +81,18 @@ add-p-2 c =
     let loop = c .before .before .before .before .before .before .before .loop in
     let loop-test = c .before .before .before .before .before .before .loop-test in
     let pgn-of = c .before .before .before .before .before .pgn-of in
-    omega (arith, fields-few (at-pgn (start .pre .1) (start .pre .2) (omega (arith, start .pre .3)) (loop-test .taken) (loop .inv .1)), pgn-of .ensures .fields)
+    omega (
+      arith,
+      fields-few (at-pgn (start .pre .ready) (start .pre .trees) (omega (arith, start .pre .pgns .count)) (loop-test .taken) (loop .inv .place)),
+      pgn-of .ensures .fields,
+    )
 
 add-i : tie.Need-add-i Inv-loop μ-loop
 add-i c =
     let start = c .before .before .before .before .before .before .before .before .before .before .before in
     let loop = c .before .before .before .before .before .before .before .loop in
     let loop-test = c .before .before .before .before .before .before .loop-test in
-    omega (arith, pgns-few (at-pgn (start .pre .1) (start .pre .2) (omega (arith, start .pre .3)) (loop-test .taken) (loop .inv .1)))
+    omega (arith, pgns-few (at-pgn (start .pre .ready) (start .pre .trees) (omega (arith, start .pre .pgns .count)) (loop-test .taken) (loop .inv .place)))
 
 loop-less : tie.Need-loop-less Inv-loop μ-loop
 loop-less c = search needs
@@ -91,21 +103,20 @@ loop-again c =
     let loop = c .before .before .before .before .before .before .before .loop in
     let pgn-of = c .before .before .before .before .before .pgn-of in
     let check-pgn-call = c .before .before .before .check-pgn in
-    let s = now (start .args .s) in let t = start .args .t in (
-      omega (arith, c),
-      omega (arith, pgn-place-next (pack-of s) t (loop .i), pgn-of .ensures .fields, loop .inv .1),
-      check-pgn-call .kept .0 ∙ loop .inv .2,
-      emitted-turn (of-pgn s t) (loop .i) (loop .inv .3) (check-pgn-call .ensures),
-    )
+    let s = now (start .args .s) in let t = start .args .t in
+    record {
+      reporting = reporting-turn (loop .inv .reporting) (omega (arith, c)) (check-pgn-call .ensures);
+      place = omega (arith, pgn-place-next (pack-of s) t (loop .i), pgn-of .ensures .fields, loop .inv .place);
+    }
 
 same-length : tie.Need-same-length Inv-loop μ-loop
-same-length c = c .before .loop .inv .2
+same-length c = c .before .loop .inv .reporting .emitted .length
 
 returns : tie.Need-returns Inv-loop μ-loop
 returns c =
     let start = c .before .before .before .before .before in
-    let e : start .args .tree .count ≡ c .before .loop .i = omega (arith, c .before .loop .inv .0, c .loop-test .left) in
-    rw (← start .pre .3, e) (c .before .loop .inv .3)
+    let e : start .args .tree .count ≡ c .before .loop .i = omega (arith, c .before .loop .inv .reporting .turns, c .loop-test .left) in
+    rw (← start .pre .pgns .count, e) (c .before .loop .inv .reporting .emitted)
 
 pub check-pgns-spec : {M : Type 1} → statement M
 check-pgns-spec =

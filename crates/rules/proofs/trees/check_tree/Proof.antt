@@ -25,20 +25,18 @@ unfolding check-tree
 check-pgns-requires c κs =
     let start = c .before .before .before .before .before .before in
     let of-tree = c .before .before .of-tree in
-    let s = now (start .args .s) in let t = start .args .t in let index = start .args .index in (
-      fits-left (concat-below (λ i. check-pgn (pack-of s) t i (pgn-at (pack-of s) t i)) (length (pgns-of (pack-of s) t))) (check-variants t (pgns-of (pack-of s) t))
-          (fits-left
-          ((concat-below (λ i. check-pgn (pack-of s) t i (pgn-at (pack-of s) t i)) (length (pgns-of (pack-of s) t))) ++ (check-variants t (pgns-of (pack-of s) t)))
-          (check-unique-ids t (pgns-of (pack-of s) t)) (start .pre .0)),
-      start .pre .1,
-      start .pre .3,
-      (at-tree (pack-of s) index (start .pre .2) t (start .pre .3) (of-tree .result) (c .before .section .result) (of-tree .ensures)
-          (c .before .section .ensures)) .0,
-      (at-tree (pack-of s) index (start .pre .2) t (start .pre .3) (of-tree .result) (c .before .section .result) (of-tree .ensures)
-          (c .before .section .ensures)) .1,
-      start .pre .2 .lookups,
-      start .pre .2 .lookups-place,
-    )
+    let s = now (start .args .s) in let t = start .args .t in let index = start .args .index in
+    record {
+      fits = fits-left (concat-below (λ i. check-pgn (pack-of s) t i (pgn-at (pack-of s) t i)) (length (pgns-of (pack-of s) t)))
+          (check-variants t (pgns-of (pack-of s) t)) (fits-left (
+          (concat-below (λ i. check-pgn (pack-of s) t i (pgn-at (pack-of s) t i)) (length (pgns-of (pack-of s) t)))
+          ++ (check-variants t (pgns-of (pack-of s) t))) (check-unique-ids t (pgns-of (pack-of s) t)) (start .pre .fits));
+      ready = start .pre .ready;
+      trees = start .pre .trees;
+      pgns = (at-tree (pack-of s) index (start .pre .index) t (start .pre .trees) (of-tree .result) (c .before .section .result) (of-tree .ensures)
+          (c .before .section .ensures));
+      lookups = start .pre .index .lookups;
+    }
 
 check-variants-requires : tie.Need-check-variants-requires
 unfolding check-tree
@@ -47,16 +45,16 @@ check-variants-requires c κs =
     let of-tree = c .before .before .before .before .before .before .of-tree in
     let section = c .before .before .before .before .before .section in
     let check-pgns = c .before .before .before .check-pgns in
-    let s = now (start .args .s) in let t = start .args .t in let index = start .args .index in (
-      fits-right (concat-below (λ i. check-pgn (pack-of s) t i (pgn-at (pack-of s) t i)) (length (pgns-of (pack-of s) t))) (check-variants t (pgns-of (pack-of s) t))
-          (fits-left
-          ((concat-below (λ i. check-pgn (pack-of s) t i (pgn-at (pack-of s) t i)) (length (pgns-of (pack-of s) t))) ++ (check-variants t (pgns-of (pack-of s) t)))
-          (check-unique-ids t (pgns-of (pack-of s) t)) (start .pre .0)) (check-pgns .ensures),
-      start .pre .1,
-      start .pre .3,
-      (at-tree (pack-of s) index (start .pre .2) t (start .pre .3) (of-tree .result) (section .result) (of-tree .ensures) (section .ensures)) .0,
-      (at-tree (pack-of s) index (start .pre .2) t (start .pre .3) (of-tree .result) (section .result) (of-tree .ensures) (section .ensures)) .1,
-    )
+    let s = now (start .args .s) in let t = start .args .t in let index = start .args .index in
+    record {
+      fits = fits-right (concat-below (λ i. check-pgn (pack-of s) t i (pgn-at (pack-of s) t i)) (length (pgns-of (pack-of s) t)))
+          (check-variants t (pgns-of (pack-of s) t)) (fits-left (
+          (concat-below (λ i. check-pgn (pack-of s) t i (pgn-at (pack-of s) t i)) (length (pgns-of (pack-of s) t)))
+          ++ (check-variants t (pgns-of (pack-of s) t))) (check-unique-ids t (pgns-of (pack-of s) t)) (start .pre .fits)) (check-pgns .ensures);
+      ready = start .pre .ready;
+      trees = start .pre .trees;
+      pgns = (at-tree (pack-of s) index (start .pre .index) t (start .pre .trees) (of-tree .result) (section .result) (of-tree .ensures) (section .ensures));
+    }
 
 check-unique-ids-requires : tie.Need-check-unique-ids-requires
 unfolding check-tree
@@ -67,15 +65,15 @@ check-unique-ids-requires c κs =
     let section = c .before .before .before .before .before .before .before .before .before .section in
     let check-pgns = c .before .before .before .before .before .before .before .check-pgns in
     let check-variants-call = c .before .before .before .check-variants in
-    let s = now (start .args .s) in let t = start .args .t in let index = start .args .index in (
-      fits-right
-          ((concat-below (λ i. check-pgn (pack-of s) t i (pgn-at (pack-of s) t i)) (length (pgns-of (pack-of s) t))) ++ (check-variants t (pgns-of (pack-of s) t)))
-          (check-unique-ids t (pgns-of (pack-of s) t)) (start .pre .0) (emitted-append (check-pgns .ensures) (check-variants-call .ensures)),
-      start .pre .1,
-      start .pre .3,
-      (at-tree (pack-of s) index (start .pre .2) t (start .pre .3) (of-tree .result) (section .result) (of-tree .ensures) (section .ensures)) .0,
-      (at-tree (pack-of s) index (start .pre .2) t (start .pre .3) (of-tree .result) (section .result) (of-tree .ensures) (section .ensures)) .1,
-    )
+    let s = now (start .args .s) in let t = start .args .t in let index = start .args .index in
+    record {
+      fits = fits-right ((concat-below (λ i. check-pgn (pack-of s) t i (pgn-at (pack-of s) t i)) (length (pgns-of (pack-of s) t)))
+          ++ (check-variants t (pgns-of (pack-of s) t))) (check-unique-ids t (pgns-of (pack-of s) t)) (start .pre .fits)
+          (emitted-append (check-pgns .ensures) (check-variants-call .ensures));
+      ready = start .pre .ready;
+      trees = start .pre .trees;
+      pgns = (at-tree (pack-of s) index (start .pre .index) t (start .pre .trees) (of-tree .result) (section .result) (of-tree .ensures) (section .ensures));
+    }
 
 same-length : tie.Need-same-length
 same-length c =

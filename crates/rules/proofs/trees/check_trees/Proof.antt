@@ -9,38 +9,42 @@ use Rattle.rules.proofs.trees.check_trees.Tie as tie
 
 check-tree-requires : tie.Need-check-tree-requires
 check-tree-requires c κs =
-    let start = c .before .before .before .before in (
-      fits-turn (check-tree (pack-of (now (start .args .s)))) 3 0 (omega (arith, c)) (start .pre .0) (emitted-none (now (start .args .out)) (start .args .n)),
-      start .pre .1,
-      start .pre .2,
-      omega (arith, c),
-    )
+    let start = c .before .before .before .before in
+    record {
+      fits = fits-turn (check-tree (pack-of (now (start .args .s)))) 3 0 (omega (arith, c)) (start .pre .fits)
+          (emitted-none (now (start .args .out)) (start .args .n));
+      ready = start .pre .ready;
+      index = start .pre .index;
+      trees = omega (arith, c);
+    }
 
 check-tree-requires-2 : tie.Need-check-tree-requires-2
 check-tree-requires-2 c κs =
     let start = c .before .before .before .before .before .before .before .before in
     let check-tree-call = c .before .before .before .check-tree in
-    let s = now (start .args .s) in (
-      fits-turn (check-tree (pack-of s)) 3 1 (omega (arith, c)) (start .pre .0)
-          (emitted-turn (check-tree (pack-of s)) 0 (emitted-none (now (start .args .out)) (start .args .n)) (check-tree-call .ensures)),
-      start .pre .1,
-      start .pre .2,
-      omega (arith, c),
-    )
+    let s = now (start .args .s) in
+    record {
+      fits = fits-turn (check-tree (pack-of s)) 3 1 (omega (arith, c)) (start .pre .fits)
+          (emitted-turn (check-tree (pack-of s)) 0 (emitted-none (now (start .args .out)) (start .args .n)) (check-tree-call .ensures));
+      ready = start .pre .ready;
+      index = start .pre .index;
+      trees = omega (arith, c);
+    }
 
 check-tree-requires-3 : tie.Need-check-tree-requires-3
 check-tree-requires-3 c κs =
     let start = c .before .before .before .before .before .before .before .before .before .before .before .before in
     let check-tree-call = c .before .before .before .before .before .before .before .check-tree in
     let check-tree2 = c .before .before .before .check-tree2 in
-    let s = now (start .args .s) in (
-      fits-turn (check-tree (pack-of s)) 3 2 (omega (arith, c)) (start .pre .0)
+    let s = now (start .args .s) in
+    record {
+      fits = fits-turn (check-tree (pack-of s)) 3 2 (omega (arith, c)) (start .pre .fits)
           (emitted-turn (check-tree (pack-of s)) 1
-          (emitted-turn (check-tree (pack-of s)) 0 (emitted-none (now (start .args .out)) (start .args .n)) (check-tree-call .ensures)) (check-tree2 .ensures)),
-      start .pre .1,
-      start .pre .2,
-      omega (arith, c),
-    )
+          (emitted-turn (check-tree (pack-of s)) 0 (emitted-none (now (start .args .out)) (start .args .n)) (check-tree-call .ensures)) (check-tree2 .ensures));
+      ready = start .pre .ready;
+      index = start .pre .index;
+      trees = omega (arith, c);
+    }
 
 same-length : tie.Need-same-length
 same-length c =

@@ -9,43 +9,43 @@ use Rattle.rules.proofs.trees.check_trees_continues.Tie as tie
 
 check-tree-continues-requires : tie.Need-check-tree-continues-requires
 check-tree-continues-requires c κs =
-    let start = c .before .before .before .before in (
-      fits-turn (check-tree-continues (pack-of (now (start .args .s)))) 3 0 (omega (arith, c)) (start .pre .0)
-          (emitted-none (now (start .args .out)) (start .args .n)),
-      start .pre .1,
-      omega (arith, c),
-      start .pre .2 .trees 0 (omega (arith, c)),
-      start .pre .2 .trees-place 0 (omega (arith, c)),
-    )
+    let start = c .before .before .before .before in
+    record {
+      fits = fits-turn (check-tree-continues (pack-of (now (start .args .s)))) 3 0 (omega (arith, c)) (start .pre .fits)
+          (emitted-none (now (start .args .out)) (start .args .n));
+      ready = start .pre .ready;
+      trees = omega (arith, c);
+      pgns = start .pre .index .trees 0 (omega (arith, c));
+    }
 
 check-tree-continues-requires-2 : tie.Need-check-tree-continues-requires-2
 check-tree-continues-requires-2 c κs =
     let start = c .before .before .before .before .before .before .before .before in
     let check-tree-continues-call = c .before .before .before .check-tree-continues in
-    let s = now (start .args .s) in (
-      fits-turn (check-tree-continues (pack-of s)) 3 1 (omega (arith, c)) (start .pre .0)
-          (emitted-turn (check-tree-continues (pack-of s)) 0 (emitted-none (now (start .args .out)) (start .args .n)) (check-tree-continues-call .ensures)),
-      start .pre .1,
-      omega (arith, c),
-      start .pre .2 .trees 1 (omega (arith, c)),
-      start .pre .2 .trees-place 1 (omega (arith, c)),
-    )
+    let s = now (start .args .s) in
+    record {
+      fits = fits-turn (check-tree-continues (pack-of s)) 3 1 (omega (arith, c)) (start .pre .fits)
+          (emitted-turn (check-tree-continues (pack-of s)) 0 (emitted-none (now (start .args .out)) (start .args .n)) (check-tree-continues-call .ensures));
+      ready = start .pre .ready;
+      trees = omega (arith, c);
+      pgns = start .pre .index .trees 1 (omega (arith, c));
+    }
 
 check-tree-continues-requires-3 : tie.Need-check-tree-continues-requires-3
 check-tree-continues-requires-3 c κs =
     let start = c .before .before .before .before .before .before .before .before .before .before .before .before in
     let check-tree-continues-call = c .before .before .before .before .before .before .before .check-tree-continues in
     let check-tree-continues2 = c .before .before .before .check-tree-continues2 in
-    let s = now (start .args .s) in (
-      fits-turn (check-tree-continues (pack-of s)) 3 2 (omega (arith, c)) (start .pre .0)
+    let s = now (start .args .s) in
+    record {
+      fits = fits-turn (check-tree-continues (pack-of s)) 3 2 (omega (arith, c)) (start .pre .fits)
           (emitted-turn (check-tree-continues (pack-of s)) 1
           (emitted-turn (check-tree-continues (pack-of s)) 0 (emitted-none (now (start .args .out)) (start .args .n)) (check-tree-continues-call .ensures))
-          (check-tree-continues2 .ensures)),
-      start .pre .1,
-      omega (arith, c),
-      start .pre .2 .trees 2 (omega (arith, c)),
-      start .pre .2 .trees-place 2 (omega (arith, c)),
-    )
+          (check-tree-continues2 .ensures));
+      ready = start .pre .ready;
+      trees = omega (arith, c);
+      pgns = start .pre .index .trees 2 (omega (arith, c));
+    }
 
 same-length : tie.Need-same-length
 same-length c =

@@ -22,18 +22,23 @@ abbrev has : List ℕ → ℕ → List ℕ → ℕ → Bool
 has s t id j = pgn-at (pack-of s) t j .id ≐ id
 
 abbrev Inv-loop : tie.InvT-loop
-Inv-loop s work t first n id found₀ p₀ j₀ found p j = (j ≤ n) × (p ≡ place-of-pgn (pack-of s) t j) × (optional-number found ≡ latest-below (has s t (bytes-of s id)) j)
+Inv-loop s work t first n id found₀ p₀ j₀ found p j =
+    record {
+      turns : j ≤ n;
+      place : p ≡ place-of-pgn (pack-of s) t j;
+      found : optional-number found ≡ latest-below (has s t (bytes-of s id)) j;
+    }
 
 abbrev μ-loop : tie.MeasureT-loop
 μ-loop s work t first n id found₀ p₀ j₀ found p j = n - j
 
 loop-holds : tie.Need-loop-holds Inv-loop μ-loop
-loop-holds c = (search needs, omega (arith, c .before .before .pre .2), refl)
+loop-holds c = record { turns = search needs; place = omega (arith, c .before .before .pre .first); found = refl }
 
 pgn-of-requires : tie.Need-pgn-of-requires Inv-loop μ-loop
 pgn-of-requires c κs =
     let start = c .before .before .before .before in
-    (at-pgn (start .pre .0) (start .pre .1) (start .pre .3) (c .loop-test .taken) (c .before .loop .inv .1))
+    (at-pgn (start .pre .ready) (start .pre .trees) (start .pre .items) (c .loop-test .taken) (c .before .loop .inv .place))
 
 same-text-requires : tie.Need-same-text-requires Inv-loop μ-loop
 same-text-requires c κs = search needs
@@ -46,7 +51,7 @@ add-p c =
     let start = c .before .before .before .before .before .before .before in
     let loop = c .before .before .before .before .loop in
     let loop-test = c .before .before .before .loop-test in
-    omega (arith, pgn-room (at-pgn (start .pre .0) (start .pre .1) (start .pre .3) (loop-test .taken) (loop .inv .1)))
+    omega (arith, pgn-room (at-pgn (start .pre .ready) (start .pre .trees) (start .pre .items) (loop-test .taken) (loop .inv .place)))
 
 cast-p : tie.Need-cast-p Inv-loop μ-loop
 cast-p c =
@@ -54,7 +59,8 @@ cast-p c =
     let loop = c .before .before .before .before .before .loop in
     let loop-test = c .before .before .before .before .loop-test in
     let pgn-of = c .before .before .before .pgn-of in
-    omega (arith, fields-few (at-pgn (start .pre .0) (start .pre .1) (start .pre .3) (loop-test .taken) (loop .inv .1)), pgn-of .ensures .fields)
+    omega
+    (arith, fields-few (at-pgn (start .pre .ready) (start .pre .trees) (start .pre .items) (loop-test .taken) (loop .inv .place)), pgn-of .ensures .fields)
 
 add-p-2 : tie.Need-add-p-2 Inv-loop μ-loop
 add-p-2 c =
@@ -62,7 +68,7 @@ add-p-2 c =
     let loop = c .before .before .before .before .before .loop in
     let loop-test = c .before .before .before .before .loop-test in
     let pgn-of = c .before .before .before .pgn-of in
-    omega (arith, pgn-room (at-pgn (start .pre .0) (start .pre .1) (start .pre .3) (loop-test .taken) (loop .inv .1)), pgn-of .ensures .fields)
+    omega (arith, pgn-room (at-pgn (start .pre .ready) (start .pre .trees) (start .pre .items) (loop-test .taken) (loop .inv .place)), pgn-of .ensures .fields)
 
 add-j : tie.Need-add-j Inv-loop μ-loop
 add-j c = search needs
@@ -77,17 +83,18 @@ loop-again c =
     let pgn-of = c .before .before .before .pgn-of in
     let same-text = c .before .before .same-text in
     let s = now (start .args .s) in let t = start .args .t in let id = start .args .id in
-    let e : has s t (bytes-of s id) (loop .j) ≡ same-text .result = rw (← ap (λ (x : Pgn). x .id) (pgn-of .ensures .means)) (sym (same-text .ensures)) in (
-      omega (arith, c),
-      omega (arith, pgn-place-next (pack-of s) t (loop .j), pgn-of .ensures .fields, loop .inv .1),
-      c .before .latest .ensures ∙ (rw (latest-turn (has s t (bytes-of s id)) (loop .j), e, loop .inv .2)),
-    )
+    let e : has s t (bytes-of s id) (loop .j) ≡ same-text .result = rw (← ap (λ (x : Pgn). x .id) (pgn-of .ensures .means)) (sym (same-text .ensures)) in
+    record {
+      turns = omega (arith, c);
+      place = omega (arith, pgn-place-next (pack-of s) t (loop .j), pgn-of .ensures .fields, loop .inv .place);
+      found = c .before .latest .ensures ∙ (rw (latest-turn (has s t (bytes-of s id)) (loop .j), e, loop .inv .found));
+    }
 
 returns : tie.Need-returns Inv-loop μ-loop
 returns c =
     let start = c .before .before .before .before in
-    let e : start .args .n ≡ c .before .loop .j = omega (arith, c .before .loop .inv .0, c .loop-test .left) in
-    rw e (c .before .loop .inv .2)
+    let e : start .args .n ≡ c .before .loop .j = omega (arith, c .before .loop .inv .turns, c .loop-test .left) in
+    rw e (c .before .loop .inv .found)
 
 pub latest-holder-spec : {M : Type 1} → statement M
 latest-holder-spec =

@@ -36,15 +36,17 @@ held s t i id e = ap (λ (x : List ℕ). latest-below (λ j. pgn-at (pack-of s) 
 latest-holder-requires : tie.Need-latest-holder-requires
 latest-holder-requires c κs =
     let start = c .before .before .before in
-    (start .pre .1, start .pre .2, start .pre .3, start .pre .4)
+    record { ready = start .pre .ready; trees = start .pre .trees; first = start .pre .first; items = start .pre .item }
 
 returns : tie.Need-returns
 returns c =
     let start = c .before .before .before .before .before .before in
     let latest-holder = c .before .before .latest-holder in
-    let t = start .args .t in let i = start .args .i in let s = now (start .args .s) in
+    let s = now (start .args .s) in
+    let t = start .args .g .tree in
+    let i = start .args .g .item in
     rw (no-other t i _ (latest-holder .result .given) (latest-holder .result .value)
-    (latest-holder .ensures ∙ held s t i (bytes-of s (start .args .g .id)) (ap (λ (x : Pgn). x .id) (start .pre .5 .means)))
+    (latest-holder .ensures ∙ held s t i (bytes-of s (start .args .g .view .id)) (ap (λ (x : Pgn). x .id) (start .pre .is .means)))
     (not-true (latest-holder .result .given) (c .if1 .taken))) (emitted-none (now (start .args .out)) (start .args .n))
 
 pgn-error-requires : tie.Need-pgn-error-requires
@@ -54,10 +56,12 @@ put-requires : tie.Need-put-requires
 put-requires c κs =
     let start = c .before .before .before .before .before .before .before .before in
     let latest-holder = c .before .before .before .before .latest-holder in
-    let t = start .args .t in let i = start .args .i in let s = now (start .args .s) in
+    let s = now (start .args .s) in
+    let t = start .args .g .tree in
+    let i = start .args .g .item in
     rw (other t i _ (latest-holder .result .given) (latest-holder .result .value)
-    (latest-holder .ensures ∙ held s t i (bytes-of s (start .args .g .id)) (ap (λ (x : Pgn). x .id) (start .pre .5 .means)))
-    (not-false (latest-holder .result .given) (c .before .before .if1 .left)) (c .pgn-error .result) (c .pgn-error .ensures)) at (start .pre .0)
+    (latest-holder .ensures ∙ held s t i (bytes-of s (start .args .g .view .id)) (ap (λ (x : Pgn). x .id) (start .pre .is .means)))
+    (not-false (latest-holder .result .given) (c .before .before .if1 .left)) (c .pgn-error .result) (c .pgn-error .ensures)) at (start .pre .fits)
 
 same-length : tie.Need-same-length
 same-length c = search needs
@@ -68,9 +72,11 @@ returns-2 c =
     let latest-holder = c .before .before .before .before .before .before .before .latest-holder in
     let if1 = c .before .before .before .before .before .if1 in
     let pgn-error-call = c .before .before .before .pgn-error in
-    let t = start .args .t in let i = start .args .i in let s = now (start .args .s) in
+    let s = now (start .args .s) in
+    let t = start .args .g .tree in
+    let i = start .args .g .item in
     rw (other t i _ (latest-holder .result .given) (latest-holder .result .value)
-    (latest-holder .ensures ∙ held s t i (bytes-of s (start .args .g .id)) (ap (λ (x : Pgn). x .id) (start .pre .5 .means)))
+    (latest-holder .ensures ∙ held s t i (bytes-of s (start .args .g .view .id)) (ap (λ (x : Pgn). x .id) (start .pre .is .means)))
     (not-false (latest-holder .result .given) (if1 .left)) (pgn-error-call .result) (pgn-error-call .ensures)) (c .before .before .put .ensures)
 
 pub same-id-spec : {M : Type 1} → statement M

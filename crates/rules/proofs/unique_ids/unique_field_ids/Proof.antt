@@ -1,20 +1,20 @@
+use Rattle.rules.specs.Emit.{Reporting}
 use Rattle.rules.proofs.Sizes.{fields-few}
 use Rattle.rules.specs.UniqueIds.{unique-field-ids}
 use Rattle.rules.specs.Search.{or-else, any-below, first-below}
-use Rattle.rules.proofs.Emits.{emitted-none, emitted-turn, fits-turn}
+use Rattle.rules.proofs.Emits.{fits-turn, reporting-none, reporting-turn}
 use Rattle.rules.specs.Model.{given}
 use Rattle.rules.specs.Findings.{report-if, pgn-error}
-use Rattle.rules.specs.Emit.{Emitted}
 use Rattle.rules.specs.declared.Finding.{Finding}
 use Rattle.pack.specs.Meaning.{pack-of}
 use Rattle.pack.specs.Items.{bytes-of}
-use Rattle.pack.specs.Notation.{_≐_, optional, concat-below}
+use Rattle.pack.specs.Notation.{_≐_, optional}
 use Rattle.pack.specs.Value.{pgn-at, field-at}
 use mathlib.Core.Option.{Option, none, some}
 use mathlib.Core.Bool.{_||_, Bool, true, false}
-use Prim.Native.Nat.{ℕ, zero, suc, _-_, _≤_}
+use Prim.Native.Nat.{ℕ, zero, suc, _-_}
 use native.Mathlib.Omega.{arith}
-use mathlib.Core.Path.{_≡_, refl, _∙_}
+use mathlib.Core.Path.{_≡_, refl}
 use mathlib.Core.List.{List}
 use borrow.Author.Needs.{needs}
 use denote.Ref.{now}
@@ -44,25 +44,24 @@ said : (s : List ℕ) (t i k : ℕ) (id : List ℕ) (b : Bool) (v : ℕ) (F : Fi
 said s t i k id b v F x y z = rw (z, ← x, any-first (λ j. field-at (pgn-at (pack-of s) t i) j .id ≐ id) k, ← y, given-is b v)
 
 abbrev Inv-loop : tie.InvT-loop
-Inv-loop out₀ n s work t i p fields m₀ k₀ out m k = (k ≤ fields) × (length out ≡ length out₀) × Emitted out₀ n (concat-below (of-field s t i) k) out m
+Inv-loop out₀ n s work g fields m₀ k₀ out m k =
+    Reporting out₀ n (of-field s (g .tree) (g .item)) fields k out m
 
 abbrev μ-loop : tie.MeasureT-loop
-μ-loop out₀ n s work t i p fields m₀ k₀ out m k = fields - k
+μ-loop out₀ n s work g fields m₀ k₀ out m k = fields - k
 
 loop-holds : tie.Need-loop-holds Inv-loop μ-loop
-loop-holds c =
-    let start = c .before .before .before in
-    (omega (arith, c), refl, emitted-none (now (start .args .out)) (start .args .n))
+loop-holds c = reporting-none _ _ _ _
 
 field-id-of-requires : tie.Need-field-id-of-requires Inv-loop μ-loop
 field-id-of-requires c κs =
     let start = c .before .before .before .before .before in
-    (start .pre .1, omega (arith, start .pre .2, c .loop-test .taken))
+    record { at = start .pre .pgn .at; field = omega (arith, start .pre .pgn .is .fields, c .loop-test .taken) }
 
 first-with-id-requires : tie.Need-first-with-id-requires Inv-loop μ-loop
 first-with-id-requires c κs =
     let start = c .before .before .before .before .before .before in
-    (start .pre .1, omega (arith, start .pre .2, c .before .loop-test .taken))
+    record { at = start .pre .pgn .at; fields = omega (arith, start .pre .pgn .is .fields, c .before .loop-test .taken) }
 
 pgn-error-requires : tie.Need-pgn-error-requires Inv-loop μ-loop
 pgn-error-requires c κs = search needs
@@ -75,16 +74,19 @@ put-if-requires c κs =
     let loop-test = c .before .before .before .before .loop-test in
     let field-id-of = c .before .before .before .field-id-of in
     let first-with-id = c .before .before .first-with-id in
-    let s = now (start .args .s) in let t = start .args .t in let i = start .args .i in
+    let s = now (start .args .s) in
+    let t = start .args .g .tree in
+    let i = start .args .g .item in
     rw (said s t i (loop .k) (bytes-of s (field-id-of .result)) (first-with-id .result .given) (first-with-id .result .value) (c .pgn-error .result)
     (field-id-of .ensures) (first-with-id .ensures) (c .pgn-error .ensures)) at
-    (fits-turn (of-field s t i) (start .args .fields) (loop .k) (loop-test .taken) (rw (← start .pre .2) at (start .pre .0)) (loop .inv .2))
+    (fits-turn (of-field s t i) (start .args .g .view .fields) (loop .k) (loop-test .taken) (rw (← start .pre .pgn .is .fields) at (start .pre .fits))
+    (loop .inv .emitted))
 
 add-k : tie.Need-add-k Inv-loop μ-loop
 add-k c =
     let start = c .before .before .before .before .before .before .before .before .before .before .before .before in
     let loop-test = c .before .before .before .before .before .before .before .loop-test in
-    omega (arith, loop-test .taken, start .pre .2, fields-few (start .pre .1))
+    omega (arith, loop-test .taken, start .pre .pgn .is .fields, fields-few (start .pre .pgn .at))
 
 loop-less : tie.Need-loop-less Inv-loop μ-loop
 loop-less c = search needs
@@ -97,24 +99,21 @@ loop-again c =
     let first-with-id = c .before .before .before .before .before .first-with-id in
     let pgn-error-call = c .before .before .before .pgn-error in
     let put-if = c .before .before .put-if in
-    let s = now (start .args .s) in let t = start .args .t in let i = start .args .i in (
-      omega (arith, c),
-      put-if .kept .0 ∙ loop .inv .1,
-      emitted-turn (of-field s t i) (loop .k) (loop .inv .2) (rw (said s t i (loop .k) (bytes-of s (field-id-of .result)) (first-with-id .result .given)
-          (first-with-id .result .value) (pgn-error-call .result) (field-id-of .ensures) (first-with-id .ensures) (pgn-error-call .ensures))
-          (put-if .ensures)),
-    )
+    let s = now (start .args .s) in let t = start .args .g .tree in let i = start .args .g .item in
+    reporting-turn (loop .inv) (omega (arith, c)) (rw (said s t i (loop .k) (bytes-of s (field-id-of .result)) (first-with-id .result .given)
+    (first-with-id .result .value) (pgn-error-call .result) (field-id-of .ensures) (first-with-id .ensures) (pgn-error-call .ensures))
+    (put-if .ensures))
 
 same-length : tie.Need-same-length Inv-loop μ-loop
-same-length c = c .before .loop .inv .1
+same-length c = c .before .loop .inv .emitted .length
 
 returns : tie.Need-returns Inv-loop μ-loop
 unfolding unique-field-ids
 returns c =
     let start = c .before .before .before .before .before in
-    let e : length (pgn-at (pack-of (now (start .args .s))) (start .args .t) (start .args .i) .fields) ≡ c .before .loop .k =
-    omega (arith, start .pre .2, c .before .loop .inv .0, c .loop-test .left) in
-    rw e (c .before .loop .inv .2)
+    let e : length (pgn-at (pack-of (now (start .args .s))) (start .args .g .tree) (start .args .g .item) .fields) ≡ c .before .loop .k =
+    omega (arith, start .pre .pgn .is .fields, c .before .loop .inv .turns, c .loop-test .left) in
+    rw e (c .before .loop .inv .emitted)
 
 pub unique-field-ids-spec : {M : Type 1} → statement M
 unique-field-ids-spec =

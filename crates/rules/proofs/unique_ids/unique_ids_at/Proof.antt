@@ -7,13 +7,20 @@ use Rattle.rules.proofs.unique_ids.unique_ids_at.Tie as tie
 same-id-requires : tie.Need-same-id-requires
 same-id-requires c κs =
     let start = c .before .before .before .before in
-    (fits-left _ _ (start .pre .0), start .pre .1 .ready, start .pre .1 .tree, start .pre .2, omega (arith, start .pre .1 .pgn), start .pre .3)
+    record {
+      fits = fits-left _ _ (start .pre .fits);
+      ready = start .pre .pgn .at .ready;
+      trees = start .pre .pgn .at .tree;
+      first = start .pre .first;
+      item = omega (arith, start .pre .pgn .at .pgn);
+      is = start .pre .pgn .is;
+    }
 
 unique-field-ids-requires : tie.Need-unique-field-ids-requires
 unique-field-ids-requires c κs =
     let start = c .before .before .before .before .before .before .before .before in
     let same-id = c .before .before .before .same-id in
-    (fits-right _ _ (start .pre .0) (same-id .ensures), start .pre .1, start .pre .3 .fields)
+    record { fits = fits-right _ _ (start .pre .fits) (same-id .ensures); pgn = start .pre .pgn }
 
 same-length : tie.Need-same-length
 same-length c = search needs

@@ -1,3 +1,4 @@
+use Rattle.rules.specs.Emit.{Reporting}
 use borrow.Author.Tests.{not-true, not-false}
 use Rattle.rules.specs.SearchLaws.{ranked-turn, ranked-ends, concat-ends}
 use Rattle.rules.specs.Search.{ranked, next-rank}
@@ -15,8 +16,7 @@ use Rattle.pack.specs.Notation.{concat-below, optional}
 use Rattle.pack.specs.Meaning.{pack-of}
 use Rattle.pack.specs.Value.{pgns-of}
 use Rattle.rules.specs.declared.Finding.{Finding}
-use Rattle.rules.specs.Emit.{Emitted}
-use Rattle.rules.proofs.Emits.{emitted-none, emitted-turn, fits-turn}
+use Rattle.rules.proofs.Emits.{fits-turn, reporting-none, reporting-turn}
 use Rattle.rules.proofs.variants.check_variants.Statement.{statement}
 use Rattle.rules.proofs.variants.check_variants.Tie as tie
 
@@ -52,25 +52,26 @@ module _ (s : List ℕ) (t r b : ℕ) (e : ranked (least s t) r ≡ least s t b)
 
 abbrev Inv-loop : tie.InvT-loop
 Inv-loop out₀ n s work t tree count m₀ b₀ r₀ out m b r =
-    (r ≤ count) × (length out ≡ length out₀) × (ranked (least s t) r ≡ least s t b) × Emitted out₀ n (concat-below (of-rank s t) r) out m
+    record {
+      reporting : Reporting out₀ n (of-rank s t) count r out m;
+      ranked : ranked (least s t) r ≡ least s t b;
+    }
 
 abbrev μ-loop : tie.MeasureT-loop
 μ-loop out₀ n s work t tree count m₀ b₀ r₀ out m b r = count - r
 
 loop-holds : tie.Need-loop-holds Inv-loop μ-loop
-loop-holds c =
-    let start = c .before .before .before in
-    (omega (arith, c), refl, refl, emitted-none (now (start .args .out)) (start .args .n))
+loop-holds c = record { reporting = reporting-none _ _ _ _; ranked = refl }
 
 least-group-requires : tie.Need-least-group-requires Inv-loop μ-loop
 least-group-requires c κs =
     let start = c .before .before .before .before .before in
-    (start .pre .1, start .pre .2, start .pre .3, start .pre .4)
+    record { ready = start .pre .ready; trees = start .pre .trees; pgns = start .pre .pgns }
 
 same-length : tie.Need-same-length Inv-loop μ-loop
 same-length c =
     let loop = c .before .before .before .before .loop in
-    loop .inv .1
+    loop .inv .reporting .emitted .length
 
 returns : tie.Need-returns Inv-loop μ-loop
 unfolding check-variants
@@ -79,9 +80,9 @@ returns c =
     let loop = c .before .before .before .before .loop in
     let least-group-call = c .before .before .least-group in
     let s = now (start .args .s) in let t = start .args .t in
-    rw (over s t (loop .r) (length (pgns-of (pack-of s) t)) (omega (arith, loop .inv .0, start .pre .3))
-    (rank-none s t (loop .r) (loop .b) (loop .inv .2) (least-group-call .result .given) (least-group-call .result .value) (least-group-call .ensures)
-    (not-true (least-group-call .result .given) (c .if1 .taken)))) (loop .inv .3)
+    rw (over s t (loop .r) (length (pgns-of (pack-of s) t)) (omega (arith, loop .inv .reporting .turns, start .pre .pgns .count))
+    (rank-none s t (loop .r) (loop .b) (loop .inv .ranked) (least-group-call .result .given) (least-group-call .result .value) (least-group-call .ensures)
+    (not-true (least-group-call .result .given) (c .if1 .taken)))) (loop .inv .reporting .emitted)
 
 group-findings-requires : tie.Need-group-findings-requires Inv-loop μ-loop
 unfolding check-variants
@@ -90,15 +91,16 @@ group-findings-requires c κs =
     let loop = c .before .before .before .before .before .loop in
     let loop-test = c .before .before .before .before .loop-test in
     let least-group-call = c .before .before .before .least-group in
-    let s = now (start .args .s) in let t = start .args .t in (
-      rw (of-some s t (loop .r) (loop .b) (loop .inv .2) (least-group-call .result .given) (least-group-call .result .value) (least-group-call .ensures)
-          (not-false (least-group-call .result .given) (c .before .if1 .left))) at
-          (fits-turn (of-rank s t) (start .args .tree .count) (loop .r) (loop-test .taken) (rw (← start .pre .3) at (start .pre .0)) (loop .inv .3)),
-      start .pre .1,
-      start .pre .2,
-      start .pre .3,
-      start .pre .4,
-    )
+    let s = now (start .args .s) in let t = start .args .t in
+    record {
+      fits = rw (of-some s t (loop .r) (loop .b) (loop .inv .ranked) (least-group-call .result .given) (least-group-call .result .value)
+          (least-group-call .ensures) (not-false (least-group-call .result .given) (c .before .if1 .left))) at
+          (fits-turn (of-rank s t) (start .args .tree .count) (loop .r) (loop-test .taken) (rw (← start .pre .pgns .count) at (start .pre .fits))
+          (loop .inv .reporting .emitted));
+      ready = start .pre .ready;
+      trees = start .pre .trees;
+      pgns = start .pre .pgns;
+    }
 
 cast-b : tie.Need-cast-b Inv-loop μ-loop
 cast-b c = search needs
@@ -120,26 +122,25 @@ loop-again c =
     let least-group-call = c .before .before .before .before .before .before .before .least-group in
     let if1 = c .before .before .before .before .before .if1 in
     let group-findings-call = c .before .before .before .group-findings in
-    let s = now (start .args .s) in let t = start .args .t in (
-      omega (arith, c),
-      group-findings-call .kept .0 ∙ loop .inv .1,
-      rank-next s t (loop .r) (loop .b) (loop .inv .2) (least-group-call .result .given) (least-group-call .result .value) (least-group-call .ensures)
-          (not-false (least-group-call .result .given) (if1 .left)),
-      emitted-turn (of-rank s t) (loop .r) (loop .inv .3) (rw (of-some s t (loop .r) (loop .b) (loop .inv .2) (least-group-call .result .given)
-          (least-group-call .result .value) (least-group-call .ensures) (not-false (least-group-call .result .given) (if1 .left)))
-          (group-findings-call .ensures)),
-    )
+    let s = now (start .args .s) in let t = start .args .t in
+    record {
+      reporting = reporting-turn (loop .inv .reporting) (omega (arith, c))
+          (rw (of-some s t (loop .r) (loop .b) (loop .inv .ranked) (least-group-call .result .given) (least-group-call .result .value)
+          (least-group-call .ensures) (not-false (least-group-call .result .given) (if1 .left))) (group-findings-call .ensures));
+      ranked = rank-next s t (loop .r) (loop .b) (loop .inv .ranked) (least-group-call .result .given) (least-group-call .result .value)
+          (least-group-call .ensures) (not-false (least-group-call .result .given) (if1 .left));
+    }
 
 same-length-2 : tie.Need-same-length-2 Inv-loop μ-loop
-same-length-2 c = c .before .loop .inv .1
+same-length-2 c = c .before .loop .inv .reporting .emitted .length
 
 returns-2 : tie.Need-returns-2 Inv-loop μ-loop
 unfolding check-variants
 returns-2 c =
     let start = c .before .before .before .before .before in
     let e : length (pgns-of (pack-of (now (start .args .s))) (start .args .t)) ≡ c .before .loop .r =
-    omega (arith, start .pre .3, c .before .loop .inv .0, c .loop-test .left) in
-    rw e (c .before .loop .inv .3)
+    omega (arith, start .pre .pgns .count, c .before .loop .inv .reporting .turns, c .loop-test .left) in
+    rw e (c .before .loop .inv .reporting .emitted)
 
 pub check-variants-spec : {M : Type 1} → statement M
 check-variants-spec =

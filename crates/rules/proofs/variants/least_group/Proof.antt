@@ -30,18 +30,22 @@ said s p b g hit is e = ap (λ (x : Pgn). counts x b) (sym (is .means)) ∙ ap (
 
 abbrev Inv-loop : tie.InvT-loop
 Inv-loop s work t b count found₀ p₀ i₀ found p i =
-    (i ≤ count) × (p ≡ place-of-pgn (pack-of s) t i) × (optional-number found ≡ min-below (λ i. counts (pgn-at (pack-of s) t i) b) i)
+    record {
+      turns : i ≤ count;
+      place : p ≡ place-of-pgn (pack-of s) t i;
+      found : optional-number found ≡ min-below (λ i. counts (pgn-at (pack-of s) t i) b) i;
+    }
 
 abbrev μ-loop : tie.MeasureT-loop
 μ-loop s work t b count found₀ p₀ i₀ found p i = count - i
 
 loop-holds : tie.Need-loop-holds Inv-loop μ-loop
-loop-holds c = (search needs, omega (arith, c .before .before .pre .3), refl)
+loop-holds c = record { turns = search needs; place = omega (arith, c .before .before .pre .pgns .place); found = refl }
 
 pgn-of-requires : tie.Need-pgn-of-requires Inv-loop μ-loop
 pgn-of-requires c κs =
     let start = c .before .before .before .before in
-    (at-pgn (start .pre .0) (start .pre .1) (omega (arith, start .pre .2)) (c .loop-test .taken) (c .before .loop .inv .1))
+    (at-pgn (start .pre .ready) (start .pre .trees) (omega (arith, start .pre .pgns .count)) (c .loop-test .taken) (c .before .loop .inv .place))
 
 from-number-requires : tie.Need-from-number-requires Inv-loop μ-loop
 from-number-requires c κs = search needs
@@ -54,7 +58,7 @@ add-p c =
     let start = c .before .before .before .before .before .before .before in
     let loop = c .before .before .before .before .loop in
     let loop-test = c .before .before .before .loop-test in
-    omega (arith, fields-few (at-pgn (start .pre .0) (start .pre .1) (omega (arith, start .pre .2)) (loop-test .taken) (loop .inv .1)))
+    omega (arith, fields-few (at-pgn (start .pre .ready) (start .pre .trees) (omega (arith, start .pre .pgns .count)) (loop-test .taken) (loop .inv .place)))
 
 cast-p : tie.Need-cast-p Inv-loop μ-loop
 cast-p c =
@@ -62,7 +66,11 @@ cast-p c =
     let loop = c .before .before .before .before .before .loop in
     let loop-test = c .before .before .before .before .loop-test in
     let pgn-of = c .before .before .before .pgn-of in
-    omega (arith, fields-few (at-pgn (start .pre .0) (start .pre .1) (omega (arith, start .pre .2)) (loop-test .taken) (loop .inv .1)), pgn-of .ensures .fields)
+    omega (
+      arith,
+      fields-few (at-pgn (start .pre .ready) (start .pre .trees) (omega (arith, start .pre .pgns .count)) (loop-test .taken) (loop .inv .place)),
+      pgn-of .ensures .fields,
+    )
 
 add-p-2 : tie.Need-add-p-2 Inv-loop μ-loop
 add-p-2 c =
@@ -70,14 +78,18 @@ add-p-2 c =
     let loop = c .before .before .before .before .before .loop in
     let loop-test = c .before .before .before .before .loop-test in
     let pgn-of = c .before .before .before .pgn-of in
-    omega (arith, fields-few (at-pgn (start .pre .0) (start .pre .1) (omega (arith, start .pre .2)) (loop-test .taken) (loop .inv .1)), pgn-of .ensures .fields)
+    omega (
+      arith,
+      fields-few (at-pgn (start .pre .ready) (start .pre .trees) (omega (arith, start .pre .pgns .count)) (loop-test .taken) (loop .inv .place)),
+      pgn-of .ensures .fields,
+    )
 
 add-i : tie.Need-add-i Inv-loop μ-loop
 add-i c =
     let start = c .before .before .before .before .before .before .before .before in
     let loop = c .before .before .before .before .before .loop in
     let loop-test = c .before .before .before .before .loop-test in
-    omega (arith, pgns-few (at-pgn (start .pre .0) (start .pre .1) (omega (arith, start .pre .2)) (loop-test .taken) (loop .inv .1)))
+    omega (arith, pgns-few (at-pgn (start .pre .ready) (start .pre .trees) (omega (arith, start .pre .pgns .count)) (loop-test .taken) (loop .inv .place)))
 
 loop-less : tie.Need-loop-less Inv-loop μ-loop
 loop-less c = search needs
@@ -88,24 +100,25 @@ loop-again c =
     let loop = c .before .before .before .before .before .loop in
     let pgn-of = c .before .before .before .pgn-of in
     let from-number = c .before .before .from-number in
-    let s = now (start .args .s) in let t = start .args .t in let b = start .args .b in (
-      omega (arith, c),
-      omega (arith, pgn-place-next (pack-of s) t (loop .i), pgn-of .ensures .fields, loop .inv .1),
-      c .before .smaller .ensures
+    let s = now (start .args .s) in let t = start .args .t in let b = start .args .b in
+    record {
+      turns = omega (arith, c);
+      place = omega (arith, pgn-place-next (pack-of s) t (loop .i), pgn-of .ensures .fields, loop .inv .place);
+      found = c .before .smaller .ensures
           ∙ (rw (
             min-turn (λ i. counts (pgn-at (pack-of s) t i) b) (loop .i),
             said s (pgn-at (pack-of s) t (loop .i)) b (pgn-of .result) (from-number .result) (pgn-of .ensures) (from-number .ensures),
-            loop .inv .2,
-          )),
-    )
+            loop .inv .found,
+          ));
+    }
 
 returns : tie.Need-returns Inv-loop μ-loop
 unfolding least-group
 returns c =
     let start = c .before .before .before .before in
     let e : length (pgns-of (pack-of (now (start .args .s))) (start .args .t)) ≡ c .before .loop .i =
-    omega (arith, start .pre .2, c .before .loop .inv .0, c .loop-test .left) in
-    rw e (c .before .loop .inv .2)
+    omega (arith, start .pre .pgns .count, c .before .loop .inv .turns, c .loop-test .left) in
+    rw e (c .before .loop .inv .found)
 
 pub least-group-spec : {M : Type 1} → statement M
 least-group-spec =

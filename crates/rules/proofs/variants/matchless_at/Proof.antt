@@ -17,24 +17,30 @@ in-group-requires c κs = search needs
 returns : tie.Need-returns
 returns c =
     let start = c .before .before .before .before in
-    let t = start .args .t in let s = now (start .args .s) in let number = start .args .number in let i = start .args .i in
+    let s = now (start .args .s) in let number = start .args .number in
+    let t = start .args .g .tree in
+    let i = start .args .g .item in
     outside (in-group t (pgns-of (pack-of s) t) number i) (not (has-match (pgn-at (pack-of s) t i) (length (pgn-at (pack-of s) t i .fields))))
-    (in-group-is s t number i (start .args .g) (start .pre .1) ∙ sym (c .before .in-group .ensures) ∙ not-true (c .before .in-group .result) (c .if1 .taken))
+    (in-group-is s t number i (start .args .g .view) (start .pre .is)
+    ∙ sym (c .before .in-group .ensures)
+    ∙ not-true (c .before .in-group .result) (c .if1 .taken))
 
 has-match-requires : tie.Need-has-match-requires
 has-match-requires c κs =
     let start = c .before .before .before .before in
-    (start .pre .0, start .pre .1 .fields)
+    start .pre
 
 returns-2 : tie.Need-returns-2
 returns-2 c =
     let start = c .before .before .before .before .before in
     let in-group-call = c .before .before .in-group in
-    let t = start .args .t in let s = now (start .args .s) in let number = start .args .number in let i = start .args .i in
+    let s = now (start .args .s) in let number = start .args .number in
+    let t = start .args .g .tree in
+    let i = start .args .g .item in
     within (in-group t (pgns-of (pack-of s) t) number i) (not (has-match (pgn-at (pack-of s) t i) (length (pgn-at (pack-of s) t i .fields))))
     (not (c .has-match .result))
-    (in-group-is s t number i (start .args .g) (start .pre .1) ∙ sym (in-group-call .ensures) ∙ not-false (in-group-call .result) (c .before .if1 .left))
-    (ap not (c .has-match .ensures ∙ ap (has-match (pgn-at (pack-of s) t i)) (start .pre .1 .fields)))
+    (in-group-is s t number i (start .args .g .view) (start .pre .is) ∙ sym (in-group-call .ensures) ∙ not-false (in-group-call .result) (c .before .if1 .left))
+    (ap not (c .has-match .ensures ∙ ap (has-match (pgn-at (pack-of s) t i)) (start .pre .is .fields)))
 
 pub matchless-at-spec : {M : Type 1} → statement M
 matchless-at-spec = tie.close (tie.spec in-group-requires returns has-match-requires returns-2)

@@ -1,52 +1,21 @@
 use borrow.Author.Tests.{not-true, not-false}
-use Rattle.pack.specs.Value.{Pgn, pgns-of, no-pgn}
-use Rattle.rules.specs.SearchLaws.{latest-none}
-use Rattle.rules.specs.Search.{latest-below}
-use Rattle.rules.specs.Variants.{has-match, match-key, in-group, duplicates, duplicate-of, variant-at}
+use Rattle.pack.specs.Value.{Pgn, pgns-of}
+use Rattle.rules.specs.Variants.{in-group, variant-at}
 use Rattle.rules.proofs.Groups.{in-group-is}
 use Prim.Native.Nat.{ℕ}
-use mathlib.Core.Path.{_≡_, refl, sym, _∙_}
-use mathlib.Core.Bool.{Bool, true, false, _&&_}
-use mathlib.Core.List.{List, [], _∷_}
-use mathlib.Core.Option.{none}
-use lib.ListN.{length, getD}
+use mathlib.Core.Path.{_≡_, sym, _∙_}
+use mathlib.Core.Bool.{false}
+use mathlib.Core.List.{List, []}
 use denote.Ref.{now}
-use Rattle.pack.specs.Notation.{optional, _≐_}
 use Rattle.pack.specs.Meaning.{pack-of}
-use Rattle.rules.specs.declared.Finding.{Finding}
-use Rattle.rules.specs.Findings.{pgn-error}
 use Rattle.rules.proofs.Emits.{emitted-none}
 use borrow.Author.Needs.{needs}
 use Rattle.rules.proofs.variants.variant_at.Statement.{statement}
 use Rattle.rules.proofs.variants.variant_at.Tie as tie
 
-module _ (t : ℕ) (pgns : List Pgn) (number i : ℕ) where
-  outside : in-group t pgns number i ≡ false → variant-at t pgns number i ≡ []
-  unfolding variant-at
-  outside h = rw h
-
-  never : (a x y k : Bool) → y ≡ false → (a && (x && y && k)) ≡ false
-  never true true y k e = rw e
-  never true false y k e = refl
-  never false x y k e = refl
-
-  -- what has no match duplicates none
-  unmatched : (n : ℕ) → n ≡ length (getD pgns i no-pgn .fields) → has-match (getD pgns i no-pgn) n ≡ false
-      → latest-below (λ j. in-group t pgns number j && duplicates (getD pgns j no-pgn) (getD pgns i no-pgn)) i ≡ none
-  unfolding duplicates
-  unmatched n e h =
-      latest-none (λ j. in-group t pgns number j && duplicates (getD pgns j no-pgn) (getD pgns i no-pgn)) i
-      (λ j. never (in-group t pgns number j) (has-match (getD pgns j no-pgn) (length (getD pgns j no-pgn .fields)))
-      (has-match (getD pgns i no-pgn) (length (getD pgns i no-pgn .fields))) (match-key (getD pgns j no-pgn) ≐ match-key (getD pgns i no-pgn)) (rw e at h))
-
-  module _ (h : in-group t pgns number i ≡ true) (b : Bool) (v : ℕ) (e : optional b v ≡ latest-below (λ j. in-group t pgns number j && duplicates (getD pgns j no-pgn) (getD pgns i no-pgn)) i) where
-    alone : b ≡ false → variant-at t pgns number i ≡ []
-    unfolding variant-at duplicate-of
-    alone k = rw (h, ← e, k)
-
-    other : b ≡ true → (F : Finding) → F ≡ pgn-error 20 1 t i 0 v → variant-at t pgns number i ≡ F ∷ []
-    unfolding variant-at duplicate-of
-    other k F y = rw (h, ← e, k, y)
+outside : (t : ℕ) (pgns : List Pgn) (number i : ℕ) → in-group t pgns number i ≡ false → variant-at t pgns number i ≡ []
+unfolding variant-at
+outside t pgns number i h = rw h
 
 in-group-requires : tie.Need-in-group-requires
 in-group-requires c κs = search needs
@@ -54,89 +23,32 @@ in-group-requires c κs = search needs
 returns : tie.Need-returns
 returns c =
     let start = c .before .before .before .before .before in
-    let t = start .args .t in let s = now (start .args .s) in let number = start .args .number in let i = start .args .i in
-    rw (outside t (pgns-of (pack-of s) t) number i
-    (in-group-is s t number i (start .args .g) (start .pre .2) ∙ sym (c .before .in-group .ensures) ∙ not-true (c .before .in-group .result) (c .if1 .taken)))
-    (emitted-none (now (start .args .out)) (start .args .n))
+    let s = now (start .args .s) in let number = start .args .number in
+    let t = start .args .g .tree in
+    let i = start .args .g .item in
+    rw (outside t (pgns-of (pack-of s) t) number i (in-group-is s t number i (start .args .g .view) (start .pre .pgn .is)
+    ∙ sym (c .before .in-group .ensures)
+    ∙ not-true (c .before .in-group .result) (c .if1 .taken))) (emitted-none (now (start .args .out)) (start .args .n))
 
-has-match-requires : tie.Need-has-match-requires
-has-match-requires c κs =
-    let start = c .before .before .before .before .before in
-    (start .pre .1, start .pre .2 .fields)
-
-returns-2 : tie.Need-returns-2
-returns-2 c =
-    let start = c .before .before .before .before .before .before .before in
-    let in-group-call = c .before .before .before .in-group in
-    let t = start .args .t in let s = now (start .args .s) in let number = start .args .number in let i = start .args .i in
-    rw (alone t (pgns-of (pack-of s) t) number i (in-group-is s t number i (start .args .g) (start .pre .2)
-    ∙ sym (in-group-call .ensures)
-    ∙ not-false (in-group-call .result) (c .before .before .if1 .left)) false 0
-    (sym (unmatched t (pgns-of (pack-of s) t) number i (start .args .g .fields) (start .pre .2 .fields)
-    (sym (c .before .has-match .ensures) ∙ not-true (c .before .has-match .result) (c .if2 .taken)))) refl)
-    (emitted-none (now (start .args .out)) (start .args .n))
-
-latest-duplicate-requires : tie.Need-latest-duplicate-requires
-latest-duplicate-requires c κs =
-    let start = c .before .before .before .before .before .before .before in
-    (start .pre .1, start .pre .2 .fields, start .pre .3)
-
-returns-3 : tie.Need-returns-3
-returns-3 c =
-    let start = c .before .before .before .before .before .before .before .before .before .before in
-    let in-group-call = c .before .before .before .before .before .before .in-group in
-    let if1 = c .before .before .before .before .before .if1 in
-    let latest-duplicate = c .before .before .latest-duplicate in
-    let t = start .args .t in let s = now (start .args .s) in let number = start .args .number in let i = start .args .i in
-    rw (alone t (pgns-of (pack-of s) t) number i
-    (in-group-is s t number i (start .args .g) (start .pre .2) ∙ sym (in-group-call .ensures) ∙ not-false (in-group-call .result) (if1 .left))
-    (latest-duplicate .result .given) (latest-duplicate .result .value) (latest-duplicate .ensures)
-    (not-true (latest-duplicate .result .given) (c .if3 .taken))) (emitted-none (now (start .args .out)) (start .args .n))
-
-pgn-error-requires : tie.Need-pgn-error-requires
-pgn-error-requires c κs = search needs
-
-put-requires : tie.Need-put-requires
-put-requires c κs =
-    let start = c .before .before .before .before .before .before .before .before .before .before .before .before in
-    let in-group-call = c .before .before .before .before .before .before .before .before .in-group in
-    let if1 = c .before .before .before .before .before .before .before .if1 in
-    let latest-duplicate = c .before .before .before .before .latest-duplicate in
-    let t = start .args .t in let s = now (start .args .s) in let number = start .args .number in let i = start .args .i in
-    rw (other t (pgns-of (pack-of s) t) number i
-    (in-group-is s t number i (start .args .g) (start .pre .2) ∙ sym (in-group-call .ensures) ∙ not-false (in-group-call .result) (if1 .left))
-    (latest-duplicate .result .given) (latest-duplicate .result .value) (latest-duplicate .ensures)
-    (not-false (latest-duplicate .result .given) (c .before .before .if3 .left)) (c .pgn-error .result) (c .pgn-error .ensures)) at (start .pre .0)
+member-at-requires : tie.Need-member-at-requires
+member-at-requires c κs =
+    let start = c .before .before .before .before .before .before in
+    let in-group-call = c .before .before .in-group in
+    let s = now (start .args .s) in
+    record {
+      fits = start .pre .fits;
+      pgn = start .pre .pgn;
+      first = start .pre .first;
+      member = in-group-is s (start .args .g .tree) (start .args .number) (start .args .g .item) (start .args .g .view) (start .pre .pgn .is)
+          ∙ sym (in-group-call .ensures)
+          ∙ not-false (in-group-call .result) (c .before .if1 .left);
+    }
 
 same-length : tie.Need-same-length
 same-length c = search needs
 
-returns-4 : tie.Need-returns-4
-returns-4 c =
-    let back12 = c .before .before .before .before .before .before .before .before .before .before .before .before in
-    let start = back12 .before .before .before in
-    let in-group-call = c .before .before .before .before .before .before .before .before .before .before .before .in-group in
-    let if1 = c .before .before .before .before .before .before .before .before .before .before .if1 in
-    let latest-duplicate = c .before .before .before .before .before .before .before .latest-duplicate in
-    let if3 = c .before .before .before .before .before .if3 in
-    let pgn-error-call = c .before .before .before .pgn-error in
-    let t = start .args .t in let s = now (start .args .s) in let number = start .args .number in let i = start .args .i in
-    rw (other t (pgns-of (pack-of s) t) number i
-    (in-group-is s t number i (start .args .g) (start .pre .2) ∙ sym (in-group-call .ensures) ∙ not-false (in-group-call .result) (if1 .left))
-    (latest-duplicate .result .given) (latest-duplicate .result .value) (latest-duplicate .ensures) (not-false (latest-duplicate .result .given) (if3 .left))
-    (pgn-error-call .result) (pgn-error-call .ensures)) (c .before .before .put .ensures)
+returns-2 : tie.Need-returns-2
+returns-2 c = c .before .before .member-at .ensures
 
 pub variant-at-spec : {M : Type 1} → statement M
-variant-at-spec =
-    tie.close
-    (tie.spec
-    in-group-requires
-    returns
-    has-match-requires
-    returns-2
-    latest-duplicate-requires
-    returns-3
-    pgn-error-requires
-    put-requires
-    same-length
-    returns-4)
+variant-at-spec = tie.close (tie.spec in-group-requires returns member-at-requires same-length returns-2)

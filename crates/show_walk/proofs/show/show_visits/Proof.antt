@@ -6,7 +6,7 @@ use Rattle.show_walk.proofs.show.show_visits.Statement.{statement}
 use Rattle.show_walk.proofs.show.show_visits.Tie as tie
 
 abbrev Inv-loop : tie.InvT-loop
-Inv-loop s work place g readings visits n passes₀ i₀ passes i = (passes .first ≤ i) × (passes .second ≤ i)
+Inv-loop s work place g readings visits n passes₀ i₀ passes i = record { first : passes .first ≤ i; second : passes .second ≤ i }
 
 abbrev μ-loop : tie.MeasureT-loop
 μ-loop s work place g readings visits n passes₀ i₀ passes i = n - i

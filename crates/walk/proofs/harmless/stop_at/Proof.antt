@@ -13,7 +13,10 @@ same-length c = search needs
 returns : tie.Need-returns
 returns c =
     let start = c .before .before .before .before .before .before in
-    (sym (start .pre .1 .never (start .args .k) (sym (c .before .is-marked .ensures) ∙ c .if1 .taken) (start .args .reading)), start .pre .1)
+    record {
+      stop = sym (start .pre .harmless .never (start .args .k) (sym (c .before .is-marked .ensures) ∙ c .if1 .taken) (start .args .reading));
+      harmless = start .pre .harmless;
+    }
 
 judge-requires : tie.Need-judge-requires
 judge-requires c κs = search needs
@@ -27,10 +30,12 @@ same-length-2 c = search needs
 returns-2 : tie.Need-returns-2
 returns-2 c =
     let start = c .before .before .before .before .before .before .before .before .before .before .before in
-    let judge = c .before .before .before .before .judge in (
-      judge .ensures .0,
-      rw (c .before .before .mark-if .ensures) (harmless-marked (start .args .k) (judge .result .harmless) (start .pre .1) (judge .ensures .1)),
-    )
+    let judge = c .before .before .before .before .judge in
+    record {
+      stop = judge .ensures .stop;
+      harmless = rw (c .before .before .mark-if .ensures)
+          (harmless-marked (start .args .k) (judge .result .harmless) (start .pre .harmless) (judge .ensures .harmless));
+    }
 
 pub stop-at-spec : {M : Type 1} → statement M
 stop-at-spec =

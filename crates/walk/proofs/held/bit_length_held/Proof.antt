@@ -40,7 +40,8 @@ returns : tie.Need-returns
 returns c =
     let start = c .before .before .before .before .before in
     let s = now (start .args .s) in
-    sym (nothing (pgn-at (pack-of s) (start .args .t) (start .args .i)) (start .args .k) (field-meaning s (start .args .f)) (start .pre .3)
+    sym (nothing (pgn-at (pack-of s) (start .args .found .tree) (start .args .found .pgn)) (start .args .k) (field-meaning s (start .args .f))
+    (start .pre .means)
     (ap (λ (b : Bool). optional b (bytes-of s (start .args .f .links .length .text))) (not-true (start .args .f .links .length .given) (c .if1 .taken))))
 
 target-requires : tie.Need-target-requires
@@ -53,14 +54,14 @@ returns-2 c =
     let target-call = c .before .before .target in
     let s = now (start .args .s) in
     let id = bytes-of s (start .args .f .links .length .text) in
-    sym (unknown (pgn-at (pack-of s) (start .args .t) (start .args .i)) (start .args .k) (field-meaning s (start .args .f)) (start .pre .3) id
-    (ap (λ (b : Bool). optional b id) (not-false (start .args .f .links .length .given) (if1 .left)))
+    sym (unknown (pgn-at (pack-of s) (start .args .found .tree) (start .args .found .pgn)) (start .args .k) (field-meaning s (start .args .f))
+    (start .pre .means) id (ap (λ (b : Bool). optional b id) (not-false (start .args .f .links .length .given) (if1 .left)))
     (sym (target-call .ensures) ∙ ap (λ (b : Bool). optional b (target-call .result .value)) (not-true (target-call .result .given) (c .if2 .taken))))
 
 order-requires : tie.Need-order-requires
 order-requires c κs =
     let start = c .before .before .before .before .before .before .before .before in
-    omega (arith, start .pre .2, fields-few (start .pre .0))
+    omega (arith, start .pre .field, fields-few (start .pre .pgn .place))
 
 order-requires-2 : tie.Need-order-requires-2
 order-requires-2 c κs =
@@ -71,8 +72,9 @@ order-requires-2 c κs =
     sym (target-call .ensures) ∙ ap (λ (b : Bool). optional b (target-call .result .value)) (not-false (target-call .result .given) (c .before .if2 .left)) in
     omega (
       arith,
-      target-below (pgn-at (pack-of s) (start .args .t) (start .args .i)) (bytes-of s (start .args .f .links .length .text)) (target-call .result .value) e,
-      fields-few (start .pre .0),
+      target-below (pgn-at (pack-of s) (start .args .found .tree) (start .args .found .pgn)) (bytes-of s (start .args .f .links .length .text))
+          (target-call .result .value) e,
+      fields-few (start .pre .pgn .place),
     )
 
 sets-hold-requires : tie.Need-sets-hold-requires
@@ -84,13 +86,15 @@ returns-3 c =
     let if1 = c .before .before .before .before .before .before .if1 in
     let target-call = c .before .before .before .before .before .target in
     let if2 = c .before .before .before .if2 in
-    let s = now (start .args .s) in let t = start .args .t in let i = start .args .i in let k = start .args .k in
+    let s = now (start .args .s) in let k = start .args .k in
+    let t = start .args .found .tree in
+    let i = start .args .found .pgn in
     let L = layout (pgn-at (pack-of s) t i) in
     let id = bytes-of s (start .args .f .links .length .text) in
     let e = sym (target-call .ensures) ∙ ap (λ (b : Bool). optional b (target-call .result .value)) (not-false (target-call .result .given) (if2 .left)) in
-    c .sets-hold .ensures L (start .pre .1)
+    c .sets-hold .ensures L (start .pre .pgn .sets)
     ∙ (λ j. sets-hold L ((c .before .order2 .ensures ∙ add-one (target-call .result .value)) j) ((c .before .before .order .ensures ∙ add-one k) j))
-    ∙ sym (known (pgn-at (pack-of s) t i) k (field-meaning s (start .args .f)) (start .pre .3) id
+    ∙ sym (known (pgn-at (pack-of s) t i) k (field-meaning s (start .args .f)) (start .pre .means) id
     (ap (λ (b : Bool). optional b id) (not-false (start .args .f .links .length .given) (if1 .left))) (target-call .result .value) e)
 
 pub bit-length-held-spec : {M : Type 1} → statement M

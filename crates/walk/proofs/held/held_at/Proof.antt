@@ -38,9 +38,9 @@ clash-requires c κs = search needs
 returns : tie.Need-returns
 returns c =
     let start = c .before .before .before .before in
-    let s = now (start .args .s) in let t = start .args .t in let i = start .args .i in
+    let s = now (start .args .s) in let t = start .args .found .tree in let i = start .args .found .pgn in
     shared (pack-of s) (pgn-at (pack-of s) t i) (c .before .clash .result)
-    (shares-two (start .pre .1) ∙ ap not (sym (c .before .clash .ensures (layout (pgn-at (pack-of s) t i)) (start .pre .1)))) (c .if1 .taken)
+    (shares-two (start .pre .sets) ∙ ap not (sym (c .before .clash .ensures (layout (pgn-at (pack-of s) t i)) (start .pre .sets)))) (c .if1 .taken)
 
 count-fields-held-requires : tie.Need-count-fields-held-requires
 count-fields-held-requires c κs = search needs
@@ -49,10 +49,10 @@ returns-2 : tie.Need-returns-2
 returns-2 c =
     let start = c .before .before .before .before .before .before in
     let clash = c .before .before .before .clash in
-    let s = now (start .args .s) in let t = start .args .t in let i = start .args .i in
+    let s = now (start .args .s) in let t = start .args .found .tree in let i = start .args .found .pgn in
     uncounted (pack-of s) (pgn-at (pack-of s) t i) (clash .result)
-    (shares-two (start .pre .1) ∙ ap not (sym (clash .ensures (layout (pgn-at (pack-of s) t i)) (start .pre .1)))) (c .before .before .if1 .left)
-    (c .before .count-fields-held .result) (c .before .count-fields-held .ensures (layout (pgn-at (pack-of s) t i)) (start .pre .1))
+    (shares-two (start .pre .sets) ∙ ap not (sym (clash .ensures (layout (pgn-at (pack-of s) t i)) (start .pre .sets)))) (c .before .before .if1 .left)
+    (c .before .count-fields-held .result) (c .before .count-fields-held .ensures (layout (pgn-at (pack-of s) t i)) (start .pre .sets))
     (not-true (c .before .count-fields-held .result) (c .if2 .taken))
 
 bit-lengths-held-requires : tie.Need-bit-lengths-held-requires
@@ -64,10 +64,10 @@ returns-3 c =
     let clash = c .before .before .before .before .before .clash in
     let if1 = c .before .before .before .before .if1 in
     let count-fields-held-call = c .before .before .before .count-fields-held in
-    let s = now (start .args .s) in let t = start .args .t in let i = start .args .i in
+    let s = now (start .args .s) in let t = start .args .found .tree in let i = start .args .found .pgn in
     unmeasured (pack-of s) (pgn-at (pack-of s) t i) (clash .result)
-    (shares-two (start .pre .1) ∙ ap not (sym (clash .ensures (layout (pgn-at (pack-of s) t i)) (start .pre .1)))) (if1 .left) (count-fields-held-call .result)
-    (count-fields-held-call .ensures (layout (pgn-at (pack-of s) t i)) (start .pre .1))
+    (shares-two (start .pre .sets) ∙ ap not (sym (clash .ensures (layout (pgn-at (pack-of s) t i)) (start .pre .sets)))) (if1 .left)
+    (count-fields-held-call .result) (count-fields-held-call .ensures (layout (pgn-at (pack-of s) t i)) (start .pre .sets))
     (not-false (count-fields-held-call .result) (c .before .before .if2 .left)) (c .before .bit-lengths-held .result) (c .before .bit-lengths-held .ensures)
     (not-true (c .before .bit-lengths-held .result) (c .if3 .taken))
 
@@ -82,12 +82,12 @@ returns-4 c =
     let count-fields-held-call = c .before .before .before .before .count-fields-held in
     let if2 = c .before .before .before .if2 in
     let bit-lengths-held = c .before .before .bit-lengths-held in
-    let s = now (start .args .s) in let t = start .args .t in let i = start .args .i in
+    let s = now (start .args .s) in let t = start .args .found .tree in let i = start .args .found .pgn in
     measured (pack-of s) (pgn-at (pack-of s) t i) (clash .result)
-    (shares-two (start .pre .1) ∙ ap not (sym (clash .ensures (layout (pgn-at (pack-of s) t i)) (start .pre .1)))) (if1 .left) (count-fields-held-call .result)
-    (count-fields-held-call .ensures (layout (pgn-at (pack-of s) t i)) (start .pre .1)) (not-false (count-fields-held-call .result) (if2 .left))
-    (bit-lengths-held .result) (bit-lengths-held .ensures) (not-false (bit-lengths-held .result) (c .before .if3 .left)) (c .dynamic-values-held .result)
-    (c .dynamic-values-held .ensures)
+    (shares-two (start .pre .sets) ∙ ap not (sym (clash .ensures (layout (pgn-at (pack-of s) t i)) (start .pre .sets)))) (if1 .left)
+    (count-fields-held-call .result) (count-fields-held-call .ensures (layout (pgn-at (pack-of s) t i)) (start .pre .sets))
+    (not-false (count-fields-held-call .result) (if2 .left)) (bit-lengths-held .result) (bit-lengths-held .ensures)
+    (not-false (bit-lengths-held .result) (c .before .if3 .left)) (c .dynamic-values-held .result) (c .dynamic-values-held .ensures)
 
 pub held-at-spec : {M : Type 1} → statement M
 held-at-spec =

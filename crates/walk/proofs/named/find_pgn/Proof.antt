@@ -32,8 +32,8 @@ returns-2 c =
     let section = c .before .before .section in
     let s = now (start .args .s) in let tree = start .args .tree in let pgn = start .args .pgn in
     let a =
-    at-tree (pack-of s) (start .args .index) (start .pre .1) tree (if1 .left) (of-tree .result) (section .result) (of-tree .ensures) (section .ensures) in
-    let outside = le-ltb pgn (length (pgns-of (pack-of s) tree)) (omega (arith, a .0, c .if2 .taken)) in
+    at-tree (pack-of s) (start .args .index) (start .pre .index) tree (if1 .left) (of-tree .result) (section .result) (of-tree .ensures) (section .ensures) in
+    let outside = le-ltb pgn (length (pgns-of (pack-of s) tree)) (omega (arith, a .count, c .if2 .taken)) in
     named-refused s (now (start .args .work)) tree pgn _ Absent (rw (lt-ltb tree 3 (if1 .left), outside))
 
 pgn-position-requires : tie.Need-pgn-position-requires
@@ -42,9 +42,9 @@ pgn-position-requires c κs =
     let if1 = c .before .before .before .before .if1 in
     let of-tree = c .before .before .before .of-tree in
     let section = c .before .before .section in
-    let a = at-tree (pack-of (now (start .args .s))) (start .args .index) (start .pre .1) (start .args .tree) (if1 .left) (of-tree .result) (section .result)
-    (of-tree .ensures) (section .ensures) in
-    (start .pre .0, if1 .left, a .1, omega (arith, a .0, c .if2 .left))
+    let a = at-tree (pack-of (now (start .args .s))) (start .args .index) (start .pre .index) (start .args .tree) (if1 .left) (of-tree .result)
+    (section .result) (of-tree .ensures) (section .ensures) in
+    record { ready = start .pre .ready; trees = if1 .left; first = a .place; item = omega (arith, a .count, c .if2 .left) }
 
 pgn-of-requires : tie.Need-pgn-of-requires
 pgn-of-requires c κs = search needs
@@ -61,10 +61,10 @@ returns-3 c =
     let if2 = c .before .before .before .if2 in
     let s = now (start .args .s) in let tree = start .args .tree in let pgn = start .args .pgn in
     let a =
-    at-tree (pack-of s) (start .args .index) (start .pre .1) tree (if1 .left) (of-tree .result) (section .result) (of-tree .ensures) (section .ensures) in
-    let inside = lt-ltb pgn (length (pgns-of (pack-of s) tree)) (omega (arith, a .0, if2 .left)) in
+    at-tree (pack-of s) (start .args .index) (start .pre .index) tree (if1 .left) (of-tree .result) (section .result) (of-tree .ensures) (section .ensures) in
+    let inside = lt-ltb pgn (length (pgns-of (pack-of s) tree)) (omega (arith, a .count, if2 .left)) in
     named-found s (now (start .args .work)) tree pgn _ _ (rw (lt-ltb tree 3 (if1 .left), inside)) refl refl
-    (record { index = start .pre .1; place = c .before .before .pgn-position .ensures; sets = c .sets-of .ensures })
+    (record { index = start .pre .index; place = c .before .before .pgn-position .ensures; sets = c .sets-of .ensures })
 
 pub find-pgn-spec : {M : Type 1} → statement M
 find-pgn-spec =

@@ -16,10 +16,14 @@ is-plain-requires c κs = search needs
 returns : tie.Need-returns
 returns c =
     let index-of = c .before .before .before .index-of in
-    (λ h. rw (index-of .ensures) at (sym (c .before .before .is-marked .ensures) ∙ c .before .if1 .taken), (c .is-plain .ensures .0, c .is-plain .ensures .1))
+    record {
+      harmless = λ h. rw (index-of .ensures) at (sym (c .before .before .is-marked .ensures) ∙ c .before .if1 .taken);
+      within = c .is-plain .ensures .within;
+      onward = c .is-plain .ensures .onward;
+    }
 
 returns-2 : tie.Need-returns-2
-returns-2 c = (λ h. absurd (false≢true h), (λ h. absurd (false≢true h), λ h. absurd (false≢true h)))
+returns-2 c = record { harmless = λ h. absurd (false≢true h); within = λ h. absurd (false≢true h); onward = λ h. absurd (false≢true h) }
 
 pub runs-at-spec : {M : Type 1} → statement M
 runs-at-spec =

@@ -16,21 +16,21 @@ fits o G e f h = let q : optional-repeating o ≡ some (repeating-meaning (o .se
 set-of-requires : tie.Need-set-of-requires
 set-of-requires c κs =
     let start = c .before .before in
-    fits (start .args .g .repeating1) _ (ap (λ (G : Pgn). G .repeating1) (start .pre .1 .means)) (pgn-sets-law (start .pre .0) .0)
+    fits (start .args .g .repeating1) _ (ap (λ (G : Pgn). G .repeating1) (start .pre .is .means)) (pgn-sets-law (start .pre .at) .0)
 
 set-of-requires-2 : tie.Need-set-of-requires-2
 set-of-requires-2 c κs =
     let start = c .before .before .before in
-    fits (start .args .g .repeating2) _ (ap (λ (G : Pgn). G .repeating2) (start .pre .1 .means)) (pgn-sets-law (start .pre .0) .1)
+    fits (start .args .g .repeating2) _ (ap (λ (G : Pgn). G .repeating2) (start .pre .is .means)) (pgn-sets-law (start .pre .at) .1)
 
 returns : tie.Need-returns
 returns c =
     let start = c .before .before .before .before in
     record {
-      fields = start .pre .1 .fields;
+      fields = start .pre .is .fields;
       two = refl;
-      first = (rw (← ap (λ (G : Pgn). G .repeating1) (start .pre .1 .means)) (c .before .set-of .ensures));
-      second = (rw (← ap (λ (G : Pgn). G .repeating2) (start .pre .1 .means)) (c .set-of2 .ensures));
+      first = (rw (← ap (λ (G : Pgn). G .repeating1) (start .pre .is .means)) (c .before .set-of .ensures));
+      second = (rw (← ap (λ (G : Pgn). G .repeating2) (start .pre .is .means)) (c .set-of2 .ensures));
     }
 
 pub sets-of-spec : {M : Type 1} → statement M

@@ -13,13 +13,13 @@ use Rattle.walk.proofs.steps.run_on.Tie as tie
 returns : tie.Need-returns
 returns c =
     let start = c .before .before .before .before .before .before in
-    ((omega (arith, c), start .pre .1), λ L a stops harm. no-step)
+    record { at-least = omega (arith, c); read = start .pre .read; ran = λ L a stops harm. no-step }
 
 run-requires : tie.Need-run-requires
 run-requires c κs =
     let start = c .before .before .before .before .before .before .before .before in
-    let d = start .pre .0 (not-false (start .args .state .settling .due) (c .before .before .if1 .left)) in
-    (d .0, d .1, start .pre .1, start .pre .2)
+    let d = start .pre .due (not-false (start .args .state .settling .due) (c .before .before .if1 .left)) in
+    record { first = d .first; within = d .within; read = start .pre .read; room = start .pre .room }
 
 moved-requires : tie.Need-moved-requires
 moved-requires c κs = search needs
@@ -35,14 +35,16 @@ returns-2 c =
     let back12 = c .before .before .before .before .before .before .before .before .before .before .before .before in
     let start = back12 .before .before in
     let if1 = c .before .before .before .before .before .before .before .before .if1 in
-    let run = c .before .before .before .before .before .run in (
-      run .ensures .0,
-      λ L a stops harm. run-told (start .args .state .settling) (c .before .due .result) (memory-of (start .args .state .counts))
+    let run = c .before .before .before .before .before .run in
+    record {
+      at-least = run .ensures .at-least;
+      read = run .ensures .read;
+      ran = λ L a stops harm. run-told (start .args .state .settling) (c .before .due .result) (memory-of (start .args .state .counts))
           (goto (place-of (start .args .state .settling .spot)) (run .result .order .0)) (not-false (start .args .state .settling .due) (if1 .left))
           (c .before .due .ensures (memory-of (start .args .state .counts))
           ∙ ap (λ (p : Place). due p (memory-of (start .args .state .counts))) (c .before .before .moved .ensures))
-          (run .ensures .1 L a stops harm (place-of (start .args .state .settling .spot)) refl (memory-of (start .args .state .counts))),
-    )
+          (run .ensures .ran L a stops harm (place-of (start .args .state .settling .spot)) refl (memory-of (start .args .state .counts)));
+    }
 
 pub run-on-spec : {M : Type 1} → statement M
 run-on-spec =

@@ -19,7 +19,11 @@ index-of-requires c κs = search needs
 stop-at-requires : tie.Need-stop-at-requires
 stop-at-requires c κs =
     let start = c .before .before .before .before .before in
-    (start .pre .0, start .pre .1, omega (arith, c .before .index-of .ensures, start .pre .2, start .pre .3))
+    record {
+      pgn = start .pre .pgn;
+      harmless = start .pre .harmless;
+      field = omega (arith, c .before .index-of .ensures, start .pre .first, start .pre .within);
+    }
 
 same-length : tie.Need-same-length
 same-length c = search needs
@@ -31,16 +35,18 @@ returns c =
     let stop-at-call = c .before .before .before .stop-at in
     let s = now (start .args .s) in
     let t = start .args .found .tree in
-    let i = start .args .found .pgn in (
-      step-stops (layout (pgn-at (pack-of s) t i)) (stop-at (pack-of s) (pgn-at (pack-of s) t i)) (place-of (start .args .spot)) (memory-of (start .args .counts))
-          (start .args .reading) (index-of .result .0) (index-of .ensures) (start .pre .2) (stop-at-call .result) (stop-at-call .ensures .0) (c .if1 .taken),
-      stop-at-call .ensures .1,
-    )
+    let i = start .args .found .pgn in
+    record {
+      step = step-stops (layout (pgn-at (pack-of s) t i)) (stop-at (pack-of s) (pgn-at (pack-of s) t i)) (place-of (start .args .spot))
+          (memory-of (start .args .counts)) (start .args .reading) (index-of .result .0) (index-of .ensures) (start .pre .first) (stop-at-call .result)
+          (stop-at-call .ensures .stop) (c .if1 .taken);
+      harmless = stop-at-call .ensures .harmless;
+    }
 
 onward-requires : tie.Need-onward-requires
 onward-requires c κs =
     let start = c .before .before .before .before .before .before .before .before .before in
-    (start .pre .2, omega (arith, start .pre .3, fields-few (start .pre .0 .place)))
+    record { first = start .pre .first; small = omega (arith, start .pre .within, fields-few (start .pre .pgn .place)) }
 
 same-length-2 : tie.Need-same-length-2
 same-length-2 c = search needs
@@ -52,12 +58,14 @@ returns-2 c =
     let stop-at-call = c .before .before .before .before .stop-at in
     let s = now (start .args .s) in
     let t = start .args .found .tree in
-    let i = start .args .found .pgn in (
-      step-visits (layout (pgn-at (pack-of s) t i)) (stop-at (pack-of s) (pgn-at (pack-of s) t i)) (place-of (start .args .spot)) (memory-of (start .args .counts))
-          (start .args .reading) (index-of .result .0) (index-of .ensures) (start .pre .2) (stop-at-call .result) (stop-at-call .ensures .0)
-          (c .before .if1 .left) (state-of (c .onward .result)) (c .onward .ensures (layout (pgn-at (pack-of s) t i)) (start .pre .0 .sets)),
-      stop-at-call .ensures .1,
-    )
+    let i = start .args .found .pgn in
+    record {
+      step = step-visits (layout (pgn-at (pack-of s) t i)) (stop-at (pack-of s) (pgn-at (pack-of s) t i)) (place-of (start .args .spot))
+          (memory-of (start .args .counts)) (start .args .reading) (index-of .result .0) (index-of .ensures) (start .pre .first) (stop-at-call .result)
+          (stop-at-call .ensures .stop) (c .before .if1 .left) (state-of (c .onward .result))
+          (c .onward .ensures (layout (pgn-at (pack-of s) t i)) (start .pre .pgn .sets));
+      harmless = stop-at-call .ensures .harmless;
+    }
 
 pub step-at-spec : {M : Type 1} → statement M
 step-at-spec =

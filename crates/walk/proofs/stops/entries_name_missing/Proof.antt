@@ -27,23 +27,27 @@ said : (s : List ℕ) (l reading e : ℕ) (v : EntryView) (r : Bool) → entry-m
 said s l reading e v r y h = sym (h ∙ (λ j. (y j .value == reading) && names-missing (pack-of s) (y j)))
 
 abbrev Inv-loop : tie.InvT-loop
-Inv-loop s work index l p entries reading e₀ e = (e ≤ entries) × (any-below (hits s l reading) e ≡ false)
+Inv-loop s work index l p entries reading e₀ e =
+    record {
+      turns : e ≤ entries;
+      none-yet : any-below (hits s l reading) e ≡ false;
+    }
 
 abbrev μ-loop : tie.MeasureT-loop
 μ-loop s work index l p entries reading e₀ e = entries - e
 
 loop-holds : tie.Need-loop-holds Inv-loop μ-loop
-loop-holds c = (search needs, refl)
+loop-holds c = record { turns = search needs; none-yet = refl }
 
 entry-of-requires : tie.Need-entry-of-requires Inv-loop μ-loop
 entry-of-requires c κs =
     let start = c .before .before .before .before in
-    (start .pre .0, start .pre .1, omega (arith, start .pre .2, c .loop-test .taken))
+    record { at = start .pre .at; kind = start .pre .kind; entry = omega (arith, start .pre .entries, c .loop-test .taken) }
 
 entry-names-missing-requires : tie.Need-entry-names-missing-requires Inv-loop μ-loop
 entry-names-missing-requires c κs =
     let start = c .before .before .before .before .before in
-    (start .pre .0 .ready, start .pre .3)
+    record { ready = start .pre .at .ready; index = start .pre .index }
 
 returns : tie.Need-returns Inv-loop μ-loop
 unfolding entries-name-missing
@@ -55,7 +59,7 @@ returns c =
     let s = now (start .args .s) in let l = start .args .l in let reading = start .args .reading in
     let h =
     said s l reading (loop .e) (entry-of .result) (c .before .entry-names-missing .result) (entry-of .ensures) (c .before .entry-names-missing .ensures) in
-    sym (any-hit (hits s l reading) (length (lookup-at (pack-of s .lookups) l .entries)) (loop .e) (omega (arith, start .pre .2, loop-test .taken))
+    sym (any-hit (hits s l reading) (length (lookup-at (pack-of s .lookups) l .entries)) (loop .e) (omega (arith, start .pre .entries, loop-test .taken))
     (h ∙ c .if1 .taken))
 
 add-e : tie.Need-add-e Inv-loop μ-loop
@@ -72,15 +76,15 @@ loop-again c =
     let s = now (start .args .s) in let l = start .args .l in let reading = start .args .reading in
     let h =
     said s l reading (loop .e) (entry-of .result) (c .before .entry-names-missing .result) (entry-of .ensures) (c .before .entry-names-missing .ensures) in
-    (omega (arith, c), any-turn (hits s l reading) (loop .e) ∙ (rw (loop .inv .1, h ∙ c .if1 .left)))
+    record { turns = omega (arith, c); none-yet = any-turn (hits s l reading) (loop .e) ∙ (rw (loop .inv .none-yet, h ∙ c .if1 .left)) }
 
 returns-2 : tie.Need-returns-2 Inv-loop μ-loop
 unfolding entries-name-missing
 returns-2 c =
     let start = c .before .before .before .before in
     let q : length (lookup-at (pack-of (now (start .args .s)) .lookups) (start .args .l) .entries) ≡ c .before .loop .e =
-    omega (arith, start .pre .2, c .before .loop .inv .0, c .loop-test .left) in
-    rw (q, c .before .loop .inv .1)
+    omega (arith, start .pre .entries, c .before .loop .inv .turns, c .loop-test .left) in
+    rw (q, c .before .loop .inv .none-yet)
 
 pub entries-name-missing-spec : {M : Type 1} → statement M
 entries-name-missing-spec =

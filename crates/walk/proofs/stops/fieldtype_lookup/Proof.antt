@@ -70,13 +70,13 @@ returns-2 c =
     let s = now (start .args .s) in
     nobody s (now (start .args .work)) (optional-reference s (start .args .r))
     (unknown (pack-of s) (record { kind = start .args .r .kind; name = bytes-of s (start .args .r .name) }) (start .args .r .given)
-    (not-false (start .args .r .given) (if1 .left)) (find-lookup-call .result .given) (find-lookup-call .result .index) (find-lookup-call .ensures .0)
+    (not-false (start .args .r .given) (if1 .left)) (find-lookup-call .result .given) (find-lookup-call .result .index) (find-lookup-call .ensures .found)
     (not-true (find-lookup-call .result .given) (c .if2 .taken)))
 
 lookup-of-requires : tie.Need-lookup-of-requires
 lookup-of-requires c κs =
     let find-lookup-call = c .before .before .find-lookup in
-    find-lookup-call .ensures .1 (not-false (find-lookup-call .result .given) (c .if2 .left))
+    find-lookup-call .ensures .at (not-false (find-lookup-call .result .given) (c .if2 .left))
 
 returns-3 : tie.Need-returns-3
 returns-3 c =
@@ -88,7 +88,7 @@ returns-3 c =
     let s = now (start .args .s) in
     nobody s (now (start .args .work)) (optional-reference s (start .args .r))
     (others (pack-of s) (record { kind = start .args .r .kind; name = bytes-of s (start .args .r .name) }) (start .args .r .given)
-    (not-false (start .args .r .given) (if1 .left)) (find-lookup-call .result .given) (find-lookup-call .result .index) (find-lookup-call .ensures .0)
+    (not-false (start .args .r .given) (if1 .left)) (find-lookup-call .result .given) (find-lookup-call .result .index) (find-lookup-call .ensures .found)
     (not-false (find-lookup-call .result .given) (if2 .left)) s (lookup-of .result) (lookup-of .ensures) (c .if3 .taken))
 
 returns-4 : tie.Need-returns-4
@@ -99,14 +99,14 @@ returns-4 c =
     let if2 = c .before .before .before .if2 in
     let lookup-of = c .before .before .lookup-of in
     let s = now (start .args .s) in
-    let a = find-lookup-call .ensures .1 (not-false (find-lookup-call .result .given) (if2 .left)) in
+    let a = find-lookup-call .ensures .at (not-false (find-lookup-call .result .given) (if2 .left)) in
     let k = ap (λ (M : Lookup). M .kind) (lookup-of .ensures .means) in
     record {
       place = λ e. a;
       kind = λ e. sym (c .if3 .left) ∙ k;
       entries = λ e. lookup-of .ensures .entries;
       decide = λ e. known (pack-of s) (record { kind = start .args .r .kind; name = bytes-of s (start .args .r .name) }) (start .args .r .given)
-          (not-false (start .args .r .given) (if1 .left)) (find-lookup-call .result .given) (find-lookup-call .result .index) (find-lookup-call .ensures .0)
+          (not-false (start .args .r .given) (if1 .left)) (find-lookup-call .result .given) (find-lookup-call .result .index) (find-lookup-call .ensures .found)
           (not-false (find-lookup-call .result .given) (if2 .left)) s (lookup-of .result) (lookup-of .ensures) (c .if3 .left);
       none = λ e. absurd (false≢true (sym e));
     }

@@ -31,10 +31,12 @@ returns : tie.Need-returns
 returns c =
     let start = c .before .before .before .before .before .before in
     let order = c .before .before .before .order in
-    let s = now (start .args .s) in let t = start .args .t in let i = start .args .i in let j = start .args .j in
+    let s = now (start .args .s) in let j = start .args .j in
+    let t = start .args .found .tree in
+    let i = start .args .found .pgn in
     let L = layout (pgn-at (pack-of s) t i) in
     let e : sets-hold L (suc j) (start .args .o .0) ≡ true = ap (λ (n : ℕ). sets-hold L n (start .args .o .0)) (sym (order .ensures ∙ add-one j))
-    ∙ sym (c .before .before .sets-hold .ensures L (start .pre .1))
+    ∙ sym (c .before .before .sets-hold .ensures L (start .pre .pgn .sets))
     ∙ c .before .if1 .taken in
     both (length-source (pack-of s .fieldtypes) (field-at (pgn-at (pack-of s) t i) j)) (sets-hold L (suc j) (start .args .o .0)) (c .length-source-at .result) e
     (c .length-source-at .ensures)
@@ -42,11 +44,13 @@ returns c =
 returns-2 : tie.Need-returns-2
 returns-2 c =
     let start = c .before .before .before .before .before in
-    let s = now (start .args .s) in let t = start .args .t in let i = start .args .i in let j = start .args .j in
+    let s = now (start .args .s) in let j = start .args .j in
+    let t = start .args .found .tree in
+    let i = start .args .found .pgn in
     let L = layout (pgn-at (pack-of s) t i) in
     let e : sets-hold L (suc j) (start .args .o .0) ≡ false = ap (λ (n : ℕ). sets-hold L n (start .args .o .0))
     (sym (c .before .before .order .ensures ∙ add-one j))
-    ∙ sym (c .before .sets-hold .ensures L (start .pre .1))
+    ∙ sym (c .before .sets-hold .ensures L (start .pre .pgn .sets))
     ∙ c .if1 .left in
     off (length-source (pack-of s .fieldtypes) (field-at (pgn-at (pack-of s) t i) j)) (sets-hold L (suc j) (start .args .o .0)) e
 

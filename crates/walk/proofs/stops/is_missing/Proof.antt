@@ -24,7 +24,7 @@ returns-2 c =
     let s = now (start .args .s) in
     rw (not-false (start .args .name .given) (c .before .before .if1 .left))
     (sym (missing-is (pack-of s) (bytes-of s (start .args .name .text)) (c .before .find-lookup .result .index) (c .before .find-lookup .result .given)
-    (c .before .find-lookup .ensures .0)))
+    (c .before .find-lookup .ensures .found)))
 
 pub is-missing-spec : {M : Type 1} → statement M
 is-missing-spec = tie.close (tie.spec returns find-lookup-requires returns-2)

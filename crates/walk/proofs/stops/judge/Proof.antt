@@ -24,12 +24,13 @@ returns : tie.Need-returns
 returns c =
     let start = c .before .before .before .before .before in
     let field-of = c .before .before .field-of in
-    let s = now (start .args .s) in let k = start .args .k in (
-      by-field (pack-of s) (pgn-at (pack-of s) (start .args .found .tree) (start .args .found .pgn))
+    let s = now (start .args .s) in let k = start .args .k in
+    record {
+      stop = by-field (pack-of s) (pgn-at (pack-of s) (start .args .found .tree) (start .args .found .pgn))
           (placed (layout (pgn-at (pack-of s) (start .args .found .tree) (start .args .found .pgn))) (suc k)) k (start .args .reading)
-          (field-meaning s (field-of .result)) (field-of .ensures) (c .before .field-stop .result) (c .if1 .taken) (c .before .field-stop .ensures),
-      λ h. absurd (false≢true h),
-    )
+          (field-meaning s (field-of .result)) (field-of .ensures) (c .before .field-stop .result) (c .if1 .taken) (c .before .field-stop .ensures);
+      harmless = λ h. absurd (false≢true h);
+    }
 
 fieldtype-lookup-requires : tie.Need-fieldtype-lookup-requires
 fieldtype-lookup-requires c κs = search needs
@@ -43,14 +44,15 @@ returns-2 c =
     let field-of = c .before .before .before .before .before .field-of in
     let field-stop = c .before .before .before .before .field-stop in
     let if1 = c .before .before .before .if1 in
-    let s = now (start .args .s) in let k = start .args .k in let reading = start .args .reading in (
-      by-reading (pack-of s) (pgn-at (pack-of s) (start .args .found .tree) (start .args .found .pgn))
+    let s = now (start .args .s) in let k = start .args .k in let reading = start .args .reading in
+    record {
+      stop = by-reading (pack-of s) (pgn-at (pack-of s) (start .args .found .tree) (start .args .found .pgn))
           (placed (layout (pgn-at (pack-of s) (start .args .found .tree) (start .args .found .pgn))) (suc k)) k reading (field-meaning s (field-of .result))
           (field-of .ensures) (field-stop .result) (if1 .left) (field-stop .ensures) (c .before .lookup-names-missing .result)
           (named-reading (c .before .before .fieldtype-lookup .ensures) reading (c .before .lookup-names-missing .result)
-          (c .before .lookup-names-missing .ensures)) (c .if2 .taken),
-      λ h. absurd (false≢true h),
-    )
+          (c .before .lookup-names-missing .ensures)) (c .if2 .taken);
+      harmless = λ h. absurd (false≢true h);
+    }
 
 need-stop-requires : tie.Need-need-stop-requires
 need-stop-requires c κs = search needs
@@ -67,19 +69,20 @@ returns-3 c =
     let fieldtype-lookup = c .before .before .before .before .fieldtype-lookup in
     let lookup-names-missing = c .before .before .before .lookup-names-missing in
     let s = now (start .args .s) in let k = start .args .k in let reading = start .args .reading in
-    let q = and-not-parts (c .before .need-stop .result == 0) (fieldtype-lookup .result .given) in (
-      by-need (pack-of s) (pgn-at (pack-of s) (start .args .found .tree) (start .args .found .pgn))
+    let q = and-not-parts (c .before .need-stop .result == 0) (fieldtype-lookup .result .given) in
+    record {
+      stop = by-need (pack-of s) (pgn-at (pack-of s) (start .args .found .tree) (start .args .found .pgn))
           (placed (layout (pgn-at (pack-of s) (start .args .found .tree) (start .args .found .pgn))) (suc k)) k reading (field-meaning s (field-of .result))
           (field-of .ensures) (field-stop .result) (if1 .left) (field-stop .ensures) (lookup-names-missing .result)
           (named-reading (fieldtype-lookup .ensures) reading (lookup-names-missing .result) (lookup-names-missing .ensures)) (c .before .before .if2 .left)
-          (c .before .need-stop .result) (c .before .need-stop .ensures),
-      λ h other. let a = q (sym (c .and-not .ensures) ∙ h) in
+          (c .before .need-stop .result) (c .before .need-stop .ensures);
+      harmless = λ h other. let a = q (sym (c .and-not .ensures) ∙ h) in
           sym (by-need (pack-of s) (pgn-at (pack-of s) (start .args .found .tree) (start .args .found .pgn))
           (placed (layout (pgn-at (pack-of s) (start .args .found .tree) (start .args .found .pgn))) (suc k)) k other (field-meaning s (field-of .result))
           (field-of .ensures) (field-stop .result) (if1 .left) (field-stop .ensures) false (sym (fieldtype-lookup .ensures .none (a .1) other)) refl
           (c .before .need-stop .result) (c .before .need-stop .ensures))
-          ∙ ap stop-number (eqb-true (c .before .need-stop .result) 0 (a .0)),
-    )
+          ∙ ap stop-number (eqb-true (c .before .need-stop .result) 0 (a .0));
+    }
 
 pub judge-spec : {M : Type 1} → statement M
 judge-spec =

@@ -30,7 +30,7 @@ returns-2 c =
     let start = c .before .before .before .before .before .before .before in
     let if1 = c .before .before .before .if1 in
     let target = c .before .before .target in
-    let s = now (start .args .s) in let t = start .args .t in let i = start .args .i in
+    let s = now (start .args .s) in let t = start .args .found .tree in let i = start .args .found .pgn in
     rw (not-false (start .args .id .given) (if1 .left)) (sym (lacks-unknown (pgn-at (pack-of s) t i)
     (placed (layout (pgn-at (pack-of s) t i)) (start .args .o .0)) (bytes-of s (start .args .id .text)) (target .result .value) (target .result .given)
     (target .ensures) (not-true (target .result .given) (c .if2 .taken))))
@@ -44,8 +44,9 @@ placed-requires c κs =
     let e = ap (λ (b : Bool). optional b (target .result .value)) (sym h) ∙ target .ensures in
     omega (
       arith,
-      target-below (pgn-at (pack-of s) (start .args .t) (start .args .i)) (bytes-of s (start .args .id .text)) (target .result .value) (sym e),
-      fields-few (start .pre .0),
+      target-below (pgn-at (pack-of s) (start .args .found .tree) (start .args .found .pgn)) (bytes-of s (start .args .id .text)) (target .result .value)
+          (sym e),
+      fields-few (start .pre .place),
     )
 
 returns-3 : tie.Need-returns-3
@@ -53,8 +54,8 @@ returns-3 c =
     let start = c .before .before .before .before .before .before .before .before in
     let if1 = c .before .before .before .before .if1 in
     let target = c .before .before .before .target in
-    let s = now (start .args .s) in let t = start .args .t in let i = start .args .i in
-    rw (not-false (start .args .id .given) (if1 .left)) (ap not (c .placed .ensures (layout (pgn-at (pack-of s) t i)) (start .pre .1))
+    let s = now (start .args .s) in let t = start .args .found .tree in let i = start .args .found .pgn in
+    rw (not-false (start .args .id .given) (if1 .left)) (ap not (c .placed .ensures (layout (pgn-at (pack-of s) t i)) (start .pre .sets))
     ∙ sym (lacks-known (pgn-at (pack-of s) t i) (placed (layout (pgn-at (pack-of s) t i)) (start .args .o .0)) (bytes-of s (start .args .id .text))
     (target .result .value) (target .result .given) (target .ensures) (not-false (target .result .given) (c .before .if2 .left))))
 

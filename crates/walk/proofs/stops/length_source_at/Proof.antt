@@ -16,9 +16,9 @@ root-of-requires : tie.Need-root-of-requires
 root-of-requires c κs =
     let start = c .before .before .before in
     let j = start .args .j in
-    let e : c .field-of .result .ft ≡ field-at (pgn-at (pack-of (now (start .args .s))) (start .args .t) (start .args .i)) j .ft =
+    let e : c .field-of .result .ft ≡ field-at (pgn-at (pack-of (now (start .args .s))) (start .args .found .tree) (start .args .found .pgn)) j .ft =
     ap (λ (F : Field). F .ft) (c .field-of .ensures) in
-    (start .pre .0 .ready, omega (arith, e, field-ft-law (start .pre .0) j (start .pre .1)))
+    record { ready = start .pre .pgn .place .ready; type = omega (arith, e, field-ft-law (start .pre .pgn .place) j (start .pre .field)) }
 
 length-source-requires : tie.Need-length-source-requires
 length-source-requires c κs = search needs

@@ -11,7 +11,7 @@ entries-name-missing-requires : tie.Need-entries-name-missing-requires
 entries-name-missing-requires c κs =
     let start = c .before .before .before .before in
     let h = not-false (start .args .l .given) (c .if1 .left) in
-    (start .pre .1 h, start .pre .2 h, start .pre .3 h, start .pre .0)
+    record { at = start .pre .at h; kind = start .pre .kind h; entries = start .pre .entries h; index = start .pre .index }
 
 returns-2 : tie.Need-returns-2
 returns-2 c =

@@ -18,8 +18,7 @@ held-at-requires : tie.Need-held-at-requires
 held-at-requires c κs =
     let named-pgn = c .before .before .before .before .before .before .named-pgn in
     let found = c .before .before .found in
-    let f = named-pgn .ensures .0 .found (found .given .0 .0) (found .given .1) in
-    (f .place, f .sets)
+    named-pgn .ensures .named .found (found .given .0 .0) (found .given .1)
 
 same-length : tie.Need-same-length
 same-length c = search needs
@@ -30,8 +29,8 @@ returns c =
     let named-pgn = c .before .before .before .before .before .named-pgn in
     held-promised _ _ _ _ _ _
     (held-refused (now (start .args .pack)) (length (now (start .args .work))) (start .args .tree) (start .args .pgn) _ (named-pgn .result)
-    (named-pgn .ensures .0) (c .before .refusal .given .0 .0) (c .before .refusal .given .1))
-    (named-pgn .ensures .1)
+    (named-pgn .ensures .named) (c .before .refusal .given .0 .0) (c .before .refusal .given .1))
+    (named-pgn .ensures .work)
 
 same-length-2 : tie.Need-same-length-2
 same-length-2 c = search needs
@@ -43,8 +42,8 @@ returns-2 c =
     let found = c .before .before .before .found in
     held-promised _ _ _ _ _ _
     (held-answers (now (start .args .pack)) (length (now (start .args .work))) (start .args .tree) (start .args .pgn) _ (named-pgn .result)
-    (named-pgn .ensures .0) (found .given .0 .0) (found .given .1) (c .held-at .result) (c .held-at .ensures))
-    (named-pgn .ensures .1)
+    (named-pgn .ensures .named) (found .given .0 .0) (found .given .1) (c .held-at .result) (c .held-at .ensures))
+    (named-pgn .ensures .work)
 
 pub held-spec : {M : Type 1} → statement M
 held-spec =

@@ -18,7 +18,7 @@ walk-found-requires : tie.Need-walk-found-requires
 walk-found-requires c κs =
     let named-pgn = c .before .before .before .before .before .before .before .named-pgn in
     let found = c .before .before .before .found in
-    named-pgn .ensures .0 .found (found .given .0 .0) (found .given .1)
+    named-pgn .ensures .named .found (found .given .0 .0) (found .given .1)
 
 same-length : tie.Need-same-length
 same-length c = search needs
@@ -28,8 +28,8 @@ returns c =
     let start = c .before .before .before .before .before .before .before .before .before .before .before in
     let named-pgn = c .before .before .before .before .before .named-pgn in
     let a = walk-refused (now (start .args .pack)) (length (now (start .args .work))) (start .args .tree) (start .args .pgn) _ (named-pgn .result)
-    (named-pgn .ensures .0) (c .before .refusal .given .0 .0) (c .before .refusal .given .1) (now (start .args .readings)) (now (start .args .visits)) in
-    walk-promised _ _ _ _ _ _ _ _ _ a (named-pgn .ensures .1)
+    (named-pgn .ensures .named) (c .before .refusal .given .0 .0) (c .before .refusal .given .1) (now (start .args .readings)) (now (start .args .visits)) in
+    walk-promised _ _ _ _ _ _ _ _ _ a (named-pgn .ensures .work)
 
 same-length-2 : tie.Need-same-length-2
 same-length-2 c = search needs
@@ -45,9 +45,9 @@ returns-2 c =
     let found = c .before .before .before .before .before .before .found in
     let walk-found = c .before .before .walk-found in
     let a = walk-answers (now (start .args .pack)) (length (now (start .args .work))) (start .args .tree) (start .args .pgn) _ (named-pgn .result)
-    (named-pgn .ensures .0) (found .given .0 .0) (found .given .1) (now (start .args .readings)) (now (start .args .visits)) _ _
-    (record { answer = walk-found .ensures .0; out = walk-found .ensures .1 }) in
-    walk-promised _ _ _ _ _ _ _ _ _ a (named-pgn .ensures .1)
+    (named-pgn .ensures .named) (found .given .0 .0) (found .given .1) (now (start .args .readings)) (now (start .args .visits)) _ _
+    (record { answer = walk-found .ensures .answer; out = walk-found .ensures .out }) in
+    walk-promised _ _ _ _ _ _ _ _ _ a (named-pgn .ensures .work)
 
 pub walk-spec : {M : Type 1} → statement M
 walk-spec =

@@ -21,8 +21,8 @@ returns c =
     let P = pack-of (now (start .args .s)) in
     let p = pgn-at P (start .args .found .tree) (start .args .found .pgn) in
     let a = stopped-1 P p (now (start .args .readings)) (now (start .args .visits))
-    (sym (c .before .stop-1 .ensures (layout p) (start .pre .0 .sets)) ∙ c .if1 .taken) in
-    (a .answer, a .out)
+    (sym (c .before .stop-1 .ensures (layout p) (start .pre .pgn .sets)) ∙ c .if1 .taken) in
+    record { answer = a .answer; out = a .out }
 
 slice-aggregate-walk-on : tie.Need-slice-aggregate-walk-on
 slice-aggregate-walk-on c = search needs
@@ -32,12 +32,13 @@ walk-on-requires c κs =
     let start = c .before .before .before .before .before .before .before .before in
     let stop-1 = c .before .before .before .stop-1 in
     let P = pack-of (now (start .args .s)) in
-    let p = pgn-at P (start .args .found .tree) (start .args .found .pgn) in (
-      start .pre .0,
-      harmless-clear P p (replicate 256 false) (clear-replicate 256),
-      sym (stop-1 .ensures (layout p) (start .pre .0 .sets)) ∙ c .before .before .if1 .left,
-      start .pre .1,
-    )
+    let p = pgn-at P (start .args .found .tree) (start .args .found .pgn) in
+    record {
+      pgn = start .pre .pgn;
+      harmless = harmless-clear P p (replicate 256 false) (clear-replicate 256);
+      no-stop-1 = sym (stop-1 .ensures (layout p) (start .pre .pgn .sets)) ∙ c .before .before .if1 .left;
+      room = start .pre .room;
+    }
 
 same-length : tie.Need-same-length
 same-length c = search needs

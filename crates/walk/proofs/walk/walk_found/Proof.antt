@@ -12,7 +12,7 @@ returns c =
     let readings = now (start .args .readings) in
     let a = too-short (length readings) (walk-of (now (start .args .pack)) (start .args .found .tree) (start .args .found .pgn) readings)
     (now (start .args .visits)) (c .if1 .taken) in
-    (a .answer, a .out)
+    record { answer = a .answer; out = a .out }
 
 walk-at-requires : tie.Need-walk-at-requires
 walk-at-requires c κs = search needs
@@ -27,8 +27,8 @@ returns-2 c =
     let walk-at = c .before .before .walk-at in
     let readings = now (start .args .readings) in
     let a = is-walked (length readings) (walk-of (now (start .args .pack)) (start .args .found .tree) (start .args .found .pgn) readings)
-    (now (start .args .visits)) (if1 .left) _ _ (record { answer = walk-at .ensures .0; out = walk-at .ensures .1 }) in
-    (a .answer, a .out)
+    (now (start .args .visits)) (if1 .left) _ _ (record { answer = walk-at .ensures .answer; out = walk-at .ensures .out }) in
+    record { answer = a .answer; out = a .out }
 
 pub walk-found-spec : {M : Type 1} → statement M
 walk-found-spec = tie.close (tie.spec returns walk-at-requires same-length returns-2)

@@ -18,12 +18,14 @@ use Rattle.walk.proofs.walk.walk_on.Tie as tie
 
 abbrev Inv-loop : tie.InvT-loop
 Inv-loop s work found harmless₀ readings visits₀ sets state₀ n₀ harmless visits state n =
-    (n ≤ length readings)
-    × (length visits ≡ length visits₀)
-    × Going (layout (pgn-at (pack-of s) (found .tree) (found .pgn))) (stop-at (pack-of s) (pgn-at (pack-of s) (found .tree) (found .pgn)))
-    (walk (pack-of s) (pgn-at (pack-of s) (found .tree) (found .pgn)) readings) readings visits₀ visits n (state-of state)
-    × (length harmless ≡ length harmless₀)
-    × Harmless (pack-of s) (pgn-at (pack-of s) (found .tree) (found .pgn)) harmless
+    record {
+      turns : n ≤ length readings;
+      same-visits : length visits ≡ length visits₀;
+      going : Going (layout (pgn-at (pack-of s) (found .tree) (found .pgn))) (stop-at (pack-of s) (pgn-at (pack-of s) (found .tree) (found .pgn)))
+          (walk (pack-of s) (pgn-at (pack-of s) (found .tree) (found .pgn)) readings) readings visits₀ visits n (state-of state);
+      same-marks : length harmless ≡ length harmless₀;
+      harmless : Harmless (pack-of s) (pgn-at (pack-of s) (found .tree) (found .pgn)) harmless;
+    }
 
 abbrev μ-loop : tie.MeasureT-loop
 μ-loop s work found harmless₀ readings visits₀ sets state₀ n₀ harmless visits state n = length readings - n
@@ -34,15 +36,16 @@ begin-requires c κs = search needs
 loop-holds : tie.Need-loop-holds Inv-loop μ-loop
 loop-holds c =
     let start = c .before .before .before .before .before .before .before in
-    let s = now (start .args .s) in (
-      omega (arith, c),
-      refl,
-      start-going (pack-of s) (pgn-at (pack-of s) (start .args .found .tree) (start .args .found .pgn)) (now (start .args .readings)) (now (start .args .visits))
-          (start .pre .2) (state-of (c .begin .result))
-          (c .begin .ensures (layout (pgn-at (pack-of s) (start .args .found .tree) (start .args .found .pgn))) (start .pre .0 .sets)),
-      refl,
-      start .pre .1,
-    )
+    let s = now (start .args .s) in
+    record {
+      turns = omega (arith, c);
+      same-visits = refl;
+      going = start-going (pack-of s) (pgn-at (pack-of s) (start .args .found .tree) (start .args .found .pgn)) (now (start .args .readings))
+          (now (start .args .visits)) (start .pre .no-stop-1) (state-of (c .begin .result))
+          (c .begin .ensures (layout (pgn-at (pack-of s) (start .args .found .tree) (start .args .found .pgn))) (start .pre .pgn .sets));
+      same-marks = refl;
+      harmless = start .pre .harmless;
+    }
 
 mul-step : tie.Need-mul-step Inv-loop μ-loop
 mul-step c =
@@ -55,12 +58,13 @@ shared-slice-read-step c = search needs
 step-requires : tie.Need-step-requires Inv-loop μ-loop
 step-requires c κs =
     let start = c .before .before .before .before .before .before .before .before .before .before .before in
-    let loop = c .before .before .before .loop in (
-      start .pre .0,
-      loop .inv .4,
-      going-within (layout (pgn-at (pack-of (now (start .args .s))) (start .args .found .tree) (start .args .found .pgn))) (start .pre .2) _ _ _ _ _ _
-          (state-of (loop .state)) (loop .inv .2),
-    )
+    let loop = c .before .before .before .loop in
+    record {
+      pgn = start .pre .pgn;
+      harmless = loop .inv .harmless;
+      within = going-within (layout (pgn-at (pack-of (now (start .args .s))) (start .args .found .tree) (start .args .found .pgn))) (start .pre .no-stop-1) _ _
+          _ _ _ _ (state-of (loop .state)) (loop .inv .going);
+    }
 
 enum-known-end : tie.Need-enum-known-end Inv-loop μ-loop
 enum-known-end c = search needs
@@ -78,10 +82,10 @@ returns c =
     let loop = c .before .before .before .before .before .before .before .before .before .loop in
     let loop-test = c .before .before .before .before .before .before .before .before .loop-test in
     let step = c .before .before .before .before .before .step in
-    let a = going-ended (layout (pgn-at (pack-of (now (start .args .s))) (start .args .found .tree) (start .args .found .pgn))) (start .pre .2) _ _ _ _ _ _
-    (state-of (loop .state)) (loop .inv .2) (loop-test .taken) (step-of (step .result)) (step .ensures .0) (c .before .end .given .0 .0)
-    (ap step-of (c .before .end .given .1)) (omega (arith, loop .inv .0, start .pre .3)) in
-    (a .answer, a .out)
+    let a = going-ended (layout (pgn-at (pack-of (now (start .args .s))) (start .args .found .tree) (start .args .found .pgn))) (start .pre .no-stop-1) _ _ _ _
+    _ _ (state-of (loop .state)) (loop .inv .going) (loop-test .taken) (step-of (step .result)) (step .ensures .step) (c .before .end .given .0 .0)
+    (ap step-of (c .before .end .given .1)) (omega (arith, loop .inv .turns, start .pre .room)) in
+    record { answer = a .answer; out = a .out }
 
 enum-known-field : tie.Need-enum-known-field Inv-loop μ-loop
 enum-known-field c = search needs
@@ -92,7 +96,7 @@ write-visit-requires c κs =
     let start = back12 .before .before .before .before .before .before in
     let loop = c .before .before .before .before .before .before .before .before .before .before .loop in
     let loop-test = c .before .before .before .before .before .before .before .before .before .loop-test in
-    omega (arith, loop-test .taken, loop .inv .1, start .pre .3)
+    omega (arith, loop-test .taken, loop .inv .same-visits, start .pre .room)
 
 add-run-on : tie.Need-add-run-on Inv-loop μ-loop
 add-run-on c =
@@ -111,24 +115,25 @@ run-on-requires c κs =
     let field = c .before .before .before .before .before .before .before .field in
     let write-visit = c .before .before .before .before .write-visit in
     let s = now (start .args .s) in
-    let g = going-on (layout (pgn-at (pack-of s) (start .args .found .tree) (start .args .found .pgn))) (start .pre .2) _ _ _ _ _ _ (state-of (loop .state))
-    (loop .inv .2) (loop-test .taken) (step-of (step .result)) (step .ensures .0) (field .given .0 .0 .0) (state-of (field .given .0 .1 .0))
-    (ap step-of (field .given .1)) in
-    let w = going-within (layout (pgn-at (pack-of s) (start .args .found .tree) (start .args .found .pgn))) (start .pre .2) _ _ _ _ _ _
-    (state-of (field .given .0 .1 .0)) g in (
-      λ d. let b = due-within (layout (pgn-at (pack-of s) (start .args .found .tree) (start .args .found .pgn))) (field .given .0 .1 .0 .settling)
+    let g = going-on (layout (pgn-at (pack-of s) (start .args .found .tree) (start .args .found .pgn))) (start .pre .no-stop-1) _ _ _ _ _ _
+    (state-of (loop .state)) (loop .inv .going) (loop-test .taken) (step-of (step .result)) (step .ensures .step) (field .given .0 .0 .0)
+    (state-of (field .given .0 .1 .0)) (ap step-of (field .given .1)) in
+    let w = going-within (layout (pgn-at (pack-of s) (start .args .found .tree) (start .args .found .pgn))) (start .pre .no-stop-1) _ _ _ _ _ _
+    (state-of (field .given .0 .1 .0)) g in
+    record {
+      due = λ d. let b = due-within (layout (pgn-at (pack-of s) (start .args .found .tree) (start .args .found .pgn))) (field .given .0 .1 .0 .settling)
           (memory-of (field .given .0 .1 .0 .counts)) d w in
-          (b .0, omega (arith, b .1, start .pre .0 .sets .fields)),
-      omega (arith, loop-test .taken),
-      omega (arith, write-visit .kept .0, loop .inv .1, start .pre .3),
-    )
+          record { first = b .0; within = omega (arith, b .1, start .pre .pgn .sets .fields) };
+      read = omega (arith, loop-test .taken);
+      room = omega (arith, write-visit .kept .0, loop .inv .same-visits, start .pre .room);
+    }
 
 loop-less : tie.Need-loop-less Inv-loop μ-loop
 loop-less c =
     let back12 = c .before .before .before .before .before .before .before .before .before .before .before .before in
     let loop-test = back12 .before .before .before .before .before .before .loop-test in
     let run-on = c .before .before .before .run-on in
-    omega (arith, run-on .ensures .0 .0, loop-test .taken, run-on .ensures .0 .1)
+    omega (arith, run-on .ensures .at-least, loop-test .taken, run-on .ensures .read)
 
 loop-again : tie.Need-loop-again Inv-loop μ-loop
 loop-again c =
@@ -141,20 +146,21 @@ loop-again c =
     let field = c .before .before .before .before .before .before .before .before .before .before .before .field in
     let write-visit = c .before .before .before .before .before .before .before .before .write-visit in
     let run-on = c .before .before .before .run-on in
-    let s = now (start .args .s) in let readings = now (start .args .readings) in (
-      run-on .ensures .0 .1,
-      run-on .kept .1 .1 .1 .1 .0 ∙ write-visit .kept .0 ∙ loop .inv .1,
-      going-run (layout (pgn-at (pack-of s) (start .args .found .tree) (start .args .found .pgn))) (start .pre .2)
+    let s = now (start .args .s) in let readings = now (start .args .readings) in
+    record {
+      turns = run-on .ensures .read;
+      same-visits = run-on .kept .1 .1 .1 .1 .0 ∙ write-visit .kept .0 ∙ loop .inv .same-visits;
+      going = going-run (layout (pgn-at (pack-of s) (start .args .found .tree) (start .args .found .pgn))) (start .pre .no-stop-1)
           (stop-at (pack-of s) (pgn-at (pack-of s) (start .args .found .tree) (start .args .found .pgn)))
           (walk (pack-of s) (pgn-at (pack-of s) (start .args .found .tree) (start .args .found .pgn)) readings) readings (now (start .args .visits))
-          (run-on .ensures .1 (layout (pgn-at (pack-of s) (start .args .found .tree) (start .args .found .pgn))) (start .pre .0 .sets)
-          (stop-at (pack-of s) (pgn-at (pack-of s) (start .args .found .tree) (start .args .found .pgn))) (step .ensures .1 .never))
-          (rw (write-visit .ensures) (going-on (layout (pgn-at (pack-of s) (start .args .found .tree) (start .args .found .pgn))) (start .pre .2) _ _ _ _ _ _
-          (state-of (loop .state)) (loop .inv .2) (loop-test .taken) (step-of (step .result)) (step .ensures .0) (field .given .0 .0 .0)
-          (state-of (field .given .0 .1 .0)) (ap step-of (field .given .1)))),
-      step .kept .1 .1 .1 .0 ∙ loop .inv .3,
-      step .ensures .1,
-    )
+          (run-on .ensures .ran (layout (pgn-at (pack-of s) (start .args .found .tree) (start .args .found .pgn))) (start .pre .pgn .sets)
+          (stop-at (pack-of s) (pgn-at (pack-of s) (start .args .found .tree) (start .args .found .pgn))) (step .ensures .harmless .never))
+          (rw (write-visit .ensures) (going-on (layout (pgn-at (pack-of s) (start .args .found .tree) (start .args .found .pgn))) (start .pre .no-stop-1) _ _ _
+          _ _ _ (state-of (loop .state)) (loop .inv .going) (loop-test .taken) (step-of (step .result)) (step .ensures .step) (field .given .0 .0 .0)
+          (state-of (field .given .0 .1 .0)) (ap step-of (field .given .1))));
+      same-marks = step .kept .1 .1 .1 .0 ∙ loop .inv .same-marks;
+      harmless = step .ensures .harmless;
+    }
 
 used-requires : tie.Need-used-requires Inv-loop μ-loop
 used-requires c κs = search needs
@@ -169,9 +175,10 @@ returns-2 : tie.Need-returns-2 Inv-loop μ-loop
 returns-2 c =
     let start = c .before .before .before .before .before .before .before .before .before .before in
     let loop = c .before .before .loop in
-    let a = going-used (layout (pgn-at (pack-of (now (start .args .s))) (start .args .found .tree) (start .args .found .pgn))) (start .pre .2) _ _ _ _ _ _
-    (state-of (loop .state)) (loop .inv .2) (c .before .loop-test .left) (omega (arith, loop .inv .0, start .pre .3)) (c .used .result) (c .used .ensures) in
-    (a .answer, a .out)
+    let a = going-used (layout (pgn-at (pack-of (now (start .args .s))) (start .args .found .tree) (start .args .found .pgn))) (start .pre .no-stop-1) _ _ _ _ _
+    _ (state-of (loop .state)) (loop .inv .going) (c .before .loop-test .left) (omega (arith, loop .inv .turns, start .pre .room)) (c .used .result)
+    (c .used .ensures) in
+    record { answer = a .answer; out = a .out }
 
 pub walk-on-spec : {M : Type 1} → statement M
 walk-on-spec =

@@ -54,11 +54,12 @@ returns c =
     let scaling = c .before .before .before .before .before .before .before .before .scaling in
     let authored = c .before .before .before .before .before .before .before .authored in
     let links = c .before .before .before .before .before .before .links in
-    let field-flags = c .before .before .before .before .field-flags in (
-      joined _ _ _ _ _ _ _ _ _ _ _ (names .ensures) (index .ensures) (code .ensures) (scaling .ensures .0) (authored .ensures) (links .ensures)
-          (field-flags .ensures),
-      scaling .ensures .1,
-    )
+    let field-flags = c .before .before .before .before .field-flags in
+    record {
+      is = joined _ _ _ _ _ _ _ _ _ _ _ (names .ensures) (index .ensures) (code .ensures) (scaling .ensures .is) (authored .ensures) (links .ensures)
+          (field-flags .ensures);
+      bound = scaling .ensures .bound;
+    }
 
 pub field-spec : {M : Type 1} → statement M
 field-spec =

@@ -9,7 +9,7 @@ wide-requires c κs = search needs
 
 returns : tie.Need-returns
 unfolding read-first
-returns c = simp (eq-eqb _ _ (c .before .if1 .taken), c .wide .ensures .0)
+returns c = simp (eq-eqb _ _ (c .before .if1 .taken), c .wide .ensures .is)
 
 returns-2 : tie.Need-returns-2
 unfolding read-first

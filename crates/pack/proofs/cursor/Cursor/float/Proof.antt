@@ -51,7 +51,7 @@ unfolding read-float
 returns-2 c =
     let if1 = c .before .before .before .before .if1 in
     let within = c .before .before .before .within in
-    simp (eq-eqb _ _ (if1 .left), ← within .ensures, c .before .before .if2 .taken, c .before .four-bytes .ensures .0, c .four-bytes2 .ensures .0)
+    simp (eq-eqb _ _ (if1 .left), ← within .ensures, c .before .before .if2 .taken, c .before .four-bytes .ensures .is, c .four-bytes2 .ensures .is)
 
 returns-3 : tie.Need-returns-3
 unfolding read-float

@@ -16,7 +16,7 @@ returns : tie.Need-returns
 unfolding read-opt-sum
 returns c =
     let mark = c .before .before .before .before .mark in
-    simp (c .some-number .ensures, ← mark .ensures, c .before .before .if1 .taken, c .before .sum .ensures .0)
+    simp (c .some-number .ensures, ← mark .ensures, c .before .before .if1 .taken, c .before .sum .ensures .is)
 
 no-number-requires : tie.Need-no-number-requires
 no-number-requires c κs = search needs

@@ -17,8 +17,8 @@ use Rattle.pack.proofs.cursor.Cursor.pgn.Tie as tie
 
 -- the record that the nine reads give, over variables: `cc` at the function's own context is too dear
 joined : (s : List ℕ) (c : Cursor) (n : NumberItem) (i : TextItem) (k f l : NumberItem) (m : OptNumberItem) (a b : OptRepeatingItem) (d : NumberItem)
-    → n ≡ read-number s c → i ≡ read-text s (n .next) → k ≡ read-code 3 s (i .next) → f ≡ read-code 7 s (k .next) → l ≡ read-number s (f .next) → m ≡ read-opt-bytes s (l .next)
-    → a ≡ read-opt-repeating s (m .next) → b ≡ read-opt-repeating s (a .next) → d ≡ read-number s (b .next)
+    → n ≡ read-number s c → i ≡ read-text s (n .next) → k ≡ read-code 3 s (i .next) → f ≡ read-code 7 s (k .next) → l ≡ read-number s (f .next)
+    → m ≡ read-opt-bytes s (l .next) → a ≡ read-opt-repeating s (m .next) → b ≡ read-opt-repeating s (a .next) → d ≡ read-number s (b .next)
     → _≡_ {A = PgnItem} (record {
       value = record {
         pgn = n .value;

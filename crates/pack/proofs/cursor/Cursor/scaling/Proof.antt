@@ -19,7 +19,7 @@ returns : tie.Need-returns
 unfolding read-scaling
 returns c =
     let sum = c .before .before .before .before .before .sum in
-    (cc, sum .ensures .1)
+    record { is = cc; bound = sum .ensures .bound }
 
 pub scaling-spec : {M : Type 1} → statement M
 scaling-spec =

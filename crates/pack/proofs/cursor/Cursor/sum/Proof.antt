@@ -39,7 +39,10 @@ returns : tie.Need-returns
 unfolding read-sum
 returns c =
     let start = c .before .before .before .before in
-    ((cc), (rw (c .judged .ensures) (fits (start .args .self) (c .before .before .number .result) (start .args .other) (omega (arith, start .fits .other)))))
+    record {
+      is = cc;
+      bound = (rw (c .judged .ensures) (fits (start .args .self) (c .before .before .number .result) (start .args .other) (omega (arith, start .fits .other))));
+    }
 
 pub sum-spec : {M : Type 1} → statement M
 sum-spec = tie.close (tie.spec number-requires cast-v add-judged judged-requires returns)

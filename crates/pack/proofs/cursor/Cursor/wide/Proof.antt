@@ -7,7 +7,7 @@ use Rattle.pack.proofs.cursor.Cursor.wide.Tie as tie
 
 returns : tie.Need-returns
 unfolding read-wide
-returns c = (simp (ne-eqb _ _ (c .if1 .taken)), search needs)
+returns c = record { is = simp (ne-eqb _ _ (c .if1 .taken)); bound = search needs }
 
 last-byte-requires : tie.Need-last-byte-requires
 last-byte-requires c κs = search needs
@@ -19,7 +19,10 @@ returns-2 : tie.Need-returns-2
 unfolding read-wide
 returns-2 c =
     let if1 = c .before .before .before .if1 in
-    (simp (c .refuse .ensures, eq-eqb _ _ (if1 .left), ← c .before .before .last-byte .ensures, le-ltb _ _ (c .before .if2 .taken)), omega (arith, c))
+    record {
+      is = simp (c .refuse .ensures, eq-eqb _ _ (if1 .left), ← c .before .before .last-byte .ensures, le-ltb _ _ (c .before .if2 .taken));
+      bound = omega (arith, c);
+    }
 
 is-shortest-requires : tie.Need-is-shortest-requires
 is-shortest-requires c κs = search needs
@@ -33,17 +36,18 @@ returns-3 c =
     let if1 = c .before .before .before .before .before .if1 in
     let last-byte = c .before .before .before .before .last-byte in
     let if2 = c .before .before .before .if2 in
-    let is-shortest = c .before .before .is-shortest in (
-      simp (
+    let is-shortest = c .before .before .is-shortest in
+    record {
+      is = simp (
         c .refuse2 .ensures,
         eq-eqb _ _ (if1 .left),
         ← last-byte .ensures,
         lt-ltb _ _ (if2 .left),
         ← is-shortest .ensures,
         not-true (is-shortest .result) (c .before .if3 .taken),
-      ),
-      omega (arith, c),
-    )
+      );
+      bound = omega (arith, c);
+    }
 
 add-decode : tie.Need-add-decode
 add-decode c = search needs
@@ -67,19 +71,20 @@ returns-4 c =
     let last-byte = c .before .before .before .before .before .before .last-byte in
     let if2 = c .before .before .before .before .before .if2 in
     let is-shortest = c .before .before .before .before .is-shortest in
-    let if3 = c .before .before .before .if3 in (
-      simp (
+    let if3 = c .before .before .before .if3 in
+    record {
+      is = simp (
         c .refuse3 .ensures,
         eq-eqb _ _ (if1 .left),
         ← last-byte .ensures,
         lt-ltb _ _ (if2 .left),
         ← is-shortest .ensures,
         not-false (is-shortest .result) (if3 .left),
-        ← c .before .before .decode .ensures .0,
+        ← c .before .before .decode .ensures .is,
         c .before .if4 .taken,
-      ),
-      omega (arith, c),
-    )
+      );
+      bound = omega (arith, c);
+    }
 
 add-t14 : tie.Need-add-t14
 add-t14 c = search needs
@@ -90,18 +95,19 @@ returns-5 c =
     let if1 = c .before .before .before .before .before .before .if1 in
     let last-byte = c .before .before .before .before .before .last-byte in
     let if2 = c .before .before .before .before .if2 in
-    let is-shortest = c .before .before .before .is-shortest in (
-      simp (
+    let is-shortest = c .before .before .before .is-shortest in
+    record {
+      is = simp (
         eq-eqb _ _ (if1 .left),
         ← last-byte .ensures,
         lt-ltb _ _ (if2 .left),
         ← is-shortest .ensures,
         not-false (is-shortest .result) (c .before .before .if3 .left),
-        ← c .before .decode .ensures .0,
+        ← c .before .decode .ensures .is,
         c .if4 .left,
-      ),
-      c .before .decode .ensures .1,
-    )
+      );
+      bound = c .before .decode .ensures .bound;
+    }
 
 pub wide-spec : {M : Type 1} → statement M
 wide-spec =
