@@ -311,7 +311,8 @@ module _ (L : Layout) (G : Good L) (w : ℕ) (h : Visits) where
   due-again k p x m q e = let hk : Holds L k w = (m .from k e, omega (arith, m .ahead)) in record {
     holding = λ j a. tri j k
         (λ l. let b = was p (start L k) k (some x) j a (λ r. omega arith) in
-        let i = G .inside j k w l (m .from j b, omega (arith, m .ahead, m .upto j b)) hk in omega arith)
+        let i = G .inside j k w l (m .from j b, omega (arith, m .ahead, m .upto j b)) hk in
+        omega arith)
         (λ r. rw r (omega arith))
         (λ l. let b = was p (start L k) k (some x) j a (λ r. omega arith) in
         let i = G .inside k j w l hk (m .from j b, omega (arith, m .ahead, m .upto j b)) in absurd (omega (arith, m .done j b l)));

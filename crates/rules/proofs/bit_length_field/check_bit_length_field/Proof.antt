@@ -60,7 +60,8 @@ loop-less c = search needs
 loop-again : tie.Need-loop-again Inv-loop μ-loop
 loop-again c =
     let loop = c .before .before .before .before .before .before .loop in
-    let bit-length-field-at-call = c .before .before .bit-length-field-at in reporting-turn (loop .inv) (omega (arith, c)) (bit-length-field-at-call .ensures)
+    let bit-length-field-at-call = c .before .before .bit-length-field-at in
+    reporting-turn (loop .inv) (omega (arith, c)) (bit-length-field-at-call .ensures)
 
 same-length : tie.Need-same-length Inv-loop μ-loop
 same-length c = c .before .loop .inv .emitted .length

@@ -60,7 +60,8 @@ loop-less c = search needs
 loop-again : tie.Need-loop-again Inv-loop μ-loop
 loop-again c =
     let loop = c .before .before .before .before .before .before .loop in
-    let continues-at-call = c .before .before .continues-at in reporting-turn (loop .inv) (omega (arith, c)) (continues-at-call .ensures)
+    let continues-at-call = c .before .before .continues-at in
+    reporting-turn (loop .inv) (omega (arith, c)) (continues-at-call .ensures)
 
 same-length : tie.Need-same-length Inv-loop μ-loop
 same-length c = c .before .loop .inv .emitted .length

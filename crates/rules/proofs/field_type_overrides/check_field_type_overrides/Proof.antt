@@ -66,7 +66,8 @@ loop-less c = search needs
 loop-again : tie.Need-loop-again Inv-loop μ-loop
 loop-again c =
     let loop = c .before .before .before .before .before .before .before .loop in
-    let overrides-at-call = c .before .before .overrides-at in reporting-turn (loop .inv) (omega (arith, c)) (overrides-at-call .ensures)
+    let overrides-at-call = c .before .before .overrides-at in
+    reporting-turn (loop .inv) (omega (arith, c)) (overrides-at-call .ensures)
 
 same-length : tie.Need-same-length Inv-loop μ-loop
 same-length c = search needs

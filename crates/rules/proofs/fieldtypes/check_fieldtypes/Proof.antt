@@ -48,7 +48,8 @@ loop-less c = search needs
 loop-again : tie.Need-loop-again Inv-loop μ-loop
 loop-again c =
     let loop = c .before .before .before .before .before .loop in
-    let fieldtype-at-call = c .before .before .fieldtype-at in reporting-turn (loop .inv) (omega (arith, c)) (fieldtype-at-call .ensures)
+    let fieldtype-at-call = c .before .before .fieldtype-at in
+    reporting-turn (loop .inv) (omega (arith, c)) (fieldtype-at-call .ensures)
 
 same-length : tie.Need-same-length Inv-loop μ-loop
 same-length c = search needs

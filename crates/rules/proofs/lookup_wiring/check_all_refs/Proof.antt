@@ -64,7 +64,8 @@ loop-less c = search needs
 loop-again : tie.Need-loop-again Inv-loop μ-loop
 loop-again c =
     let loop = c .before .before .before .before .before .before .before .loop in
-    let check-tree-refs = c .before .before .check-tree-refs in reporting-turn (loop .inv) (omega (arith, c)) (check-tree-refs .ensures)
+    let check-tree-refs = c .before .before .check-tree-refs in
+    reporting-turn (loop .inv) (omega (arith, c)) (check-tree-refs .ensures)
 
 same-length : tie.Need-same-length Inv-loop μ-loop
 same-length c = c .before .loop .inv .emitted .length

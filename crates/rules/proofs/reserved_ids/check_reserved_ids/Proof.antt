@@ -54,7 +54,8 @@ loop-less c = search needs
 loop-again : tie.Need-loop-again Inv-loop μ-loop
 loop-again c =
     let loop = c .before .before .before .before .before .before .before .loop in
-    let reserved-id-at-call = c .before .before .reserved-id-at in reporting-turn (loop .inv) (omega (arith, c)) (reserved-id-at-call .ensures)
+    let reserved-id-at-call = c .before .before .reserved-id-at in
+    reporting-turn (loop .inv) (omega (arith, c)) (reserved-id-at-call .ensures)
 
 same-length : tie.Need-same-length Inv-loop μ-loop
 same-length c = search needs

@@ -54,7 +54,8 @@ loop-less c = search needs
 loop-again : tie.Need-loop-again Inv-loop μ-loop
 loop-again c =
     let loop = c .before .before .before .before .before .before .before .loop in
-    let special-values-at-call = c .before .before .special-values-at in reporting-turn (loop .inv) (omega (arith, c)) (special-values-at-call .ensures)
+    let special-values-at-call = c .before .before .special-values-at in
+    reporting-turn (loop .inv) (omega (arith, c)) (special-values-at-call .ensures)
 
 same-length : tie.Need-same-length Inv-loop μ-loop
 same-length c = search needs

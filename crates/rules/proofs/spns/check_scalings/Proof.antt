@@ -61,7 +61,8 @@ loop-again : tie.Need-loop-again Inv-loop μ-loop
 loop-again c =
     let loop = c .before .before .before .before .before .before .before .loop in
     let if1 = c .before .before .before .before .before .if1 in
-    let spn-at-call = c .before .before .spn-at in reporting-turn (loop .inv) (omega (arith, if1 .taken)) (spn-at-call .ensures)
+    let spn-at-call = c .before .before .spn-at in
+    reporting-turn (loop .inv) (omega (arith, if1 .taken)) (spn-at-call .ensures)
 
 same-length : tie.Need-same-length Inv-loop μ-loop
 same-length c = search needs

@@ -60,7 +60,8 @@ loop-less c = search needs
 loop-again : tie.Need-loop-again Inv-loop μ-loop
 loop-again c =
     let loop = c .before .before .before .before .before .before .loop in
-    let trailing-zero-at-call = c .before .before .trailing-zero-at in reporting-turn (loop .inv) (omega (arith, c)) (trailing-zero-at-call .ensures)
+    let trailing-zero-at-call = c .before .before .trailing-zero-at in
+    reporting-turn (loop .inv) (omega (arith, c)) (trailing-zero-at-call .ensures)
 
 same-length : tie.Need-same-length Inv-loop μ-loop
 same-length c = c .before .loop .inv .emitted .length
