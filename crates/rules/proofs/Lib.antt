@@ -1,4 +1,5 @@
 pub mod Candidates
+pub mod DigitLaws
 pub mod Emits
 pub mod Extremes
 pub mod Groups

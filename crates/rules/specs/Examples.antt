@@ -3,7 +3,7 @@ use Prim.Native.Nat.{ℕ, zero, suc}
 use native.Mathlib.Omega.{arith}
 use borrow.Author.Tests.{le-leb}
 use mathlib.Core.Bool.{Bool, true, false, _&&_}
-use mathlib.Core.List.{List, [], _∷_, _++_}
+use mathlib.Core.List.{List, [], _∷_, _++_, map}
 use mathlib.Core.Option.{Option, none, some}
 use mathlib.Core.Path.{_≡_, refl}
 use Rattle.pack.specs.Notation.{_==_, _≐_, if_then_else_, tab}
@@ -302,6 +302,14 @@ places : (place-text reported 0 0 0 ≡ some (bytes "fieldtypes.yaml"))
     × (place-text (in-nmea2000 (on-off 0 ∷ []) []) 2 0 0 ≡ some (bytes "lookups/ON_OFF.yaml"))
 unfolding computed
 places = (refl, refl, refl, refl, refl, refl, refl)
+
+-- "The digits of a PGN number": 0, and where there are six, and more
+place-numbers : map (λ (n : ℕ). place-text (in-nmea2000 [] (a-pgn n (bytes "a") none [] ∷ [])) 1 0 0)
+    (0 ∷ 99999 ∷ 100000 ∷ 999999 ∷ 1000000 ∷ 4294967295 ∷ [])
+    ≡ map (λ (b : Bytes). some (bytes "pgns/" ++ b ++ bytes "-a.yaml"))
+    (bytes "000000" ∷ bytes "099999" ∷ bytes "100000" ∷ bytes "999999" ∷ bytes "1000000" ∷ bytes "4294967295" ∷ [])
+unfolding computed
+place-numbers = refl
 
 -- 23 before 24, the length needed, and nothing written behind the text
 place-ends : (named (place-text reported 1 0 1) 0 ≡ Refused Absent)

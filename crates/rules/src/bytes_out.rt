@@ -1,11 +1,12 @@
-// Bytes put into a buffer one after the other. A byte is stored only where the buffer has its place, so the same code over an empty part
-// of the buffer counts.
+// Bytes put into a buffer. A byte is stored only where the buffer has its place, so the same code over an empty part of the buffer counts.
 ghost use mathlib.Core.Path.{_≡_};
-ghost use Prim.Native.Nat.{_+_, _-_, _≤_};
-ghost use lib.ListN.{length, set};
+ghost use mathlib.Core.List.{_++_};
+ghost use Prim.Native.Nat.{_+_, _-_, _≤_, max};
+ghost use lib.ListN.{length, set, replicate};
 ghost use Rattle.pack.specs.Placing.{Stored};
-ghost use Rattle.rules.specs.Digits.{six-digits};
-use crate::digits::digits_of;
+ghost use Rattle.rules.specs.Digits.{digits, six-digits};
+use crate::digits::digit_count;
+use crate::digits::lowest;
 
 // The byte at its place, where the buffer has that.
 fn put_byte(out: &mut [u8], at: usize, b: u8)
@@ -31,15 +32,30 @@ pub fn put_bytes(out: &mut [u8], at: usize, bytes: &[u8]) -> usize
     end
 }
 
-// How many zeros stand before digits that begin at `start` of ten, so that there are six at least.
-fn zeros(start: usize) -> usize
-    requires { ⌜ start ≤ 10 ⌝ }
-    ensures { λ r. ⌜ r ≡ 6 - (10 - start) ⌝ }
+// The greater of the two.
+fn at_least(count: usize, least: usize) -> usize
+    ensures { λ r. ⌜ r ≡ max count least ⌝ }
 {
-    if start <= 4 {
-        return 0;
+    if count < least {
+        return least;
     }
-    start - 4
+    count
+}
+
+// The digits of n in `places` places from `at` on, the lowest in the last, with zeros before them; answers where they end.
+fn put_digits(out: &mut [u8], at: usize, places: usize, n: u32) -> usize
+    requires { ⌜ record { enough : length (digits n) ≤ places; end : at + places ≤ 18446744073709551615 } ⌝ }
+    ensures { λ r. ⌜ Stored (now (out .entry)) at (replicate (places - length (digits n)) 48 ++ digits n) (now (out .exit)) r ⌝ }
+{
+    let mut v = n;
+    let mut i = 0;
+    while i < places {
+        let before = places - 1 - i;
+        put_byte(out, at + before, lowest(v));
+        v = v / 10;
+        i += 1;
+    }
+    at + places
 }
 
 // The Rust's `{:06}`.
@@ -47,11 +63,6 @@ pub fn put_six_digits(out: &mut [u8], at: usize, n: u32) -> usize
     requires { ⌜ at + 16 ≤ 18446744073709551615 ⌝ }
     ensures { λ r. ⌜ Stored (now (out .entry)) at (six-digits n) (now (out .exit)) r ⌝ }
 {
-    let digits = digits_of(n);
-    let start = digits.start;
-    let front = zeros(start);
-    let zero = *b"000000";
-    let filled = put_bytes(out, at, &zero[..front]);
-    let bytes = digits.bytes;
-    put_bytes(out, filled, &bytes[start..])
+    let places = at_least(digit_count(n), 6);
+    put_digits(out, at, places, n)
 }

@@ -5,17 +5,24 @@ ghost use Prim.Native.Nat.{_+_, _%_, _≤_};
 ghost use lib.ListN.{length, drop};
 ghost use Rattle.rules.specs.Digits.{digits};
 
-// At most ten digits, at the end of the array, from `start` on.
-pub struct Digits {
-    pub bytes: [u8; 10],
-    pub start: usize,
-}
-
 // The lowest digit.
-fn lowest(n: u32) -> u8
+pub fn lowest(n: u32) -> u8
     ensures { λ r. ⌜ r ≡ 48 + n % 10 ⌝ }
 {
     48 + (n % 10) as u8
+}
+
+// How many digits n has.
+pub fn digit_count(n: u32) -> usize
+    ensures { λ r. ⌜ r ≡ length (digits n) ⌝ }
+{
+    let mut count = 1;
+    let mut v = n;
+    while 10 <= v {
+        count += 1;
+        v = v / 10;
+    }
+    count
 }
 
 // The digits of n put so that they end before `end`; answers where they begin.
@@ -36,16 +43,4 @@ pub fn digits_before(b: &mut [u8], end: usize, n: u32) -> usize
     at -= 1;
     b[at] = lowest(v);
     at
-}
-
-// The digits of n.
-pub fn digits_of(n: u32) -> Digits
-    ensures { λ r. ⌜ record {
-      written : drop (r .start) (r .bytes) ≡ digits n;
-      start : r .start + length (digits n) ≡ 10;
-    } ⌝ }
-{
-    let mut bytes = [0u8; 10];
-    let start = digits_before(&mut bytes, 10, n);
-    Digits { bytes, start }
 }

@@ -1,7 +1,7 @@
+use Rattle.rules.proofs.DigitLaws.{lower, two-digits}
 use Rattle.rules.specs.Digits.{digits-within, digits}
 use borrow.Author.Tests.{le-ltb, lt-ltb}
 use Prim.Native.Nat.{zero, suc, _/_, _%_, _^_, ℕ, _+_, _-_, _≤_, _<_}
-use native.Mathlib.Nat.{div-lt-iff-lt-mul, pow-suc}
 use lib.Seq.{drop-cons, getD-set-same, drop-set-lt, append-snoc}
 use lib.ListN.{set, drop, length-set, length-drop, length-append, length}
 use borrow.Author.Needs.{needs}
@@ -24,14 +24,6 @@ more room v at x b h l e = rw (le-ltb v 10 h, drop-set b at x l, e) (append-snoc
 
 last : (room v at x : ℕ) (b : List ℕ) → v < 10 → at < length b → x ≡ 48 + v % 10 → digits-within (suc room) v ++ drop (suc at) b ≡ drop at (set b at x)
 last room v at x b h l e = rw (lt-ltb v 10 h, drop-set b at x l, e)
-
-lower : (k v : ℕ) → v < 10 ^ suc k → v / 10 < 10 ^ k
-lower k v h = div-lt-iff-lt-mul {k = 10} (omega arith) .1 (rw (← pow-suc 10 k) h)
-
-two-digits : (k v : ℕ) → 10 ≤ v → v < 10 ^ k → 2 ≤ k
-two-digits zero v h l = absurd (omega arith)
-two-digits (suc zero) v h l = absurd (omega arith)
-two-digits (suc (suc k)) v h l = omega arith
 
 -- at a turn of the loop: the digits of v are still to be put before `at`, in what room is left of ten
 record Written (n end v at : ℕ) (b₀ b : List ℕ) : Type 0 where
