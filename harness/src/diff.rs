@@ -3,11 +3,13 @@
 mod case;
 mod check;
 mod lent;
+mod place;
 mod rust;
 mod walk;
 
 use self::check::check;
 use self::lent::Lent;
+use self::place::place;
 use self::rust::rust;
 use self::walk::walk;
 use crate::calls;
@@ -25,12 +27,13 @@ pub type Failure = String;
 
 type Run = Result<(), Failure>;
 
-/// A run from a seed over so many packs, for the walk over so many triples of pack, PGN and readings.
+/// A run from a seed over so many packs, for place over so many numbers, for the walk over so many triples of pack, PGN and
+/// readings.
 pub type RunOver = fn(u64, usize) -> Run;
 
 /// The runs by name.
-pub const RUNS: [(&str, RunOver); 5] =
-    [("oracle", oracle), ("load", load), ("check", check), ("rust", rust), ("walk", walk)];
+pub const RUNS: [(&str, RunOver); 6] =
+    [("oracle", oracle), ("load", load), ("check", check), ("place", place), ("rust", rust), ("walk", walk)];
 
 /// The oracle against `rules`, through the words.
 pub fn oracle(seed: u64, count: usize) -> Run {
