@@ -27,7 +27,7 @@ one-digit room v h = rw (lt-ltb v 10 h)
 pub more-digits : (room v : ℕ) → 10 ≤ v → digits-within (suc room) v ≡ digits-within room (v / 10) ++ (48 + v % 10) ∷ []
 more-digits room v h = rw (le-ltb v 10 h)
 
-pub digits-short : (room n : ℕ) → length (digits-within room n) ≤ room
+digits-short : (room n : ℕ) → length (digits-within room n) ≤ room
 digits-short zero n = omega arith
 digits-short (suc room) n = omega
     (arith, length-append (if n <ᵇ 10 then [] else digits-within room (n / 10)) ((48 + n % 10) ∷ []), go (n <ᵇ 10) (digits-short room (n / 10)))

@@ -6,8 +6,8 @@ use mathlib.Core.Path.{_≡_, refl}
 use borrow.Author.Tests.{ne-eqb}
 use lib.ListN.{length, take, replicate, length-append, length-replicate}
 use Rattle.pack.specs.Trees.{protocol-of, prefix-of}
-use Rattle.rules.proofs.DigitLaws.{digits-short}
-use Rattle.rules.specs.Digits.{digits-within, digits, six-digits}
+use Rattle.rules.proofs.DigitLaws.{ten-digits}
+use Rattle.rules.specs.Digits.{digits, six-digits}
 use Rattle.rules.specs.PlaceText.{check-prefix}
 use Rattle.rules.specs.Texts.{bytes}
 
@@ -27,10 +27,10 @@ prefix-short (suc zero) = omega arith
 prefix-short (suc (suc t)) = omega arith
 
 six-short : (n : ℕ) → length (six-digits n) ≤ 16
-unfolding six-digits digits
+unfolding six-digits
 six-short n =
-    let k = 6 - length (digits-within 10 n) in
-    omega (arith, length-append (replicate k 48) (digits-within 10 n), length-replicate {A = ℕ} k 48, digits-short 10 n)
+    let k = 6 - length (digits n) in
+    omega (arith, length-append (replicate k 48) (digits n), length-replicate {A = ℕ} k 48, ten-digits n)
 
 pub number-short : (t n : ℕ) → length (check-prefix t ++ bytes "pgns/" ++ six-digits n) ≤ 27
 number-short t n =

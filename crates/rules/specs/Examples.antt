@@ -303,8 +303,8 @@ places : (place-text reported 0 0 0 ≡ some (bytes "fieldtypes.yaml"))
 unfolding computed
 places = (refl, refl, refl, refl, refl, refl, refl)
 
--- "The digits of a PGN number": 0, and where there are six, and more
-place-numbers : map (λ (n : ℕ). place-text (in-nmea2000 [] (a-pgn n (bytes "a") none [] ∷ [])) 1 0 0)
+-- at the edges of six digits
+place-numbers : map (λ (n : ℕ). place-text (single n) 1 0 0)
     (0 ∷ 99999 ∷ 100000 ∷ 999999 ∷ 1000000 ∷ 4294967295 ∷ [])
     ≡ map (λ (b : Bytes). some (bytes "pgns/" ++ b ++ bytes "-a.yaml"))
     (bytes "000000" ∷ bytes "099999" ∷ bytes "100000" ∷ bytes "999999" ∷ bytes "1000000" ∷ bytes "4294967295" ∷ [])
