@@ -27,8 +27,8 @@ pub type Failure = String;
 
 type Run = Result<(), Failure>;
 
-/// A run from a seed over so many packs, for place over so many numbers, for the walk over so many triples of pack, PGN and
-/// readings.
+/// A run from a seed over so many packs, for place over so many numbers, for the walk over so many triples of pack, PGN
+/// and readings.
 pub type RunOver = fn(u64, usize) -> Run;
 
 /// The runs by name.

@@ -1,5 +1,6 @@
-//! Place texts by the PGN's number: the edges of each count of digits with text buffers of every length, and random numbers of each count
-//! of digits, in each tree, of a PGN and of a group. The text is the Rust's `{:06}` between what stands before and behind the number.
+//! Place texts by the PGN's number: the edges of each count of digits with text buffers of every length, and random
+//! numbers of each count of digits, in each tree, of a PGN and of a group. The text is the Rust's `{:06}` between what
+//! stands before and behind the number.
 
 use super::{Lent, Run, finish};
 use crate::encode::encode;
@@ -47,9 +48,10 @@ fn edges() -> impl Iterator<Item = u32> {
 
 /// Each count of digits as often.
 fn some_number(rng: &mut Rng) -> u32 {
-    let low = 10u64.pow(rng.below(10) as u32);
-    let numbers = (9 * low).min(u64::from(u32::MAX) + 1 - low);
-    (low + rng.below(numbers as usize) as u64 - u64::from(low == 1)) as u32
+    let digits = rng.between(1, 10) as u32;
+    let low = if digits == 1 { 0 } else { 10usize.pow(digits - 1) };
+    let high = (10usize.pow(digits) - 1).min(u32::MAX as usize);
+    rng.between(low, high) as u32
 }
 
 /// A PGN alone in its tree, or its group, with its place text.
