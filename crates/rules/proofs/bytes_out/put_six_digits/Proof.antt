@@ -26,9 +26,12 @@ at-least-requires c κs = search needs
 put-digits-requires : tie.Need-put-digits-requires
 put-digits-requires c κs =
     let start = c .before .before .before .before in
-    let count = c .before .before .digit-count .ensures in
-    let at-least = c .before .at-least .ensures in
-    record { enough = omega (arith, at-least, count); end = omega (arith, at-least, count, ten-digits (start .args .n), start .pre) }
+    let digit-count = c .before .before .digit-count in
+    let at-least = c .before .at-least in
+    record {
+      enough = omega (arith, at-least .ensures, digit-count .ensures);
+      end = omega (arith, at-least .ensures, digit-count .ensures, ten-digits (start .args .n), start .pre);
+    }
 
 same-length : tie.Need-same-length
 same-length c = search needs
@@ -36,9 +39,9 @@ same-length c = search needs
 returns : tie.Need-returns
 returns c =
     let start = c .before .before .before .before .before .before .before in
-    let count = c .before .before .before .before .before .digit-count .ensures in
+    let digit-count = c .before .before .before .before .before .digit-count in
     let at-least = c .before .before .before .before .at-least in
-    let places : at-least .result ≡ max (length (digits (start .args .n))) 6 = omega (arith, at-least .ensures, count) in
+    let places : at-least .result ≡ max (length (digits (start .args .n))) 6 = omega (arith, at-least .ensures, digit-count .ensures) in
     six (now (start .args .out)) (start .args .at) (start .args .n) (at-least .result) _ _ places (c .before .before .put-digits .ensures)
 
 pub put-six-digits-spec : {M : Type 1} → statement M
