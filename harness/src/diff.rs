@@ -2,12 +2,14 @@
 
 mod case;
 mod check;
+mod growing;
 mod lent;
 mod place;
 mod rust;
 mod walk;
 
 use self::check::check;
+use self::growing::Growing;
 use self::lent::Lent;
 use self::place::place;
 use self::rust::rust;

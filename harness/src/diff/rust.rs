@@ -1,6 +1,6 @@
 //! The library against the Rust: its findings in the Rust's words, with its place texts, beside the oracle's violations.
 
-use super::{Failure, Run, difference, finish, keep};
+use super::{Failure, Growing, Run, difference, finish, keep};
 use crate::encode::{Encoded, encode};
 use crate::finding::Finding;
 use crate::generate::{Generator, packs_of_sizes};
@@ -27,9 +27,7 @@ pub fn rust(seed: u64, count: usize) -> Run {
     let mut run = RustRun {
         rules: RuleTable::new(),
         kinds: Table::new("packs", ["no finding", "no error", "errors"].map(String::from)),
-        work: Vec::new(),
-        findings: vec![0; 8 * 64],
-        text: vec![0; 64],
+        library: Growing::new(),
     };
     for (case, pack) in packs_of_sizes(seed).enumerate() {
         let encoded = encode(&pack);
@@ -49,28 +47,21 @@ pub fn rust(seed: u64, count: usize) -> Run {
     finish(&[&run.rules.table, &run.kinds])
 }
 
-/// The buffers grow as the library says that it needs more.
 struct RustRun {
     rules: RuleTable,
     kinds: Table,
-    work: Vec<u32>,
-    findings: Vec<u32>,
-    text: Vec<u8>,
+    library: Growing,
 }
 
 impl RustRun {
     fn one_pack(&mut self, case: usize, pack: &Pack, encoded: &Encoded) -> Run {
         let say = |failure: Failure| format!("case {case}: {failure}\n{}", keep(&encoded.bytes));
-        let [count, errors] = self.check(&encoded.bytes).map_err(say)?;
-        let findings: Vec<Finding> = self.findings.as_chunks().0[..count as usize]
-            .iter()
-            .map(|numbers| Finding::from_numbers(*numbers))
-            .collect();
+        let (findings, errors) = self.library.check(&encoded.bytes).map_err(say)?;
         let mut ours = Vec::with_capacity(findings.len());
         let step = if encoded.bytes.len() > SHORT { 1 + findings.len() / 64 } else { 1 };
         for (i, finding) in findings.iter().enumerate() {
             let text = if i % step == 0 {
-                self.place_text(&encoded.bytes, finding).map_err(say)?
+                self.library.place_text(&encoded.bytes, finding).map_err(say)?
             } else {
                 crate::words::place_text(pack, finding.place, finding.tree, finding.item).unwrap_or_default()
             };
@@ -86,54 +77,13 @@ impl RustRun {
         for finding in &findings {
             self.rules.hit(finding.rule, finding.cause);
         }
-        self.kinds.hit(match (count, errors) {
+        self.kinds.hit(match (findings.len(), errors) {
             (0, _) => 0,
             (_, 0) => 1,
             _ => 2,
         });
         Ok(())
     }
-
-    /// Once more with larger buffers where they are too short.
-    fn check(&mut self, bytes: &[u8]) -> Result<[u64; 2], Failure> {
-        for _ in 0..3 {
-            // nothing of an earlier call may stand in for what this one does not write
-            self.findings.fill(u32::MAX);
-            match library::check(bytes, &mut self.work, &mut self.findings) {
-                Some((0, answer)) if 8 * answer[0] <= self.findings.len() as u64 => return Ok(answer),
-                Some((21, [needed, 0])) => lengthen(&mut self.work, needed)?,
-                Some((22, [needed, 0])) => lengthen(&mut self.findings, needed)?,
-                other => return Err(format!("the library's check answers {other:?}")),
-            }
-        }
-        Err("the buffers are as long as the library said, and it refuses them".into())
-    }
-
-    fn place_text(&mut self, bytes: &[u8], finding: &Finding) -> Result<Vec<u8>, Failure> {
-        for _ in 0..2 {
-            let Finding { place, tree, item, .. } = *finding;
-            self.text.fill(u8::MAX);
-            match library::place_text(bytes, &mut self.work, place, tree, item, &mut self.text) {
-                Some((0, [length])) if length <= self.text.len() as u64 => {
-                    return Ok(self.text[..length as usize].to_vec());
-                }
-                Some((24, [needed])) => lengthen(&mut self.text, needed)?,
-                other => return Err(format!("the library's place text for {finding:?} answers {other:?}")),
-            }
-        }
-        Err("the text buffer is as long as the library said, and it refuses it".into())
-    }
-}
-
-/// To the length that a refusal says is needed.
-fn lengthen<T: Default + Clone>(buffer: &mut Vec<T>, needed: u64) -> Run {
-    // a pack has at most a record for each byte, and far fewer findings than 8 for each
-    let said = needed as usize;
-    if said <= buffer.len() || said > 64 * LIMIT {
-        return Err(format!("a buffer of {} is refused, and {needed} is said to be needed", buffer.len()));
-    }
-    buffer.resize(said, T::default());
-    Ok(())
 }
 
 /// The words of a finding that may be wrong: its numbers may say nothing of the pack.
