@@ -6,6 +6,7 @@ mod growing;
 mod lent;
 mod place;
 mod rust;
+mod spns;
 mod walk;
 
 use self::check::check;
@@ -13,6 +14,7 @@ use self::growing::Growing;
 use self::lent::Lent;
 use self::place::place;
 use self::rust::rust;
+use self::spns::spns;
 use self::walk::walk;
 use crate::calls;
 use crate::damage::damage;
@@ -34,8 +36,15 @@ type Run = Result<(), Failure>;
 pub type RunOver = fn(u64, usize) -> Run;
 
 /// The runs by name.
-pub const RUNS: [(&str, RunOver); 6] =
-    [("oracle", oracle), ("load", load), ("check", check), ("place", place), ("rust", rust), ("walk", walk)];
+pub const RUNS: [(&str, RunOver); 7] = [
+    ("oracle", oracle),
+    ("load", load),
+    ("check", check),
+    ("place", place),
+    ("spns", spns),
+    ("rust", rust),
+    ("walk", walk),
+];
 
 /// The oracle against `rules`, through the words.
 pub fn oracle(seed: u64, count: usize) -> Run {

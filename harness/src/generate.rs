@@ -5,6 +5,7 @@ mod change;
 mod fields;
 mod pools;
 mod sample;
+mod spns;
 mod walks;
 
 use self::pools::*;

@@ -8,6 +8,7 @@ pub mod reader;
 
 pub mod finding;
 pub mod rules;
+pub mod spns;
 pub mod words;
 
 pub mod quick_walk;

@@ -5,7 +5,7 @@ use std::io::{Read, Write};
 use std::process::ExitCode;
 
 const USAGE: &str = "usage:
-  harness diff [--seed N] [--count N] [--what oracle|load|check|place|rust|walk|all]
+  harness diff [--seed N] [--count N] [--what oracle|load|check|place|spns|rust|walk|all]
                         compare over random packs; what is never reached is a failure
   harness record DIR    write a fixed list of packs with their answers
   harness bench [--what load|check|walk|all]
