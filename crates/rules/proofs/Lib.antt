@@ -9,6 +9,7 @@ pub mod PlaceCalls
 pub mod PlaceTexts
 pub mod Ranks
 pub mod Reports
+pub mod RuleNumbers
 pub mod Sections
 pub mod Sizes
 pub mod SpnClashLaws

@@ -13,7 +13,7 @@ use Rattle.rules.specs.declared.Finding.{Finding}
 use Rattle.rules.specs.declared.place_text.Placed.the-variants.{Refused, Written}
 use Rattle.rules.specs.Check.{check}
 use Rattle.rules.specs.Computed.{computed}
-use Rattle.rules.specs.Findings.{pgn-error, group-error}
+use Rattle.rules.specs.Findings.{pgn-error, group-error, only}
 use Rattle.rules.specs.Floats.{ONE}
 use Rattle.rules.specs.PlaceCall.{named, text-left}
 use Rattle.rules.specs.PlaceText.{place-text}
@@ -114,10 +114,6 @@ unfolding computed
 report-place = refl
 
 -- ---- the edges that document 01 stars, as one table: the causes that a rule has. A row can go by a value, and holds at each.
-
-abbrev only : (rule : ℕ) → List Finding → List Finding
-only rule [] = []
-only rule (f ∷ fs) = if f .rule == rule then f ∷ only rule fs else only rule fs
 
 abbrev causes : List Finding → List ℕ
 causes [] = []

@@ -44,3 +44,8 @@ errors (f ∷ fs) = if f .severity == 1 then errors fs + 1 else errors fs
 abbrev pub without-error : List Finding → Bool
 without-error [] = true
 without-error (f ∷ fs) = not (f .severity == 1) && without-error fs
+
+-- those of a rule
+abbrev pub only : (rule : ℕ) → List Finding → List Finding
+only rule [] = []
+only rule (f ∷ fs) = if f .rule == rule then f ∷ only rule fs else only rule fs
