@@ -1,0 +1,27 @@
+use Rattle.scalings.proofs.ReportRead.{answer-fits, answer-says}
+use borrow.Author.Needs.{needs}
+use Rattle.scalings.proofs.check_scalings.Statement.{statement}
+use Rattle.scalings.proofs.check_scalings.Tie as tie
+
+check-requires : tie.Need-check-requires
+check-requires c κs = search needs
+
+silent-requires : tie.Need-silent-requires
+silent-requires c κs =
+    let check = c .before .before .before .before .before .check in
+    rw (check .kept .1 .1 .0) (answer-fits _ _ _ _ _ (check .result) (check .ensures))
+
+same-length : tie.Need-same-length
+same-length c = search needs
+
+same-length-2 : tie.Need-same-length-2
+same-length-2 c = search needs
+
+returns : tie.Need-returns
+returns c =
+    let check = c .before .before .before .before .before .before .check in
+    (rw (c .silent .ensures) (answer-says _ _ _ _ _ (check .result) (check .ensures)), check .ensures)
+
+pub check-scalings-spec : {M : Type 1} → statement M
+check-scalings-spec =
+    tie.close (tie.spec check-requires silent-requires same-length same-length-2 returns)
