@@ -4,10 +4,10 @@
 
 use crate::value::{Field, Pack};
 
-/// The largest SPN that R42 does not skip.
+/// The largest SPN that R42 compares.
 const LARGEST: u32 = 524_287;
 
-/// A J1939 field with an SPN that R42 does not skip.
+/// A J1939 field that R42 does not skip, with an SPN of at most that.
 #[derive(Clone, Copy)]
 pub struct Carrier<'a> {
     /// the index of the PGN, and of the field in it

@@ -146,7 +146,7 @@ impl<'a> Shown<'a> {
         !self.silent() && self.unlike().all(so)
     }
 
-    /// Whether two fields with the least SPN that R42 skips are.
+    /// Whether two fields with the least SPN beyond 19 bits are.
     fn beyond_are_unlike(&self) -> bool {
         let fields = self.pack.trees[1].iter().flat_map(|pgn| &pgn.fields);
         let beyond: Vec<&Field> = fields.filter(|field| field.spn == Some(524_288)).collect();
