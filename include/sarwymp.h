@@ -100,7 +100,10 @@ uint32_t sarwymp_load(const uint8_t *pack, size_t pack_len, uint32_t *work, size
 /* The number of findings and of errors among them; `findings` begins with the findings. Refused by 1 to 9, 21 and 22.
  *
  * A pack is without error where the call answers SARWYMP_DONE and answer[1] is 0. Both: a call that is refused has found
- * nothing out, and leaves 0 where the number of errors stands. */
+ * nothing out, and leaves 0 where the number of errors stands.
+ *
+ * Where it answers SARWYMP_DONE and none of the answer[0] findings has rule 42 and cause 3, every two J1939 fields that carry
+ * one SPN of at most 524,287 have equal width, resolution, offset and unit; where one has, some two have not. */
 uint32_t sarwymp_check(const uint8_t *pack, size_t pack_len, uint32_t *work, size_t work_len, uint32_t *findings,
                        size_t findings_len, uint64_t answer[2]);
 

@@ -61,6 +61,7 @@ module _ (Q : Finding → Type 0) where
 
 ruleset Parts = (each-none, each-more, each-one, each-if, each-pick, each-append, each-below)
 
+-- each bears the rule's number; for every rule it is shown of its list below
 abbrev pub OfRule : (rule : ℕ) → List Finding → Type 0
 OfRule rule = Each (λ f. f .rule ≡ rule)
 
@@ -434,9 +435,9 @@ module _ (r : ℕ) where
   unfolding check
   only-check P = search (Kept, fieldtypes-own, only-wiring, lookup-names-own, only-tree, spns-own, only-continues) depth 12
 
--- for R42: its own list
+pub nothing-below : (n : ℕ) → concat-below {A = Finding} (λ k. []) n ≡ []
+nothing-below n = concat-none (λ k. []) n (λ k h. refl)
+
+-- At a number the other rules' lists compute to nothing. For R42:
 pub only-spns : (P : Pack) → only 42 (check P) ≡ check-spns P
-only-spns P =
-    let n : ℕ → ℕ = λ t. length (pgns-of P t) in
-    let none-of : (m : ℕ) → concat-below {A = Finding} (λ k. []) m ≡ [] = λ m. concat-none (λ k. []) m (λ k h. refl) in
-    only-check 42 P .is ∙ (rw (none-of (length (P .lookups)), none-of (n 0), none-of (n 1), none-of (n 2)) (append-nil (check-spns P)))
+only-spns P = only-check 42 P .is ∙ simp (nothing-below, append-nil)

@@ -6,7 +6,7 @@ use mathlib.Core.Bool.{Bool, true, false, _&&_}
 use mathlib.Core.List.{List, [], _∷_, _++_, map}
 use mathlib.Core.Option.{Option, none, some}
 use mathlib.Core.Path.{_≡_, refl}
-use Rattle.pack.specs.Notation.{_==_, _≐_, if_then_else_, tab}
+use Rattle.pack.specs.Notation.{_≐_, tab}
 use Rattle.pack.specs.Value.{Bytes, FieldType, Entry, Lookup, Repeating, Reference, Field, Pgn, Pack}
 use Rattle.pack.specs.declared.load.Refusal.the-variants.{Absent, Place}
 use Rattle.rules.specs.declared.Finding.{Finding}

@@ -1,9 +1,9 @@
 -- Equality of floats is symmetric and transitive. It is not reflexive: a NaN equals nothing.
-use Prim.Native.Nat.{ℕ, _+_, _*_, _≤_, _<_}
+use Prim.Native.Nat.{ℕ, _*_, _≤_, _<_}
 use native.Mathlib.Nat.{zero-mul, le-of-eq, mul-comm, mul-assoc, le-of-mul-le-mul-right}
 use native.Mathlib.Omega.{arith}
 use mathlib.Core.Path.{_≡_, refl, sym, ap, _∙_}
-use mathlib.Core.Bool.{Bool, true, false, _&&_, _||_, Bool·beq, false≢true}
+use mathlib.Core.Bool.{Bool, true, false, _||_, Bool·beq, false≢true}
 use lib.Dec.{eqb}
 use borrow.Author.Tests.{eqb-true, eq-eqb}
 use lib.Ieee.{Float, nan, inf, fin, eq, level, up, down}

@@ -6,11 +6,10 @@ use mathlib.Core.List.{List, [], _∷_, _++_}
 use mathlib.Core.Path.{_≡_, refl, sym, ap, _∙_}
 use lib.ListN.{length, getD, drop}
 use borrow.Author.Tests.{leb-true, eq-eqb, not-true, not-false}
-use Rattle.pack.specs.Notation.{_≤ᵇ_, _==_, if_then_else_}
-use Rattle.pack.specs.Load.{Answer, refuses, after, refusal-number, loaded, load-tells, over}
+use Rattle.pack.specs.Notation.{_≤ᵇ_, _==_}
+use Rattle.pack.specs.Load.{Answer, refuses, after, refusal-number, loaded, load-tells}
 use Rattle.pack.specs.Meaning.{pack-of}
 use Rattle.pack.specs.Value.{Pack}
-use Rattle.pack.specs.declared.load.Index.{Index}
 use Rattle.pack.specs.declared.load.Refusal.{Refusal}
 use Rattle.pack.specs.declared.load.Loaded.{Loaded}
 use Rattle.pack.specs.declared.load.Loaded.the-variants as load
@@ -22,8 +21,8 @@ use Rattle.rules.specs.Check.{check}
 use Rattle.rules.specs.Checked.{all-numbers, judged, checked, findings-after, findings-tell, check-tells, Checks}
 use Rattle.rules.specs.Findings.{errors}
 use Rattle.rules.specs.Search.{any-below}
-use Rattle.scalings.specs.Scalings.{has-cause, AllAlike, Unlike}
-use Rattle.scalings.specs.Report.{finding-is, reports, Concludes, Fits, silent, Says}
+use Rattle.scalings.specs.Scalings.{has-cause}
+use Rattle.scalings.specs.Report.{finding-is, reports, Concludes, Room, silent, Says}
 use Rattle.scalings.proofs.Silent42.{silent-42, by-rule, met-unlike}
 
 any-first : (p : ℕ → Bool) (n : ℕ) → any-below p (suc n) ≡ (p 0 || any-below (λ i. p (suc i)) n)
@@ -110,9 +109,9 @@ by-answer s w o w′ o′ n e c =
     (ap (reports 42 3 n) (c .findings) ∙ report-read 42 3 s (length w) o n e (sym (c .answer)))
 
 -- of the call's answer
-pub answer-fits : (s w o w′ o′ : List ℕ) (r : Checked) → Checks s w o w′ o′ r → Fits r (length o)
-answer-fits s w o w′ o′ (Refused r) c = tt
-answer-fits s w o w′ o′ (Reported n e) c = report-whole s (length w) (length o) n e (sym (c .answer)) .room
+pub answer-room : (s w o w′ o′ : List ℕ) (r : Checked) → Checks s w o w′ o′ r → Room r (length o)
+answer-room s w o w′ o′ (Refused r) c = tt
+answer-room s w o w′ o′ (Reported n e) c = report-whole s (length w) (length o) n e (sym (c .answer)) .room
 
 pub answer-says : (s w o w′ o′ : List ℕ) (r : Checked) → Checks s w o w′ o′ r → Says (pack-of s) r (silent r o′)
 answer-says s w o w′ o′ (Refused r) c = refl

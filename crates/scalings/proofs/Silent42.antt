@@ -18,7 +18,7 @@ use Rattle.rules.specs.SpnNames.{is-number, spn-field}
 use Rattle.rules.specs.Spns.{MAX-SPN, same-scaling, first-seen, unlike-field, unlike-first, spn-at, spns-elsewhere, check-scalings, check-spns}
 use Rattle.rules.proofs.RuleNumbers.{only-spns}
 use Rattle.rules.proofs.Extremes.{and-left, and-right, first-given}
-use Rattle.scalings.specs.Scalings.{Carries, Different, Alike, AllAlike, Unlike, has-cause, Silent42}
+use Rattle.scalings.specs.Scalings.{Carries, Alike, AllAlike, Unlike, has-cause, Silent42}
 use Rattle.scalings.proofs.AlikeLaws.{both, alike-tested, tested-alike, alike-sym, alike-trans}
 use Rattle.scalings.proofs.Causes.{cause-append, cause-only, none-below, below-none, met-below}
 

@@ -29,9 +29,9 @@ pub record Concludes (P : Pack) (n : ℕ) (o : List ℕ) : Type 0 where
 -- ---- the call
 
 -- the report's findings are in a buffer of m numbers
-abbrev pub Fits : Checked → (m : ℕ) → Type 0
-Fits (Refused r) m = Unit {0}
-Fits (Reported findings errors) m = 8 * findings ≤ m
+abbrev pub Room : Checked → (m : ℕ) → Type 0
+Room (Refused r) m = Unit {0}
+Room (Reported findings errors) m = 8 * findings ≤ m
 
 -- check's answer is a report, and R42 has no cause 3 in it
 abbrev pub silent : Checked → List ℕ → Bool

@@ -4,7 +4,7 @@ ghost use Prim.Native.Nat.{_+_, _*_, _≤_};
 ghost use lib.ListN.{length};
 ghost use Rattle.pack.specs.Meaning.{pack-of};
 ghost use Rattle.rules.specs.Checked.{Checks};
-ghost use Rattle.scalings.specs.Report.{finding-is, reports, Fits, silent, Says};
+ghost use Rattle.scalings.specs.Report.{finding-is, reports, Room, silent, Says};
 use rules::check::Checked;
 use rules::check::check;
 
@@ -42,7 +42,7 @@ fn reports(findings: &[u32], n: usize, rule: u32, cause: u32) -> bool
 
 // A report, no refusal, and R42 has no cause 3 in it.
 fn silent(checked: Checked, findings: &[u32]) -> bool
-    requires { ⌜ Fits checked (length (now findings)) ⌝ }
+    requires { ⌜ Room checked (length (now findings)) ⌝ }
     ensures { λ r. ⌜ r ≡ silent checked (now (findings .entry)) ⌝ }
 {
     match checked {

@@ -1,4 +1,4 @@
-use Rattle.scalings.proofs.ReportRead.{answer-fits, answer-says}
+use Rattle.scalings.proofs.ReportRead.{answer-room, answer-says}
 use borrow.Author.Needs.{needs}
 use Rattle.scalings.proofs.check_scalings.Statement.{statement}
 use Rattle.scalings.proofs.check_scalings.Tie as tie
@@ -9,7 +9,7 @@ check-requires c κs = search needs
 silent-requires : tie.Need-silent-requires
 silent-requires c κs =
     let check = c .before .before .before .before .before .check in
-    rw (check .kept .1 .1 .0) (answer-fits _ _ _ _ _ (check .result) (check .ensures))
+    rw (check .kept .1 .1 .0) (answer-room _ _ _ _ _ (check .result) (check .ensures))
 
 same-length : tie.Need-same-length
 same-length c = search needs

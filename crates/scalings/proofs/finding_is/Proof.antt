@@ -1,5 +1,4 @@
 use borrow.Author.Tests.{eq-eqb, ne-eqb}
-use native.Mathlib.Omega.{arith}
 use borrow.Author.Needs.{needs}
 use Rattle.scalings.proofs.finding_is.Statement.{statement}
 use Rattle.scalings.proofs.finding_is.Tie as tie

@@ -1,5 +1,5 @@
 use mathlib.Core.Bool.{not}
-use mathlib.Core.Path.{ap}
+use mathlib.Core.Path.{refl, ap}
 use borrow.Author.Needs.{needs}
 use Rattle.scalings.proofs.silent.Statement.{statement}
 use Rattle.scalings.proofs.silent.Tie as tie
@@ -16,7 +16,7 @@ reports-requires c κs =
     rw (c .before .checked .given .1) at (start .pre)
 
 returns : tie.Need-returns
-returns c = search needs
+returns c = rw (c .enum-told .given .1) refl
 
 returns-2 : tie.Need-returns-2
 returns-2 c = rw (c .before .before .checked .given .1) (ap not (c .reports .ensures))
