@@ -102,8 +102,9 @@ uint32_t sarwymp_load(const uint8_t *pack, size_t pack_len, uint32_t *work, size
  * A pack is without error where the call answers SARWYMP_DONE and answer[1] is 0. Both: a call that is refused has found
  * nothing out, and leaves 0 where the number of errors stands.
  *
- * Where it answers SARWYMP_DONE and none of the answer[0] findings has rule 42 and cause 3, every two J1939 fields that carry
- * one SPN of at most 524,287 have equal width, resolution, offset and unit; where one has, some two have not. */
+ * Where it answers SARWYMP_DONE and none of the answer[0] findings has rule 42 and cause 3, every two different J1939 fields
+ * that carry one SPN of at most 524,287 have equal width, resolution, offset and unit (floats as floats: a NaN equals nothing,
+ * 0 equals -0); where one has, some two have not. */
 uint32_t sarwymp_check(const uint8_t *pack, size_t pack_len, uint32_t *work, size_t work_len, uint32_t *findings,
                        size_t findings_len, uint64_t answer[2]);
 

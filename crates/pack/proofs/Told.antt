@@ -29,7 +29,7 @@ pub promised : (s w w′ : List ℕ) (r : Loaded) → r ≡ loaded s (length w) 
 promised s w w′ r e f = record { answer = e; told = ap load-answer e ∙ load-told s (length w); work = f }
 
 -- a refusal's number is not 0
-numbered : (s : List ℕ) (m : ℕ) (r : Refusal) → loaded s m ≡ Refused r → (refusal-number r == 0) ≡ false
+pub numbered : (s : List ℕ) (m : ℕ) (r : Refusal) → loaded s m ≡ Refused r → (refusal-number r == 0) ≡ false
 unfolding loaded verdict load-index
 numbered s m r e = go (most-bytes <ᵇ length s) refl (pack-end s .refused == 0) refl (length (offsets s) ≤ᵇ m) refl
   where

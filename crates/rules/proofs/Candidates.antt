@@ -95,7 +95,7 @@ least-is key p (suc n) i h = go (p n) refl (least-below key p n) refl h (least-i
 
 -- ---- the field that names an SPN
 
-number-is : (o : Option ℕ) (i : ℕ) → is-number o i ≡ true → o ≡ some i
+pub number-is : (o : Option ℕ) (i : ℕ) → is-number o i ≡ true → o ≡ some i
 number-is none i h = absurd (false≢true h)
 number-is (some n) i h = ap some (eqb-true n i h)
 

@@ -1,13 +1,13 @@
 -- What it is to be alike: R42 tests just that; it is symmetric and transitive. It is not reflexive: a field with a NaN is not like itself.
 use mathlib.Core.Bool.{Bool, true, false, _&&_, false≢true}
-use mathlib.Core.List.{[], _∷_}
 use mathlib.Core.Option.{Option, none, some}
 use mathlib.Core.Path.{_≡_, refl, sym, ap, _∙_}
 use lib.Ieee.{ofBits, binary64}
 use borrow.Author.Tests.{eqb-true, eq-eqb}
-use Rattle.pack.specs.Notation.{_==_, _≐_}
+use Rattle.pack.specs.Notation.{_==_}
 use Rattle.pack.specs.Value.{Bytes, Field}
 use Rattle.rules.specs.Floats.{float-eq}
+use Rattle.rules.specs.PlaceLaws.{same-eq, same-refl}
 use Rattle.rules.specs.Spns.{same-unit, same-scaling}
 use Rattle.rules.proofs.Extremes.{and-left, and-right}
 use Rattle.scalings.specs.Scalings.{Alike}
@@ -16,28 +16,15 @@ use Rattle.scalings.proofs.FloatLaws.{eq-sym, eq-trans}
 pub both : {a b : Bool} → a ≡ true → b ≡ true → (a && b) ≡ true
 both e h = rw (e, h)
 
-same-bytes : (u v : Bytes) → (u ≐ v) ≡ true → u ≡ v
-same-bytes [] [] e = refl
-same-bytes [] (b ∷ bs) e = absurd (false≢true e)
-same-bytes (a ∷ as′) [] e = absurd (false≢true e)
-same-bytes (a ∷ as′) (b ∷ bs) e =
-    let x = eqb-true a b (and-left (a == b) (as′ ≐ bs) e) in
-    let y = same-bytes as′ bs (and-right (a == b) (as′ ≐ bs) e) in
-    λ j. x j ∷ y j
-
-bytes-same : (u : Bytes) → (u ≐ u) ≡ true
-bytes-same [] = refl
-bytes-same (a ∷ as′) = both (eq-eqb a a refl) (bytes-same as′)
-
 unit-same : (u v : Option Bytes) → same-unit u v ≡ true → u ≡ v
 unit-same none none e = refl
 unit-same none (some v) e = absurd (false≢true e)
 unit-same (some u) none e = absurd (false≢true e)
-unit-same (some u) (some v) e = ap some (same-bytes u v e)
+unit-same (some u) (some v) e = ap some (same-eq u v e)
 
 same-unit-self : (u : Option Bytes) → same-unit u u ≡ true
 same-unit-self none = refl
-same-unit-self (some u) = bytes-same u
+same-unit-self (some u) = same-refl u
 
 module _ (f g : Field) where
   pub alike-tested : same-scaling f g ≡ true → Alike f g

@@ -1,4 +1,5 @@
--- The ticket's own two sentences for every pack, its edges as computed packs, and for each wrong reading of it a pack of which it is false.
+-- "A lone NaN field stays silent; two with one SPN do not" of every pack; the edges as computed packs, each with the theorem at it; and for
+-- three wrong readings a pack of which the theorem would be false.
 use Prim.Native.Nat.{ℕ}
 use native.Mathlib.Omega.{arith}
 use mathlib.Core.Bool.{Bool, true, false, _&&_, Bool·beq, false≢true}
@@ -14,23 +15,34 @@ use Rattle.rules.specs.Floats.{float-eq, ONE}
 use Rattle.rules.specs.Texts.{bytes, NUMBER}
 use Rattle.rules.proofs.Extremes.{and-left, and-right}
 use Rattle.scalings.specs.Scalings.{Carries, Different, Alike, AllAlike, has-cause}
-use Rattle.scalings.proofs.Silent42.{silent-42}
+use Rattle.scalings.proofs.AlikeLaws.{alike-sym, alike-trans}
+use Rattle.scalings.proofs.Silent42.{Lone, silent-42}
 
 -- ---- "A lone NaN field stays silent; two with one SPN do not."
 
--- whatever its scaling, a field that shares its SPN with no other is no cause
-pub alone : (P : Pack) → ((spn i k j h : ℕ) → Carries P spn i k → Carries P spn j h → (i ≡ j) × (k ≡ h)) → has-cause 42 3 (check P) ≡ false
-alone P one = silent-42 P .of-check .1 (λ spn i k j h c d different. let e = one spn i k j h c d in absurd (different (e .0) (e .1)))
+-- nothing is found in a pack in which no SPN has two fields, whatever their scalings; at a field by itself: `lone-silent` (proofs/Silent42)
+pub alone : (P : Pack) → ((spn i k : ℕ) → Carries P spn i k → Lone P spn i k) → has-cause 42 3 (check P) ≡ false
+alone P lone = silent-42 P .of-check .1 (λ spn i k j h c d different. let e = lone spn i k c j h d in absurd (different (e .0) (e .1)))
 
--- of two with one SPN one has a NaN
-pub nan-of-two : (P : Pack) (spn i k j h : ℕ) → Carries P spn i k → Carries P spn j h → Different i k j h
-    → ofBits binary64 (field-at (pgn-at P 1 i) k .res-resolution) ≡ nan → has-cause 42 3 (check P) ≡ true
+-- a field with a NaN, as resolution or as offset, is not like itself
+pub nan-resolution : (f : Field) → ofBits binary64 (f .res-resolution) ≡ nan → Alike f f → ⊥
 unfolding float-eq eq
-nan-of-two P spn i k j h c d different e = go (has-cause 42 3 (check P)) refl
+nan-resolution f e a = false≢true (rw e at (a .resolution))
+
+pub nan-offset : (f : Field) → ofBits binary64 (f .res-offset) ≡ nan → Alike f f → ⊥
+unfolding float-eq eq
+nan-offset f e a = false≢true (rw e at (a .offset))
+
+-- and so like no other: of two with one SPN, one is such a field
+pub nan-of-two : (P : Pack) (spn i k j h : ℕ) → Carries P spn i k → Carries P spn j h → Different i k j h
+    → (Alike (field-at (pgn-at P 1 i) k) (field-at (pgn-at P 1 i) k) → ⊥) → has-cause 42 3 (check P) ≡ true
+nan-of-two P spn i k j h c d different odd = go (has-cause 42 3 (check P)) refl
   where
     go : (b : Bool) → has-cause 42 3 (check P) ≡ b → has-cause 42 3 (check P) ≡ true
     go true u = u
-    go false u = absurd (false≢true (rw e at (silent-42 P .of-check .0 u spn i k j h c d different .resolution)))
+    go false u =
+        let a = silent-42 P .of-check .0 u spn i k j h c d different in
+        absurd (odd (alike-trans _ (field-at (pgn-at P 1 j) h) _ a (alike-sym _ _ a)))
 
 -- ---- packs of J1939 fields
 
@@ -82,13 +94,13 @@ pgn fields =
 abbrev number-type : FieldType
 number-type = record { name = NUMBER; base = false; print-function = true; signed = false; size = 0; resolution = 0; root-name = NUMBER }
 
--- PGNs of the J1939 tree, beside one of another tree
-abbrev beside : List Field → List (List Field) → Pack
-beside elsewhere fields =
-    record { fieldtypes = number-type ∷ []; lookups = []; pgns = pgn elsewhere ∷ []; pgns-j1939 = map pgn fields; pgns-quick = [] }
+-- PGNs of the J1939 tree, beside those of the others
+abbrev beside : (nmea2000 quick : List Pgn) → List (List Field) → Pack
+beside nmea2000 quick fields =
+    record { fieldtypes = number-type ∷ []; lookups = []; pgns = nmea2000; pgns-j1939 = map pgn fields; pgns-quick = quick }
 
 abbrev j1939 : List (List Field) → Pack
-j1939 fields = beside [] fields
+j1939 fields = beside [] [] fields
 
 -- two fields of one PGN, and of two
 abbrev of-one : (f g : Field) → Pack
@@ -99,6 +111,9 @@ of-two f g = j1939 ((f ∷ []) ∷ (g ∷ []) ∷ [])
 
 abbrev NAN : ℕ
 NAN = 0x7ff8_0000_0000_0000
+
+abbrev MINUS-NAN : ℕ
+MINUS-NAN = 0xfff8_0000_0000_0000
 
 abbrev MINUS-ZERO : ℕ
 MINUS-ZERO = 0x8000_0000_0000_0000
@@ -144,7 +159,10 @@ edges =
     ∷ found-edge two-nan
     ∷ found-edge (of-two (hours 32 NAN 0 none) (hours 32 NAN 0 none))
     ∷ found-edge (of-two (hours 32 ONE NAN none) (hours 32 ONE NAN none))
+    ∷ found-edge (of-two (hours 32 NAN 0 none) (hours 32 MINUS-NAN 0 none))
+    ∷ found-edge (of-two (hours 32 NAN 0 none) (hours 32 ONE 0 none))
     ∷ silent-edge two-zeros
+    ∷ found-edge (of-two (wide 0 8) (wide 0 16))
     ∷ found-edge last-spn
     ∷ silent-edge beyond
     -- two fields of one PGN
@@ -161,9 +179,11 @@ edges =
     -- two SPNs; a field without one; a field of another tree
     ∷ silent-edge (of-two (wide 247 16) (wide 248 32))
     ∷ silent-edge (of-two (wide 247 16) (field none 32 ONE 0 none))
-    ∷ silent-edge (beside (wide 247 32 ∷ []) ((wide 247 16 ∷ []) ∷ []))
-    -- the second and the third are alike, the first is not like them
+    ∷ silent-edge (beside (pgn (wide 247 32 ∷ []) ∷ []) [] ((wide 247 16 ∷ []) ∷ []))
+    ∷ silent-edge (beside [] (pgn (wide 247 32 ∷ []) ∷ []) ((wide 247 16 ∷ []) ∷ []))
+    -- of three the first is unlike the others, or the third
     ∷ found-edge (j1939 ((wide 247 16 ∷ []) ∷ (wide 247 32 ∷ wide 247 32 ∷ []) ∷ []))
+    ∷ found-edge (j1939 ((wide 247 16 ∷ []) ∷ (wide 247 16 ∷ wide 247 32 ∷ []) ∷ []))
     ∷ []
 
 abbrev as-said : List Edge → Bool
@@ -215,7 +235,8 @@ nan-differs : Alike (at lone-nan 0 0) (at lone-nan 0 0) → ⊥
 unfolding computed
 nan-differs a = false≢true (a .resolution)
 
--- with floats compared as patterns, of `two-nan`, which is not silent, and of `two-zeros`, which is
+-- with floats compared as patterns, of `two-nan`, which is not silent, and of `two-zeros`, which is. The two fields of `two-nan` are one in
+-- all but their place, so that with "different" by content it would be false of `two-nan` too.
 same-patterns : at two-nan 0 0 ≡ at two-nan 0 1
 same-patterns = refl
 

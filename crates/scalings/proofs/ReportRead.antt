@@ -1,19 +1,19 @@
 -- The findings read back from their buffer: a report has a cause exactly if `check` finds it.
 use Prim.Native.Nat.{ℕ, zero, suc, _+_, _*_, _≤_}
 use native.Mathlib.Omega.{arith}
-use mathlib.Core.Bool.{Bool, true, false, _&&_, _||_, not, false≢true}
+use mathlib.Core.Bool.{Bool, true, false, _&&_, _||_, false≢true}
 use mathlib.Core.List.{List, [], _∷_, _++_}
 use mathlib.Core.Path.{_≡_, refl, sym, ap, _∙_}
 use lib.ListN.{length, getD, drop}
 use borrow.Author.Tests.{leb-true, eq-eqb, not-true, not-false}
 use Rattle.pack.specs.Notation.{_≤ᵇ_, _==_}
-use Rattle.pack.specs.Load.{Answer, refuses, after, refusal-number, loaded, load-tells}
+use Rattle.pack.specs.Load.{Answer, refusal-number, loaded}
 use Rattle.pack.specs.Meaning.{pack-of}
 use Rattle.pack.specs.Value.{Pack}
 use Rattle.pack.specs.declared.load.Refusal.{Refusal}
 use Rattle.pack.specs.declared.load.Loaded.{Loaded}
 use Rattle.pack.specs.declared.load.Loaded.the-variants as load
-use Rattle.pack.proofs.Told.{after-refused, after-accepted}
+use Rattle.pack.proofs.Told.{numbered, after-refused, after-accepted}
 use Rattle.rules.specs.declared.Finding.{Finding}
 use Rattle.rules.specs.declared.check.Checked.{Checked}
 use Rattle.rules.specs.declared.check.Checked.the-variants.{Refused, Reported}
@@ -124,19 +124,9 @@ answer-says s w o w′ o′ (Reported n e) c =
 -- where the pack is not loaded the number is not 0
 not-done : (s : List ℕ) (m n : ℕ) (r : Refusal) → loaded s m ≡ load.Refused r → check-tells s m n .number ≡ 0 → ⊥
 unfolding check-tells
-not-done s m n r x h = go (load-tells s m .number == 0) refl
-  where
-    numbered : (rest : Answer) → refusal-number r ≡ after (load-tells s m) rest .number
-    numbered rest = ap (λ (a : Answer). a .number) (after-refused s m r x rest)
-
-    zero-is : refusal-number r ≡ 0
-    zero-is = numbered (findings-tell (check (pack-of s)) n) ∙ h
-
-    go : (b : Bool) → (load-tells s m .number == 0) ≡ b → ⊥
-    go true y = let z : refusal-number r ≡ 1 = numbered (refuses 1 0) ∙ rw y in omega (arith, zero-is, z)
-    go false y =
-        let z : load-tells s m .number ≡ 0 = rw y at h in
-        false≢true (sym y ∙ eq-eqb (load-tells s m .number) 0 z)
+not-done s m n r x h =
+    let z : refusal-number r ≡ 0 = ap (λ (a : Answer). a .number) (after-refused s m r x (findings-tell (check (pack-of s)) n)) ∙ h in
+    false≢true (sym (numbered s m r x) ∙ eq-eqb (refusal-number r) 0 z)
 
 -- where it is 0, check's answer is a report, and the first value counts its findings
 done : (s : List ℕ) (m n : ℕ) → check-tells s m n .number ≡ 0

@@ -16,6 +16,7 @@ use Rattle.rules.specs.Model.{given}
 use Rattle.rules.specs.SearchLaws.{first-is, first-misses}
 use Rattle.rules.specs.SpnNames.{is-number, spn-field}
 use Rattle.rules.specs.Spns.{MAX-SPN, same-scaling, first-seen, unlike-field, unlike-first, spn-at, spns-elsewhere, check-scalings, check-spns}
+use Rattle.rules.proofs.Candidates.{number-is}
 use Rattle.rules.proofs.RuleNumbers.{only-spns}
 use Rattle.rules.proofs.Extremes.{and-left, and-right, first-given}
 use Rattle.scalings.specs.Scalings.{Carries, Alike, AllAlike, Unlike, has-cause, Silent42}
@@ -51,10 +52,6 @@ module _ (P : Pack) where
       let nmea2000 = concat-below (λ i. spns-elsewhere 0 i (pgn-at P 0 i)) (length (pgns-of P 0)) in
       let quick = concat-below (λ i. spns-elsewhere 2 i (pgn-at P 2 i)) (length (pgns-of P 2)) in
       cause-append 42 3 (nmea2000 ++ quick) scalings ∙ (rw (cause-append 42 3 nmea2000 quick, elsewhere-none 0, elsewhere-none 2))
-
-  number-is : (o : Option ℕ) (s : ℕ) → is-number o s ≡ true → o ≡ some s
-  number-is none s e = absurd (false≢true e)
-  number-is (some n) s e = ap some (eqb-true n s e)
 
   -- field k of PGN i, the first that carries the SPN
   record First (spn : ℕ) : Type 0 where
@@ -181,6 +178,18 @@ module _ (P : Pack) where
       let fields = length (pgn-at P 1 (i .index) .fields) in
       let k = met-below 42 3 (λ k. spn-at j1939 (i .index) k (at-field (i .index) k .spn)) fields (i .has) in
       by-field (i .index) (k .index) (i .below) (k .below) (at-field (i .index) (k .index) .spn) refl (k .has)
+
+  -- ---- "A lone NaN field stays silent": a field whose SPN no other carries, whatever its scaling and whatever the others are
+
+  abbrev pub Lone : (spn i k : ℕ) → Type 0
+  Lone spn i k = (j h : ℕ) → Carries P spn j h → (i ≡ j) × (k ≡ h)
+
+  pub lone-silent : (spn i k : ℕ) → Carries P spn i k → Lone spn i k → has-cause 42 3 (spn-at j1939 i k (some spn)) ≡ false
+  lone-silent spn i k c lone =
+      let f = first-of spn i k c in
+      let e = lone (f .i) (f .k) (first-carries spn f (c .at-most)) in
+      ap (λ (o : Option ℕ). has-cause 42 3 (spn-at j1939 i k o)) (sym (c .carries)) ∙ found-at spn i k f c
+      ∙ (rw (both (eq-eqb (f .i) i (sym (e .0))) (eq-eqb (f .k) k (sym (e .1)))))
 
 -- not both
 pub unlike-not-all : (P : Pack) → Unlike P → AllAlike P → ⊥

@@ -12,7 +12,7 @@ use Rattle.rules.specs.declared.check.Checked.{Checked}
 use Rattle.rules.specs.declared.check.Checked.the-variants.{Refused, Reported}
 use Rattle.scalings.specs.Scalings.{AllAlike, Unlike}
 
--- finding i has the rule and the cause: "Eight numbers: rule, severity, cause, place, tree, item, part, other."
+-- finding i has the rule and the cause: "Eight numbers: rule, severity .., cause, place .., tree, item, part, other."
 abbrev pub finding-is : (rule cause : ℕ) → List ℕ → (i : ℕ) → Bool
 finding-is rule cause o i = (getD o (8 * i) 0 == rule) && (getD o (8 * i + 2) 0 == cause)
 
@@ -38,8 +38,8 @@ abbrev pub silent : Checked → List ℕ → Bool
 silent (Refused r) o = false
 silent (Reported findings errors) o = not (reports 42 3 findings o)
 
--- What `check_scalings` says of a pack, beside check's answer. A refusal says nothing, so never "alike"; of a report every two are alike or
--- some two are not, as it says. The two exclude each other (`unlike-not-all`), so it can't say the other.
+-- What it means that `check_alike` says "alike" of a pack or does not, beside check's answer. Of a refusal it never does; of a report, every
+-- two are alike or some two are not, as it says, and the two exclude each other (`unlike-not-all`, proofs/Silent42.antt).
 abbrev pub Says : Pack → Checked → (alike : Bool) → Type 0
 Says P (Refused r) alike = alike ≡ false
 Says P (Reported findings errors) alike = (alike ≡ true → AllAlike P) × (alike ≡ false → Unlike P)

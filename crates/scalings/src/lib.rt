@@ -9,7 +9,7 @@ use rules::check::Checked;
 use rules::check::check;
 
 // check's answer, and whether it is a report in which R42 has no cause 3.
-pub struct CheckedScalings {
+pub struct CheckedAlike {
     pub checked: Checked,
     pub alike: bool,
 }
@@ -54,13 +54,15 @@ fn silent(checked: Checked, findings: &[u32]) -> bool
     }
 }
 
-// Check, then read its report: whether every two J1939 fields of one SPN have one scaling, so that their values can be compared.
-pub fn check_scalings(pack: &[u8], work: &mut [u32], findings: &mut [u32]) -> CheckedScalings
-    ensures says { λ r. ⌜ Says (pack-of (now (pack .entry))) (r .checked) (r .alike) ⌝ }
+// Check, then read its report: whether it is one, and every two J1939 fields of one SPN of at most 524,287 are scaled alike. What is read
+// of the report determines the answer; the claim says what it means.
+pub fn check_alike(pack: &[u8], work: &mut [u32], findings: &mut [u32]) -> CheckedAlike
+    ensures read { λ r. ⌜ r .alike ≡ silent (r .checked) (now (findings .exit)) ⌝ }
+    ensures claim { λ r. ⌜ Says (pack-of (now (pack .entry))) (r .checked) (r .alike) ⌝ }
     ensures checks { λ r. ⌜ Checks (now (pack .entry)) (now (work .entry)) (now (findings .entry)) (now (work .exit)) (now (findings .exit))
         (r .checked) ⌝ }
 {
     let checked = check(pack, work, findings);
     let alike = silent(checked, findings);
-    CheckedScalings { checked, alike }
+    CheckedAlike { checked, alike }
 }

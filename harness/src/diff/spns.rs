@@ -103,7 +103,7 @@ struct Shown<'a> {
 /// A row's name, and whether a pack counts there.
 type Row = (&'static str, fn(&Shown) -> bool);
 
-const ROWS: [Row; 20] = [
+const ROWS: [Row; 23] = [
     ("no pair", |shown| shown.pairs.is_empty()),
     ("alike", |shown| shown.silent() && !shown.pairs.is_empty()),
     ("unlike", |shown| !shown.silent()),
@@ -114,13 +114,16 @@ const ROWS: [Row; 20] = [
     ("none, empty", |shown| shown.only(|pair| pair.unlike == UNIT && no_letter(pair.a.field))),
     ("NaN resolution", |shown| shown.only(|pair| pair.unlike == RESOLUTION && same_resolution(pair))),
     ("NaN offset", |shown| shown.only(|pair| pair.unlike == OFFSET && same_offset(pair))),
+    ("two NaNs", |shown| shown.only(|pair| nans(pair) == 2 && !same_resolution(pair))),
+    ("NaN, number", |shown| shown.only(|pair| nans(pair) == 1)),
     ("lone NaN", |shown| shown.silent() && shown.carriers.iter().any(|carrier| has_nan(carrier.field))),
     ("-0 resolution", |shown| shown.silent() && !shown.pairs.iter().all(same_resolution)),
     ("-0 offset", |shown| shown.silent() && !shown.pairs.iter().all(same_offset)),
     ("one PGN", |shown| shown.only(|pair| pair.a.place.0 == pair.b.place.0)),
     ("two PGNs", |shown| shown.only(|pair| pair.a.place.0 != pair.b.place.0)),
     ("524287", |shown| shown.only(|pair| pair.a.spn == 524_287)),
-    ("524288", |shown| shown.silent() && shown.beyond_are_unlike()),
+    ("524288", |shown| shown.silent() && shown.passed_over(Some(524_288))),
+    ("no SPN", |shown| shown.silent() && shown.passed_over(None)),
     ("other tree", |shown| shown.silent() && shown.other_tree_is_unlike()),
     ("first odd", |shown| shown.first_three(|a, b, c| !alike(a, b) && !alike(a, c) && alike(b, c))),
     ("third odd", |shown| shown.first_three(|a, b, c| alike(a, b) && !alike(a, c) && !alike(b, c))),
@@ -146,11 +149,11 @@ impl<'a> Shown<'a> {
         !self.silent() && self.unlike().all(so)
     }
 
-    /// Whether two fields with the least SPN beyond 19 bits are.
-    fn beyond_are_unlike(&self) -> bool {
+    /// Whether two fields with an SPN that R42 does not compare, or with none, are.
+    fn passed_over(&self, spn: Option<u32>) -> bool {
         let fields = self.pack.trees[1].iter().flat_map(|pgn| &pgn.fields);
-        let beyond: Vec<&Field> = fields.filter(|field| field.spn == Some(524_288)).collect();
-        beyond.windows(2).any(|two| !alike(two[0], two[1]))
+        let of_spn: Vec<&Field> = fields.filter(|field| field.spn == spn).collect();
+        of_spn.windows(2).any(|two| !alike(two[0], two[1]))
     }
 
     /// Whether a carrier and a field of another tree with its SPN are.
@@ -177,6 +180,12 @@ fn no_letter(field: &Field) -> bool {
 
 fn has_nan(field: &Field) -> bool {
     [field.res_resolution, field.res_offset].into_iter().any(|float| float.get().is_nan())
+}
+
+/// Of two that are unlike in the resolution alone, how many have a NaN there.
+fn nans(pair: &Pair) -> usize {
+    let resolutions = [pair.a, pair.b].map(|carrier| carrier.field.res_resolution.get());
+    if pair.unlike == RESOLUTION { resolutions.iter().filter(|float| float.is_nan()).count() } else { 0 }
 }
 
 /// By the pattern: of unlike floats it is that of a NaN, and of floats that are alike it is another only for the zeros.

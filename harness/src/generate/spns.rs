@@ -66,9 +66,13 @@ impl Generator {
             }
         }
         for float in [&mut field.res_resolution, &mut field.res_offset] {
-            // the other zero is as good
-            if float.get() == 0.0 && self.rng.chance(1, 4) {
-                *float = Float::of(-float.get());
+            if self.rng.chance(1, 4) {
+                // the other zero is as good, and no NaN is better
+                if float.get() == 0.0 {
+                    *float = Float::of(-float.get());
+                } else if float.get().is_nan() {
+                    *float = Float(*self.rng.pick(&NANS));
+                }
             }
         }
         if self.rng.chance(1, 8) {

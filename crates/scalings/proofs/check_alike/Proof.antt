@@ -1,7 +1,7 @@
 use Rattle.scalings.proofs.ReportRead.{answer-room, answer-says}
 use borrow.Author.Needs.{needs}
-use Rattle.scalings.proofs.check_scalings.Statement.{statement}
-use Rattle.scalings.proofs.check_scalings.Tie as tie
+use Rattle.scalings.proofs.check_alike.Statement.{statement}
+use Rattle.scalings.proofs.check_alike.Tie as tie
 
 check-requires : tie.Need-check-requires
 check-requires c κs = search needs
@@ -20,8 +20,8 @@ same-length-2 c = search needs
 returns : tie.Need-returns
 returns c =
     let check = c .before .before .before .before .before .before .check in
-    (rw (c .silent .ensures) (answer-says _ _ _ _ _ (check .result) (check .ensures)), check .ensures)
+    (c .silent .ensures, (rw (c .silent .ensures) (answer-says _ _ _ _ _ (check .result) (check .ensures)), check .ensures))
 
-pub check-scalings-spec : {M : Type 1} → statement M
-check-scalings-spec =
+pub check-alike-spec : {M : Type 1} → statement M
+check-alike-spec =
     tie.close (tie.spec check-requires silent-requires same-length same-length-2 returns)
