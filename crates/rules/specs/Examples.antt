@@ -7,12 +7,13 @@ use mathlib.Core.List.{List, [], _∷_, _++_, map}
 use mathlib.Core.Option.{Option, none, some}
 use mathlib.Core.Path.{_≡_, refl}
 use Rattle.pack.specs.Notation.{_≐_, tab}
-use Rattle.pack.specs.Value.{Bytes, FieldType, Entry, Lookup, Repeating, Reference, Field, Pgn, Pack}
+use Rattle.pack.specs.Value.{Bytes, Entry, Lookup, Repeating, Reference, Field, Pgn, Pack}
 use Rattle.pack.specs.declared.load.Refusal.the-variants.{Absent, Place}
 use Rattle.rules.specs.declared.Finding.{Finding}
 use Rattle.rules.specs.declared.place_text.Placed.the-variants.{Refused, Written}
 use Rattle.rules.specs.Check.{check}
 use Rattle.rules.specs.Computed.{computed}
+use Rattle.rules.specs.ExamplePacks.{a-field, a-pgn, in-nmea2000, in-j1939, NAN, MINUS-ZERO}
 use Rattle.rules.specs.Findings.{pgn-error, group-error, only}
 use Rattle.rules.specs.Floats.{ONE}
 use Rattle.rules.specs.PlaceCall.{named, text-left}
@@ -21,78 +22,20 @@ use Rattle.rules.specs.Texts.{bytes, NUMBER, DECIMAL}
 
 -- ---- packs
 
--- "one root field type NUMBER with a print function"
-abbrev number-type : FieldType
-number-type = record { name = NUMBER; base = false; print-function = true; signed = false; size = 0; resolution = 0; root-name = NUMBER }
-
-abbrev a-field :
-    (id name type : Bytes) (bits resolution offset : ℕ) (spn : Option ℕ) (match : Option Bytes) (reference : Option Reference) (special : Option ℕ)
-    (trailing : Option Bytes)
-    → Field
-a-field id name type bits resolution offset spn match reference special trailing =
-    record {
-      id = id;
-      name = name;
-      type = type;
-      ft = 0;
-      bits-given = false;
-      unit-given = false;
-      proprietary = false;
-      allow-lookup-width-mismatch = false;
-      dynamic-field-length = false;
-      overhead = false;
-      res-bits = bits;
-      res-resolution = resolution;
-      res-offset = offset;
-      res-unit = none;
-      resolution = none;
-      offset = none;
-      spn = spn;
-      continues = none;
-      match = match;
-      reference = reference;
-      special-values = special;
-      bit-length-field = none;
-      trailing-zero = trailing;
-      continuation = none;
-    }
-
 abbrev plain : (id name type : Bytes) (bits : ℕ) → Field
-plain id name type bits = a-field id name type bits ONE 0 none none none none none
+plain id name type bits = a-field id name type bits ONE 0 none none none none none none
 
 abbrev special : (bits value : ℕ) → Field
-special bits value = a-field (bytes "a") (bytes "A") NUMBER bits ONE 0 none none none (some value) none
+special bits value = a-field (bytes "a") (bytes "A") NUMBER bits ONE 0 none none none none (some value) none
 
 abbrev matching : (bits : ℕ) → (match : Bytes) → Option Reference → Field
-matching bits match reference = a-field (bytes "a") (bytes "A") NUMBER bits ONE 0 none (some match) reference none none
+matching bits match reference = a-field (bytes "a") (bytes "A") NUMBER bits ONE 0 none none (some match) reference none none
 
 abbrev spn : (number bits resolution offset : ℕ) → Field
-spn number bits resolution offset = a-field (bytes "a") (bytes "A") NUMBER bits resolution offset (some number) none none none none
+spn number bits resolution offset = a-field (bytes "a") (bytes "A") NUMBER bits resolution offset none (some number) none none none none
 
 abbrev entry : (value : ℕ) (name : Bytes) → Entry
 entry value name = record { first = 0; value = value; name = name; fieldtype = NUMBER; nested = none }
-
-abbrev a-pgn : (number : ℕ) (id : Bytes) → Option Repeating → List Field → Pgn
-a-pgn number id set fields =
-    record {
-      pgn = number;
-      id = id;
-      type = 0;
-      fallback = false;
-      variable = false;
-      missing-company-fields = false;
-      length = 8;
-      min-length = none;
-      repeating1 = set;
-      repeating2 = none;
-      fields = fields;
-    }
-
-abbrev in-nmea2000 : List Lookup → List Pgn → Pack
-in-nmea2000 lookups pgns = record { fieldtypes = number-type ∷ []; lookups = lookups; pgns = pgns; pgns-j1939 = []; pgns-quick = [] }
-
-abbrev in-j1939 : List Pgn → Pack
-in-j1939 pgns = record { fieldtypes = number-type ∷ []; lookups = []; pgns = []; pgns-j1939 = pgns; pgns-quick = [] }
 
 abbrev of-fields : List Field → Pack
 of-fields fields = in-nmea2000 [] (a-pgn 127488 (bytes "a") none fields ∷ [])
@@ -206,7 +149,7 @@ latest-id = refl
 
 -- R24 cause 2 too: 7 is named by the field of the least PGN number, 9 clashes with 7 and not with 3, and one text is one place
 abbrev named-spn : (number : ℕ) (name : Bytes) → Field
-named-spn number name = a-field (bytes "a") name NUMBER 16 ONE 0 (some number) none none none none
+named-spn number name = a-field (bytes "a") name NUMBER 16 ONE 0 none (some number) none none none none
 
 latest-spn : findings-of 24
     (in-j1939
@@ -219,12 +162,6 @@ unfolding computed
 latest-spn = refl
 
 -- "scaling compared by bits (NaN, −0)": two fields of one NaN pattern differ, -0 and 0 do not, and a lone NaN is silent
-abbrev NAN : ℕ
-NAN = 0x7ff8_0000_0000_0000
-
-abbrev MINUS-ZERO : ℕ
-MINUS-ZERO = 0x8000_0000_0000_0000
-
 abbrev j1939-fields : List Field → List ℕ
 j1939-fields fields = causes (findings-of 42 (in-j1939 (a-pgn 65262 (bytes "a") none fields ∷ [])))
 
@@ -245,7 +182,7 @@ abbrev decimal : Option Repeating → Pack
 decimal set =
     in-nmea2000 []
     (a-pgn 127488 (bytes "a") set
-    (plain (bytes "f") (bytes "F") NUMBER 8 ∷ a-field (bytes "d") (bytes "D") DECIMAL 56 ONE 0 none none none none (some (bytes "f")) ∷ [])
+    (plain (bytes "f") (bytes "F") NUMBER 8 ∷ a-field (bytes "d") (bytes "D") DECIMAL 56 ONE 0 none none none none none (some (bytes "f")) ∷ [])
     ∷ [])
 
 empty-set : check (decimal (some (a-set 0 0))) ≡ pgn-error 44 3 0 0 1 0 ∷ []

@@ -64,4 +64,5 @@ pub mod NamedMax
 pub mod Bound
 -- examples
 pub mod Computed
+pub mod ExamplePacks
 mod Examples

@@ -1,5 +1,5 @@
 -- What it is to be alike: R42 tests just that; it is symmetric and transitive. It is not reflexive: a field with a NaN is not like itself.
-use mathlib.Core.Bool.{Bool, true, false, _&&_, false≢true}
+use mathlib.Core.Bool.{Bool, true, _&&_, false≢true}
 use mathlib.Core.Option.{Option, none, some}
 use mathlib.Core.Path.{_≡_, refl, sym, ap, _∙_}
 use lib.Ieee.{ofBits, binary64}

@@ -8,9 +8,10 @@ use mathlib.Core.Option.{Option, none, some}
 use mathlib.Core.Path.{_≡_, refl, sym, _∙_}
 use lib.Ieee.{binary64, ofBits, nan, eq}
 use Rattle.pack.specs.Notation.{if_then_else_}
-use Rattle.pack.specs.Value.{Bytes, FieldType, Field, Pgn, Pack, pgn-at, field-at}
+use Rattle.pack.specs.Value.{Bytes, Field, Pgn, Pack, pgn-at, field-at}
 use Rattle.rules.specs.Check.{check}
 use Rattle.rules.specs.Computed.{computed}
+use Rattle.rules.specs.ExamplePacks.{number-type, a-field, a-pgn, NAN, MINUS-ZERO}
 use Rattle.rules.specs.Floats.{float-eq, ONE}
 use Rattle.rules.specs.Texts.{bytes, NUMBER}
 use Rattle.rules.proofs.Extremes.{and-left, and-right}
@@ -47,52 +48,10 @@ nan-of-two P spn i k j h c d different odd = go (has-cause 42 3 (check P)) refl
 -- ---- packs of J1939 fields
 
 abbrev field : (spn : Option ℕ) (bits resolution offset : ℕ) (unit : Option Bytes) → Field
-field spn bits resolution offset unit =
-    record {
-      id = bytes "a";
-      name = bytes "A";
-      type = NUMBER;
-      ft = 0;
-      bits-given = false;
-      unit-given = false;
-      proprietary = false;
-      allow-lookup-width-mismatch = false;
-      dynamic-field-length = false;
-      overhead = false;
-      res-bits = bits;
-      res-resolution = resolution;
-      res-offset = offset;
-      res-unit = unit;
-      resolution = none;
-      offset = none;
-      spn = spn;
-      continues = none;
-      match = none;
-      reference = none;
-      special-values = none;
-      bit-length-field = none;
-      trailing-zero = none;
-      continuation = none;
-    }
+field spn bits resolution offset unit = a-field (bytes "a") (bytes "A") NUMBER bits resolution offset unit spn none none none none
 
 abbrev pgn : List Field → Pgn
-pgn fields =
-    record {
-      pgn = 65262;
-      id = bytes "a";
-      type = 0;
-      fallback = false;
-      variable = false;
-      missing-company-fields = false;
-      length = 8;
-      min-length = none;
-      repeating1 = none;
-      repeating2 = none;
-      fields = fields;
-    }
-
-abbrev number-type : FieldType
-number-type = record { name = NUMBER; base = false; print-function = true; signed = false; size = 0; resolution = 0; root-name = NUMBER }
+pgn fields = a-pgn 65262 (bytes "a") none fields
 
 -- PGNs of the J1939 tree, beside those of the others
 abbrev beside : (nmea2000 quick : List Pgn) → List (List Field) → Pack
@@ -109,14 +68,8 @@ of-one f g = j1939 ((f ∷ g ∷ []) ∷ [])
 abbrev of-two : (f g : Field) → Pack
 of-two f g = j1939 ((f ∷ []) ∷ (g ∷ []) ∷ [])
 
-abbrev NAN : ℕ
-NAN = 0x7ff8_0000_0000_0000
-
 abbrev MINUS-NAN : ℕ
 MINUS-NAN = 0xfff8_0000_0000_0000
-
-abbrev MINUS-ZERO : ℕ
-MINUS-ZERO = 0x8000_0000_0000_0000
 
 -- SPN 247 is engine hours
 abbrev hours : (bits resolution offset : ℕ) (unit : Option Bytes) → Field
