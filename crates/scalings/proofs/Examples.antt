@@ -21,7 +21,8 @@ use Rattle.scalings.proofs.Silent42.{Lone, silent-42}
 
 -- ---- "A lone NaN field stays silent; two with one SPN do not."
 
--- nothing is found in a pack in which no SPN has two fields, whatever their scalings; at a field by itself: `lone-silent` (proofs/Silent42)
+-- no cause 3 in a pack in which no two fields share an SPN, whatever their scalings; at such a field, whatever the others: `lone-silent`
+-- (proofs/Silent42)
 pub alone : (P : Pack) → ((spn i k : ℕ) → Carries P spn i k → Lone P spn i k) → has-cause 42 3 (check P) ≡ false
 alone P lone = silent-42 P .of-check .1 (λ spn i k j h c d different. let e = lone spn i k c j h d in absurd (different (e .0) (e .1)))
 
