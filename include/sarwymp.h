@@ -74,7 +74,8 @@
                                        nested and shares an order with set 1 */
 #define SARWYMP_END_COUNT_FIELD 2   /* a set's countField is not current on arriving at the set */
 #define SARWYMP_END_LOOKUP 3        /* lookup missing */
-#define SARWYMP_END_MATCH 4         /* match unresolved or, below 64 bits, above 2^bits - 1 */
+#define SARWYMP_END_MATCH 4         /* match unresolved or, below 64 bits, above 2^bits - 1; a match is a
+                                       decimal number, a hexadecimal one (0x1F) or the name of an entry */
 #define SARWYMP_END_ENTRY 5         /* an entry for the reading names a missing field type or nested lookup */
 #define SARWYMP_END_BIT_LENGTH 6    /* bitLengthField target not current */
 #define SARWYMP_END_CONTINUES 7     /* continued field not current */

@@ -2,9 +2,9 @@
 use mathlib.Core.List.{List}
 use lib.Ieee.{ofBits, eq}
 use Rattle.pack.specs.Value.{Pack}
+use Rattle.numerals.specs.Numerals.{parse-digits, parse-u64, parse-hex}
 use Rattle.rules.specs.declared.Finding.{Finding}
-use Rattle.rules.specs.Model.{value-bits, find-lookup, target, pairs, fieldtypes, parse-digits, parse-u64, value-named, resolve-in, resolve-name}
-use Rattle.rules.specs.Model.{resolve-text, resolve-match}
+use Rattle.rules.specs.Model.{value-bits, find-lookup, target, pairs, fieldtypes, value-named, resolve-in, resolve-name, resolve-text, resolve-match}
 use Rattle.rules.specs.Floats.{float-eq}
 use Rattle.rules.specs.Digits.{digits, six-digits}
 use Rattle.rules.specs.PlaceText.{pgn-loc, group-loc, lookup-loc, has-number, place-text}
@@ -36,7 +36,7 @@ use Rattle.rules.specs.TrailingZero.{fixed, unsigned-integer, trailing-z
 use Rattle.rules.specs.Check.{check-pgn, check-tree, check-tree-continues, check}
 
 unfoldable pub computed : Pack → List Finding
-unfolding ofBits eq value-bits find-lookup target pairs fieldtypes parse-digits parse-u64 value-named resolve-in resolve-name resolve-text
+unfolding ofBits eq value-bits find-lookup target pairs fieldtypes parse-digits parse-u64 parse-hex value-named resolve-in resolve-name resolve-text
     resolve-match float-eq digits six-digits pgn-loc group-loc lookup-loc has-number place-text find-range quick-range found-range check-pgn-range
     check-frame-length set-bounds set-count-field set-nesting check-set check-repeating length-source have-length-source dynamic-length-at
     check-dynamic-length is-manufacturer-pgn company-fields check-proprietary beyond-width unreachable lookup-width-at lookup-found-at lookup-ref-at

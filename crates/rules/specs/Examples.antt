@@ -16,6 +16,7 @@ use Rattle.rules.specs.Computed.{computed}
 use Rattle.rules.specs.ExamplePacks.{a-field, a-pgn, in-nmea2000, in-j1939, NAN, MINUS-ZERO}
 use Rattle.rules.specs.Findings.{pgn-error, group-error, only}
 use Rattle.rules.specs.Floats.{ONE}
+use Rattle.rules.specs.Model.{resolve-match}
 use Rattle.rules.specs.PlaceCall.{named, text-left}
 use Rattle.rules.specs.PlaceText.{place-text}
 use Rattle.rules.specs.Texts.{bytes, NUMBER, DECIMAL}
@@ -223,6 +224,109 @@ fieldtype-by-fieldtype = refl
 bit-by-triplet : match-on 2 1 ≡ pgn-error 8 2 0 0 0 0 ∷ []
 unfolding computed
 bit-by-triplet = refl
+
+-- ---- match values in hexadecimal (document 02)
+
+-- "a text of 0x or 0X and 1 to 16 hexadecimal digits now resolves to that number", in small and in capital letters; after the decimal form
+abbrev numbers : List Bytes
+numbers =
+    bytes "0x1F"
+    ∷ bytes "0X1f"
+    ∷ bytes "0x0"
+    ∷ bytes "0x0123456789"
+    ∷ bytes "0xaBcDeF"
+    ∷ bytes "0XAbCdEf"
+    ∷ bytes "0x000000000000001F"
+    ∷ bytes "0xFFFFFFFFFFFFFFFF"
+    ∷ bytes "31"
+    ∷ bytes "+31"
+    ∷ []
+
+abbrev their-values : List ℕ
+their-values = 31 ∷ 31 ∷ 0 ∷ 4886718345 ∷ 11259375 ∷ 11259375 ∷ 31 ∷ 18446744073709551615 ∷ 31 ∷ 31 ∷ []
+
+-- texts that are none: no digit, the characters beside the digits, a sign, a blank, another prefix, "Longer digit strings"
+abbrev names : List Bytes
+names =
+    bytes "0x"
+    ∷ bytes "0X"
+    ∷ bytes "0xG1"
+    ∷ bytes "0x1g"
+    ∷ bytes "0x/"
+    ∷ bytes "0x:"
+    ∷ bytes "0x@"
+    ∷ bytes "0x`"
+    ∷ bytes "+0x1F"
+    ∷ bytes "-0x1"
+    ∷ bytes " 0x1"
+    ∷ bytes "0x1 "
+    ∷ bytes "0x_1"
+    ∷ bytes "0x+1"
+    ∷ bytes "1x0"
+    ∷ bytes "00x1"
+    ∷ bytes "x1F"
+    ∷ bytes "1F"
+    ∷ bytes "0x0000000000000001F"
+    ∷ bytes "0x10000000000000000"
+    ∷ []
+
+-- a lookup with an entry of value 7 for each of the texts, and a match on it
+abbrev sevens : List Bytes → Lookup
+sevens texts = record { name = bytes "L"; kind = 0; bits = 64; entries = map (entry 7) texts }
+
+abbrev matching-sevens : (bits : ℕ) → (match : Bytes) → Field
+matching-sevens bits match = matching bits match (some (record { kind = 0; name = bytes "L" }))
+
+abbrev resolved : (entries matches : List Bytes) → List (Option ℕ)
+resolved entries matches = map (λ m. resolve-match (sevens entries ∷ []) (matching-sevens 64 m)) matches
+
+-- the number counts, not the entry of that name
+numbers-first : resolved numbers numbers ≡ map (λ v. some v) their-values
+unfolding computed
+numbers-first = refl
+
+-- the others "go to the names"
+names-found : resolved names names ≡ map (λ m. some 7) names
+unfolding computed
+names-found = refl
+
+names-not-found : resolved numbers names ≡ map (λ m. none) names
+unfolding computed
+names-not-found = refl
+
+-- "R13 .. follow[s] the resolver": 31 takes five bits, whatever the entry's 7 takes
+abbrev of-match : (entries : List Bytes) (bits : ℕ) (match : Bytes) → Pack
+of-match entries bits match = in-nmea2000 (sevens entries ∷ []) (a-pgn 127488 (bytes "a") none (matching-sevens bits match ∷ []) ∷ [])
+
+abbrev hexadecimal-edges : List Edge
+hexadecimal-edges =
+    edge 13 (of-match [] 5 (bytes "0x1F")) []
+    ∷ edge 13 (of-match [] 4 (bytes "0x1F")) (2 ∷ [])
+    ∷ edge 13 (of-match numbers 5 (bytes "0X1f")) []
+    ∷ edge 13 (of-match numbers 4 (bytes "0X1f")) (2 ∷ [])
+    ∷ edge 13 (of-match [] 64 (bytes "0xFFFFFFFFFFFFFFFF")) []
+    ∷ edge 13 (of-match [] 63 (bytes "0xFFFFFFFFFFFFFFFF")) (2 ∷ [])
+    ∷ edge 13 (of-match names 3 (bytes "0x")) []
+    ∷ edge 13 (of-match names 2 (bytes "0x")) (2 ∷ [])
+    ∷ edge 13 (of-match [] 3 (bytes "0x")) (1 ∷ [])
+    ∷ edge 13 (of-match names 3 (bytes "0x0000000000000001F")) []
+    ∷ edge 13 (of-match [] 64 (bytes "0x0000000000000001F")) (1 ∷ [])
+    ∷ edge 13 (of-match names 3 (bytes "+0x1F")) []
+    ∷ edge 13 (of-match [] 64 (bytes "+0x1F")) (1 ∷ [])
+    ∷ []
+
+hexadecimal-edges-hold : all-as-expected hexadecimal-edges 0 ≡ true
+unfolding computed
+hexadecimal-edges-hold = refl
+
+-- R20 goes by the texts: 0x1 and 1 are two, 0x1 and 0x1 one
+abbrev matched-by : (id match : Bytes) → Pgn
+matched-by id match = a-pgn 127488 id none (matching 64 match none ∷ [])
+
+by-text : check (in-nmea2000 [] (matched-by (bytes "a") (bytes "0x1") ∷ matched-by (bytes "b") (bytes "1") ∷ matched-by (bytes "c") (bytes "0x1") ∷ []))
+    ≡ pgn-error 20 1 0 2 0 0 ∷ []
+unfolding computed
+by-text = refl
 
 -- ---- place texts
 

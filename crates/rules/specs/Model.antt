@@ -1,11 +1,12 @@
 -- What the rules read of a pack: the Rust's `model.rs`.
-use Prim.Native.Nat.{ℕ, _+_, _-_, _*_, _^_}
-use mathlib.Core.Bool.{Bool, true, false, _&&_, _||_}
+use Prim.Native.Nat.{ℕ, _+_}
+use mathlib.Core.Bool.{Bool, true, false, _||_}
 use mathlib.Core.List.{List, [], _∷_}
 use mathlib.Core.Option.{Option, none, some}
 use lib.ListN.{length, getD}
-use Rattle.pack.specs.Notation.{_<ᵇ_, _≤ᵇ_, _==_, _≐_, if_then_else_, optional}
+use Rattle.pack.specs.Notation.{_==_, _≐_, if_then_else_}
 use Rattle.pack.specs.Value.{Bytes, FieldType, Entry, Lookup, Reference, Field, Pgn, no-field-type, field-at, lookup-at, entry-at}
+use Rattle.numerals.specs.Numerals.{parse-u64, parse-hex}
 use Rattle.rules.specs.Search.{or-else, first-below}
 
 abbrev pub given : {A : Type 0} → Option A → Bool
@@ -50,27 +51,6 @@ pairs l = if (l .kind == 0) || (l .kind == 2) then l .entries else []
 unfoldable pub fieldtypes : Lookup → List Entry
 fieldtypes l = if l .kind == 3 then l .entries else []
 
--- "first parses a u64: digits, one leading + allowed"
-abbrev pub is-digit : ℕ → Bool
-is-digit b = (48 ≤ᵇ b) && (b ≤ᵇ 57)
-
-abbrev pub all-digits : Bytes → Bool
-all-digits [] = true
-all-digits (b ∷ bs) = is-digit b && all-digits bs
-
--- the number that digits write, after v
-abbrev pub decimal : ℕ → Bytes → ℕ
-decimal v [] = v
-decimal v (b ∷ bs) = decimal (10 * v + (b - 48)) bs
-
-unfoldable pub parse-digits : Bytes → Option ℕ
-parse-digits [] = none
-parse-digits (b ∷ bs) = optional (all-digits (b ∷ bs) && (decimal 0 (b ∷ bs) <ᵇ 2 ^ 64)) (decimal 0 (b ∷ bs))
-
-unfoldable pub parse-u64 : Bytes → Option ℕ
-parse-u64 [] = none
-parse-u64 (b ∷ bs) = if b == 43 then parse-digits bs else parse-digits (b ∷ bs)
-
 -- the value of the first entry with a name
 abbrev pub value-at : List Entry → Option ℕ → Option ℕ
 value-at es none = none
@@ -91,9 +71,11 @@ unfoldable pub resolve-name : List Lookup → Bytes → Option Reference → Opt
 resolve-name ls m none = none
 resolve-name ls m (some r) = resolve-in ls m r (find-lookup ls (r .name))
 
+-- "first parses a u64"; "After the decimal form is tried, a text of 0x or 0X and 1 to 16 hexadecimal digits now resolves to that number; only
+-- then are names searched."
 unfoldable pub resolve-text : List Lookup → Option Reference → Option Bytes → Option ℕ
 resolve-text ls r none = none
-resolve-text ls r (some m) = or-else (parse-u64 m) (resolve-name ls m r)
+resolve-text ls r (some m) = or-else (parse-u64 m) (or-else (parse-hex m) (resolve-name ls m r))
 
 -- `resolve_match`
 unfoldable pub resolve-match : List Lookup → Field → Option ℕ

@@ -10,7 +10,7 @@ use borrow.Author.Tests.{ltb-true, leb-true, le-leb, eqb-true, eq-eqb, ne-eqb}
 use Rattle.pack.specs.Notation.{_<ᵇ_, _≤ᵇ_, _==_, _≐_, if_then_else_}
 use Rattle.pack.specs.Value.{Bytes, Pgn}
 use Rattle.rules.specs.Digits.{digits-within, digits, six-digits}
-use Rattle.rules.specs.Model.{is-digit, all-digits, decimal}
+use Rattle.numerals.specs.Numerals.{is-digit, all-digits, decimal}
 use Rattle.rules.specs.PlaceText.{check-prefix, pgn-loc}
 use Rattle.rules.specs.Texts.{bytes}
 

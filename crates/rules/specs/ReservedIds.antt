@@ -7,7 +7,7 @@ use Rattle.pack.specs.Notation.{_==_, _≐_, if_then_else_, concat-below}
 use Rattle.pack.specs.Value.{Bytes, Field, Pgn, field-at}
 use Rattle.rules.specs.declared.Finding.{Finding}
 use Rattle.rules.specs.Findings.{pgn-error, report-if}
-use Rattle.rules.specs.Model.{all-digits}
+use Rattle.numerals.specs.Numerals.{all-digits}
 use Rattle.rules.specs.Texts.{bytes}
 
 -- the id is the wanted text, followed by ASCII digits or nothing

@@ -1,15 +1,17 @@
 // The number that a match stands for: the Rust's `resolve_match`.
 ghost use mathlib.Core.Path.{_≡_};
 ghost use mathlib.Core.Bool.{_||_};
-ghost use Prim.Native.Nat.{_≤_};
-ghost use lib.ListN.{length, drop};
+ghost use lib.ListN.{length};
 ghost use Rattle.pack.specs.Notation.{_==_, if_then_else_, optional};
 ghost use Rattle.pack.specs.Items.{bytes-of};
 ghost use Rattle.pack.specs.Meaning.{optional-reference, field-meaning, pack-of};
 ghost use Rattle.pack.specs.Ready.{Ready, LookupAt, LookupsAre};
 ghost use Rattle.pack.specs.Value.{lookup-at};
-ghost use Rattle.rules.specs.Model.{parse-digits, parse-u64, value-named, resolve-name, resolve-match};
+ghost use Rattle.rules.specs.Model.{value-named, resolve-name, resolve-match};
 use crate::lookups::find_lookup;
+use numerals::OptWide;
+use numerals::decimal::parse_u64;
+use numerals::hexadecimal::parse_hex;
 use pack::field::FieldView;
 use pack::field::OptReference;
 use pack::load::Section;
@@ -18,64 +20,6 @@ use pack::of::lookup_of;
 use pack::text::Text;
 use pack::text::part;
 use pack::text::same_text;
-
-// A number of 64 bits, if there is one.
-pub struct OptWide {
-    pub given: bool,
-    pub value: u64,
-}
-
-// The number that the bytes from an index on write in decimal.
-fn parse_digits(b: &[u8], from: usize) -> OptWide
-    requires { ⌜ from ≤ length (now b) ⌝ }
-    ensures { λ r. ⌜ optional (r .given) (r .value) ≡ parse-digits (drop from (now (b .entry))) ⌝ }
-{
-    let mut given = false;
-    let mut value: u64 = 0;
-    let mut i = from;
-    while i < b.len() {
-        let c = b[i];
-        if c < 48 {
-            return OptWide {
-                given: false,
-                value: 0,
-            };
-        }
-        if 57 < c {
-            return OptWide {
-                given: false,
-                value: 0,
-            };
-        }
-        let digit = (c - 48) as u64;
-        if (0xffff_ffff_ffff_ffff - digit) / 10 < value {
-            return OptWide {
-                given: false,
-                value: 0,
-            };
-        }
-        value = 10 * value + digit;
-        given = true;
-        i += 1;
-    }
-    OptWide { given, value }
-}
-
-// "digits, one leading + allowed"
-pub fn parse_u64(b: &[u8]) -> OptWide
-    ensures { λ r. ⌜ optional (r .given) (r .value) ≡ parse-u64 (now (b .entry)) ⌝ }
-{
-    if b.len() == 0 {
-        return OptWide {
-            given: false,
-            value: 0,
-        };
-    }
-    if b[0] == 43 {
-        return parse_digits(b, 1);
-    }
-    parse_digits(b, 0)
-}
 
 // The value of the first of the n entries with that name, of lookup l, which is at p and of that kind.
 fn value_named(s: &[u8], work: &[u32], l: u32, p: usize, kind: u32, n: u32, name: Text) -> OptWide
@@ -156,9 +100,13 @@ pub fn resolve_match(s: &[u8], work: &[u32], lookups: Section, f: FieldView) -> 
         };
     }
     let m = f.authored.matched.text;
-    let number = parse_u64(part(s, m));
-    if number.given {
-        return number;
+    let decimal = parse_u64(part(s, m));
+    if decimal.given {
+        return decimal;
+    }
+    let hexadecimal = parse_hex(part(s, m));
+    if hexadecimal.given {
+        return hexadecimal;
     }
     resolve_name(s, work, lookups, m, f.links.reference)
 }

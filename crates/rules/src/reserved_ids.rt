@@ -7,7 +7,7 @@ ghost use Rattle.pack.specs.Items.{bytes-of};
 ghost use Rattle.pack.specs.Meaning.{field-meaning};
 ghost use Rattle.pack.specs.Value.{field-at};
 ghost use Rattle.rules.specs.Emit.{Emitted, Fits};
-ghost use Rattle.rules.specs.Model.{is-digit, all-digits};
+ghost use Rattle.numerals.specs.Numerals.{is-digit, all-digits};
 ghost use Rattle.rules.specs.ReservedIds.{numbered, reserved-id-at, check-reserved-ids};
 ghost use Rattle.rules.specs.Texts.{bytes};
 ghost use Rattle.pack.specs.Ready.{PgnRecordIs, pgn-in};

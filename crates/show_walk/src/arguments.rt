@@ -1,6 +1,6 @@
 // The arguments that are numbers: the tree, and from the third on the readings.
-use rules::matches::OptWide;
-use rules::matches::parse_u64;
+use numerals::OptWide;
+use numerals::decimal::parse_u64;
 
 // "digits, one leading + allowed"
 fn number(i: usize) -> OptWide {

@@ -1,11 +1,11 @@
 // The PGN that a person names.
 use listing::work;
+use numerals::OptWide;
+use numerals::decimal::parse_u64;
 use pack::at::pgn_at;
 use pack::load::Section;
 use pack::pgn::PgnView;
 use pack::text::text_is;
-use rules::matches::OptWide;
-use rules::matches::parse_u64;
 
 // Its index in the tree, and its work position.
 pub struct Found {

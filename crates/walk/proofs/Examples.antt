@@ -7,7 +7,7 @@ use mathlib.Core.List.{List, [], _∷_}
 use mathlib.Core.Option.{Option, none, some}
 use lib.ListN.{length}
 use Rattle.pack.specs.Value.{Bytes, FieldType, Entry, Reference, Repeating, Field, Pgn, Pack}
-use Rattle.rules.specs.Model.{find-lookup, target, fieldtypes, resolve-match, resolve-text, resolve-name, parse-u64, parse-digits}
+use Rattle.rules.specs.Model.{target}
 use Rattle.rules.specs.DynamicLength.{length-source}
 use Rattle.rules.specs.LookupWiring.{is-fieldtype}
 use Rattle.rules.specs.Check.{check}
@@ -151,8 +151,7 @@ answer x visits = record { ends = x; visits = visits }
 unfoldable run : Pgn → List ℕ → Answer
 unfolding walk walk-with walk-on onward settled settle arrive stand close look arrives put visited latest is-current stop-1 misplaced clash share
     nested-in inside-previous stop-at lookup-missing is-missing match-unfit unfit reference-names-missing lookup-names-missing entries-name-missing
-    names-missing lacks lacks-length find-lookup target fieldtypes is-fieldtype length-source resolve-match resolve-text resolve-name parse-u64
-    parse-digits
+    names-missing lacks lacks-length computed
 run p readings = walk P p readings
 
 unfoldable is-held : Pgn → Bool
@@ -249,6 +248,18 @@ unresolved-match : run (pgn none none (z-matches (bytes "-0") ∷ [])) (1 ∷ []
 unfolding run
 unresolved-match = refl
 
+hexadecimal-match : run (pgn none none (z-matches (bytes "0xFf") ∷ [])) (1 ∷ []) ≡ answer whole (0 ∷ [])
+unfolding run
+hexadecimal-match = refl
+
+wide-hexadecimal : run (pgn none none (z-matches (bytes "0X100") ∷ [])) (1 ∷ []) ≡ answer (stop 4) []
+unfolding run
+wide-hexadecimal = refl
+
+no-hexadecimal : run (pgn none none (z-matches (bytes "0x") ∷ [])) (1 ∷ []) ≡ answer (stop 4) []
+unfolding run
+no-hexadecimal = refl
+
 known-entries : run (pgn none none (z-looks-up (bytes "L") ∷ [])) (1 ∷ []) ≡ answer whole (0 ∷ [])
 unfolding run
 known-entries = refl
@@ -321,8 +332,7 @@ conditions p =
 unfoldable walk-alone : Pgn → List ℕ → Answer
 unfolding walk walk-with walk-on onward settled settle arrive stand close look arrives put visited latest is-current stop-1 misplaced clash share
     nested-in inside-previous stop-at lookup-missing is-missing match-unfit unfit reference-names-missing lookup-names-missing entries-name-missing
-    names-missing lacks lacks-length find-lookup target fieldtypes is-fieldtype length-source resolve-match resolve-text resolve-name parse-u64
-    parse-digits
+    names-missing lacks lacks-length computed
 walk-alone p readings = walk (alone p) p readings
 
 -- held, and R05's cause 3 is all that is found: stop 2

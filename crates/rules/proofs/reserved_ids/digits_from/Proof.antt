@@ -1,7 +1,7 @@
 use native.Mathlib.Omega.{arith}
 use lib.Seq.{drop-cons}
 use lib.ListN.{drop-of-length-le, length, getD, drop}
-use Rattle.rules.specs.Model.{is-digit, all-digits}
+use Rattle.numerals.specs.Numerals.{is-digit, all-digits}
 use Prim.Native.Nat.{ℕ, _+_, _-_, _<_}
 use native.Mathlib.Numerals.{add-one}
 use mathlib.Core.Path.{_≡_, refl, _∙_, sym}

@@ -1,4 +1,4 @@
-use Rattle.rules.specs.Model.{all-digits, decimal, parse-digits}
+use Rattle.numerals.specs.Numerals.{all-digits, decimal, parse-digits}
 use Rattle.pack.specs.Notation.{_<ᵇ_, _≤ᵇ_, optional}
 use lib.Seq.{drop-cons}
 use lib.ListN.{drop-of-length-le, length, getD, drop}
@@ -9,11 +9,12 @@ use native.Mathlib.Omega.{arith}
 use native.Mathlib.Numerals.{add-one}
 use mathlib.Core.Path.{_≡_, refl, _∙_, sym}
 use mathlib.Core.List.{List, [], _∷_}
+use Rattle.numerals.proofs.Tests.{and-false}
 use borrow.Author.Needs.{needs}
 use borrow.Author.Tests.{lt-ltb, le-ltb, le-leb, lt-leb}
 use denote.Ref.{now}
-use Rattle.rules.proofs.matches.parse_digits.Statement.{statement}
-use Rattle.rules.proofs.matches.parse_digits.Tie as tie
+use Rattle.numerals.proofs.decimal.parse_digits.Statement.{statement}
+use Rattle.numerals.proofs.decimal.parse_digits.Tie as tie
 
 -- what is parsed when digits that write v have been read, if any were, and these are left
 abbrev left : Bool → ℕ → List ℕ → Option ℕ
@@ -24,10 +25,6 @@ begin : (xs : List ℕ) → parse-digits xs ≡ left false 0 xs
 unfolding parse-digits
 begin [] = refl
 begin (x ∷ xs) = refl
-
-and-false : (b : Bool) → (b && false) ≡ false
-and-false true = refl
-and-false false = refl
 
 decimal-grows : (v : ℕ) (xs : List ℕ) → v ≤ decimal v xs
 decimal-grows v [] = omega arith

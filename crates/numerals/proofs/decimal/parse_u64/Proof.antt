@@ -1,4 +1,4 @@
-use Rattle.rules.specs.Model.{parse-u64, parse-digits}
+use Rattle.numerals.specs.Numerals.{parse-u64, parse-digits}
 use mathlib.Core.Option.{none}
 use Prim.Native.Nat.{ℕ}
 use native.Mathlib.Omega.{arith}
@@ -8,8 +8,8 @@ use borrow.Author.Needs.{needs}
 use borrow.Author.Tests.{eq-eqb, ne-eqb}
 use denote.Ref.{now}
 use lib.ListN.{length, getD, drop}
-use Rattle.rules.proofs.matches.parse_u64.Statement.{statement}
-use Rattle.rules.proofs.matches.parse_u64.Tie as tie
+use Rattle.numerals.proofs.decimal.parse_u64.Statement.{statement}
+use Rattle.numerals.proofs.decimal.parse_u64.Tie as tie
 
 empty : (xs : List ℕ) → length xs ≡ 0 → parse-u64 xs ≡ none
 unfolding parse-u64
