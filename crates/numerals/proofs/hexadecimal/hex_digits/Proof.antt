@@ -111,8 +111,9 @@ add-value c =
     let loop = c .before .before .before .before .loop in
     let loop-test = c .before .before .before .loop-test in
     let b = now (start .args .b) in
-    let digit = small-digit (loop .value) (getD b (loop .i) 0) (c .before .hex-digit .result) (drop (suc (loop .i)) b) (c .before .hex-digit .ensures) (c .if1 .left) in
-    let w = widened (loop .i - 2) (loop .value) (c .before .hex-digit .result) (loop .inv .small) digit
+    let hex-digit = c .before .hex-digit in
+    let digit = small-digit (loop .value) (getD b (loop .i) 0) (hex-digit .result) (drop (suc (loop .i)) b) (hex-digit .ensures) (c .if1 .left) in
+    let w = widened (loop .i - 2) (loop .value) (hex-digit .result) (loop .inv .small) digit
     (omega (arith, loop-test .taken, start .pre .few, loop .inv .from)) in
     omega (arith, w)
 
@@ -128,15 +129,16 @@ loop-again c =
     let loop = c .before .before .before .before .loop in
     let loop-test = c .before .before .before .loop-test in
     let b = now (start .args .b) in
-    let digit = small-digit (loop .value) (getD b (loop .i) 0) (c .before .hex-digit .result) (drop (suc (loop .i)) b) (c .before .hex-digit .ensures) (c .if1 .left) in
+    let hex-digit = c .before .hex-digit in
+    let digit = small-digit (loop .value) (getD b (loop .i) 0) (hex-digit .result) (drop (suc (loop .i)) b) (hex-digit .ensures) (c .if1 .left) in
     let next : loop .i + 1 - 2 ≡ suc (loop .i - 2) = omega (arith, loop .inv .from) in
     record {
       from = omega (arith, loop .inv .from);
       turns = omega (arith, loop-test .taken);
-      small = rw next (one-more (loop .i - 2) (loop .value) (c .before .hex-digit .result) (loop .inv .small) digit);
+      small = rw next (one-more (loop .i - 2) (loop .value) (hex-digit .result) (loop .inv .small) digit);
       rest = loop .inv .rest
           ∙ (rw (add-one (loop .i), drop-cons b (loop .i) 0 (loop-test .taken))
-          (turn (loop .value) (getD b (loop .i) 0) (c .before .hex-digit .result) (drop (suc (loop .i)) b) (c .before .hex-digit .ensures) (c .if1 .left)));
+          (turn (loop .value) (getD b (loop .i) 0) (hex-digit .result) (drop (suc (loop .i)) b) (hex-digit .ensures) (c .if1 .left)));
     }
 
 returns-2 : tie.Need-returns-2 Inv-loop μ-loop
