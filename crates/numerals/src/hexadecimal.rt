@@ -31,7 +31,7 @@ fn hex_digit(c: u8) -> u8
     16
 }
 
-// The number that the bytes after 0x write, at most 16.
+// The number that the bytes after the first two write; there are at most 16.
 fn hex_digits(b: &[u8]) -> OptWide
     requires { ⌜ record { prefix : 2 ≤ length (now b); few : length (now b) ≤ 18 } ⌝ }
     ensures { λ r. ⌜ optional (r .given) (r .value) ≡ optional (all-hex-digits (drop 2 (now (b .entry)))) (hexadecimal 0 (drop 2 (now (b .entry)))) ⌝ }

@@ -245,7 +245,7 @@ numbers =
 abbrev their-values : List ℕ
 their-values = 31 ∷ 31 ∷ 0 ∷ 4886718345 ∷ 11259375 ∷ 11259375 ∷ 31 ∷ 18446744073709551615 ∷ 31 ∷ 31 ∷ []
 
--- texts that are none: no digit, the characters beside the digits, a sign, a blank, another prefix, "Longer digit strings"
+-- texts that are no number: no digit, the characters beside the digits, a sign, a blank, another prefix, "Longer digit strings"
 abbrev names : List Bytes
 names =
     bytes "0x"
@@ -265,6 +265,9 @@ names =
     ∷ bytes "1x0"
     ∷ bytes "00x1"
     ∷ bytes "x1F"
+    ∷ bytes "0y1"
+    ∷ bytes "001F"
+    ∷ bytes "/x1"
     ∷ bytes "1F"
     ∷ bytes "0x0000000000000001F"
     ∷ bytes "0x10000000000000000"
@@ -313,6 +316,8 @@ hexadecimal-edges =
     ∷ edge 13 (of-match [] 64 (bytes "0x0000000000000001F")) (1 ∷ [])
     ∷ edge 13 (of-match names 3 (bytes "+0x1F")) []
     ∷ edge 13 (of-match [] 64 (bytes "+0x1F")) (1 ∷ [])
+    ∷ edge 13 (of-fields (matching 5 (bytes "0x1F") (some (record { kind = 0; name = bytes "MISSING" })) ∷ [])) []
+    ∷ edge 13 (of-fields (matching 4 (bytes "0x1F") (some (record { kind = 3; name = bytes "MISSING" })) ∷ [])) (2 ∷ [])
     ∷ []
 
 hexadecimal-edges-hold : all-as-expected hexadecimal-edges 0 ≡ true

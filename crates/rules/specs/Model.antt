@@ -1,7 +1,7 @@
 -- What the rules read of a pack: the Rust's `model.rs`.
 use Prim.Native.Nat.{ℕ, _+_}
 use mathlib.Core.Bool.{Bool, true, false, _||_}
-use mathlib.Core.List.{List, [], _∷_}
+use mathlib.Core.List.{List, []}
 use mathlib.Core.Option.{Option, none, some}
 use lib.ListN.{length, getD}
 use Rattle.pack.specs.Notation.{_==_, _≐_, if_then_else_}
@@ -77,6 +77,6 @@ unfoldable pub resolve-text : List Lookup → Option Reference → Option Bytes 
 resolve-text ls r none = none
 resolve-text ls r (some m) = or-else (parse-u64 m) (or-else (parse-hex m) (resolve-name ls m r))
 
--- `resolve_match`
+-- `resolve_match`, with document 02's hexadecimal
 unfoldable pub resolve-match : List Lookup → Field → Option ℕ
 resolve-match ls f = resolve-text ls (lookup-ref f) (f .match)

@@ -1,4 +1,4 @@
-// The number that a match stands for: the Rust's `resolve_match`.
+// The number that a match stands for: the Rust's `resolve_match`, with hexadecimal (document 02).
 ghost use mathlib.Core.Path.{_≡_};
 ghost use mathlib.Core.Bool.{_||_};
 ghost use lib.ListN.{length};

@@ -9,7 +9,6 @@ use lib.ListN.{length}
 use Rattle.pack.specs.Value.{Bytes, FieldType, Entry, Reference, Repeating, Field, Pgn, Pack}
 use Rattle.rules.specs.Model.{target}
 use Rattle.rules.specs.DynamicLength.{length-source}
-use Rattle.rules.specs.LookupWiring.{is-fieldtype}
 use Rattle.rules.specs.Check.{check}
 use Rattle.rules.specs.Computed.{computed}
 use Rattle.rules.specs.Findings.{pgn-error, without-error}

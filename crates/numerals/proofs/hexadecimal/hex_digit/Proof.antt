@@ -1,9 +1,8 @@
-use Rattle.numerals.specs.Numerals.{is-digit, is-hex-digit, hex-digit}
-use Rattle.pack.specs.Notation.{_≤ᵇ_, if_then_else_}
+use Rattle.numerals.specs.Numerals.{is-hex-digit, hex-digit}
+use Rattle.pack.specs.Notation.{if_then_else_}
 use Prim.Native.Nat.{ℕ, _-_, _≤_, _<_}
 use native.Mathlib.Omega.{arith}
-use mathlib.Core.Bool.{Bool, true, false, _&&_}
-use mathlib.Core.Path.{_≡_, refl, sym}
+use mathlib.Core.Path.{_≡_, sym}
 use borrow.Author.Needs.{needs}
 use borrow.Author.Tests.{le-leb, lt-leb}
 use Rattle.numerals.proofs.hexadecimal.hex_digit.Statement.{statement}

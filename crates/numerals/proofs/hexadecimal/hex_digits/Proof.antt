@@ -6,9 +6,9 @@ use native.Mathlib.Nat.{pow-suc, pow-le-pow-right}
 use native.Mathlib.Omega.{arith}
 use native.Mathlib.Numerals.{add-one}
 use mathlib.Core.Bool.{Bool, true, false, _&&_, _||_, true≢false}
-use mathlib.Core.List.{List, [], _∷_}
+use mathlib.Core.List.{List, _∷_}
 use mathlib.Core.Option.{Option, none}
-use mathlib.Core.Path.{_≡_, refl, _∙_, sym, ap}
+use mathlib.Core.Path.{_≡_, refl, _∙_, sym}
 use Prim.Native.Nat.{ℕ, suc, _+_, _-_, _*_, _^_, _≤_, _<_}
 use Rattle.numerals.proofs.Tests.{and-false}
 use borrow.Author.Needs.{needs}
@@ -38,9 +38,9 @@ module _ (d w : ℕ) where
   no-digit true b e h = absurd (omega (arith, b refl, e, h))
   no-digit false b e h = refl
 
-  is-digit : (t : Bool) → d ≡ (if t then w else 16) → (d ≡ 16 → ⊥) → t ≡ true
-  is-digit true e n = refl
-  is-digit false e n = absurd (n e)
+  a-digit : (t : Bool) → d ≡ (if t then w else 16) → (d ≡ 16 → ⊥) → t ≡ true
+  a-digit true e n = refl
+  a-digit false e n = absurd (n e)
 
   its-value : (t : Bool) → d ≡ (if t then w else 16) → (d ≡ 16 → ⊥) → d ≡ w
   its-value true e n = e
@@ -51,10 +51,10 @@ module _ (v x d : ℕ) (xs : List ℕ) (e : d ≡ (if is-hex-digit x then hex-di
   ended h = rw (no-digit d (hex-digit x) (is-hex-digit x) (below-16 x) e h)
 
   turn : (d ≡ 16 → ⊥) → left v (x ∷ xs) ≡ left (16 * v + d) xs
-  turn n = rw (is-digit d (hex-digit x) (is-hex-digit x) e n, its-value d (hex-digit x) (is-hex-digit x) e n)
+  turn n = rw (a-digit d (hex-digit x) (is-hex-digit x) e n, its-value d (hex-digit x) (is-hex-digit x) e n)
 
   small-digit : (d ≡ 16 → ⊥) → d < 16
-  small-digit n = rw (its-value d (hex-digit x) (is-hex-digit x) e n) (below-16 x (is-digit d (hex-digit x) (is-hex-digit x) e n))
+  small-digit n = rw (its-value d (hex-digit x) (is-hex-digit x) e n) (below-16 x (a-digit d (hex-digit x) (is-hex-digit x) e n))
 
 -- k digits write a number below 16 ^ k, and 16 of them one of 64 bits
 one-more : (k v d : ℕ) → v < 16 ^ k → d < 16 → 16 * v + d < 16 ^ suc k
