@@ -171,12 +171,15 @@ impl Pack {
         &self.fieldtypes[field.ft as usize].root_name
     }
 
-    /// The oracle's `resolve_match`: a u64 first, then a name by the reference's kind, not by the lookup's own.
+    /// A number first, decimal or else hexadecimal, then a name. Without the hexadecimal it is the oracle's `resolve_match`.
     pub fn resolve_match(&self, field: &Field) -> Option<u64> {
         let text = field.match_.as_ref()?;
-        if let Some(number) = parse_u64(text) {
-            return Some(number);
-        }
+        parse_u64(text).or_else(|| parse_hex(text)).or_else(|| self.named_match(field))
+    }
+
+    /// The value of the entry that the match names, by the reference's kind, not by the lookup's own.
+    pub fn named_match(&self, field: &Field) -> Option<u64> {
+        let text = field.match_.as_ref()?;
         let (kind, name) = field.reference.as_ref()?;
         let lookup = &self.lookups[self.lookup(name)?];
         // A lookup has entries in the list of its own kind alone; pair and bit share theirs.
@@ -185,6 +188,13 @@ impl Pack {
             _ => matches!(lookup.kind, Kind::Pair | Kind::Bit),
         };
         lookup.entries.iter().find(|entry| searched && entry.name == *text).map(|entry| entry.value)
+    }
+
+    /// Whether some match begins as a hexadecimal numeral, whatever follows. The oracle knows none of them, so that such a
+    /// pack is not compared with it.
+    pub fn has_hexadecimal_match(&self) -> bool {
+        let mut fields = self.trees.iter().flatten().flat_map(|pgn| &pgn.fields);
+        fields.any(|field| field.match_.as_ref().is_some_and(|text| after_0x(text).is_some()))
     }
 }
 
@@ -198,4 +208,17 @@ fn parse_u64(text: &[u8]) -> Option<u64> {
         let digit = digit.is_ascii_digit().then(|| u64::from(digit - b'0'))?;
         value.checked_mul(10)?.checked_add(digit)
     })
+}
+
+/// What stands behind 0x or 0X.
+pub fn after_0x(text: &[u8]) -> Option<&[u8]> {
+    text.strip_prefix(b"0x").or_else(|| text.strip_prefix(b"0X"))
+}
+
+/// 0x or 0X and 1 to 16 hexadecimal digits, leading zeros counted.
+pub fn parse_hex(text: &[u8]) -> Option<u64> {
+    let digits = after_0x(text)?;
+    // the std's parser alone would take a sign and any number of zeros
+    let fit = (1..=16).contains(&digits.len()) && digits.iter().all(u8::is_ascii_hexdigit);
+    fit.then(|| str::from_utf8(digits).ok().and_then(|digits| u64::from_str_radix(digits, 16).ok())).flatten()
 }

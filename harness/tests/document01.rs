@@ -215,7 +215,7 @@ fn special_values_of_other_widths() {
 
 #[test]
 fn matches_that_do_not_resolve() {
-    for unresolved in ["18446744073709551616", "", "+", "++1", " 1", "1 ", "0x1F"] {
+    for unresolved in ["18446744073709551616", "", "+", "++1", " 1", "1 ", "1F"] {
         let mut pack = clean();
         pgn(&mut pack).fields = vec![Field { match_: text(unresolved), ..field("a", 64) }];
         assert_eq!(causes(&pack, 13), [1], "{unresolved:?}");
