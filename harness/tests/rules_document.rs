@@ -100,7 +100,8 @@ fn pack_of(example: &Example) -> Pack {
     to_pack(example.source).unwrap_or_else(|error| panic!("{:?}: {error}", example.shows))
 }
 
-/// The findings of an example. The library and the Rust checker, where they are there, have the same.
+/// The findings of an example. The library and the Rust checker, where they are there, have the same; the Rust checker is
+/// not asked about a hexadecimal match.
 fn findings(pack: &Pack) -> Vec<Finding> {
     let bytes = encode(pack).bytes;
     assert!(read(&bytes).is_ok_and(|loaded| loaded.pack == *pack));
@@ -108,7 +109,7 @@ fn findings(pack: &Pack) -> Vec<Finding> {
     if let Some(theirs) = library::findings(pack) {
         assert_eq!(theirs, ours);
     }
-    if oracle::PRESENT {
+    if oracle::PRESENT && !pack.has_hexadecimal_match() {
         assert_eq!(oracle::violations(pack), Some(ours.iter().map(|finding| words::words(pack, finding)).collect()));
     }
     ours

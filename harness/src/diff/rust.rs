@@ -1,6 +1,6 @@
 //! The library against the Rust: its findings in the Rust's words, with its place texts, beside the oracle's violations.
 
-use super::{Failure, Growing, Run, difference, finish, keep};
+use super::{Compared, Failure, Growing, Run, difference, finish, keep};
 use crate::encode::{Encoded, encode};
 use crate::finding::Finding;
 use crate::generate::{Generator, packs_of_sizes};
@@ -28,6 +28,7 @@ pub fn rust(seed: u64, count: usize) -> Run {
         rules: RuleTable::new(),
         kinds: Table::new("packs", ["no finding", "no error", "errors"].map(String::from)),
         library: Growing::new(),
+        compared: Compared::default(),
     };
     for (case, pack) in packs_of_sizes(seed).enumerate() {
         let encoded = encode(&pack);
@@ -44,6 +45,7 @@ pub fn rust(seed: u64, count: usize) -> Run {
         "rust: {count} packs, seed {seed}, and some of up to 1 MiB: the library's findings and place texts are the \
          oracle's violations, word for word"
     );
+    println!("rust: {}", run.compared);
     finish(&[&run.rules.table, &run.kinds])
 }
 
@@ -51,10 +53,14 @@ struct RustRun {
     rules: RuleTable,
     kinds: Table,
     library: Growing,
+    compared: Compared,
 }
 
 impl RustRun {
     fn one_pack(&mut self, case: usize, pack: &Pack, encoded: &Encoded) -> Run {
+        if !self.compared.takes(pack) {
+            return Ok(());
+        }
         let say = |failure: Failure| format!("case {case}: {failure}\n{}", keep(&encoded.bytes));
         let (findings, errors) = self.library.check(&encoded.bytes).map_err(say)?;
         let mut ours = Vec::with_capacity(findings.len());

@@ -1,7 +1,7 @@
 //! What a silent R42 says: over packs of few SPNs and few scalings, no finding is of R42's cause 3 exactly where every two
 //! carriers of one SPN are alike. The findings are the model's, the library's and the oracle's.
 
-use super::{Failure, Growing, Run, finish, keep};
+use super::{Compared, Failure, Growing, Run, finish, keep};
 use crate::encode::encode;
 use crate::finding::Finding;
 use crate::generate::Generator;
@@ -20,9 +20,11 @@ pub fn spns(seed: u64, count: usize) -> Run {
     let mut generator = Generator::new(seed);
     let mut library = Growing::new();
     let mut table = Table::new("packs by what they show", ROWS.map(|(name, _)| name.into()));
+    let mut compared = Compared::default();
     for case in 0..count {
         let pack = generator.pack_of_spns();
-        one_pack(&pack, &mut library, case % ORACLE_STEP == 0).map_err(|failure| format!("case {case}: {failure}"))?;
+        let oracle_too = oracle::PRESENT && case % ORACLE_STEP == 0 && compared.takes(&pack);
+        one_pack(&pack, &mut library, oracle_too).map_err(|failure| format!("case {case}: {failure}"))?;
         let shown = Shown::new(&pack);
         for (row, (_, shows)) in ROWS.iter().enumerate() {
             if shows(&shown) {
@@ -34,6 +36,9 @@ pub fn spns(seed: u64, count: usize) -> Run {
         "spns: {count} packs, seed {seed}: no cause 3 exactly where every two carriers of one SPN are alike; no difference \
          (asked: {asked})"
     );
+    if oracle::PRESENT {
+        println!("spns, oracle: {compared}");
+    }
     finish(&[&table])
 }
 
@@ -62,7 +67,7 @@ fn one_pack(pack: &Pack, library: &mut Growing, oracle_too: bool) -> Run {
     if library::PRESENT {
         sides.push(("library", is_silent(&library.check(&bytes).map_err(say)?.0)));
     }
-    if oracle::PRESENT && oracle_too {
+    if oracle_too {
         let violations = oracle::violations(pack).ok_or("a generated pack is not UTF-8")?;
         let of_cause_3 = |words: &Words| words.rule == "R42" && words.message.contains(" decodes as ");
         sides.push(("oracle", !violations.iter().any(of_cause_3)));
