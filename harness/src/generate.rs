@@ -3,6 +3,7 @@
 
 mod change;
 mod fields;
+mod hexadecimal;
 mod pools;
 mod sample;
 mod sizes;
@@ -11,7 +12,7 @@ mod walks;
 
 use self::pools::*;
 pub use self::sample::sample_of_size;
-pub use self::sizes::{pack_of_digits, packs_of_sizes, pad};
+pub use self::sizes::{hexadecimal_packs_of_sizes, pack_of_digits, packs_of_sizes, pad};
 pub use self::walks::HARMFUL;
 use crate::rng::Rng;
 use crate::rules::match_set;
@@ -24,6 +25,8 @@ pub struct Generator {
     slip: usize,
     /// whether texts may be other than UTF-8
     bytes: bool,
+    /// whether matches and names may be hexadecimal numerals, or nearly so
+    hexadecimal: bool,
     types: Vec<FieldType>,
     lookups: Vec<Lookup>,
     spns: HashMap<u32, (u32, Float, Float, Option<Text>)>,
@@ -39,6 +42,7 @@ impl Generator {
             rng: Rng::new(seed),
             slip: 0,
             bytes: false,
+            hexadecimal: false,
             types: Vec::new(),
             lookups: Vec::new(),
             spns: HashMap::new(),
@@ -55,6 +59,7 @@ impl Generator {
     pub fn pack_with(&mut self, slip: usize, bytes: bool) -> Pack {
         self.bytes = bytes;
         self.slip = slip;
+        self.hexadecimal = self.rng.chance(1, hexadecimal::ONE_OF);
         self.begin();
         let mut trees = [const { Vec::new() }; 3];
         for (tree, pgns) in trees.iter_mut().enumerate() {
@@ -152,7 +157,7 @@ impl Generator {
             _ if bits >= 64 => u64::MAX,
             _ => 1 << bits,
         };
-        for i in 0..self.rng.below(4) as u64 {
+        for i in 0..self.rng.below(if self.hexadecimal { 5 } else { 4 }) as u64 {
             if i >= room {
                 break;
             }
@@ -166,6 +171,9 @@ impl Generator {
                     entry.nested = self.maybe(|g| text(g.rng.pick(names)));
                 }
                 _ => {}
+            }
+            if self.hexadecimal && self.rng.chance(3, 4) {
+                entry.name = self.name_like_a_numeral(&lookup).unwrap_or(entry.name);
             }
             while self.slips() {
                 self.change_entry(kind, &mut entry);
@@ -183,6 +191,12 @@ impl Generator {
 
     fn add_pgn(&mut self, tree: usize, fields: usize, pgns: &mut Vec<Pgn>) {
         let mut pgn = self.pgn(tree, fields, pgns.len());
+        if self.hexadecimal
+            && self.rng.chance(1, 4)
+            && let Some(again) = pgns.last().and_then(|earlier| self.spelt_again(earlier))
+        {
+            pgn = Pgn { id: pgn.id, ..again };
+        }
         if self.slips() && !pgns.is_empty() {
             // a second record of one number, and maybe of one id
             let copied = self.rng.pick(pgns).clone();
@@ -228,6 +242,9 @@ impl Generator {
             };
             while self.slips() {
                 self.change_field(&mut field);
+            }
+            if self.hexadecimal && self.slip > 0 && self.rng.chance(1, 10) {
+                self.match_at_a_width(&mut field);
             }
             pgn.fields.push(field);
         }

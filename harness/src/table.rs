@@ -32,9 +32,10 @@ impl Table {
 impl fmt::Display for Table {
     fn fmt(&self, f: &mut fmt::Formatter) -> fmt::Result {
         writeln!(f, "{}", self.title)?;
+        let width = self.rows.iter().map(|(name, _)| name.len()).max().unwrap_or(0).max(12);
         for row in self.rows.chunks(5) {
             for (name, count) in row {
-                write!(f, "  {name:>12} {count:>9}")?;
+                write!(f, "  {name:>width$} {count:>9}")?;
             }
             writeln!(f)?;
         }

@@ -2,11 +2,12 @@
 //! the library beside it.
 
 use super::case::{Answers, Case, Lengths};
-use super::{Lent, Run, finish, keep, short_inputs};
+use super::matches::PACKS_OF_MATCHES;
+use super::{Lent, Matches, Run, finish, keep, short_inputs};
 use crate::damage::damage;
 use crate::encode::encode;
 use crate::finding::{FIELDTYPES, GROUP, LOOKUP, PGN};
-use crate::generate::{Generator, pack_of_digits, packs_of_sizes};
+use crate::generate::{Generator, hexadecimal_packs_of_sizes, pack_of_digits, packs_of_sizes};
 use crate::table::{RuleTable, Table};
 use crate::value::Pack;
 use crate::{calls, library, words};
@@ -20,11 +21,15 @@ pub fn check(seed: u64, count: usize) -> Run {
         println!("check: no library linked (SARWYMP_LIB names its folder), so only the model of the calls is tried");
     }
     let mut run = CheckRun::new(seed);
-    for pack in packs_of_sizes(seed).chain([pack_of_digits()]) {
+    for pack in packs_of_sizes(seed).chain(hexadecimal_packs_of_sizes(seed)).chain([pack_of_digits()]) {
         run.pack_and_damaged(&pack, 1)?;
     }
     for bytes in short_inputs() {
         run.one_each(&Case::new(&bytes))?;
+    }
+    for case in 0..PACKS_OF_MATCHES {
+        let pack = run.generator.pack_of_matches();
+        run.pack_and_damaged(&pack, 0).map_err(|failure| format!("matches, case {case}: {failure}"))?;
     }
     for case in 0..count {
         let bytes = run.generator.rng.chance(1, 2);
@@ -32,7 +37,8 @@ pub fn check(seed: u64, count: usize) -> Run {
         run.pack_and_damaged(&pack, 2).map_err(|failure| format!("case {case}: {failure}"))?;
     }
     println!("check: {count} packs with 2 damaged copies each, seed {seed}, and every short input: no difference");
-    finish(&[&run.rules.table, &run.checks.table, &run.texts.table, &run.places, &run.lengths.table])
+    let tables = [&run.rules.table, &run.matches.table, &run.checks.table, &run.texts.table, &run.places];
+    finish(&[&tables[..], &[&run.lengths.table]].concat())
 }
 
 /// The buffers whose lengths are varied.
@@ -41,6 +47,7 @@ const BUFFERS: [&str; 3] = ["work", "findings", "text"];
 struct CheckRun {
     generator: Generator,
     rules: RuleTable,
+    matches: Matches,
     checks: Answers,
     texts: Answers,
     places: Table,
@@ -54,6 +61,7 @@ impl CheckRun {
         CheckRun {
             generator: Generator::new(seed),
             rules: RuleTable::new(),
+            matches: Matches::new(),
             checks: Answers::new("answers of check", "findings", &[21, 22]),
             texts: Answers::new("answers of place text", "text", &[21, 23, 24]),
             places: Table::new("place texts", places.map(|(place, tree)| place_row(place, tree))),
@@ -154,6 +162,10 @@ impl CheckRun {
         if number == 0 {
             let numbers: Vec<u32> = case.list.iter().flat_map(|finding| finding.numbers()).collect();
             findings_after = findings_after.with(&numbers);
+        }
+        if let (0, Ok(loaded)) = (number, &case.read) {
+            let pgns = loaded.pack.trees.iter().flatten();
+            pgns.flat_map(|pgn| &pgn.fields).for_each(|field| self.matches.judged(&loaded.pack, field));
         }
         let said = || format!("check, work of {work_lent}, findings of {findings_lent}: {answer:?}");
         if work != case.work_after(work_lent, number) || findings != findings_after {

@@ -2,14 +2,15 @@
 //! leaves in the buffers, the walk without history beside it, and the library.
 
 use super::case::{Answers, Case, Lengths};
-use super::{Lent, Run, finish, keep};
+use super::matches::{PACKS_OF_MATCHES, takes};
+use super::{Lent, Matches, Run, finish, keep};
 use crate::damage::damage;
 use crate::encode::encode;
 use crate::finding::Finding;
-use crate::generate::{Generator, HARMFUL, packs_of_sizes};
+use crate::generate::{Generator, HARMFUL, hexadecimal_packs_of_sizes, packs_of_sizes};
 use crate::quick_walk::quick_walk;
 use crate::table::Table;
-use crate::value::{Pack, Pgn};
+use crate::value::{Field, Pack, Pgn};
 use crate::walk::{End, held, passes_of_nested};
 use crate::{calls, library};
 
@@ -29,7 +30,7 @@ pub fn walk(seed: u64, count: usize) -> Run {
         println!("walk: no library linked (SARWYMP_LIB names its folder), so only the model of the calls is tried");
     }
     let mut run = WalkRun::new(seed);
-    for pack in packs_of_sizes(seed) {
+    for pack in packs_of_sizes(seed).chain(hexadecimal_packs_of_sizes(seed)) {
         run.few(&pack)?;
     }
     for fields in MANY_FIELDS {
@@ -37,6 +38,10 @@ pub fn walk(seed: u64, count: usize) -> Run {
             let pack = run.generator.pack_of_fields(fields);
             run.pack_and_damaged(&pack).map_err(|failure| format!("{fields} fields: {failure}"))?;
         }
+    }
+    for _ in 0..PACKS_OF_MATCHES {
+        let pack = run.generator.pack_of_matches();
+        run.pack_and_damaged(&pack).map_err(|failure| format!("matches, pack {}: {failure}", run.packs))?;
     }
     while run.triples < count {
         let pack = run.some_pack();
@@ -47,7 +52,8 @@ pub fn walk(seed: u64, count: usize) -> Run {
          and no stop on a held PGN of a pack without error",
         run.triples, run.packs, run.refused
     );
-    finish(&[&run.ends, &run.pgns, &run.lists, &run.walks.table, &run.helds.table, &run.lengths.table])
+    let tables = [&run.ends, &run.pgns, &run.lists, &run.matches.table, &run.walks.table, &run.helds.table];
+    finish(&[&tables[..], &[&run.lengths.table]].concat())
 }
 
 /// The buffers whose lengths are varied.
@@ -62,6 +68,7 @@ struct WalkRun {
     ends: Table,
     pgns: Table,
     lists: Table,
+    matches: Matches,
     walks: Answers,
     helds: Answers,
     lengths: Lengths,
@@ -90,6 +97,7 @@ impl WalkRun {
             ends: Table::new("ends of walks", End::all().map(|end| end.to_string())),
             pgns: Table::new("PGNs", kinds.map(String::from)),
             lists: Table::new("lists walked", lists.into_iter().chain(stops).map(String::from).chain(harmful)),
+            matches: Matches::new(),
             walks: Answers::new("answers of walk", "walked", &[21, 23, 25]),
             helds: Answers::new("answers of held", "told", &[21, 23]),
             lengths: Lengths::new(&BUFFERS),
@@ -254,6 +262,11 @@ impl WalkRun {
             ("long, safe", call.named.safe && count >= LONG),
         ];
         is.iter().filter(|(_, is)| *is).for_each(|(row, _)| self.lists.reached(row));
+        if let (Ok(loaded), Some(pgn)) = (&call.case.read, call.pgn()) {
+            for field in judged_for_stop_4(&loaded.pack, pgn, end, visits) {
+                self.matches.judged(&loaded.pack, field);
+            }
+        }
         if stops && call.named.safe {
             return Err(format!("{end} after {count} visits of a held PGN in a pack without error"));
         }
@@ -280,6 +293,23 @@ impl WalkRun {
             _ => Ok(()),
         }
     }
+}
+
+/// Fields with a match that the walk judged for stop 4: those that it visited, and where it ended so the first bad one
+/// behind the last visit, unless a set that holds it may have been skipped.
+fn judged_for_stop_4<'a>(pack: &Pack, pgn: &'a Pgn, end: End, visits: &[u32]) -> Vec<&'a Field> {
+    let matching = pgn.fields.iter().enumerate().filter(|(_, field)| field.match_.is_some());
+    let mut judged: Vec<&Field> =
+        matching.clone().filter(|(index, _)| visits.contains(&(*index as u32))).map(|(_, field)| field).collect();
+    if end == End::Stop(4) {
+        let behind = visits.last().map_or(0, |visit| *visit as usize + 1);
+        let bad = |field: &Field| !pack.resolve_match(field).is_some_and(|value| takes(field, value));
+        let mut bad = matching.filter(|(index, field)| *index >= behind && bad(field));
+        let first = bad.next();
+        let in_a_set = |index: usize| pgn.sets.iter().flatten().any(|set| set.holds(index as u32 + 1));
+        judged.extend(first.filter(|(index, _)| !in_a_set(*index) || bad.next().is_none()).map(|(_, field)| field));
+    }
+    judged
 }
 
 /// What a call is given; held is given no readings and no visit buffer.

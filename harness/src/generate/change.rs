@@ -22,7 +22,7 @@ impl Generator {
             (0, Kind::Fieldtype) => entry.fieldtype = self.pool(&["NUMBER", "missing"]),
             (1, Kind::Fieldtype) => entry.nested = self.maybe(|g| g.pool(&["A", "missing"])),
             (0 | 1, Kind::Triplet) => entry.first = u64::MAX,
-            (2, _) => entry.name = self.pool(&["n0", "n1", "7", ""]),
+            (2, _) => entry.name = self.pool(&["n0", "n1", "7", "", "0x1F", "+0x1F"]),
             _ => entry.value = *self.rng.pick(&[0, 1, 7, 8, 255, 1 << 63, u64::MAX]),
         }
     }
@@ -122,6 +122,7 @@ impl Generator {
             15 => field.offset = self.maybe(|g| Float::of(*g.rng.pick(&FLOATS))),
             16 => field.spn = self.maybe(|g| *g.rng.pick(&[0, 1, 2, 3, 524287, 524288, u32::MAX])),
             17 | 23 => field.continues = self.maybe(Self::some_id),
+            18 if self.hexadecimal => self.match_at_a_width(field),
             18 => field.match_ = self.maybe(|g| g.pool(&MATCHES)),
             19 => field.reference = self.maybe(|g| (*g.rng.pick(&Kind::ALL), g.pool(&LOOKUPS))),
             20 => field.special_values = self.maybe(|g| *g.rng.pick(&[0, 1, 2, 3, 4, u32::MAX])),

@@ -53,7 +53,9 @@ impl Generator {
         };
         let mut maker = field("manufacturerCode", lookup, "LOOKUP", 11, Some("MANUFACTURER_CODE"));
         if self.coin() {
-            maker.match_ = Some(text(self.rng.below(4).to_string()));
+            let hexadecimal = self.hexadecimal && self.coin();
+            let number = self.rng.below(4) as u64;
+            maker.match_ = Some(if hexadecimal { self.numeral(number) } else { text(number.to_string()) });
         }
         Some([
             maker,
@@ -125,7 +127,10 @@ impl Generator {
             Role::Continues => self.continue_earlier(pgn, i, &mut field),
             Role::Key | Role::Str | Role::Typed => {}
         }
-        if role != Role::Continues && field.res_bits > 0 && field.match_.is_none() && self.rng.chance(1, 6) {
+        let may_match = role != Role::Continues && field.res_bits > 0 && field.match_.is_none();
+        if may_match && self.hexadecimal && self.rng.chance(1, 3) {
+            field.match_ = Some(self.numeral_within(field.res_bits));
+        } else if may_match && self.rng.chance(1, 6) {
             field.match_ = Some(text(self.rng.pick(&["0", "1", "+1", "01"])));
         }
         if self.rng.chance(1, 6) {
@@ -178,7 +183,10 @@ impl Generator {
         }
         let searched = matches!(lookup.kind, Kind::Pair | Kind::Fieldtype);
         if searched && !lookup.entries.is_empty() && self.rng.chance(1, 2) {
-            field.match_ = Some(self.rng.pick(&lookup.entries).name.clone());
+            let name = &self.rng.pick(&lookup.entries).name;
+            // a name that is a numeral counts as its number
+            let fits = |number: u64| field.res_bits >= 64 || number >> field.res_bits == 0;
+            field.match_ = Some(name.clone()).filter(|name| parse_hex(name).is_none_or(fits));
         }
     }
 

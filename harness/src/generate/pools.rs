@@ -95,7 +95,8 @@ pub const GOOD_NUMBERS: [&[(u32, PacketType)]; 3] = {
 pub const TEXTS: [&str; 12] =
     ["", "a", "f0", "f1", "reserved", "reserved7", "reservedX", "spare", "spare1a", "é", "n0", "a,1=2"];
 pub const NAMES: [&str; 6] = ["Reserved", "Spare", "SPN 1", "SPN 2", "x", ""];
-pub const MATCHES: [&str; 18] = [
+/// None begins with 0x, so that the oracle can be asked.
+pub const MATCHES: [&str; 22] = [
     "0",
     "1",
     "2",
@@ -114,4 +115,8 @@ pub const MATCHES: [&str; 18] = [
     "18446744073709551615",
     "18446744073709551616",
     "\"é\u{7f}",
+    "+0x1F",
+    "-0x1",
+    "00x1",
+    "x1F",
 ];

@@ -6,8 +6,13 @@ use crate::reader::LIMIT;
 use crate::value::*;
 
 impl Generator {
-    /// A pack of exactly `size` bytes, where that is large enough (256 bytes or so).
+    /// A pack of exactly `size` bytes, where that is large enough (256 bytes or so). It has no hexadecimals.
     pub fn pack_of_size(&mut self, size: usize, slip: usize) -> Pack {
+        self.hexadecimal = false;
+        self.any_pack_of_size(size, slip)
+    }
+
+    fn any_pack_of_size(&mut self, size: usize, slip: usize) -> Pack {
         self.bytes = false;
         self.slip = slip;
         self.begin();
@@ -76,6 +81,12 @@ pub fn packs_of_sizes(seed: u64) -> impl Iterator<Item = Pack> {
     let mut generator = Generator::new(seed);
     let sizes = [1 << 10, 1 << 13, 1 << 16, 1 << 18, LIMIT - 1, LIMIT, LIMIT + 1];
     sizes.into_iter().map(move |size| generator.pack_of_size(size, 20))
+}
+
+/// Packs of some sizes with hexadecimals.
+pub fn hexadecimal_packs_of_sizes(seed: u64) -> impl Iterator<Item = Pack> {
+    let mut generator = Generator { hexadecimal: true, ..Generator::new(seed) };
+    [1 << 12, 1 << 15, 1 << 18].into_iter().map(move |size| generator.any_pack_of_size(size, 20))
 }
 
 /// PGNs with numbers at each edge of their digits, in each tree.

@@ -1,5 +1,6 @@
 //! Packs and readings for the walk: good packs in which some PGNs get what may stop it, and lists that are meant to do harm.
 
+use super::hexadecimal::ONE_OF;
 use super::{Generator, text};
 use crate::value::*;
 
@@ -16,13 +17,37 @@ impl Generator {
 
     /// The same with a single PGN of so many fields.
     pub fn pack_of_fields(&mut self, fields: usize) -> Pack {
+        let hexadecimal = self.rng.chance(1, ONE_OF);
+        let mut pack = self.pack_of_one(fields, hexadecimal);
+        self.aim_at_stops(&mut pack);
+        pack
+    }
+
+    /// A pack without error and with a single PGN of so many fields.
+    fn pack_of_one(&mut self, fields: usize, hexadecimal: bool) -> Pack {
         self.bytes = false;
         self.slip = 0;
+        self.hexadecimal = hexadecimal;
         self.begin();
         let mut pack =
             Pack { fieldtypes: self.types.clone(), lookups: self.lookups.clone(), trees: Default::default() };
         self.add_pgn(0, fields, &mut pack.trees[0]);
-        self.aim_at_stops(&mut pack);
+        pack
+    }
+
+    /// A single PGN of few fields, with many matches that are hexadecimal numerals or nearly so, good ones and others.
+    pub fn pack_of_matches(&mut self) -> Pack {
+        let fields = self.rng.between(1, 4);
+        let mut pack = self.pack_of_one(fields, true);
+        let pgn = &mut pack.trees[0][0];
+        if self.coin() {
+            pgn.sets = [None, None];
+        }
+        for field in &mut pgn.fields {
+            if self.coin() {
+                self.match_at_a_width(field);
+            }
+        }
         pack
     }
 
@@ -32,6 +57,10 @@ impl Generator {
                 let mut pgn = std::mem::take(&mut pack.trees[tree][item]);
                 if !pgn.fields.is_empty() && self.coin() {
                     self.aim_at_stop(pack, &mut pgn);
+                }
+                if !pgn.fields.is_empty() && self.hexadecimal && self.coin() {
+                    let at = self.rng.below(pgn.fields.len());
+                    self.match_at_a_width(&mut pgn.fields[at]);
                 }
                 pack.trees[tree][item] = pgn;
             }
@@ -99,10 +128,15 @@ impl Generator {
         }
     }
 
-    /// A match that no entry has, or the smallest number above the field's bits; at 64 bits and more the largest there is.
+    /// A match that hardly an entry has, or the smallest number above the field's bits; at 64 bits and more the largest.
     fn match_badly(&mut self, field: &mut Field) {
         let above = 1u64.checked_shl(field.res_bits).unwrap_or(u64::MAX);
-        field.match_ = Some(if self.coin() { text("no entry") } else { text(above.to_string()) });
+        field.match_ = Some(match self.rng.below(if self.hexadecimal { 4 } else { 2 }) {
+            0 => text("no entry"),
+            1 => text(above.to_string()),
+            2 => self.numeral(above),
+            _ => self.nearly_a_numeral(),
+        });
     }
 
     /// A reference, of any kind, to a fieldtype lookup with an entry that names something missing.
