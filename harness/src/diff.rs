@@ -4,7 +4,6 @@ mod case;
 mod check;
 mod growing;
 mod lent;
-mod matches;
 mod place;
 mod rust;
 mod spns;
@@ -13,7 +12,6 @@ mod walk;
 use self::check::check;
 use self::growing::Growing;
 use self::lent::Lent;
-use self::matches::Matches;
 use self::place::place;
 use self::rust::rust;
 use self::spns::spns;
@@ -48,6 +46,9 @@ pub const RUNS: [(&str, RunOver); 7] = [
     ("rust", rust),
     ("walk", walk),
 ];
+
+/// Of packs with few fields and many hexadecimal matches check and walk try so many, beside packs that have some by chance.
+const PACKS_OF_MATCHES: usize = 1000;
 
 /// The packs of a run that were compared with the oracle, and those that were not.
 #[derive(Default)]

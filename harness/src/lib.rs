@@ -7,6 +7,7 @@ pub mod encode;
 pub mod reader;
 
 pub mod finding;
+pub mod matches;
 pub mod rules;
 pub mod spns;
 pub mod words;

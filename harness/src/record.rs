@@ -9,9 +9,10 @@ use crate::damage::damage;
 use crate::encode::encode;
 use crate::finding::{CAUSES, FIELDTYPES, Finding, GROUP, LOOKUP, PGN};
 use crate::generate::{Generator, pack_of_digits};
+use crate::matches::Row;
 use crate::reader::{LIMIT, Refusal, read};
 use crate::report::worked_example;
-use crate::{text, words};
+use crate::{matches, text, words};
 use std::collections::HashMap;
 use std::fs;
 use std::path::Path;
@@ -21,8 +22,9 @@ const SEED: u64 = 2000;
 const LONGEST: usize = 1400;
 const README: &str = "\
 Recorded cases, made by `harness record` (seed 2000) from the harness's own reader, rules and walk, which its
-differential runs compare with the Rust checker. A case is kept where it reaches something that few before it reached:
-a refusal, a rule's cause, a place, an end of the walk.
+differential runs compare with the Rust checker, but for hexadecimal matches, which it does not know. A case is kept
+where it reaches something that few before it reached: a refusal, a rule's cause, a place, an end of the walk, a form of
+match that is hexadecimal or nearly so, with how it fares.
 
 Each folder has `stdin`, the number of cases and then the cases, and `stdout`, the lines that a program must write for
 them. In `stdin` a number has 4 bytes, lowest first, a reading 8; a pack is its length and its bytes, but one of more
@@ -37,7 +39,7 @@ load    a case: length of the work buffer, pack
 check   a case: pack, length of the work buffer, length of the findings buffer
         lines:  refused NUMBER DETAIL
            or   a line for each finding, its eight numbers and its place text, then: findings N errors N
-        Packs, some of them damaged: every rule and cause, every place, refusals 1 to 9, 21 and 22.
+        Packs, some of them damaged: every rule and cause, every place, every form of match, refusals 1 to 9, 21 and 22.
 place   a case: pack, length of the work buffer, place, tree, item, length of the text buffer
         lines:  refused NUMBER DETAIL (only where it is refused)
                 text BYTES (the whole buffer after the call, refused or not)
@@ -48,7 +50,7 @@ walk    a case: pack, length of the work buffer, tree, index of the PGN, length 
                 held or not held, or refused NUMBER DETAIL
                 visits NUMBER .. (the whole visit buffer after the call of walk, refused or not)
         At most 32768 bytes of pack, 1024 numbers of work, 64 readings and a visit buffer of 80. Every end, several passes
-        of nested sets, PGNs held and not held, refusals 1 to 8, 21, 23 and 25.
+        of nested sets, PGNs held and not held, every form of match, refusals 1 to 8, 21, 23 and 25.
 ";
 /// A longer pack is recorded by its length alone.
 const SPELT: usize = 65_536;
@@ -64,7 +66,7 @@ pub fn record(folder: &Path) -> Result<(), String> {
     write("README.txt", README.as_bytes())?;
     for (name, recording, all) in [
         ("load", load(), numbers((1..=9).chain([21]))),
-        ("check", check(), numbers((1..=9).chain([21, 22])).into_iter().chain(causes()).chain(places()).collect()),
+        ("check", check(), all_of_check()),
         ("place", place(), numbers((1..=8).chain([21, 23, 24])).into_iter().chain(places()).collect()),
         ("walk", walks(), numbers((1..=8).chain([21, 23, 25])).into_iter().chain(walk::all()).collect()),
     ] {
@@ -77,6 +79,11 @@ pub fn record(folder: &Path) -> Result<(), String> {
         println!("{name}: {} cases, {} bytes in, {} out", recording.cases, stdin.len(), recording.stdout.len());
     }
     Ok(())
+}
+
+fn all_of_check() -> Vec<String> {
+    let numbers = numbers((1..=9).chain([21, 22]));
+    numbers.into_iter().chain(causes()).chain(places()).chain(matches::rows().map(match_key)).collect()
 }
 
 /// What must be reached.
@@ -99,6 +106,10 @@ fn place_key(place: u32, tree: u32) -> String {
     format!("place {place} tree {tree}")
 }
 
+fn match_key((form, fares): Row) -> String {
+    format!("match {form} {fares}")
+}
+
 #[derive(Default)]
 struct Recording {
     stdin: Vec<u8>,
@@ -110,10 +121,16 @@ struct Recording {
 impl Recording {
     /// Whether one of these was reached fewer than `times` times; if so all of them are now reached once more.
     fn wants(&mut self, times: usize, reaches: &[String]) -> bool {
-        let wanted = reaches.iter().any(|key| self.reached.get(key).is_none_or(|count| *count < times));
+        self.wants_more(times, reaches, &[])
+    }
+
+    /// The same, or whether one of `once` was never reached.
+    fn wants_more(&mut self, times: usize, reaches: &[String], once: &[String]) -> bool {
+        let fewer = |key: &String, times: usize| self.reached.get(key).is_none_or(|count| *count < times);
+        let wanted = reaches.iter().any(|key| fewer(key, times)) || once.iter().any(|key| fewer(key, 1));
         if wanted {
             self.cases += 1;
-            for key in reaches {
+            for key in reaches.iter().chain(once) {
                 *self.reached.entry(key.clone()).or_default() += 1;
             }
         }
@@ -237,7 +254,14 @@ fn one_check(out: &mut Recording, bytes: &[u8], less: [usize; 2]) {
         }
         Err(refusal) => vec![refusal.number.to_string()],
     };
-    if work_lent.max(lent) > MOST || !out.wants(CHECKS, &reaches) {
+    let matches: Vec<String> = match (&read, answer) {
+        (Ok(loaded), Ok(_)) => {
+            let fields = loaded.pack.trees.iter().flatten().flat_map(|pgn| &pgn.fields);
+            fields.filter_map(|field| matches::row(&loaded.pack, field)).map(match_key).collect()
+        }
+        _ => Vec::new(),
+    };
+    if work_lent.max(lent) > MOST || !out.wants_more(CHECKS, &reaches, &matches) {
         return;
     }
     out.pack(bytes);
@@ -276,7 +300,7 @@ fn place() -> Recording {
         one_place(&mut out, &bytes, [PGN, tree, item as u32], [0, 0], usize::MAX);
         one_place(&mut out, &bytes, [GROUP, tree, pgn.pgn], [0, 2], usize::MAX);
     }
-    for case in 0..4_000 {
+    for case in 0..6_000 {
         let encoded = encode(&generator.pack(false));
         if encoded.bytes.len() > LONGEST / 2 {
             continue;

@@ -2,12 +2,12 @@
 //! the library beside it.
 
 use super::case::{Answers, Case, Lengths};
-use super::matches::PACKS_OF_MATCHES;
-use super::{Lent, Matches, Run, finish, keep, short_inputs};
+use super::{Lent, PACKS_OF_MATCHES, Run, finish, keep, short_inputs};
 use crate::damage::damage;
 use crate::encode::encode;
 use crate::finding::{FIELDTYPES, GROUP, LOOKUP, PGN};
 use crate::generate::{Generator, hexadecimal_packs_of_sizes, pack_of_digits, packs_of_sizes};
+use crate::matches::Matches;
 use crate::table::{RuleTable, Table};
 use crate::value::Pack;
 use crate::{calls, library, words};
@@ -164,8 +164,8 @@ impl CheckRun {
             findings_after = findings_after.with(&numbers);
         }
         if let (0, Ok(loaded)) = (number, &case.read) {
-            let pgns = loaded.pack.trees.iter().flatten();
-            pgns.flat_map(|pgn| &pgn.fields).for_each(|field| self.matches.judged(&loaded.pack, field));
+            let fields = loaded.pack.trees.iter().flatten().flat_map(|pgn| &pgn.fields);
+            fields.for_each(|field| self.matches.judged(&loaded.pack, field));
         }
         let said = || format!("check, work of {work_lent}, findings of {findings_lent}: {answer:?}");
         if work != case.work_after(work_lent, number) || findings != findings_after {

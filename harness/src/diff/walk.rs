@@ -2,15 +2,15 @@
 //! leaves in the buffers, the walk without history beside it, and the library.
 
 use super::case::{Answers, Case, Lengths};
-use super::matches::{PACKS_OF_MATCHES, takes};
-use super::{Lent, Matches, Run, finish, keep};
+use super::{Lent, PACKS_OF_MATCHES, Run, finish, keep};
 use crate::damage::damage;
 use crate::encode::encode;
 use crate::finding::Finding;
 use crate::generate::{Generator, HARMFUL, hexadecimal_packs_of_sizes, packs_of_sizes};
+use crate::matches::{Matches, judged_in_walk};
 use crate::quick_walk::quick_walk;
 use crate::table::Table;
-use crate::value::{Field, Pack, Pgn};
+use crate::value::{Pack, Pgn};
 use crate::walk::{End, held, passes_of_nested};
 use crate::{calls, library};
 
@@ -263,7 +263,7 @@ impl WalkRun {
         ];
         is.iter().filter(|(_, is)| *is).for_each(|(row, _)| self.lists.reached(row));
         if let (Ok(loaded), Some(pgn)) = (&call.case.read, call.pgn()) {
-            for field in judged_for_stop_4(&loaded.pack, pgn, end, visits) {
+            for field in judged_in_walk(&loaded.pack, pgn, end, visits) {
                 self.matches.judged(&loaded.pack, field);
             }
         }
@@ -293,23 +293,6 @@ impl WalkRun {
             _ => Ok(()),
         }
     }
-}
-
-/// Fields with a match that the walk judged for stop 4: those that it visited, and where it ended so the first bad one
-/// behind the last visit, unless a set that holds it may have been skipped.
-fn judged_for_stop_4<'a>(pack: &Pack, pgn: &'a Pgn, end: End, visits: &[u32]) -> Vec<&'a Field> {
-    let matching = pgn.fields.iter().enumerate().filter(|(_, field)| field.match_.is_some());
-    let mut judged: Vec<&Field> =
-        matching.clone().filter(|(index, _)| visits.contains(&(*index as u32))).map(|(_, field)| field).collect();
-    if end == End::Stop(4) {
-        let behind = visits.last().map_or(0, |visit| *visit as usize + 1);
-        let bad = |field: &Field| !pack.resolve_match(field).is_some_and(|value| takes(field, value));
-        let mut bad = matching.filter(|(index, field)| *index >= behind && bad(field));
-        let first = bad.next();
-        let in_a_set = |index: usize| pgn.sets.iter().flatten().any(|set| set.holds(index as u32 + 1));
-        judged.extend(first.filter(|(index, _)| !in_a_set(*index) || bad.next().is_none()).map(|(_, field)| field));
-    }
-    judged
 }
 
 /// What a call is given; held is given no readings and no visit buffer.

@@ -1,10 +1,11 @@
 //! The cases of walk and held.
 
-use super::{LONGEST, Recording, SEED, UNTOUCHED, UNVISITED, first_packs, spaced};
+use super::{LONGEST, Recording, SEED, UNTOUCHED, UNVISITED, first_packs, match_key, spaced};
 use crate::calls;
 use crate::damage::damage;
 use crate::encode::encode;
 use crate::generate::Generator;
+use crate::matches::{self, judged_in_walk};
 use crate::reader::{Loaded, Refusal, read};
 use crate::text::to_bytes;
 use crate::value::Pgn;
@@ -19,7 +20,7 @@ const VISITS: usize = 80;
 /// What must be reached beside the refusals.
 pub fn all() -> impl Iterator<Item = String> {
     let more = ["held", "not held", NESTED_PASSES, WITHIN_A_SET, LONGER, NO_VISIT_BUFFER, OTHER_REFUSALS];
-    End::all().map(|end| end.to_string()).chain(more.map(String::from))
+    End::all().map(|end| end.to_string()).chain(more.map(String::from)).chain(matches::rows().map(match_key))
 }
 
 const NESTED_PASSES: &str = "several passes of a nested set in several of the outer";
@@ -64,6 +65,12 @@ pub fn walks() -> Recording {
         one_walk(&mut out, &nested, [0, 0], readings, [0, 2], usize::MAX);
     }
     let mut generator = Generator::new(SEED);
+    for _ in 0..4_000 {
+        let bytes = encode(&generator.pack_of_matches()).bytes;
+        if bytes.len() <= LONGEST / 2 {
+            one_walk(&mut out, &bytes, [0, 0], &generator.readings(12), [0, 0], 1);
+        }
+    }
     for case in 0..40_000 {
         let encoded = encode(&generator.pack(false));
         // what no short pack has reached a longer one may
@@ -101,7 +108,8 @@ fn one_walk(
     let walked = calls::walk_pgn_as_read(&read, &mut work, tree, pgn, readings, &mut visits);
     let held = calls::held_pgn_as_read(&read, &mut work, tree, pgn);
     let fits = bytes.len() <= BYTES && work_lent <= WORK && readings.len() <= READINGS && lent <= VISITS;
-    if !fits || !out.wants(times, &reaches(&read, at, readings, walked, lent)) {
+    let (reaches, matches) = reaches(&read, at, readings, walked, lent);
+    if !fits || !out.wants_more(times, &reaches, &matches) {
         return;
     }
     out.pack(bytes);
@@ -122,23 +130,23 @@ fn one_walk(
     out.line(format!("visits{}", spaced(&visits)).as_bytes());
 }
 
-/// What the case shows.
+/// What the case shows, and which matches it judges.
 fn reaches(
     read: &Result<Loaded, Refusal>,
     [tree, pgn]: [u32; 2],
     readings: &[u64],
     answer: Result<[u64; 2], Refusal>,
     lent: usize,
-) -> Vec<String> {
+) -> (Vec<String>, Vec<String>) {
     let refused = answer.err().map(|refusal| refusal.number);
     let (Ok(loaded), None | Some(25)) = (read, refused) else {
-        return refused.iter().map(u32::to_string).collect();
+        return (refused.iter().map(u32::to_string).collect(), Vec::new());
     };
     let pack = &loaded.pack;
     let pgn = &pack.trees[tree as usize][pgn as usize];
     let held = if held(pack, pgn) { "held" } else { "not held" };
     if refused.is_some() {
-        return ["25", held, OTHER_REFUSALS].map(String::from).to_vec();
+        return (["25", held, OTHER_REFUSALS].map(String::from).to_vec(), Vec::new());
     }
     let walked = walk(pack, pgn, readings);
     let again = walked.visits.windows(2).any(|pair| pair[1] <= pair[0]);
@@ -152,7 +160,8 @@ fn reaches(
         (readings.is_empty() && lent == 0, NO_VISIT_BUFFER),
     ];
     reaches.extend(more.into_iter().filter(|(is, _)| *is).map(|(_, name)| name.to_string()));
-    reaches
+    let judged = judged_in_walk(pack, pgn, walked.end, &walked.visits);
+    (reaches, judged.into_iter().filter_map(|field| matches::row(pack, field)).map(match_key).collect())
 }
 
 /// Whether the latest visit was of a field in a set, and not of its last one.
