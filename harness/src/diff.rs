@@ -104,8 +104,10 @@ pub fn oracle(seed: u64, count: usize) -> Run {
             "no error"
         });
     }
-    println!("oracle: {count} packs, seed {seed}: the rules' findings are the oracle's violations, word for word");
-    println!("oracle: {compared}");
+    println!(
+        "oracle: {count} packs, seed {seed}: {compared}; of those compared the rules' findings are the oracle's violations, \
+         word for word"
+    );
     finish(&[&table.table, &kinds])
 }
 

@@ -42,10 +42,10 @@ pub fn rust(seed: u64, count: usize) -> Run {
         run.one_pack(case, &pack, &encode(&pack))?;
     }
     println!(
-        "rust: {count} packs, seed {seed}, and some of up to 1 MiB: the library's findings and place texts are the \
-         oracle's violations, word for word"
+        "rust: {count} packs, seed {seed}, and some of up to 1 MiB: {}; of those compared the library's findings and place \
+         texts are the oracle's violations, word for word",
+        run.compared
     );
-    println!("rust: {}", run.compared);
     finish(&[&run.rules.table, &run.kinds])
 }
 
