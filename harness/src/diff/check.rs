@@ -163,10 +163,6 @@ impl CheckRun {
             let numbers: Vec<u32> = case.list.iter().flat_map(|finding| finding.numbers()).collect();
             findings_after = findings_after.with(&numbers);
         }
-        if let (0, Ok(loaded)) = (number, &case.read) {
-            let fields = loaded.pack.trees.iter().flatten().flat_map(|pgn| &pgn.fields);
-            fields.for_each(|field| self.matches.judged(&loaded.pack, field));
-        }
         let said = || format!("check, work of {work_lent}, findings of {findings_lent}: {answer:?}");
         if work != case.work_after(work_lent, number) || findings != findings_after {
             return Err(format!("{}: the model's buffers are not as 01 has them\n{}", said(), keep(case.bytes)));
@@ -181,6 +177,10 @@ impl CheckRun {
                 said(),
                 keep(case.bytes)
             ));
+        }
+        if let (0, Ok(loaded)) = (number, &case.read) {
+            let fields = loaded.pack.trees.iter().flatten().flat_map(|pgn| &pgn.fields);
+            fields.for_each(|field| self.matches.judged(&loaded.pack, field));
         }
         Ok(())
     }

@@ -235,7 +235,20 @@ impl WalkRun {
             Some(theirs) if theirs != model => {
                 Err(format!("{}, the library {}", model.numbers_in_words(), theirs.unlike(&model)))
             }
-            _ => Ok(()),
+            _ => {
+                self.note_matches(call, &model);
+                Ok(())
+            }
+        }
+    }
+
+    /// The matches that were judged in a walk.
+    fn note_matches(&mut self, call: &Call, walked: &Walked) {
+        if let ((0, [end, count]), Ok(loaded), Some(pgn)) = (walked.numbers, &call.case.read, call.pgn()) {
+            let visits = &walked.visits.lent()[..count as usize];
+            for field in judged_in_walk(&loaded.pack, pgn, End::of_number(end), visits) {
+                self.matches.judged(&loaded.pack, field);
+            }
         }
     }
 
@@ -262,11 +275,6 @@ impl WalkRun {
             ("long, safe", call.named.safe && count >= LONG),
         ];
         is.iter().filter(|(_, is)| *is).for_each(|(row, _)| self.lists.reached(row));
-        if let (Ok(loaded), Some(pgn)) = (&call.case.read, call.pgn()) {
-            for field in judged_in_walk(&loaded.pack, pgn, end, visits) {
-                self.matches.judged(&loaded.pack, field);
-            }
-        }
         if stops && call.named.safe {
             return Err(format!("{end} after {count} visits of a held PGN in a pack without error"));
         }
