@@ -161,20 +161,7 @@ impl Generator {
             if i >= room {
                 break;
             }
-            // small ones are met by readings
-            let value = if kind == Kind::Fieldtype || self.coin() { i } else { room - 1 - i };
-            let mut entry = Entry { value, name: text(format!("n{i}")), ..Entry::default() };
-            match kind {
-                Kind::Triplet => entry.first = self.rng.below(3) as u64,
-                Kind::Fieldtype => {
-                    entry.fieldtype = self.rng.pick(&self.types).name.clone();
-                    entry.nested = self.maybe(|g| text(g.rng.pick(names)));
-                }
-                _ => {}
-            }
-            if self.hexadecimal && self.rng.chance(3, 4) {
-                entry.name = self.name_like_a_numeral(&lookup).unwrap_or(entry.name);
-            }
+            let mut entry = self.entry(&lookup, i, room, names);
             while self.slips() {
                 self.change_entry(kind, &mut entry);
             }
@@ -187,6 +174,25 @@ impl Generator {
             }
         }
         lookup
+    }
+
+    /// A lookup's next entry, with a value among so many.
+    fn entry(&mut self, lookup: &Lookup, i: u64, room: u64, names: &[&str]) -> Entry {
+        // small ones are met by readings
+        let value = if lookup.kind == Kind::Fieldtype || self.coin() { i } else { room - 1 - i };
+        let mut entry = Entry { value, name: text(format!("n{i}")), ..Entry::default() };
+        match lookup.kind {
+            Kind::Triplet => entry.first = self.rng.below(3) as u64,
+            Kind::Fieldtype => {
+                entry.fieldtype = self.rng.pick(&self.types).name.clone();
+                entry.nested = self.maybe(|g| text(g.rng.pick(names)));
+            }
+            _ => {}
+        }
+        if self.hexadecimal && self.rng.chance(3, 4) {
+            entry.name = self.name_like_a_numeral(lookup).unwrap_or(entry.name);
+        }
+        entry
     }
 
     fn add_pgn(&mut self, tree: usize, fields: usize, pgns: &mut Vec<Pgn>) {

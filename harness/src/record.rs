@@ -10,7 +10,7 @@ use crate::encode::encode;
 use crate::finding::{CAUSES, FIELDTYPES, Finding, GROUP, LOOKUP, PGN};
 use crate::generate::{Generator, pack_of_digits};
 use crate::matches::Row;
-use crate::reader::{LIMIT, Refusal, read};
+use crate::reader::{LIMIT, Loaded, Refusal, read};
 use crate::report::worked_example;
 use crate::{matches, text, words};
 use std::collections::HashMap;
@@ -237,6 +237,13 @@ fn check() -> Recording {
     out
 }
 
+/// The matches of a pack that has been read.
+fn matches_of(read: &Result<Loaded, Refusal>) -> Vec<String> {
+    let Ok(Loaded { pack, .. }) = read else { return Vec::new() };
+    let fields = pack.trees.iter().flatten().flat_map(|pgn| &pgn.fields);
+    fields.filter_map(|field| matches::row(pack, field)).map(match_key).collect()
+}
+
 /// A call of check whose work and findings buffers are `less` shorter than they should be.
 fn one_check(out: &mut Recording, bytes: &[u8], less: [usize; 2]) {
     let read = read(bytes);
@@ -254,13 +261,7 @@ fn one_check(out: &mut Recording, bytes: &[u8], less: [usize; 2]) {
         }
         Err(refusal) => vec![refusal.number.to_string()],
     };
-    let matches: Vec<String> = match (&read, answer) {
-        (Ok(loaded), Ok(_)) => {
-            let fields = loaded.pack.trees.iter().flatten().flat_map(|pgn| &pgn.fields);
-            fields.filter_map(|field| matches::row(&loaded.pack, field)).map(match_key).collect()
-        }
-        _ => Vec::new(),
-    };
+    let matches = if answer.is_ok() { matches_of(&read) } else { Vec::new() };
     if work_lent.max(lent) > MOST || !out.wants_more(CHECKS, &reaches, &matches) {
         return;
     }

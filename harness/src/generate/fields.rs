@@ -127,17 +127,22 @@ impl Generator {
             Role::Continues => self.continue_earlier(pgn, i, &mut field),
             Role::Key | Role::Str | Role::Typed => {}
         }
-        let may_match = role != Role::Continues && field.res_bits > 0 && field.match_.is_none();
-        if may_match && self.hexadecimal && self.rng.chance(1, 3) {
-            field.match_ = Some(self.numeral_within(field.res_bits));
-        } else if may_match && self.rng.chance(1, 6) {
-            field.match_ = Some(text(self.rng.pick(&["0", "1", "+1", "01"])));
+        if role != Role::Continues && field.res_bits > 0 && field.match_.is_none() {
+            field.match_ = self.fitting_match(field.res_bits);
         }
         if self.rng.chance(1, 6) {
             let most = [0, 1].get(field.res_bits as usize).copied().unwrap_or(3);
             field.special_values = Some(self.rng.below(most + 1) as u32);
         }
         field
+    }
+
+    /// Now and then a number that so many bits take, at least one.
+    fn fitting_match(&mut self, bits: u32) -> Option<Text> {
+        if self.hexadecimal && self.rng.chance(1, 3) {
+            return Some(self.numeral_within(bits));
+        }
+        self.rng.chance(1, 6).then(|| text(self.rng.pick(&["0", "1", "+1", "01"])))
     }
 
     pub(super) fn plain(&mut self, tree: usize, field: &mut Field) {

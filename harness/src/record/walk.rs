@@ -65,12 +65,7 @@ pub fn walks() -> Recording {
         one_walk(&mut out, &nested, [0, 0], readings, [0, 2], usize::MAX);
     }
     let mut generator = Generator::new(SEED);
-    for _ in 0..4_000 {
-        let bytes = encode(&generator.pack_of_matches()).bytes;
-        if bytes.len() <= LONGEST / 2 {
-            one_walk(&mut out, &bytes, [0, 0], &generator.readings(12), [0, 0], 1);
-        }
-    }
+    judge_matches(&mut out, &mut generator);
     for case in 0..40_000 {
         let encoded = encode(&generator.pack(false));
         // what no short pack has reached a longer one may
@@ -87,6 +82,16 @@ pub fn walks() -> Recording {
         }
     }
     out
+}
+
+/// Short packs for each form of match, before longer ones have it by chance.
+fn judge_matches(out: &mut Recording, generator: &mut Generator) {
+    for _ in 0..4_000 {
+        let bytes = encode(&generator.pack_of_matches()).bytes;
+        if bytes.len() <= LONGEST / 2 {
+            one_walk(out, &bytes, [0, 0], &generator.readings(12), [0, 0], 1);
+        }
+    }
 }
 
 /// A call of walk and one of held with a work buffer `less` shorter than it should be; the visit buffer is as long as the
