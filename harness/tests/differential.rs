@@ -2,7 +2,7 @@
 
 use harness::encode::encode;
 use harness::finding::Finding;
-use harness::generate::{Generator, packs_of_sizes};
+use harness::generate::{Generator, hexadecimal_packs_of_sizes, packs_of_sizes};
 use harness::reader::LIMIT;
 use harness::rules::check;
 use harness::value::{Lookup, Pack};
@@ -26,14 +26,24 @@ fn packs_of_sizes_have_them() {
     }
 }
 
+/// So that packs of each size go to the oracle, and are timed beside it.
+#[test]
+fn hexadecimal_matches_have_packs_of_sizes_of_their_own() {
+    assert!(!packs_of_sizes(1).any(|pack| pack.has_hexadecimal_match()));
+    assert!(hexadecimal_packs_of_sizes(1).all(|pack| pack.has_hexadecimal_match()));
+}
+
 #[test]
 fn packs_without_slips_are_without_error() {
     let mut generator = Generator::new(3);
+    let mut hexadecimal = 0;
     for _ in 0..5_000 {
         let pack = generator.pack_with(0, false);
+        hexadecimal += usize::from(pack.has_hexadecimal_match());
         let error = check(&pack).into_iter().find(Finding::is_error);
         assert_eq!(error.map(|finding| words(&pack, &finding)), None);
     }
+    assert!((500..1000).contains(&hexadecimal), "{hexadecimal} of 5000 have a hexadecimal match");
 }
 
 /// The library holds up to 1024 findings before it looks for them again, and marks up to 4096 lookups.
