@@ -1,5 +1,5 @@
-//! Matches in hexadecimal at their edges, spelt out: R13, the walk's stop 4 and R20, over the library, where it is linked, and
-//! over the harness's own rules and walks. The oracle knows no such numbers.
+//! Matches in hexadecimal at their edges, spelt out: R13, the walk's stop 4 and R20, over the library, where it is
+//! linked, and over the harness's own rules and walks. The oracle knows no such numbers.
 
 use harness::encode::encode;
 use harness::finding::Finding;

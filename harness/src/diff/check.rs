@@ -36,7 +36,10 @@ pub fn check(seed: u64, count: usize) -> Run {
         let pack = run.generator.pack(bytes);
         run.pack_and_damaged(&pack, 2).map_err(|failure| format!("case {case}: {failure}"))?;
     }
-    println!("check: {count} packs with 2 damaged copies each, seed {seed}, and every short input: no difference");
+    println!(
+        "check: {count} packs with 2 damaged copies each, {PACKS_OF_MATCHES} of hexadecimal matches, seed {seed}, and every \
+         short input: no difference"
+    );
     let tables = [&run.rules.table, &run.matches.table, &run.checks.table, &run.texts.table, &run.places];
     finish(&[&tables[..], &[&run.lengths.table]].concat())
 }
