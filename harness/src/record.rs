@@ -30,7 +30,7 @@ Each folder has `stdin`, the number of cases and then the cases, and `stdout`, t
 them. In `stdin` a number has 4 bytes, lowest first, a reading 8; a pack is its length and its bytes, but one of more
 than 65536 bytes is zeros, and only its length stands there. Before the call a work buffer of load and walk holds 165
 everywhere, a text buffer of place 46, a full stop, a visit buffer 170. In check and place no work or findings buffer has
-more than 2048 numbers.
+more than 1024 numbers.
 
 load    a case: length of the work buffer, pack
         lines:  refused NUMBER DETAIL
@@ -212,7 +212,7 @@ fn load() -> Recording {
 /// A case of check is kept where it reaches something that this many before it did not reach.
 const CHECKS: usize = 8;
 /// No buffer of check or place has more numbers.
-const MOST: usize = 2048;
+const MOST: usize = 1024;
 
 fn check() -> Recording {
     let mut out = Recording::default();
