@@ -1,15 +1,16 @@
 -- The stops 3 to 9 in the parts that code asks for: by the field alone, by its reading, by what is current. Together they are `stop-at`
 -- (proofs/Parts.antt).
-use Prim.Native.Nat.{ℕ, zero, suc}
+use Prim.Native.Nat.{ℕ, zero, suc, _+_, _*_, _-_}
 use mathlib.Core.Path.{_≡_}
-use mathlib.Core.Bool.{Bool, true, false}
+use mathlib.Core.Bool.{Bool, true, false, not, _&&_}
 use mathlib.Core.List.{List}
 use mathlib.Core.Option.{Option, none, some}
 use lib.ListN.{length, getD}
-use Rattle.pack.specs.Notation.{if_then_else_}
+use Rattle.pack.specs.Notation.{if_then_else_, _<ᵇ_, _==_}
 use Rattle.pack.specs.Value.{Reference, Field, Pgn, Pack, field-at, lookup-at}
 use Rattle.pack.specs.Meaning.{pack-of}
 use Rattle.pack.specs.Ready.{LookupAt}
+use Rattle.rules.specs.Search.{any-below}
 use Rattle.walk.specs.ByPlace.{placed}
 use Rattle.walk.specs.Layout.{layout}
 use Rattle.walk.specs.Stops.{lookup-missing, match-unfit, entries-name-missing, reference-names-missing, lacks, lacks-length, stop-at}
@@ -46,3 +47,13 @@ need-stop P p current i =
 -- each field that is marked stops the walk at no reading
 pub record Harmless (P : Pack) (p : Pgn) (marks : List Bool) : Type 0 where
   pub never : (k : ℕ) → getD marks k false ≡ true → (reading : ℕ) → stop-at P p (placed (layout p) (suc k)) k reading ≡ none
+
+-- WHAT IS REMEMBERED OF FIELD k: its mark, and up to four readings, from place 4 k on. The mark 1 + n, n at most 4: it stops at none but the
+-- first n of these readings. Any other mark says nothing.
+abbrev pub lets-pass : (marks bad : List ℕ) → (k reading : ℕ) → Bool
+lets-pass marks bad k reading =
+    (0 <ᵇ getD marks k 0) && (getD marks k 0 <ᵇ 6) && not (any-below (λ j. getD bad (4 * k + j) 0 == reading) (getD marks k 0 - 1))
+
+-- it is right: a reading that is let pass stops the walk nowhere
+pub record Remembered (P : Pack) (p : Pgn) (marks bad : List ℕ) : Type 0 where
+  pub never : (k reading : ℕ) → lets-pass marks bad k reading ≡ true → stop-at P p (placed (layout p) (suc k)) k reading ≡ none
