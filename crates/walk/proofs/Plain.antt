@@ -1,25 +1,30 @@
--- Visits between which only the order changes: no set begins or ends, and no countField is visited.
+-- Runs: visits within a stretch, from a set's pass into the next, and how they follow one another.
 use Prim.Native.Nat.{ℕ, zero, suc, pred, _+_, _-_, _≤_, _<_}
 use native.Mathlib.Omega.{arith}
 use native.Mathlib.Numerals.{add-one}
-use mathlib.Core.Path.{_≡_, refl, sym, ap, _∙_, fun-ext}
+use native.Mathlib.Decide.{ℕ-discrete}
+use mathlib.Core.Path.{_≡_, refl, sym, ap, subst, _∙_, fun-ext}
 use mathlib.Core.Bool.{Bool, true, false, not, _&&_, _||_, false≢true}
-use mathlib.Core.Option.{none}
+use mathlib.Core.Option.{Option, none, some}
 use mathlib.Core.List.{List}
-use lib.ListN.{length, getD, set, List·getD-eq-default}
+use lib.ListN.{length, getD, set, length-set, List·getD-eq-default}
+use borrow.Author.Tests.{eq-eqb, ne-eqb}
 use Rattle.pack.specs.Notation.{_==_}
-use Rattle.walk.specs.SetsOf.{opt-order}
+use Rattle.walk.specs.SetsOf.{SetsAre, has-orders, opt-order}
 use Rattle.walk.specs.Layout.{Layout, no-set}
-use Rattle.walk.specs.Passes.{Place, goto, present, ready, turn, stand}
+use Rattle.walk.specs.Passes.{Rest, Place, goto, goto-with, present, ready, turn, begins, goes-on, stand}
 use Rattle.walk.specs.Walk.{Stops, Settled, due, settled, onward}
 use Rattle.walk.specs.ByPlace.{placed, by-place, counts}
-use Rattle.walk.specs.State.{place-of, settled-of}
+use Rattle.walk.specs.Runs.{edge, PlainAt, written, left-with, spot-at, RunsTo}
+use Rattle.walk.specs.State.{two, left-of, rest-of, place-of, settled-of}
 use Rattle.walk.specs.Steps.{Run, no-step, then-step}
-use Rattle.walk.specs.SetsOf.{SetsAre, has-orders}
+use Rattle.walk.specs.StopParts.{lets-pass}
 use Rattle.walk.specs.declared.passes.Settling.{Settling}
-use Rattle.walk.specs.declared.sets.Set.{Set}
+use Rattle.walk.specs.declared.passes.Spot.{Spot}
+use Rattle.walk.specs.declared.runs.Turn.{Turn}
 use Rattle.walk.specs.declared.sets.Sets.{Sets}
-use Rattle.walk.proofs.Spots.{round-ready, first-goes-on, second-goes-on, closed-look, look-none}
+use Rattle.walk.proofs.Spots.{round-ready, round-again, first-goes-on, first-begins, second-goes-on, second-begins, closed-look, look-none}
+use Rattle.walk.proofs.Spots.{put-first, put-second}
 use Rattle.walk.proofs.Walks.{step-visits}
 
 pub or-parts : (a b : Bool) → (a || b) ≡ false → (a ≡ false) × (b ≡ false)
@@ -32,60 +37,157 @@ elsewhere : (h b x : Bool) → b ≡ false → false ≡ (h && b && x)
 elsewhere true b x e = rw e
 elsewhere false b x e = refl
 
--- whether the set begins at the order n, or ends before it
-abbrev pub edge : Set → ℕ → Bool
-edge v n = (v .start .0 == n) || (n == v .end .0)
+module _ {L : Layout} {v : Sets} (a : SetsAre L v) where
+  -- a visit of a field that is no countField
+  same-counts : (t : ℕ) → counts (opt-order (v .first .counter)) t ≡ false → counts (opt-order (v .second .counter)) t ≡ false → (g : ℕ → ℕ) (r : ℕ)
+      → by-place L .visit g t r ≡ g
+  same-counts t c₁ c₂ g r = fun-ext go
+    where
+      go : (k : ℕ) → by-place L .visit g t r k ≡ g k
+      go zero = rw (← a .first .counter, c₁)
+      go (suc zero) = rw (← a .second .counter, c₂)
+      go (suc (suc k)) = rw (List·getD-eq-default (L .sets) no-set {n = suc (suc k)} (omega (arith, a .two)))
 
-module _ {L : Layout} {v : Sets} (a : SetsAre L v) (p : Place) (o : ℕ) (po : p .order ≡ o) (low : o < v .fields) (f₁ : edge (v .first) (o + 1) ≡ false)
-    (f₂ : edge (v .second) (o + 1) ≡ false) where
-  abbrev next : Place
-  next = goto p (suc o)
+  pub uncounted-onward : (p : Place) (t : ℕ) → t ≡ p .order - 1 → counts (opt-order (v .first .counter)) t ≡ false
+      → counts (opt-order (v .second .counter)) t ≡ false → (g : ℕ → ℕ) (r : ℕ)
+      → onward L (by-place L) p g r ≡ settled L (by-place L) (goto p (suc (p .order))) g
+  unfolding onward
+  uncounted-onward p t et c₁ c₂ g r = let e : pred (p .order) ≡ t = omega (arith, et) in rw (e, same-counts t c₁ c₂ g r, onward)
 
-  stand-ready : stand L next ≡ ready next
-  stand-ready =
-      let e₁ = or-parts (v .first .start .0 == suc o) (suc o == v .first .end .0) (ap (edge (v .first)) (sym (add-one o)) ∙ f₁) in
-      let e₂ = or-parts (v .second .start .0 == suc o) (suc o == v .second .end .0) (ap (edge (v .second)) (sym (add-one o)) ∙ f₂) in
-      second-goes-on a next (turn (suc o == v .second .end .0) (p .left 1)) refl (ap (λ (b : Bool). turn b (p .left 1)) (e₂ .1))
-      ∙ first-goes-on a next (turn (suc o == v .first .end .0) (p .left 0)) refl (ap (λ (b : Bool). turn b (p .left 0)) (e₁ .1))
-      ∙ sym (closed-look a next (omega (arith, low)))
-      ∙ sym
-      (look-none a next false (elsewhere (has-orders (v .second)) (v .second .start .0 == suc o) (not (present (p .left 1))) (e₂ .0)) refl false
-      (elsewhere (has-orders (v .first)) (v .first .start .0 == suc o) (not (present (p .left 0))) (e₁ .0))
-      refl)
+  -- ---- within a stretch
 
-  module _ (t : ℕ) (et : t ≡ o - 1) (c₁ : counts (opt-order (v .first .counter)) t ≡ false)
-      (c₂ : counts (opt-order (v .second .counter)) t ≡ false) (g : ℕ → ℕ) (r : ℕ) where
-    same-counts : by-place L .visit g t r ≡ g
-    same-counts = fun-ext go
-      where
-        go : (k : ℕ) → by-place L .visit g t r k ≡ g k
-        go zero = rw (← a .first .counter, c₁)
-        go (suc zero) = rw (← a .second .counter, c₂)
-        go (suc (suc k)) = rw (List·getD-eq-default (L .sets) no-set {n = suc (suc k)} (omega (arith, a .two)))
+  module _ (p : Place) (o : ℕ) (x : PlainAt v o) where
+    abbrev next : Place
+    next = goto p (suc o)
 
-    pub plain-onward : onward L (by-place L) p g r ≡ due (goto p (suc o)) g
-    unfolding onward settled
-    plain-onward =
-        let e : pred (p .order) ≡ t = omega (arith, po, et) in
-        rw (e, same-counts, po) (sym (round-ready L g (length (L .fields)) (stand L next) next (sym stand-ready)))
+    stand-ready : stand L next ≡ ready next
+    stand-ready =
+        let e₁ = or-parts (v .first .start .0 == suc o) (suc o == v .first .end .0) (ap (edge (v .first)) (sym (add-one o)) ∙ x .first-edge) in
+        let e₂ = or-parts (v .second .start .0 == suc o) (suc o == v .second .end .0) (ap (edge (v .second)) (sym (add-one o)) ∙ x .second-edge) in
+        second-goes-on a next (turn (suc o == v .second .end .0) (p .left 1)) refl (ap (λ (b : Bool). turn b (p .left 1)) (e₂ .1))
+        ∙ first-goes-on a next (turn (suc o == v .first .end .0) (p .left 0)) refl (ap (λ (b : Bool). turn b (p .left 0)) (e₁ .1))
+        ∙ sym (closed-look a next (omega (arith, x .low)))
+        ∙ sym
+        (look-none a next false (elsewhere (has-orders (v .second)) (v .second .start .0 == suc o) (not (present (p .left 1))) (e₂ .0)) refl false
+        (elsewhere (has-orders (v .first)) (v .first .start .0 == suc o) (not (present (p .left 0))) (e₁ .0))
+        refl)
 
--- ---- a run
+    plain-settled : (g : ℕ → ℕ) → settled L (by-place L) next g ≡ due next g
+    unfolding settled
+    plain-settled g = sym (round-ready L g (length (L .fields)) (stand L next) next (sym stand-ready))
 
-pub run-starts : (L : Layout) (stops : Stops) (readings v : List ℕ) (n : ℕ) (p : Place) (g : ℕ → ℕ) (o : ℕ) → p .order ≡ o
-    → Run L stops readings v n (due p g) v n (due (goto p o) g)
-run-starts L stops readings v n p g o e = rw (← e) no-step
+    plain-onward : (g : ℕ → ℕ) (r : ℕ) → onward L (by-place L) (goto p o) g r ≡ due next g
+    plain-onward g r = uncounted-onward (goto p o) (o - 1) refl (x .first-count) (x .second-count) g r ∙ plain-settled g
 
-pub run-visits : {L : Layout} {stops : Stops} {readings v v′ : List ℕ} {n m : ℕ} {c : Settled (ℕ → ℕ)} (p : Place) (g : ℕ → ℕ) (o : ℕ)
-    → Run L stops readings v n c v′ m (due (goto p o) g) → m < length readings → 1 ≤ o → ((r : ℕ) → stops (placed L (suc (o - 1))) (o - 1) r ≡ none)
-    → ((r : ℕ) → onward L (by-place L) (goto p o) g r ≡ due (goto p (suc o)) g)
-    → Run L stops readings v n c (set v′ m (o - 1)) (m + 1) (due (goto p (o + 1)) g)
-run-visits {L} {stops} {readings} {v} {v′} {n} {m} {c} p g o R low one free to =
-    then-step R low (o - 1) (due (goto p (o + 1)) g)
-    (step-visits L stops (goto p o) g (getD readings m 0) (o - 1) refl one 0 (sym (free (getD readings m 0))) refl (due (goto p (o + 1)) g)
-    (ap (λ (x : ℕ). due (goto p x) g) (add-one o) ∙ sym (to (getD readings m 0))))
+  -- ---- from a set's pass into the next
+
+  module _ (x : Spot) (t : Turn) (m : ℕ) where
+    abbrev behind : Place
+    behind = goto (place-of (spot-at x t)) (suc (t .order .0))
+
+    pub again-second : t .order .0 + 1 ≡ v .second .end .0
+        → turn true (left-of (left-with (x .second) (t .second))) ≡ begins (rest-of (left-with (x .second) m .further)) → x .second .present ≡ true
+        → (u : Turn) → u ≡ record { order = v .second .start; first = t .first; second = m } → (g : ℕ → ℕ)
+        → settled L (by-place L) behind g ≡ due (place-of (spot-at x u)) g
+    unfolding settled
+    again-second ends anew there u eu g =
+        let rest = rest-of (left-with (x .second) m .further) in
+        let at-end = eq-eqb (suc (t .order .0)) (v .second .end .0) (omega (arith, ends)) in
+        let l₁ = left-of (left-with (x .first) (t .first)) in let l₂ = left-of (left-with (x .second) (t .second)) in
+        sym (round-again L g (length (L .fields)) (stand L behind) 1 (goto-with behind (v .second .start .0) 1 (some rest))
+        (sym (second-begins a behind (turn (suc (t .order .0) == v .second .end .0) l₂) refl rest (ap (λ (b : Bool). turn b l₂) at-end ∙ anew))))
+        ∙ ap (λ (l : ℕ → Option Rest). due (record { order = v .second .start .0; left = l }) g) (put-second l₁ l₂ none (some rest))
+        ∙ (rw (eu, there))
+
+    pub again-first : (t .order .0 + 1 ≡ v .second .end .0 → ⊥) → t .order .0 + 1 ≡ v .first .end .0
+        → turn true (left-of (left-with (x .first) (t .first))) ≡ begins (rest-of (left-with (x .first) m .further)) → x .first .present ≡ true
+        → (u : Turn) → u ≡ record { order = v .first .start; first = m; second = t .second } → (g : ℕ → ℕ)
+        → settled L (by-place L) behind g ≡ due (place-of (spot-at x u)) g
+    unfolding settled
+    again-first inner ends anew there u eu g =
+        let rest = rest-of (left-with (x .first) m .further) in
+        let at-end = eq-eqb (suc (t .order .0)) (v .first .end .0) (omega (arith, ends)) in
+        let not-end = ne-eqb (suc (t .order .0)) (v .second .end .0) (λ e. inner (omega (arith, e))) in
+        let l₁ = left-of (left-with (x .first) (t .first)) in let l₂ = left-of (left-with (x .second) (t .second)) in
+        sym (round-again L g (length (L .fields)) (stand L behind) 0 (goto-with behind (v .first .start .0) 0 (some rest))
+        (sym (second-goes-on a behind (turn (suc (t .order .0) == v .second .end .0) l₂) refl (ap (λ (b : Bool). turn b l₂) not-end)
+        ∙ first-begins a behind (turn (suc (t .order .0) == v .first .end .0) l₁) refl rest (ap (λ (b : Bool). turn b l₁) at-end ∙ anew))))
+        ∙ ap (λ (l : ℕ → Option Rest). due (record { order = v .first .start .0; left = l }) g) (put-first l₁ l₂ none (some rest))
+        ∙ (rw (eu, there))
+
+-- what holds below n and of n holds below n + 1
+pub below-next : (Q : ℕ → Type 0) {n : ℕ} → ((i : ℕ) → i < n → Q i) → Q n → (i : ℕ) → i < n + 1 → Q i
+below-next Q {n} below last i l = go (ℕ-discrete i n)
+  where
+    go : Dec (i ≡ n) → Q i
+    go (yes e) = subst Q (sym e) last
+    go (no e) = below i (omega (arith, l, e))
+
+pub free-passes : (marks bad : List ℕ) (k reading : ℕ) → getD marks k 0 ≡ 1 → lets-pass marks bad k reading ≡ true
+free-passes marks bad k reading e = rw e
+
+-- the orders behind plain ones are the PGN's
+pub plain-within : (v : Sets) (o k : ℕ) → o ≤ v .fields → ((j : ℕ) → j < k → PlainAt v (o + j)) → o + k ≤ v .fields
+plain-within v o zero low plain = omega (arith, low)
+plain-within v o (suc k) low plain = omega (arith, plain k (omega arith) .low)
+
+-- ---- what is written
+
+pub written-next : (w : List ℕ) (m k n : ℕ) → written w m k (n + 1) ≡ set (written w m k n) (m + n) (k + n)
+written-next w m k n = rw (add-one n)
+
+pub length-written : (w : List ℕ) (m k n : ℕ) → length (written w m k n) ≡ length w
+length-written w m k zero = refl
+length-written w m k (suc n) = length-set (written w m k n) (m + n) (k + n) ∙ length-written w m k n
+
+-- ---- one after the other
+
+module _ {v : Sets} {marks bad readings w : List ℕ} {n : ℕ} {x : Spot} where
+  pub runs-none : (y : Spot) → y ≡ x → RunsTo v marks bad readings w n x w n y
+  runs-none y e = rw e (record { run = λ L a stops harm g. no-step })
+
+  module _ {w′ : List ℕ} {m : ℕ} (t : Turn) (R : RunsTo v marks bad readings w n x w′ m (spot-at x t)) (one : 1 ≤ t .order .0) where
+    -- so many visits within a stretch
+    module _ (L : Layout) (a : SetsAre L v) (stops : Stops)
+        (harm : (k reading : ℕ) → lets-pass marks bad k reading ≡ true → stops (placed L (suc k)) k reading ≡ none) (g : ℕ → ℕ) where
+      abbrev here : ℕ → Place
+      here k = goto (place-of (spot-at x t)) (t .order .0 + k)
+
+      straight : (k : ℕ) → m + k ≤ length readings → ((j : ℕ) → j < k → PlainAt v (t .order .0 + j))
+          → ((j : ℕ) → j < k → lets-pass marks bad (t .order .0 - 1 + j) (getD readings (m + j) 0) ≡ true)
+          → Run L stops readings w n (due (place-of x) g) (written w′ m (t .order .0 - 1) k) (m + k) (due (here k) g)
+      straight zero few plain passing =
+          let e₁ : m + 0 ≡ m = omega arith in let e₂ : t .order .0 + 0 ≡ t .order .0 = omega arith in rw (e₁, e₂) (R .run L a stops harm g)
+      straight (suc k) few plain passing =
+          let o = t .order .0 in
+          let e₁ : m + suc k ≡ m + k + 1 = omega arith in let e₂ : o + suc k ≡ suc (o + k) = omega arith in
+          let before = straight k (omega (arith, few)) (λ j l. plain j (omega (arith, l))) (λ j l. passing j (omega (arith, l))) in
+          rw (e₁, e₂)
+          (then-step before (omega (arith, few)) (o - 1 + k) (due (goto (place-of (spot-at x t)) (suc (o + k))) g)
+          (step-visits L stops (here k) g (getD readings (m + k) 0) (o - 1 + k) (omega (arith, one)) (omega (arith, one)) 0
+          (sym (harm (o - 1 + k) (getD readings (m + k) 0) (passing k (omega arith)))) refl
+          (due (goto (place-of (spot-at x t)) (suc (o + k))) g)
+          (sym (plain-onward a (place-of (spot-at x t)) (o + k) (plain k (omega arith)) g (getD readings (m + k) 0)))))
+
+    pub runs-leap : (k : ℕ) → m + k ≤ length readings → ((j : ℕ) → j < k → PlainAt v (t .order .0 + j))
+        → ((j : ℕ) → j < k → lets-pass marks bad (t .order .0 - 1 + j) (getD readings (m + j) 0) ≡ true)
+        → (u : Turn) → u .order .0 ≡ t .order .0 + k → u .first ≡ t .first → u .second ≡ t .second
+        → RunsTo v marks bad readings w n x (written w′ m (t .order .0 - 1) k) (m + k) (spot-at x u)
+    runs-leap k few plain passing u eo e₁ e₂ = record {
+      run = λ L a stops harm g. rw (eo, e₁, e₂) (straight L a stops harm g k few plain passing);
+    }
+
+    pub runs-turn : m < length readings → lets-pass marks bad (t .order .0 - 1) (getD readings m 0) ≡ true
+        → (u : Turn) → ((L : Layout) → SetsAre L v → (g : ℕ → ℕ) (r : ℕ) → onward L (by-place L) (place-of (spot-at x t)) g r ≡ due (place-of (spot-at x u)) g)
+        → RunsTo v marks bad readings w n x (set w′ m (t .order .0 - 1)) (m + 1) (spot-at x u)
+    runs-turn low passing u to = record {
+      run = λ L a stops harm g. then-step (R .run L a stops harm g) low (t .order .0 - 1) (due (place-of (spot-at x u)) g)
+          (step-visits L stops (place-of (spot-at x t)) g (getD readings m 0) (t .order .0 - 1) refl one 0
+          (sym (harm (t .order .0 - 1) (getD readings m 0) passing)) refl (due (place-of (spot-at x u)) g) (sym (to L a g (getD readings m 0))));
+    }
 
 -- from a state where a field is due
-pub run-told : {L : Layout} {stops : Stops} {readings v v′ : List ℕ} {n m : ℕ} (x y : Settling) (g : ℕ → ℕ) (q : Place) → x .due ≡ true
-    → settled-of y g ≡ due q g
-    → Run L stops readings v n (due (place-of (x .spot)) g) v′ m (due q g) → Run L stops readings v n (settled-of x g) v′ m (settled-of y g)
+pub run-told : {L : Layout} {stops : Stops} {readings w w′ : List ℕ} {n m : ℕ} (x y : Settling) (g : ℕ → ℕ) (q : Spot) → x .due ≡ true
+    → settled-of y g ≡ due (place-of q) g → Run L stops readings w n (due (place-of (x .spot)) g) w′ m (due (place-of q) g)
+    → Run L stops readings w n (settled-of x g) w′ m (settled-of y g)
 run-told x y g q d e R = rw (d, e) R

@@ -16,6 +16,8 @@ pub mod StopParts
 -- what the values of the walk mean
 pub mod State
 pub mod Steps
+-- visits in a run
+pub mod Runs
 -- the calls
 pub mod WalkCall
 pub mod Naming

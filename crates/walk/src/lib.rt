@@ -1,6 +1,6 @@
 pub mod guaranteed;
-mod harmless;
 mod held;
+mod memory;
 mod named;
 mod orders;
 mod passes;
@@ -8,4 +8,5 @@ mod runs;
 mod sets;
 mod steps;
 mod stops;
+mod stretches;
 pub mod walk;

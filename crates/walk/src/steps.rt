@@ -1,9 +1,9 @@
 // One step of the walk, its state, and several steps in a run.
 ghost use mathlib.Core.Path.{_≡_};
-ghost use mathlib.Core.Bool.{true, false};
+ghost use mathlib.Core.Bool.{true};
 ghost use mathlib.Core.Option.{none};
 ghost use Prim.Native.Nat.{ℕ, suc, _≤_, _<_};
-ghost use lib.ListN.{length, getD};
+ghost use lib.ListN.{length};
 ghost use Rattle.pack.specs.Meaning.{pack-of};
 ghost use Rattle.pack.specs.Notation.{if_then_else_};
 ghost use Rattle.walk.specs.ByPlace.{by-place, placed};
@@ -13,12 +13,12 @@ ghost use Rattle.walk.specs.Passes.{first};
 ghost use Rattle.walk.specs.SetsOf.{SetsAre};
 ghost use Rattle.walk.specs.State.{place-of, memory-of};
 ghost use Rattle.walk.specs.Steps.{Run, one-step, used, state-of, step-of, Within};
-ghost use Rattle.walk.specs.StopParts.{Harmless};
+ghost use Rattle.walk.specs.StopParts.{Remembered, lets-pass};
 ghost use Rattle.walk.specs.Stops.{stop-at};
 ghost use Rattle.walk.specs.Walk.{Stops, due, settled, onward};
 ghost use Rattle.walk.specs.WalkCall.{ending};
 ghost use Rattle.walk.specs.declared.walk.End.the-variants.{Whole, Stop};
-use crate::harmless::stop_at;
+use crate::memory::stop_at;
 use crate::named::FoundPgn;
 use crate::orders::first_order;
 use crate::orders::index_of;
@@ -103,25 +103,26 @@ fn step_at(
     s: &[u8],
     work: &[u32],
     found: FoundPgn,
-    harmless: &mut [bool],
+    marks: &mut [u8],
+    bad: &mut [u64],
     counts: Counts,
     spot: Spot,
     reading: u64,
 ) -> Stepping
     requires { ⌜ record {
       pgn : IsFound (now s) (now work) found;
-      harmless : Harmless (pack-of (now s)) (found-pgn (now s) found) (now harmless);
+      remembered : Remembered (pack-of (now s)) (found-pgn (now s) found) (now marks) (now bad);
       first : 1 ≤ spot .order .0;
       within : spot .order .0 ≤ length (found-pgn (now s) found .fields);
     } ⌝ }
     ensures { λ r. ⌜ record {
       step : step-of r ≡ one-step (layout (found-pgn (now (s .entry)) found)) (stop-at (pack-of (now (s .entry))) (found-pgn (now (s .entry)) found))
           (due (place-of spot) (memory-of counts)) reading;
-      harmless : Harmless (pack-of (now (s .entry))) (found-pgn (now (s .entry)) found) (now (harmless .exit));
+      remembered : Remembered (pack-of (now (s .entry))) (found-pgn (now (s .entry)) found) (now (marks .exit)) (now (bad .exit));
     } ⌝ }
 {
     let field = index_of(spot.order);
-    let stop = stop_at(s, work, found, harmless, field.0, reading);
+    let stop = stop_at(s, work, found, marks, bad, field.0, reading);
     if stop != 0 {
         return Stepping::Ended(End::Stop(stop));
     }
@@ -134,19 +135,20 @@ pub fn step(
     s: &[u8],
     work: &[u32],
     found: FoundPgn,
-    harmless: &mut [bool],
+    marks: &mut [u8],
+    bad: &mut [u64],
     state: State,
     reading: u64,
 ) -> Stepping
     requires { ⌜ record {
       pgn : IsFound (now s) (now work) found;
-      harmless : Harmless (pack-of (now s)) (found-pgn (now s) found) (now harmless);
+      remembered : Remembered (pack-of (now s)) (found-pgn (now s) found) (now marks) (now bad);
       within : Within (layout (found-pgn (now s) found)) (state-of state);
     } ⌝ }
     ensures { λ r. ⌜ record {
       step : step-of r ≡ one-step (layout (found-pgn (now (s .entry)) found)) (stop-at (pack-of (now (s .entry))) (found-pgn (now (s .entry)) found))
           (state-of state) reading;
-      harmless : Harmless (pack-of (now (s .entry))) (found-pgn (now (s .entry)) found) (now (harmless .exit));
+      remembered : Remembered (pack-of (now (s .entry))) (found-pgn (now (s .entry)) found) (now (marks .exit)) (now (bad .exit));
     } ⌝ }
 {
     let settling = state.settling;
@@ -155,7 +157,8 @@ pub fn step(
             s,
             work,
             found,
-            harmless,
+            marks,
+            bad,
             state.counts,
             settling.spot,
             reading,
@@ -178,7 +181,8 @@ pub fn used(state: State) -> End
 // A run from where the walk is, with n visits made.
 pub fn run_on(
     sets: Sets,
-    harmless: &[bool],
+    marks: &[u8],
+    bad: &[u64],
     state: State,
     readings: &[u64],
     visits: &mut [u32],
@@ -186,24 +190,24 @@ pub fn run_on(
 ) -> Ran
     requires { ⌜ record {
       due : state .settling .due ≡ true → record { first : 1 ≤ state .settling .spot .order .0; within : state .settling .spot .order .0 ≤ sets .fields };
+      small : sets .fields < 4294967295;
       read : n ≤ length (now readings);
       room : length (now readings) ≤ length (now visits);
     } ⌝ }
     ensures { λ r. ⌜ record {
       at-least : n ≤ r .visits;
       read : r .visits ≤ length (now (readings .entry));
-      ran : (L : Layout) → SetsAre L sets → (stops : Stops) →
-          ((k : ℕ) → getD (now (harmless .entry)) k false ≡ true → (reading : ℕ) → stops (placed L (suc k)) k reading ≡ none) → Run L stops
-          (now (readings .entry)) (now (visits .entry)) n (state-of state) (now (visits .exit)) (r .visits) (state-of (r .state));
+      ran : (L : Layout) → SetsAre L sets → (stops : Stops)
+          → ((k reading : ℕ) → lets-pass (now (marks .entry)) (now (bad .entry)) k reading ≡ true → stops (placed L (suc k)) k reading ≡ none)
+          → Run L stops (now (readings .entry)) (now (visits .entry)) n (state-of state) (now (visits .exit)) (r .visits) (state-of (r .state));
     } ⌝ }
 {
     let settling = state.settling;
     if !settling.due {
         return Ran { state, visits: n };
     }
-    let spot = settling.spot;
-    let end = run(sets, harmless, spot.order, readings, visits, n);
-    let next = due(moved(spot, end.order));
+    let end = run(sets, marks, bad, settling.spot, readings, visits, n);
+    let next = due(end.spot);
     let counts = state.counts;
     Ran {
         state: State {

@@ -7,7 +7,7 @@ ghost use Rattle.pack.specs.Load.{over};
 ghost use Rattle.pack.specs.Meaning.{pack-of};
 ghost use Rattle.walk.specs.Layout.{layout, stop-1};
 ghost use Rattle.walk.specs.Naming.{IsFound, found-pgn, found-walk, found-judged};
-ghost use Rattle.walk.specs.StopParts.{Harmless};
+ghost use Rattle.walk.specs.StopParts.{Remembered};
 ghost use Rattle.walk.specs.Walk.{walk};
 ghost use Rattle.walk.specs.WalkCall.{told, visits-left, Walks, TellsHeld};
 use crate::held::held_at;
@@ -40,18 +40,19 @@ pub enum HeldAnswer {
     Held(bool),
 }
 
-// The walk past stop 1, with marks for fields that stop at no reading.
+// The walk past stop 1, with a memory of what is known of the fields.
 fn walk_on(
     s: &[u8],
     work: &[u32],
     found: FoundPgn,
-    harmless: &mut [bool],
+    marks: &mut [u8],
+    bad: &mut [u64],
     readings: &[u64],
     visits: &mut [u32],
 ) -> Walked
     requires { ⌜ record {
       pgn : IsFound (now s) (now work) found;
-      harmless : Harmless (pack-of (now s)) (found-pgn (now s) found) (now harmless);
+      remembered : Remembered (pack-of (now s)) (found-pgn (now s) found) (now marks) (now bad);
       no-stop-1 : stop-1 (layout (found-pgn (now s) found)) ≡ false;
       room : length (now readings) ≤ length (now visits);
     } ⌝ }
@@ -65,11 +66,11 @@ fn walk_on(
     let mut state = begin(sets);
     let mut n = 0;
     while n < readings.len() {
-        match step(s, work, found, harmless, state, readings[n]) {
+        match step(s, work, found, marks, bad, state, readings[n]) {
             Stepping::Ended(end) => return Walked::Ended { end, visits: n },
             Stepping::Visited { field, next } => {
                 write_visit(visits, n, field);
-                let ran = run_on(sets, harmless, next, readings, visits, n + 1);
+                let ran = run_on(sets, marks, bad, next, readings, visits, n + 1);
                 state = ran.state;
                 n = ran.visits;
             }
@@ -77,6 +78,54 @@ fn walk_on(
     }
     let end = used(state);
     Walked::Ended { end, visits: n }
+}
+
+// The same with a memory for 256 fields.
+fn walk_short(
+    s: &[u8],
+    work: &[u32],
+    found: FoundPgn,
+    readings: &[u64],
+    visits: &mut [u32],
+) -> Walked
+    requires { ⌜ record {
+      pgn : IsFound (now s) (now work) found;
+      no-stop-1 : stop-1 (layout (found-pgn (now s) found)) ≡ false;
+      room : length (now readings) ≤ length (now visits);
+    } ⌝ }
+    ensures { λ r. ⌜ record {
+      answer : r ≡ told (walk (pack-of (now (s .entry))) (found-pgn (now (s .entry)) found) (now (readings .entry)));
+      out : now (visits .exit)
+          ≡ over (walk (pack-of (now (s .entry))) (found-pgn (now (s .entry)) found) (now (readings .entry)) .visits) (now (visits .entry));
+    } ⌝ }
+{
+    let mut marks = [0u8; 256];
+    let mut bad = [0u64; 1024];
+    walk_on(s, work, found, &mut marks, &mut bad, readings, visits)
+}
+
+// With a memory for as many fields as a pack can have, and for the readings of the first 1,024 of them.
+fn walk_long(
+    s: &[u8],
+    work: &[u32],
+    found: FoundPgn,
+    readings: &[u64],
+    visits: &mut [u32],
+) -> Walked
+    requires { ⌜ record {
+      pgn : IsFound (now s) (now work) found;
+      no-stop-1 : stop-1 (layout (found-pgn (now s) found)) ≡ false;
+      room : length (now readings) ≤ length (now visits);
+    } ⌝ }
+    ensures { λ r. ⌜ record {
+      answer : r ≡ told (walk (pack-of (now (s .entry))) (found-pgn (now (s .entry)) found) (now (readings .entry)));
+      out : now (visits .exit)
+          ≡ over (walk (pack-of (now (s .entry))) (found-pgn (now (s .entry)) found) (now (readings .entry)) .visits) (now (visits .entry));
+    } ⌝ }
+{
+    let mut marks = [0u8; 32768];
+    let mut bad = [0u64; 4096];
+    walk_on(s, work, found, &mut marks, &mut bad, readings, visits)
 }
 
 // The walk over a PGN that is found.
@@ -94,8 +143,10 @@ fn walk_at(s: &[u8], work: &[u32], found: FoundPgn, readings: &[u64], visits: &m
             visits: 0,
         };
     }
-    let mut harmless = [false; 256];
-    walk_on(s, work, found, &mut harmless, readings, visits)
+    if found.sets.fields <= 256 {
+        return walk_short(s, work, found, readings, visits);
+    }
+    walk_long(s, work, found, readings, visits)
 }
 
 // "then 21, 23, 25": 25, and the walk.

@@ -1,118 +1,222 @@
-use Rattle.walk.proofs.Plain.{run-starts, run-visits}
-use Rattle.walk.specs.ByPlace.{placed}
-use Rattle.walk.specs.Layout.{Layout}
-use Rattle.walk.specs.Passes.{Place, goto}
-use Rattle.walk.specs.SetsOf.{SetsAre}
-use Rattle.walk.specs.Steps.{Run}
-use Rattle.walk.specs.Walk.{Stops, due}
-use borrow.Author.Tests.{not-false}
-use native.Mathlib.Omega.{arith}
-use Prim.Native.Nat.{ℕ, suc, _-_, _≤_}
-use mathlib.Core.Path.{_≡_, refl, _∙_}
-use mathlib.Core.Bool.{true, false}
-use mathlib.Core.Option.{none}
-use lib.ListN.{length, getD}
+use Rattle.walk.proofs.Plain.{plain-within, runs-none, runs-leap, runs-turn}
+use Rattle.walk.specs.Runs.{PlainAt, Straight, RunsTo, spot-at}
 use denote.Ref.{now}
+use lib.ListN.{length}
+use mathlib.Core.Path.{_≡_, refl, _∙_}
+use Prim.Native.Nat.{ℕ, _+_, _-_, _≤_, _<_}
+use borrow.Author.Tests.{not-false}
+use borrow.Author.Needs.{needs}
+use native.Mathlib.Omega.{arith}
 use Rattle.walk.proofs.runs.run.Statement.{statement}
 use Rattle.walk.proofs.runs.run.Tie as tie
+use Rattle.walk.proofs.runs.run.Reads as reads
+use Rattle.walk.proofs.runs.run.Lts as lts
+use Rattle.walk.proofs.orders.index_of.Reads as index-of-reads
+use Rattle.walk.proofs.runs.leap.Reads as leap-reads
+use Rattle.walk.proofs.runs.moved_on.Reads as moved-on-reads
+use Rattle.walk.proofs.runs.pass_on.Reads as pass-on-reads
+use Rattle.walk.proofs.runs.spot_at.Reads as spot-at-reads
+use Rattle.walk.proofs.runs.write_visit.Reads as write-visit-reads
+use Rattle.walk.proofs.stretches.no_stretch.Reads as no-stretch-reads
+use Rattle.walk.proofs.stretches.stretch_at.Reads as stretch-at-reads
 
 abbrev Inv-loop : tie.InvT-loop
-Inv-loop sets harmless readings visits₀ n o₀ m₀ visits o m =
+Inv-loop sets marks bad spot readings visits₀ n here₀ m₀ stretch₀ visits here m stretch =
     record {
-      first : 1 ≤ o .0;
-      within : o .0 ≤ sets .fields;
+      first : 1 ≤ here .order .0;
+      within : here .order .0 ≤ sets .fields;
       at-least : n ≤ m;
       read : m ≤ length readings;
-      length : length visits ≡ length visits₀;
-      ran : (L : Layout) → SetsAre L sets → (stops : Stops)
-          → ((k : ℕ) → getD harmless k false ≡ true → (reading : ℕ) → stops (placed L (suc k)) k reading ≡ none) → (p : Place) → p .order ≡ o₀ .0 → (g : ℕ → ℕ)
-          → Run L stops readings visits₀ n (due p g) visits m (due (goto p (o .0)) g);
+      same : length visits ≡ length visits₀;
+      straight : Straight sets marks stretch;
+      runs : RunsTo sets marks bad readings visits₀ n spot visits m (spot-at spot here);
     }
 
 abbrev μ-loop : tie.MeasureT-loop
-μ-loop sets harmless readings visits₀ n o₀ m₀ visits o m = length readings - m
+μ-loop sets marks bad spot readings visits₀ n here₀ m₀ stretch₀ visits here m stretch = length readings - m
 
+-- src/runs.rt:361:9
+no-stretch-requires : tie.Need-no-stretch-requires Inv-loop μ-loop
+no-stretch-requires c κs = search needs
+
+-- src/runs.rt:362:5
 loop-holds : tie.Need-loop-holds Inv-loop μ-loop
 loop-holds c =
-    let start = c .before .before .before in
+    let start = c .before .before .before .before .before .before in
     record {
       first = start .pre .first;
       within = start .pre .within;
       at-least = omega (arith, c);
       read = start .pre .read;
-      length = refl;
-      ran = λ L a stops harm p h g. run-starts L stops (now (start .args .readings)) (now (start .args .visits)) (start .args .n) p g (start .args .order .0) h;
+      same = refl;
+      straight = record {
+        plain = λ o lo hi. absurd (omega (arith, lo, hi, c .no-stretch .ensures .from, c .no-stretch .ensures .to));
+        free = λ h o lo hi. absurd (omega (arith, lo, hi, c .no-stretch .ensures .from, c .no-stretch .ensures .to));
+      };
+      runs = runs-none (start .args .spot) refl;
     }
 
-runs-at-requires : tie.Need-runs-at-requires Inv-loop μ-loop
-runs-at-requires c κs = c .before .loop .inv .first
+-- src/runs.rt:363:9
+stretch-at-requires : tie.Need-stretch-at-requires Inv-loop μ-loop
+stretch-at-requires c κs = record { first = c .before .loop .inv .first; straight = c .before .loop .inv .straight }
 
-same-length : tie.Need-same-length Inv-loop μ-loop
-same-length c =
+-- src/runs.rt:364:13
+leap-requires : tie.Need-leap-requires Inv-loop μ-loop
+leap-requires c κs =
+    let start = c .before .before .before .before .before .before .before .before .before .before in
     let loop = c .before .before .before .loop in
-    loop .inv .length
+    record {
+      first = loop .inv .first;
+      to = c .before .stretch-at .ensures .to;
+      free = λ h x lo hi. c .before .stretch-at .ensures .straight .free h x (omega (arith, lo, c .before .stretch-at .ensures .from)) hi;
+      read = loop .inv .read;
+      room = omega (arith, start .pre .room, loop .inv .same);
+    }
 
-returns : tie.Need-returns Inv-loop μ-loop
-returns c =
-    let loop = c .before .before .before .loop in
-    record { at-least = loop .inv .at-least; read = loop .inv .read; ran = loop .inv .ran }
+-- src/runs.rt:365:9
+moved-on-requires : tie.Need-moved-on-requires Inv-loop μ-loop
+moved-on-requires c κs =
+    let stretch-at = c .before .before .before .before .stretch-at in
+    omega (arith, c .before .before .leap .ensures .within, stretch-at .ok)
 
-index-of-requires : tie.Need-index-of-requires Inv-loop μ-loop
-index-of-requires c κs =
-    let loop = c .before .before .before .before .loop in
-    loop .inv .first
-
-write-visit-requires : tie.Need-write-visit-requires Inv-loop μ-loop
-write-visit-requires c κs =
-    let start = c .before .before .before .before .before .before .before .before .before in
-    let loop = c .before .before .before .before .before .loop in
-    let loop-test = c .before .before .before .before .loop-test in
-    omega (arith, loop-test .taken, loop .inv .length, start .pre .room)
-
-next-order-requires : tie.Need-next-order-requires Inv-loop μ-loop
-next-order-requires c κs =
-    let runs-at = c .before .before .before .before .before .before .runs-at in
-    let if1 = c .before .before .before .before .before .if1 in
-    omega (arith, runs-at .ensures .within (not-false (runs-at .result) (if1 .left)))
-
+-- src/runs.rt:366:9
 add-m : tie.Need-add-m Inv-loop μ-loop
 add-m c =
     let back12 = c .before .before .before .before .before .before .before .before .before .before .before .before in
-    let start = back12 .before in
-    let loop-test = c .before .before .before .before .before .before .before .before .loop-test in
-    omega (arith, loop-test .taken, start .good .1 .1 .1 .0)
+    let start = back12 .before .before in
+    let leap = c .before .before .before .leap in
+    omega (arith, leap .ensures .read, start .good .1 .1 .1 .1 .0)
 
+-- src/runs.rt:367:13
+pass-on-requires : tie.Need-pass-on-requires Inv-loop μ-loop
+pass-on-requires c κs =
+    let back12 = c .before .before .before .before .before .before .before .before .before .before .before .before in
+    let start = back12 .before .before in
+    let loop = c .before .before .before .before .before .before .before .loop in
+    let stretch-at = c .before .before .before .before .before .stretch-at in
+    let leap = c .before .before .before .leap in
+    let sets = start .args .sets in
+    let o = loop .here .order .0 in
+    let plain : (j : ℕ) → j < leap .result → PlainAt sets (o + j) =
+    λ j l. stretch-at .ensures .straight .plain (o + j) (omega (arith, stretch-at .ensures .from)) (omega (arith, l, leap .ensures .within)) in
+    record {
+      first = omega (arith, c .moved-on .ensures .order, loop .inv .first);
+      small = omega (arith, c .moved-on .ensures .order, plain-within sets o (leap .result) (loop .inv .within) plain, start .pre .small);
+    }
+
+-- src/runs.rt:370:23
+spot-at-requires : tie.Need-spot-at-requires Inv-loop μ-loop
+spot-at-requires c κs = search needs
+
+-- src/runs.rt:369:13
+same-length : tie.Need-same-length Inv-loop μ-loop
+same-length c =
+    let loop = c .before .before .before .before .before .before .before .before .before .before .before .loop in
+    let leap = c .before .before .before .before .before .before .before .leap in
+    leap .kept .1 .1 .1 .1 .1 .0 ∙ loop .inv .same
+
+-- src/runs.rt:369:13
+returns : tie.Need-returns Inv-loop μ-loop
+returns c =
+    let back12 = c .before .before .before .before .before .before .before .before .before .before .before .before in
+    let start = back12 .before .before .before .before .before .before in
+    let loop = c .before .before .before .before .before .before .before .before .before .before .before .loop in
+    let stretch-at = c .before .before .before .before .before .before .before .before .before .stretch-at in
+    let leap = c .before .before .before .before .before .before .before .leap in
+    let moved-on = c .before .before .before .before .moved-on in
+    let o = loop .here .order .0 in
+    let plain : (j : ℕ) → j < leap .result → PlainAt (start .args .sets) (o + j) =
+    λ j l. stretch-at .ensures .straight .plain (o + j) (omega (arith, stretch-at .ensures .from)) (omega (arith, l, leap .ensures .within)) in
+    record {
+      at-least = omega (arith, loop .inv .at-least);
+      read = leap .ensures .read;
+      runs = rw (c .spot-at .ensures, leap .ensures .out) (runs-leap (loop .here) (loop .inv .runs) (loop .inv .first) (leap .result) (leap .ensures .read)
+          plain (leap .ensures .passing) (moved-on .result) (moved-on .ensures .order) (moved-on .ensures .first) (moved-on .ensures .second));
+    }
+
+-- src/runs.rt:374:32
+index-of-requires : tie.Need-index-of-requires Inv-loop μ-loop
+index-of-requires c κs =
+    let loop = c .before .before .before .before .before .before .before .before .before .before .before .loop in
+    let moved-on = c .before .before .before .before .moved-on in
+    omega (arith, moved-on .ensures .order, loop .inv .first)
+
+-- src/runs.rt:374:9
+write-visit-requires : tie.Need-write-visit-requires Inv-loop μ-loop
+write-visit-requires c κs =
+    let back12 = c .before .before .before .before .before .before .before .before .before .before .before .before in
+    let start = back12 .before .before .before .before .before .before .before in
+    let loop = c .before .before .before .before .before .before .before .before .before .before .before .before .loop in
+    let leap = c .before .before .before .before .before .before .before .before .leap in
+    let pass-on = c .before .before .before .before .pass-on in
+    omega (
+      arith,
+      pass-on .ensures .read (not-false (pass-on .result .given) (c .before .before .if1 .left)),
+      start .pre .room,
+      leap .kept .1 .1 .1 .1 .1 .0,
+      loop .inv .same,
+    )
+
+-- src/runs.rt:376:9
+add-m-2 : tie.Need-add-m-2 Inv-loop μ-loop
+add-m-2 c =
+    let back12 = c .before .before .before .before .before .before .before .before .before .before .before .before in
+    let start = back12 .before .before .before .before .before .before .before .before .before .before .before in
+    let pass-on = c .before .before .before .before .before .before .before .before .pass-on in
+    let if1 = c .before .before .before .before .before .before .if1 in
+    omega (arith, pass-on .ensures .read (not-false (pass-on .result .given) (if1 .left)), start .good .1 .1 .1 .1 .0)
+
+-- src/runs.rt:362:5
 loop-less : tie.Need-loop-less Inv-loop μ-loop
 loop-less c =
-    let loop-test = c .before .before .before .before .before .before .before .before .loop-test in
-    omega (arith, loop-test .taken)
+    let pass-on = c .before .before .before .before .before .before .before .before .pass-on in
+    let if1 = c .before .before .before .before .before .before .if1 in
+    omega (arith, pass-on .ensures .read (not-false (pass-on .result .given) (if1 .left)))
 
+-- src/runs.rt:362:5
 loop-again : tie.Need-loop-again Inv-loop μ-loop
 loop-again c =
-    let loop = c .before .before .before .before .before .before .before .before .before .loop in
-    let loop-test = c .before .before .before .before .before .before .before .before .loop-test in
-    let runs-at = c .before .before .before .before .before .before .before .runs-at in
+    let back12 = c .before .before .before .before .before .before .before .before .before .before .before .before in
+    let start = back12 .before .before .before .before .before .before .before .before .before .before .before in
+    let loop = back12 .before .before .before .before .loop in
+    let stretch-at = back12 .before .before .stretch-at in
+    let leap = c .before .before .before .before .before .before .before .before .before .before .before .before .leap in
+    let moved-on = c .before .before .before .before .before .before .before .before .before .moved-on in
+    let pass-on = c .before .before .before .before .before .before .before .before .pass-on in
     let if1 = c .before .before .before .before .before .before .if1 in
     let index-of = c .before .before .before .before .index-of in
     let write-visit = c .before .before .before .write-visit in
-    let runs = not-false (runs-at .result) (if1 .left) in
-    let order = loop .o .0 in
+    let o = loop .here .order .0 in
+    let plain : (j : ℕ) → j < leap .result → PlainAt (start .args .sets) (o + j) =
+    λ j l. stretch-at .ensures .straight .plain (o + j) (omega (arith, stretch-at .ensures .from)) (omega (arith, l, leap .ensures .within)) in
+    let given = not-false (pass-on .result .given) (if1 .left) in
+    let here = moved-on .result in
     record {
-      first = omega (arith, c .next-order .ensures);
-      within = omega (arith, c .next-order .ensures, runs-at .ensures .within runs);
+      first = pass-on .ensures .first given;
+      within = pass-on .ensures .within given;
       at-least = omega (arith, loop .inv .at-least);
-      read = omega (arith, loop-test .taken);
-      length = write-visit .kept .0 ∙ loop .inv .length;
-      ran = λ L a stops harm p e g. rw (write-visit .ensures, index-of .ensures, c .next-order .ensures)
-          (run-visits p g order (loop .inv .ran L a stops harm p e g) (loop-test .taken) (loop .inv .first) (harm (order - 1) (runs-at .ensures .harmless runs))
-          (runs-at .ensures .onward runs L a (goto p order) refl g));
+      read = omega (arith, pass-on .ensures .read given);
+      same = write-visit .kept .0 ∙ leap .kept .1 .1 .1 .1 .1 .0 ∙ loop .inv .same;
+      straight = stretch-at .ensures .straight;
+      runs = rw (write-visit .ensures, index-of .ensures, leap .ensures .out)
+          (runs-turn here (runs-leap (loop .here) (loop .inv .runs) (loop .inv .first) (leap .result) (leap .ensures .read) plain (leap .ensures .passing) here
+          (moved-on .ensures .order) (moved-on .ensures .first) (moved-on .ensures .second)) (omega (arith, moved-on .ensures .order, loop .inv .first))
+          (pass-on .ensures .read given) (pass-on .ensures .passing given) (pass-on .result .turn) (pass-on .ensures .onward given));
     }
 
-same-length-2 : tie.Need-same-length-2 Inv-loop μ-loop
-same-length-2 c = c .before .loop .inv .length
+-- src/runs.rt:379:15
+spot-at-requires-2 : tie.Need-spot-at-requires-2 Inv-loop μ-loop
+spot-at-requires-2 c κs = search needs
 
+-- src/runs.rt:333:1
+same-length-2 : tie.Need-same-length-2 Inv-loop μ-loop
+same-length-2 c = c .before .before .loop .inv .same
+
+-- src/runs.rt:333:1
 returns-2 : tie.Need-returns-2 Inv-loop μ-loop
-returns-2 c = record { at-least = c .before .loop .inv .at-least; read = c .before .loop .inv .read; ran = c .before .loop .inv .ran }
+returns-2 c =
+    let loop = c .before .before .loop in
+    record { at-least = loop .inv .at-least; read = loop .inv .read; runs = rw (c .spot-at2 .ensures) (loop .inv .runs) }
 
 pub run-spec : {M : Type 1} → statement M
 run-spec =
@@ -120,15 +224,21 @@ run-spec =
     (tie.spec
     Inv-loop
     μ-loop
+    no-stretch-requires
     loop-holds
-    runs-at-requires
+    stretch-at-requires
+    leap-requires
+    moved-on-requires
+    add-m
+    pass-on-requires
+    spot-at-requires
     same-length
     returns
     index-of-requires
     write-visit-requires
-    next-order-requires
-    add-m
+    add-m-2
     loop-less
     loop-again
+    spot-at-requires-2
     same-length-2
     returns-2)

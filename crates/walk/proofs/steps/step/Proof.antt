@@ -1,43 +1,58 @@
+use Rattle.walk.proofs.Walks.{step-finished, due-within}
 use Rattle.walk.specs.Stops.{stop-at}
 use Rattle.walk.specs.Layout.{layout}
 use Rattle.walk.specs.State.{memory-of}
-use Rattle.walk.proofs.Walks.{step-finished, due-within}
-use denote.Ref.{now}
+use Rattle.walk.specs.Naming.{found-pgn}
 use Rattle.pack.specs.Meaning.{pack-of}
-use Rattle.pack.specs.Value.{pgn-at}
+use denote.Ref.{now}
 use borrow.Author.Needs.{needs}
 use Rattle.walk.proofs.steps.step.Statement.{statement}
 use Rattle.walk.proofs.steps.step.Tie as tie
+use Rattle.walk.proofs.steps.step.Reads as reads
+use Rattle.walk.proofs.steps.step.Lts as lts
+use Rattle.walk.proofs.steps.finished.Reads as finished-reads
+use Rattle.walk.proofs.steps.step_at.Reads as step-at-reads
 
+-- src/steps.rt:156:9
 step-at-requires : tie.Need-step-at-requires
 step-at-requires c κs =
-    let start = c .before .before .before .before .before .before in
-    let d = due-within (layout (pgn-at (pack-of (now (start .args .s))) (start .args .found .tree) (start .args .found .pgn))) (start .args .state .settling)
-    (memory-of (start .args .state .counts)) (c .before .if1 .taken) (start .pre .within) in
-    record { pgn = start .pre .pgn; harmless = start .pre .harmless; first = d .0; within = d .1 }
+    let start = c .before .before .before .before .before .before .before .before in
+    let d = due-within (layout (found-pgn (now (start .args .s)) (start .args .found))) (start .args .state .settling) (memory-of (start .args .state .counts))
+    (c .before .before .if1 .taken) (start .pre .within) in
+    record { pgn = start .pre .pgn; remembered = start .pre .remembered; first = d .0; within = d .1 }
 
+-- src/steps.rt:156:9
 same-length : tie.Need-same-length
 same-length c = search needs
 
+-- src/steps.rt:156:9
+same-length-2 : tie.Need-same-length-2
+same-length-2 c = search needs
+
+-- src/steps.rt:156:9
 returns : tie.Need-returns
 returns c =
-    let if1 = c .before .before .before .before .if1 in
-    let step-at = c .before .before .step-at in
-    record { step = (rw (if1 .taken) (step-at .ensures .step)); harmless = step-at .ensures .harmless }
+    let if1 = c .before .before .before .before .before .before .before .if1 in
+    let step-at = c .before .before .before .before .step-at in
+    record { step = (rw (if1 .taken) (step-at .ensures .step)); remembered = step-at .ensures .remembered }
 
+-- src/steps.rt:167:21
 finished-requires : tie.Need-finished-requires
 finished-requires c κs = search needs
 
+-- src/steps.rt:134:1
 returns-2 : tie.Need-returns-2
 returns-2 c =
-    let start = c .before .before .before .before .before .before in
+    let start = c .before .before .before .before .before .before .before in
     let s = now (start .args .s) in
+    let p = found-pgn s (start .args .found) in
     record {
-      step = step-finished (layout (pgn-at (pack-of s) (start .args .found .tree) (start .args .found .pgn)))
-          (stop-at (pack-of s) (pgn-at (pack-of s) (start .args .found .tree) (start .args .found .pgn))) (start .args .state .settling)
-          (memory-of (start .args .state .counts)) (start .args .reading) (c .before .if1 .left) (c .finished .result) (c .finished .ensures);
-      harmless = start .pre .harmless;
+      step = step-finished (layout p) (stop-at (pack-of s) p) (start .args .state .settling) (memory-of (start .args .state .counts)) (start .args .reading)
+          (c .before .if1 .left) (c .finished .result) (c .finished .ensures);
+      remembered = start .pre .remembered;
     }
 
 pub step-spec : {M : Type 1} → statement M
-step-spec = tie.close (tie.spec step-at-requires same-length returns finished-requires returns-2)
+step-spec =
+    tie.close
+    (tie.spec step-at-requires same-length same-length-2 returns finished-requires returns-2)
