@@ -1,6 +1,7 @@
 pub mod guaranteed;
 mod harmless;
 mod held;
+mod memory;
 mod named;
 mod orders;
 mod passes;
