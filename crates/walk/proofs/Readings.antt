@@ -109,8 +109,9 @@ module _ {P : Pack} {es : List Entry} {e at : ℕ} {bad bad′ : List ℕ} {n : 
   as-well : {bad″ : List ℕ} {n′ : ℕ} → bad″ ≡ bad′ → n′ ≡ n → Collected P es e at bad bad″ n′
   as-well x y = rw (x, y) c
 
-  pub collected-many : (all : ℕ) → 4 < n → Collected P es all at bad bad′ 5
-  collected-many all h = record { few = omega arith; others = c .others; kept = λ l. absurd (omega (arith, l)) }
+  -- a count of 5 says nothing of the entries
+  pub collected-many : {m : ℕ} (all : ℕ) → m ≡ 5 → Collected P es all at bad bad′ m
+  collected-many all h = record { few = omega (arith, h); others = c .others; kept = λ l. absurd (omega (arith, l, h)) }
 
   passed-over : names-missing P (entry-at es e) ≡ false → Collected P es (e + 1) at bad bad′ n
   passed-over whole =

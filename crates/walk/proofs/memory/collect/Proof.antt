@@ -77,7 +77,7 @@ returns c =
     let names-missing-call = c .before .before .before .before .before .names-missing in
     let keep = c .before .before .before .keep in
     collected-many (turned (now (start .args .s)) (entry-of .result) (names-missing-call .result) (loop .inv .collected) (loop .inv .few) (entry-of .ensures)
-    (names-missing-call .ensures) (keep .ensures .count) (keep .ensures .values)) (start .args .l .entries) (c .if1 .taken)
+    (names-missing-call .ensures) (keep .ensures .count) (keep .ensures .values)) (start .args .l .entries) (omega arith)
 
 add-e : tie.Need-add-e Inv-loop μ-loop
 add-e c =
