@@ -8,6 +8,8 @@ pub mod Spots
 pub mod Parts
 -- marks at the fields that stop at no reading
 pub mod Marks
+-- what is remembered of the fields
+pub mod Readings
 -- the law of position; the walk by place; the rounds
 pub mod Invariants
 pub mod Position

@@ -46,15 +46,23 @@ module _ (P : Pack) (p : Pgn) (current : ℕ → Bool) (i reading : ℕ) where
     by-field zero h e = absurd (h refl)
     by-field (suc n) h e = rw (parts, ← is, ← e)
 
-    module _ (n : ℕ) (z : n ≡ 0) (e : stop-number n ≡ field-stop P F) (b : Bool) (h : b ≡ reference-names-missing P (lookup-ref F) reading) where
+    module _ (n : ℕ) (z : n ≡ 0) (e : stop-number n ≡ field-stop P F) where
       free : field-stop P F ≡ none
       free = sym e ∙ ap stop-number z
 
-      pub by-reading : b ≡ true → some 5 ≡ stop-at P p current i reading
-      by-reading x = rw (parts, ← is, free, ← h, x)
+      pub by-reading-only : (m : ℕ) → m ≡ 0 → stop-number m ≡ need-stop P p current i
+          → stop-at P p current i reading ≡ (if reference-names-missing P (lookup-ref (field-at p i)) reading then some 5 else none)
+      by-reading-only m x y = rw (parts, ← is, free, ← y, x)
 
-      pub by-need : b ≡ false → (m : ℕ) → stop-number m ≡ need-stop P p current i → stop-number m ≡ stop-at P p current i reading
-      by-need x m y = rw (parts, ← is, free, ← h, x) y
+      module _ (b : Bool) (h : b ≡ reference-names-missing P (lookup-ref F) reading) where
+        pub by-reading : b ≡ true → some 5 ≡ stop-at P p current i reading
+        by-reading x = rw (parts, ← is, free, ← h, x)
+
+        pub by-need : b ≡ false → (m : ℕ) → stop-number m ≡ need-stop P p current i → stop-number m ≡ stop-at P p current i reading
+        by-need x m y = rw (parts, ← is, free, ← h, x) y
+
+pub named-field : {s w : List ℕ} {v : FieldtypeLookup} (F G : Field) → F ≡ G → Named s w (lookup-ref F) v → Named s w (lookup-ref G) v
+named-field F G e N = rw (← e) N
 
 -- 5, by the fieldtype lookup that the reference names
 pub named-reading : {s w : List ℕ} {r : Option Reference} {v : FieldtypeLookup} → Named s w r v → (reading : ℕ) (b : Bool)
@@ -114,7 +122,7 @@ module _ (p : Pgn) (current : ℕ → Bool) (id : Bytes) (t : ℕ) (g : Bool) (e
 
 -- ---- 8
 
-any-same : (f g : ℕ → Bool) (n : ℕ) → ((k : ℕ) → k < n → f k ≡ g k) → any-below f n ≡ any-below g n
+pub any-same : (f g : ℕ → Bool) (n : ℕ) → ((k : ℕ) → k < n → f k ≡ g k) → any-below f n ≡ any-below g n
 any-same f g zero h = refl
 any-same f g (suc n) h = rw (any-same f g n (λ k l. h k (omega arith)), h n (omega arith))
 

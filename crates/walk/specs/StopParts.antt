@@ -1,19 +1,20 @@
 -- The stops 3 to 9 in the parts that code asks for: by the field alone, by its reading, by what is current. Together they are `stop-at`
 -- (proofs/Parts.antt).
-use Prim.Native.Nat.{ℕ, zero, suc, _+_, _*_, _-_}
+use Prim.Native.Nat.{ℕ, zero, suc, _+_, _*_, _-_, _<_, _≤_}
 use mathlib.Core.Path.{_≡_}
 use mathlib.Core.Bool.{Bool, true, false, not, _&&_}
 use mathlib.Core.List.{List}
 use mathlib.Core.Option.{Option, none, some}
 use lib.ListN.{length, getD}
 use Rattle.pack.specs.Notation.{if_then_else_, _<ᵇ_, _==_}
-use Rattle.pack.specs.Value.{Reference, Field, Pgn, Pack, field-at, lookup-at}
+use Rattle.pack.specs.Value.{Entry, Reference, Field, Pgn, Pack, field-at, lookup-at, entry-at}
 use Rattle.pack.specs.Meaning.{pack-of}
 use Rattle.pack.specs.Ready.{LookupAt}
+use Rattle.rules.specs.Model.{lookup-ref}
 use Rattle.rules.specs.Search.{any-below}
 use Rattle.walk.specs.ByPlace.{placed}
 use Rattle.walk.specs.Layout.{layout}
-use Rattle.walk.specs.Stops.{lookup-missing, match-unfit, entries-name-missing, reference-names-missing, lacks, lacks-length, stop-at}
+use Rattle.walk.specs.Stops.{lookup-missing, match-unfit, names-missing, entries-name-missing, reference-names-missing, lacks, lacks-length, stop-at}
 use Rattle.walk.specs.declared.stops.FieldtypeLookup.{FieldtypeLookup}
 
 -- a stop as a number: 0 for none
@@ -48,11 +49,32 @@ need-stop P p current i =
 pub record Harmless (P : Pack) (p : Pgn) (marks : List Bool) : Type 0 where
   pub never : (k : ℕ) → getD marks k false ≡ true → (reading : ℕ) → stop-at P p (placed (layout p) (suc k)) k reading ≡ none
 
+-- field k stops by its reading alone, if at all
+pub record OnlyByReading (P : Pack) (p : Pgn) (k : ℕ) : Type 0 where
+  pub only : (reading : ℕ) → stop-at P p (placed (layout p) (suc k)) k reading
+      ≡ (if reference-names-missing P (lookup-ref (field-at p k)) reading then some 5 else none)
+
+-- the reading is one of the n that are kept from place `at` on
+abbrev pub among : (bad : List ℕ) → (at n reading : ℕ) → Bool
+among bad at n reading = any-below (λ j. getD bad (at + j) 0 == reading) n
+
+-- nothing but the four places from `at` on has changed
+pub record SameBut (at : ℕ) (bad bad′ : List ℕ) : Type 0 where
+  pub below : (i : ℕ) → i < at → getD bad′ i 0 ≡ getD bad i 0
+  pub above : (i : ℕ) → at + 4 ≤ i → getD bad′ i 0 ≡ getD bad i 0
+
+-- OF THE FIRST e ENTRIES THE VALUES OF THOSE THAT NAME SOMETHING MISSING are the n from place `at` on, if there is room; 5 for more than four
+pub record Collected (P : Pack) (es : List Entry) (e at : ℕ) (bad bad′ : List ℕ) (n : ℕ) : Type 0 where
+  pub few : n ≤ 5
+  pub others : SameBut at bad bad′
+  pub kept : n < 5 → (0 < n → at + 4 ≤ length bad′) → (i : ℕ) → i < e → names-missing P (entry-at es i) ≡ true
+      → among bad′ at n (entry-at es i .value) ≡ true
+
 -- WHAT IS REMEMBERED OF FIELD k: its mark, and up to four readings, from place 4 k on. The mark 1 + n, n at most 4: it stops at none but the
 -- first n of these readings. Any other mark says nothing.
 abbrev pub lets-pass : (marks bad : List ℕ) → (k reading : ℕ) → Bool
 lets-pass marks bad k reading =
-    (0 <ᵇ getD marks k 0) && (getD marks k 0 <ᵇ 6) && not (any-below (λ j. getD bad (4 * k + j) 0 == reading) (getD marks k 0 - 1))
+    (0 <ᵇ getD marks k 0) && (getD marks k 0 <ᵇ 6) && not (among bad (4 * k) (getD marks k 0 - 1) reading)
 
 -- it is right: a reading that is let pass stops the walk nowhere
 pub record Remembered (P : Pack) (p : Pgn) (marks bad : List ℕ) : Type 0 where

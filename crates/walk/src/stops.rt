@@ -10,10 +10,11 @@ ghost use Rattle.pack.specs.Ready.{Ready, LookupAt, IndexIs};
 ghost use Rattle.pack.specs.Value.{field-at, lookup-at};
 ghost use Rattle.rules.specs.Search.{any-below};
 ghost use Rattle.rules.specs.DynamicLength.{length-source};
+ghost use Rattle.rules.specs.Model.{lookup-ref};
 ghost use Rattle.walk.specs.ByPlace.{placed};
 ghost use Rattle.walk.specs.Layout.{layout, sets-hold};
 ghost use Rattle.walk.specs.Naming.{IsFound, found-pgn};
-ghost use Rattle.walk.specs.StopParts.{Named, stop-number, field-stop, need-stop};
+ghost use Rattle.walk.specs.StopParts.{Named, OnlyByReading, stop-number, field-stop, need-stop};
 ghost use Rattle.walk.specs.Stops.{is-missing, lookup-missing, match-unfit, names-missing, entries-name-missing, lacks, lacks-length, stop-at};
 use crate::named::FoundPgn;
 use crate::sets::placed;
@@ -98,7 +99,7 @@ fn field_stop(s: &[u8], work: &[u32], index: Index, f: FieldView) -> u32
 }
 
 // Whether an entry of a fieldtype lookup names a missing field type or nested lookup.
-fn names_missing(s: &[u8], work: &[u32], index: Index, e: EntryView) -> bool
+pub fn names_missing(s: &[u8], work: &[u32], index: Index, e: EntryView) -> bool
     requires { ⌜ record { ready : Ready (now s) (now work); index : IndexIs (pack-of (now s)) index } ⌝ }
     ensures { λ r. ⌜ r ≡ names-missing (pack-of (now (s .entry))) (entry-meaning (now (s .entry)) e) ⌝ }
 {
@@ -156,27 +157,28 @@ pub struct FieldtypeLookup {
     pub entries: u32,
 }
 
+const NO_LOOKUP: FieldtypeLookup = FieldtypeLookup {
+    given: false,
+    index: 0,
+    place: 0,
+    entries: 0,
+};
+
 // The fieldtype lookup that a reference names: only the entries of such a one name anything.
 fn fieldtype_lookup(s: &[u8], work: &[u32], index: Index, r: OptReference) -> FieldtypeLookup
     requires { ⌜ record { ready : Ready (now s) (now work); index : IndexIs (pack-of (now s)) index } ⌝ }
     ensures { λ v. ⌜ Named (now (s .entry)) (now (work .entry)) (optional-reference (now (s .entry)) r) v ⌝ }
 {
-    let no_lookup = FieldtypeLookup {
-        given: false,
-        index: 0,
-        place: 0,
-        entries: 0,
-    };
     if !r.given {
-        return no_lookup;
+        return NO_LOOKUP;
     }
     let found = find_lookup(s, work, index.lookups, r.name);
     if !found.given {
-        return no_lookup;
+        return NO_LOOKUP;
     }
     let l = lookup_of(s, work, found.index, found.place);
     if l.kind != 3 {
-        return no_lookup;
+        return NO_LOOKUP;
     }
     FieldtypeLookup {
         given: true,
@@ -325,10 +327,12 @@ fn need_stop(s: &[u8], work: &[u32], found: FoundPgn, k: u32, f: FieldView) -> u
     0
 }
 
-// The stop at a field with its reading, 0 for none; and whether it is known to stop at no reading at all.
+// The stop at a field with its reading, 0 for none; whether it is known to stop at no reading at all; and where it does not stop the fieldtype
+// lookup that it names.
 pub struct Judged {
     pub stop: u32,
     pub harmless: bool,
+    pub lookup: FieldtypeLookup,
 }
 
 // Field k of a PGN.
@@ -339,6 +343,9 @@ pub fn judge(s: &[u8], work: &[u32], found: FoundPgn, k: u32, reading: u64) -> J
           (placed (layout (found-pgn (now (s .entry)) found)) (suc k)) k reading;
       harmless : r .harmless ≡ true → (other : ℕ) → stop-at (pack-of (now (s .entry))) (found-pgn (now (s .entry)) found)
           (placed (layout (found-pgn (now (s .entry)) found)) (suc k)) k other ≡ none;
+      named : r .stop ≡ 0
+          → Named (now (s .entry)) (now (work .entry)) (lookup-ref (field-at (found-pgn (now (s .entry)) found) k)) (r .lookup);
+      only : r .stop ≡ 0 → OnlyByReading (pack-of (now (s .entry))) (found-pgn (now (s .entry)) found) k;
     } ⌝ }
 {
     let f = field_of(s, work, found.tree, found.pgn, found.place, k);
@@ -347,6 +354,7 @@ pub fn judge(s: &[u8], work: &[u32], found: FoundPgn, k: u32, reading: u64) -> J
         return Judged {
             stop: by_field,
             harmless: false,
+            lookup: NO_LOOKUP,
         };
     }
     let l = fieldtype_lookup(s, work, found.index, f.links.reference);
@@ -354,9 +362,14 @@ pub fn judge(s: &[u8], work: &[u32], found: FoundPgn, k: u32, reading: u64) -> J
         return Judged {
             stop: 5,
             harmless: false,
+            lookup: l,
         };
     }
     let stop = need_stop(s, work, found, k, f);
     let harmless = and_not(stop == 0, l.given);
-    Judged { stop, harmless }
+    Judged {
+        stop,
+        harmless,
+        lookup: l,
+    }
 }

@@ -1,15 +1,16 @@
 use Rattle.pack.specs.Notation.{_==_}
-use Rattle.walk.proofs.Parts.{by-field, by-reading, by-need, named-reading, and-not-parts}
+use Rattle.walk.proofs.Parts.{by-field, by-reading, by-need, by-reading-only, named-field, named-reading, and-not-parts}
 use Rattle.walk.specs.StopParts.{stop-number}
 use Rattle.walk.specs.ByPlace.{placed}
 use Rattle.walk.specs.Layout.{layout}
 use mathlib.Core.Bool.{false≢true, false}
 use borrow.Author.Tests.{eqb-true}
 use Prim.Native.Nat.{suc}
+use native.Mathlib.Omega.{arith}
 use mathlib.Core.Path.{refl, sym, _∙_, ap}
 use denote.Ref.{now}
 use Rattle.pack.specs.Meaning.{pack-of, field-meaning}
-use Rattle.pack.specs.Value.{pgn-at}
+use Rattle.pack.specs.Value.{field-at, pgn-at}
 use borrow.Author.Needs.{needs}
 use Rattle.walk.proofs.stops.judge.Statement.{statement}
 use Rattle.walk.proofs.stops.judge.Tie as tie
@@ -30,6 +31,8 @@ returns c =
           (placed (layout (pgn-at (pack-of s) (start .args .found .tree) (start .args .found .pgn))) (suc k)) k (start .args .reading)
           (field-meaning s (field-of .result)) (field-of .ensures) (c .before .field-stop .result) (c .if1 .taken) (c .before .field-stop .ensures);
       harmless = λ h. absurd (false≢true h);
+      named = λ z. absurd (c .if1 .taken z);
+      only = λ z. absurd (c .if1 .taken z);
     }
 
 fieldtype-lookup-requires : tie.Need-fieldtype-lookup-requires
@@ -52,6 +55,8 @@ returns-2 c =
           (named-reading (c .before .before .fieldtype-lookup .ensures) reading (c .before .lookup-names-missing .result)
           (c .before .lookup-names-missing .ensures)) (c .if2 .taken);
       harmless = λ h. absurd (false≢true h);
+      named = λ z. absurd (omega (arith, z));
+      only = λ z. absurd (omega (arith, z));
     }
 
 need-stop-requires : tie.Need-need-stop-requires
@@ -82,6 +87,13 @@ returns-3 c =
           (field-of .ensures) (field-stop .result) (if1 .left) (field-stop .ensures) false (sym (fieldtype-lookup .ensures .none (a .1) other)) refl
           (c .before .need-stop .result) (c .before .need-stop .ensures))
           ∙ ap stop-number (eqb-true (c .before .need-stop .result) 0 (a .0));
+      named = λ z. named-field (field-meaning s (field-of .result)) (field-at (pgn-at (pack-of s) (start .args .found .tree) (start .args .found .pgn)) k)
+          (field-of .ensures) (fieldtype-lookup .ensures);
+      only = λ z. record {
+        only = λ other. by-reading-only (pack-of s) (pgn-at (pack-of s) (start .args .found .tree) (start .args .found .pgn))
+            (placed (layout (pgn-at (pack-of s) (start .args .found .tree) (start .args .found .pgn))) (suc k)) k other (field-meaning s (field-of .result))
+            (field-of .ensures) (field-stop .result) (if1 .left) (field-stop .ensures) (c .before .need-stop .result) z (c .before .need-stop .ensures);
+      };
     }
 
 pub judge-spec : {M : Type 1} → statement M
