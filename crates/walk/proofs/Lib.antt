@@ -6,8 +6,6 @@ pub mod TwoSets
 pub mod Spots
 -- the stops in parts
 pub mod Parts
--- marks at the fields that stop at no reading
-pub mod Marks
 -- what is remembered of the fields
 pub mod Readings
 -- the law of position; the walk by place; the rounds

@@ -76,12 +76,6 @@ named-reading {s} {w} {r} {v} N reading b e = go (v .given) refl
     go false g = e ∙ ap (λ (x : Bool). x && entries-name-missing (pack-of s) (lookup-at (pack-of s .lookups) (v .index) .entries) reading) g
         ∙ sym (N .none g reading)
 
--- harmless: no stop, and no fieldtype lookup
-pub and-not-parts : (a b : Bool) → (a && not b) ≡ true → (a ≡ true) × (b ≡ false)
-and-not-parts true false h = (refl, refl)
-and-not-parts true true h = absurd (false≢true h)
-and-not-parts false b h = absurd (false≢true h)
-
 -- ---- 3 and 4
 
 pub missing-is : (P : Pack) (name : Bytes) (l : ℕ) (g : Bool) → optional g l ≡ find-lookup (P .lookups) name → is-missing P (some name) ≡ not g

@@ -123,9 +123,6 @@ below-next Q {n} below last i l = go (ℕ-discrete i n)
     go (yes e) = subst Q (sym e) last
     go (no e) = below i (omega (arith, l, e))
 
-pub free-passes : (marks bad : List ℕ) (k reading : ℕ) → getD marks k 0 ≡ 1 → lets-pass marks bad k reading ≡ true
-free-passes marks bad k reading e = rw e
-
 -- the orders behind plain ones are the PGN's
 pub plain-within : (v : Sets) (o k : ℕ) → o ≤ v .fields → ((j : ℕ) → j < k → PlainAt v (o + j)) → o + k ≤ v .fields
 plain-within v o zero low plain = omega (arith, low)

@@ -45,10 +45,6 @@ need-stop P p current i =
     else if lacks p current (f .trailing-zero) then some 9
     else none
 
--- each field that is marked stops the walk at no reading
-pub record Harmless (P : Pack) (p : Pgn) (marks : List Bool) : Type 0 where
-  pub never : (k : ℕ) → getD marks k false ≡ true → (reading : ℕ) → stop-at P p (placed (layout p) (suc k)) k reading ≡ none
-
 -- field k stops by its reading alone, if at all
 pub record OnlyByReading (P : Pack) (p : Pgn) (k : ℕ) : Type 0 where
   pub only : (reading : ℕ) → stop-at P p (placed (layout p) (suc k)) k reading

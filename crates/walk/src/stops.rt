@@ -30,7 +30,6 @@ use pack::protocol::FieldIndex;
 use pack::protocol::FieldOrder;
 use pack::text::OptText;
 use pack::text::text_is;
-use rules::bools::and_not;
 use rules::dynamic_length::length_source;
 use rules::lookups::find_lookup;
 use rules::matches::resolve_match;
@@ -327,11 +326,9 @@ fn need_stop(s: &[u8], work: &[u32], found: FoundPgn, k: u32, f: FieldView) -> u
     0
 }
 
-// The stop at a field with its reading, 0 for none; whether it is known to stop at no reading at all; and where it does not stop the fieldtype
-// lookup that it names.
+// The stop at a field with its reading, 0 for none; where it does not stop, the fieldtype lookup that it names.
 pub struct Judged {
     pub stop: u32,
-    pub harmless: bool,
     pub lookup: FieldtypeLookup,
 }
 
@@ -341,8 +338,6 @@ pub fn judge(s: &[u8], work: &[u32], found: FoundPgn, k: u32, reading: u64) -> J
     ensures { λ r. ⌜ record {
       stop : stop-number (r .stop) ≡ stop-at (pack-of (now (s .entry))) (found-pgn (now (s .entry)) found)
           (placed (layout (found-pgn (now (s .entry)) found)) (suc k)) k reading;
-      harmless : r .harmless ≡ true → (other : ℕ) → stop-at (pack-of (now (s .entry))) (found-pgn (now (s .entry)) found)
-          (placed (layout (found-pgn (now (s .entry)) found)) (suc k)) k other ≡ none;
       named : r .stop ≡ 0
           → Named (now (s .entry)) (now (work .entry)) (lookup-ref (field-at (found-pgn (now (s .entry)) found) k)) (r .lookup);
       only : r .stop ≡ 0 → OnlyByReading (pack-of (now (s .entry))) (found-pgn (now (s .entry)) found) k;
@@ -353,7 +348,6 @@ pub fn judge(s: &[u8], work: &[u32], found: FoundPgn, k: u32, reading: u64) -> J
     if by_field != 0 {
         return Judged {
             stop: by_field,
-            harmless: false,
             lookup: NO_LOOKUP,
         };
     }
@@ -361,15 +355,9 @@ pub fn judge(s: &[u8], work: &[u32], found: FoundPgn, k: u32, reading: u64) -> J
     if lookup_names_missing(s, work, found.index, l, reading) {
         return Judged {
             stop: 5,
-            harmless: false,
             lookup: l,
         };
     }
     let stop = need_stop(s, work, found, k, f);
-    let harmless = and_not(stop == 0, l.given);
-    Judged {
-        stop,
-        harmless,
-        lookup: l,
-    }
+    Judged { stop, lookup: l }
 }

@@ -1,4 +1,4 @@
-use Rattle.walk.proofs.Plain.{free-passes}
+use Rattle.walk.proofs.Readings.{free-passes}
 use Rattle.walk.specs.Runs.{written}
 use denote.Ref.{now}
 use lib.ListN.{getD}

@@ -1,13 +1,8 @@
-use Rattle.pack.specs.Notation.{_==_}
-use Rattle.walk.proofs.Parts.{by-field, by-reading, by-need, by-reading-only, named-field, named-reading, and-not-parts}
-use Rattle.walk.specs.StopParts.{stop-number}
+use Rattle.walk.proofs.Parts.{by-field, by-reading, by-need, by-reading-only, named-field, named-reading}
 use Rattle.walk.specs.ByPlace.{placed}
 use Rattle.walk.specs.Layout.{layout}
-use mathlib.Core.Bool.{false≢true, false}
-use borrow.Author.Tests.{eqb-true}
 use Prim.Native.Nat.{suc}
 use native.Mathlib.Omega.{arith}
-use mathlib.Core.Path.{refl, sym, _∙_, ap}
 use denote.Ref.{now}
 use Rattle.pack.specs.Meaning.{pack-of, field-meaning}
 use Rattle.pack.specs.Value.{field-at, pgn-at}
@@ -30,7 +25,6 @@ returns c =
       stop = by-field (pack-of s) (pgn-at (pack-of s) (start .args .found .tree) (start .args .found .pgn))
           (placed (layout (pgn-at (pack-of s) (start .args .found .tree) (start .args .found .pgn))) (suc k)) k (start .args .reading)
           (field-meaning s (field-of .result)) (field-of .ensures) (c .before .field-stop .result) (c .if1 .taken) (c .before .field-stop .ensures);
-      harmless = λ h. absurd (false≢true h);
       named = λ z. absurd (c .if1 .taken z);
       only = λ z. absurd (c .if1 .taken z);
     }
@@ -54,7 +48,6 @@ returns-2 c =
           (field-of .ensures) (field-stop .result) (if1 .left) (field-stop .ensures) (c .before .lookup-names-missing .result)
           (named-reading (c .before .before .fieldtype-lookup .ensures) reading (c .before .lookup-names-missing .result)
           (c .before .lookup-names-missing .ensures)) (c .if2 .taken);
-      harmless = λ h. absurd (false≢true h);
       named = λ z. absurd (omega (arith, z));
       only = λ z. absurd (omega (arith, z));
     }
@@ -62,37 +55,27 @@ returns-2 c =
 need-stop-requires : tie.Need-need-stop-requires
 need-stop-requires c κs = search needs
 
-and-not-requires : tie.Need-and-not-requires
-and-not-requires c κs = search needs
-
 returns-3 : tie.Need-returns-3
 returns-3 c =
-    let start = c .before .before .before .before .before .before .before .before .before .before in
-    let field-of = c .before .before .before .before .before .before .before .field-of in
-    let field-stop = c .before .before .before .before .before .before .field-stop in
-    let if1 = c .before .before .before .before .before .if1 in
-    let fieldtype-lookup = c .before .before .before .before .fieldtype-lookup in
-    let lookup-names-missing = c .before .before .before .lookup-names-missing in
+    let start = c .before .before .before .before .before .before .before .before .before in
+    let field-of = c .before .before .before .before .before .before .field-of in
+    let field-stop = c .before .before .before .before .before .field-stop in
+    let if1 = c .before .before .before .before .if1 in
+    let fieldtype-lookup = c .before .before .before .fieldtype-lookup in
+    let lookup-names-missing = c .before .before .lookup-names-missing in
     let s = now (start .args .s) in let k = start .args .k in let reading = start .args .reading in
-    let q = and-not-parts (c .before .need-stop .result == 0) (fieldtype-lookup .result .given) in
     record {
       stop = by-need (pack-of s) (pgn-at (pack-of s) (start .args .found .tree) (start .args .found .pgn))
           (placed (layout (pgn-at (pack-of s) (start .args .found .tree) (start .args .found .pgn))) (suc k)) k reading (field-meaning s (field-of .result))
           (field-of .ensures) (field-stop .result) (if1 .left) (field-stop .ensures) (lookup-names-missing .result)
-          (named-reading (fieldtype-lookup .ensures) reading (lookup-names-missing .result) (lookup-names-missing .ensures)) (c .before .before .if2 .left)
-          (c .before .need-stop .result) (c .before .need-stop .ensures);
-      harmless = λ h other. let a = q (sym (c .and-not .ensures) ∙ h) in
-          sym (by-need (pack-of s) (pgn-at (pack-of s) (start .args .found .tree) (start .args .found .pgn))
-          (placed (layout (pgn-at (pack-of s) (start .args .found .tree) (start .args .found .pgn))) (suc k)) k other (field-meaning s (field-of .result))
-          (field-of .ensures) (field-stop .result) (if1 .left) (field-stop .ensures) false (sym (fieldtype-lookup .ensures .none (a .1) other)) refl
-          (c .before .need-stop .result) (c .before .need-stop .ensures))
-          ∙ ap stop-number (eqb-true (c .before .need-stop .result) 0 (a .0));
+          (named-reading (fieldtype-lookup .ensures) reading (lookup-names-missing .result) (lookup-names-missing .ensures)) (c .before .if2 .left)
+          (c .need-stop .result) (c .need-stop .ensures);
       named = λ z. named-field (field-meaning s (field-of .result)) (field-at (pgn-at (pack-of s) (start .args .found .tree) (start .args .found .pgn)) k)
           (field-of .ensures) (fieldtype-lookup .ensures);
       only = λ z. record {
         only = λ other. by-reading-only (pack-of s) (pgn-at (pack-of s) (start .args .found .tree) (start .args .found .pgn))
             (placed (layout (pgn-at (pack-of s) (start .args .found .tree) (start .args .found .pgn))) (suc k)) k other (field-meaning s (field-of .result))
-            (field-of .ensures) (field-stop .result) (if1 .left) (field-stop .ensures) (c .before .need-stop .result) z (c .before .need-stop .ensures);
+            (field-of .ensures) (field-stop .result) (if1 .left) (field-stop .ensures) (c .need-stop .result) z (c .need-stop .ensures);
       };
     }
 
@@ -107,5 +90,4 @@ judge-spec =
     lookup-names-missing-requires
     returns-2
     need-stop-requires
-    and-not-requires
     returns-3)
