@@ -59,7 +59,8 @@ pub record SameBut (at : ℕ) (bad bad′ : List ℕ) : Type 0 where
   pub below : (i : ℕ) → i < at → getD bad′ i 0 ≡ getD bad i 0
   pub above : (i : ℕ) → at + 4 ≤ i → getD bad′ i 0 ≡ getD bad i 0
 
--- OF THE FIRST e ENTRIES THE VALUES OF THOSE THAT NAME SOMETHING MISSING are the n from place `at` on, if there is room; 5 for more than four
+-- OF THE FIRST e ENTRIES THE VALUES OF THOSE THAT NAME SOMETHING MISSING are among the n from place `at` on, if there is room. An n of 5 says
+-- nothing of them: there are more than four.
 pub record Collected (P : Pack) (es : List Entry) (e at : ℕ) (bad bad′ : List ℕ) (n : ℕ) : Type 0 where
   pub few : n ≤ 5
   pub others : SameBut at bad bad′

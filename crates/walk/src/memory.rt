@@ -161,7 +161,7 @@ fn collect(
     n
 }
 
-// The mark of field k, of which n readings were collected, where there is room for so many in all.
+// The mark of field k, of which n readings were collected, with room for so many in all.
 fn mark_of(n: usize, k: u32, room: usize) -> u8
     requires { ⌜ n ≤ 5 ⌝ }
     ensures { λ r. ⌜ r ≡ (if n == 0 then 1 else if 4 * k + 4 ≤ᵇ room then n + 1 else 6) ⌝ }

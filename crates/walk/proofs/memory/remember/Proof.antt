@@ -18,7 +18,7 @@ returns : tie.Need-returns
 returns c =
     let start = c .before .before .before .before .before .before .before .before .before .before in
     let if1 = c .before .before .before .before .if1 in
-    rw (c .before .before .mark .ensures) (remembered-marked (start .args .k) 1 (start .pre .remembered)
+    rw (c .before .before .mark .ensures) (remembered-marked (start .args .k) _ (start .pre .remembered)
     (same-all (4 * start .args .k) (now (start .args .bad)))
     (λ reading h. none-without (start .pre .named) (start .pre .only) (not-true (start .args .l .given) (if1 .taken)) reading))
 
@@ -35,7 +35,7 @@ returns-2 : tie.Need-returns-2
 returns-2 c =
     let back12 = c .before .before .before .before .before .before .before .before .before .before .before .before in
     let start = back12 .before in
-    rw (c .before .before .mark2 .ensures) (remembered-marked (start .args .k) 7 (start .pre .remembered)
+    rw (c .before .before .mark2 .ensures) (remembered-marked (start .args .k) _ (start .pre .remembered)
     (same-all (4 * start .args .k) (now (start .args .bad))) (λ reading h. absurd (false≢true h)))
 
 same-length-3 : tie.Need-same-length-3
