@@ -1,13 +1,14 @@
--- What one byte says: a number below 128.
+-- What one byte says: a number below 128, and a mark after which nothing follows.
 use Prim.Native.Nat.{ℕ, _+_, _-_, _%_, _≤_, _<_}
 use native.Mathlib.Omega.{arith}
 use native.Mathlib.Nat.{mod-eq-of-lt}
 use mathlib.Core.Path.{_≡_, ap}
+use mathlib.Core.Bool.{false}
 use mathlib.Core.List.{List}
 use borrow.Author.Tests.{eq-eqb, lt-ltb, le-ltb, le-leb}
 use lib.ListN.{length, getD, drop}
 use lib.Seq.{drop-cons}
-use Rattle.pack.specs.Items.{fresh, run, last-byte-at, groups, shortest, capped, read-wide}
+use Rattle.pack.specs.Items.{fresh, run, last-byte-at, groups, shortest, capped, largest32, read-wide, read-number, judged, read-code, read-mark}
 use Rattle.pack.specs.declared.cursor.Cursor.{Cursor}
 
 -- a byte without the top bit is a number's last
@@ -24,3 +25,7 @@ module _ (s : List ℕ) (c : Cursor) (clean : c .refused ≡ 0) (inside : c .at 
       let f : c .at + 1 - 1 ≡ c .at = omega arith in
       let g : groups s (c .at + 1) 1 ≡ getD s (c .at) 0 = rw (f, mod-eq-of-lt l) (omega arith) in
       rw (e, n, g, eq-eqb _ _ clean, lt-ltb _ _ inside, le-ltb (c .at) (c .at) (omega arith), le-leb _ _ m, clean)
+
+  pub no-item : getD s (c .at) 0 ≡ 0 → read-mark s c ≡ record { value = false; next = fresh (c .at + 1) }
+  unfolding read-mark read-code read-number judged
+  no-item z = rw (one-byte largest32 (omega (arith, z)) (omega (arith, z)), z)

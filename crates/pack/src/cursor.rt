@@ -16,8 +16,8 @@ use crate::text::text_precedes;
 
 pub struct Cursor {
     pub at: usize,
-    // 01's number of the refusal, 0 where there is none
-    pub refused: u32,
+    // 01's number of the refusal, 0 where there is none; as wide as `at`, so that a cursor goes in two registers
+    pub refused: usize,
 }
 
 pub struct WideItem {
@@ -72,14 +72,14 @@ fn four_bytes(s: &[u8], at: usize) -> u64
 }
 
 // A cursor with nothing refused.
-fn fresh(at: usize) -> Cursor
+pub(crate) fn fresh(at: usize) -> Cursor
     ensures { λ r. ⌜ r ≡ fresh at ⌝ }
 {
     Cursor { at, refused: 0 }
 }
 
 impl Cursor {
-    pub fn refuse(self, number: u32) -> Cursor
+    pub fn refuse(self, number: usize) -> Cursor
         ensures { λ r. ⌜ r ≡ refuse self number ⌝ }
     {
         Cursor {
@@ -159,7 +159,7 @@ impl Cursor {
     }
 
     // The item, or refused by `number` at it where it was read and `good` is false.
-    fn judged(self, item: NumberItem, good: bool, number: u32) -> NumberItem
+    fn judged(self, item: NumberItem, good: bool, number: usize) -> NumberItem
         ensures { λ r. ⌜ r ≡ judged self item good number ⌝ }
     {
         let c = item.next;

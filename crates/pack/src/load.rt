@@ -338,7 +338,7 @@ pub fn load(pack: &[u8], work: &mut [u32]) -> Loaded
     let end = judged.end;
     if end.refused != 0 {
         return Loaded::Refused(Refusal::Input {
-            number: end.refused,
+            number: end.refused as u32,
             offset: end.at,
         });
     }

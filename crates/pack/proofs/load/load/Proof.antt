@@ -1,3 +1,5 @@
+use Rattle.pack.specs.declared.cursor.Cursor.{Cursor}
+use Rattle.pack.proofs.Bounds.{input-bound}
 use Rattle.pack.proofs.Told.{promised}
 use Rattle.pack.proofs.Loading.{too-long, input-refused, work-short, loads}
 use Rattle.pack.specs.declared.load.Index.{Index}
@@ -34,17 +36,23 @@ slice-aggregate-place-all c = search needs
 place-all-requires : tie.Need-place-all-requires
 place-all-requires c κs = search needs
 
+cast-t11 : tie.Need-cast-t11
+cast-t11 c =
+    let start = c .before .before .before .before .before .before .before .before .before .before .before in
+    let place-all = c .before .before .before .before .before .before .place-all in
+    omega (arith, input-bound (now (start .args .pack)) .0, ap (λ (d : Cursor). d .refused) (place-all .ensures .end))
+
 same-length : tie.Need-same-length
 same-length c = search needs
 
 returns-2 : tie.Need-returns-2
 returns-2 c =
-    let start = c .before .before .before .before .before .before .before .before .before .before in
-    let place-all = c .before .before .before .before .before .place-all in
+    let start = c .before .before .before .before .before .before .before .before .before .before .before in
+    let place-all = c .before .before .before .before .before .before .place-all in
     let w = now (start .args .work) in let s = now (start .args .pack) in
     let x : place-all .last .1 .0 ++ w ≡ w = rw (none (place-all .last .1 .0) (place-all .kept .1 .0)) in
     let e = place-all .ensures .end in
-    let a = input-refused s w (omega (arith, c)) (rw (← e) (c .if2 .taken)) in
+    let a = input-refused s w (omega (arith, c)) (rw (← e) (c .before .if2 .taken)) in
     promised _ _ _ _ (rw e (a .answer)) (x ∙ a .work)
 
 same-length-2 : tie.Need-same-length-2
@@ -94,6 +102,7 @@ load-spec =
     slice-relend-prefix-place-all
     slice-aggregate-place-all
     place-all-requires
+    cast-t11
     same-length
     returns-2
     same-length-2
