@@ -16,7 +16,7 @@ use crate::text::text_precedes;
 
 pub struct Cursor {
     pub at: usize,
-    // 01's number of the refusal, 0 where there is none; as wide as `at`, so that a cursor goes in two registers
+    // 01's number of the refusal, 0 where there is none; as wide as `at`, so that there is no padding to copy
     pub refused: usize,
 }
 
