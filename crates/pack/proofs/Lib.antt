@@ -1,3 +1,4 @@
+pub mod Short
 pub mod Reading
 pub mod Stores
 pub mod Places

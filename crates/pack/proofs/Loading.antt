@@ -1,16 +1,14 @@
 -- What `load` answers, case by case.
 use Prim.Native.Nat.{ℕ, _≤_, _<_}
-use mathlib.Core.Path.{_≡_, _∙_}
+use mathlib.Core.Path.{_≡_}
 use mathlib.Core.List.{List}
 use borrow.Author.Tests.{eq-eqb, ne-eqb, lt-ltb, le-ltb, le-leb, lt-leb}
 use lib.ListN.{length}
-use lib.Seq.{sets}
 use Rattle.pack.specs.Format.{pack-end, offsets}
-use Rattle.pack.specs.Load.{most-bytes, refused, accepted, verdict, load-index, loaded, work-after}
+use Rattle.pack.specs.Load.{over, most-bytes, refused, accepted, verdict, load-index, loaded, work-after}
 use Rattle.pack.specs.declared.load.Refusal.the-variants.{Input, TooLong, Work}
 use Rattle.pack.specs.declared.load.Loaded.{Loaded}
 use Rattle.pack.specs.declared.load.Loaded.the-variants.{Refused, Accepted}
-use Rattle.pack.proofs.Stores.{sets-over}
 
 -- the answer, and the work buffer w after it
 pub record Answers (s w : List ℕ) (r : Loaded) (w′ : List ℕ) : Type 0 where
@@ -42,9 +40,9 @@ module _ (s w : List ℕ) where
         let e = lt-leb (length (offsets s)) (length w) l in
         record { answer = (rw (v, e)); work = (rw (v, e)) }
 
-    pub loads : pack-end s .refused ≡ 0 → length (offsets s) ≤ length w → Answers s w (Accepted (load-index s)) (sets w 0 (offsets s))
+    pub loads : pack-end s .refused ≡ 0 → length (offsets s) ≤ length w → Answers s w (Accepted (load-index s)) (over (offsets s) w)
     unfolding loaded work-after load-index
     loads z l =
         let v = verdict-accepted z in
         let e = le-leb (length (offsets s)) (length w) l in
-        record { answer = (rw (v, e)); work = sets-over w (offsets s) l ∙ (rw (v, e)) }
+        record { answer = (rw (v, e)); work = (rw (v, e)) }

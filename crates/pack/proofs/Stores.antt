@@ -4,8 +4,8 @@ use native.Mathlib.Omega.{arith}
 use native.Mathlib.Numerals.{add-one}
 use mathlib.Core.Path.{_≡_, refl, _∙_, sym}
 use mathlib.Core.List.{List, [], _∷_, _++_}
-use lib.ListN.{length, set, length-append}
-use lib.Seq.{sets, sets-eq}
+use lib.ListN.{length, set, take, drop, length-append}
+use lib.Seq.{sets, sets-eq, take-append-seam}
 use Rattle.pack.specs.Load.{over}
 use Rattle.pack.specs.Placing.{Stored}
 
@@ -35,3 +35,7 @@ stored-cons w p x xs w′ q a = record { count = omega (arith, a .count); work =
 -- stored from the beginning, with room for all
 pub sets-over : (w xs : List ℕ) → length xs ≤ length w → sets w 0 xs ≡ over xs w
 sets-over w xs h = sets-eq xs w 0 (omega arith) ∙ (let e : 0 + length xs ≡ length xs = omega arith in rw e)
+
+-- what was stored from the beginning, taken back
+pub take-stored : (w xs : List ℕ) → length xs ≤ length w → take (length xs) (sets w 0 xs) ≡ xs
+take-stored w xs h = rw (sets-over w xs h) (take-append-seam xs (drop (length xs) w))

@@ -6,7 +6,7 @@ ghost use lib.ListN.{length, getD};
 ghost use lib.Dec.{leb};
 ghost use Rattle.pack.specs.Items.{refuse, judged, read-wide, read-number, read-code, read-version, read-index, read-sum, read-bytes};
 ghost use Rattle.pack.specs.Items.{read-mark, read-text, read-name, four, read-float};
-ghost use Rattle.pack.specs.Items.{finish};
+ghost use Rattle.pack.specs.Items.{fresh, finish};
 use crate::number::decode;
 use crate::number::is_shortest;
 use crate::number::last_byte;
@@ -16,8 +16,8 @@ use crate::text::text_precedes;
 
 pub struct Cursor {
     pub at: usize,
-    // 01's number of the refusal, 0 where there is none
-    pub refused: u32,
+    // 01's number of the refusal, 0 where there is none; as wide as `at`, so that there is no padding to copy
+    pub refused: usize,
 }
 
 pub struct WideItem {
@@ -71,8 +71,15 @@ fn four_bytes(s: &[u8], at: usize) -> u64
     a + 256 * (b + 256 * (c + 256 * d))
 }
 
+// A cursor with nothing refused.
+pub(crate) fn fresh(at: usize) -> Cursor
+    ensures { λ r. ⌜ r ≡ fresh at ⌝ }
+{
+    Cursor { at, refused: 0 }
+}
+
 impl Cursor {
-    pub fn refuse(self, number: u32) -> Cursor
+    pub fn refuse(self, number: usize) -> Cursor
         ensures { λ r. ⌜ r ≡ refuse self number ⌝ }
     {
         Cursor {
@@ -81,7 +88,30 @@ impl Cursor {
         }
     }
 
+    // A number, most often of one byte.
     pub fn wide(self, s: &[u8], most: u64) -> WideItem
+        ensures { λ r. ⌜ record {
+          is : r ≡ read-wide most (now (s .entry)) self;
+          bound : r .value ≤ most;
+        } ⌝ }
+    {
+        let at = self.at;
+        if self.refused == 0 {
+            if at < s.len() {
+                let b = byte(s, at);
+                if b < 128 {
+                    if b <= most {
+                        let c = fresh(at + 1);
+                        return WideItem { value: b, next: c };
+                    }
+                }
+            }
+        }
+        self.wide_long(s, most)
+    }
+
+    // A number of any length.
+    fn wide_long(self, s: &[u8], most: u64) -> WideItem
         ensures { λ r. ⌜ record {
           is : r ≡ read-wide most (now (s .entry)) self;
           bound : r .value ≤ most;
@@ -129,7 +159,7 @@ impl Cursor {
     }
 
     // The item, or refused by `number` at it where it was read and `good` is false.
-    fn judged(self, item: NumberItem, good: bool, number: u32) -> NumberItem
+    fn judged(self, item: NumberItem, good: bool, number: usize) -> NumberItem
         ensures { λ r. ⌜ r ≡ judged self item good number ⌝ }
     {
         let c = item.next;

@@ -1,8 +1,10 @@
 // A field, read item by item in 01's order.
+ghost use mathlib.Core.Bool.{false};
 ghost use mathlib.Core.Path.{_≡_};
 ghost use Prim.Native.Nat.{_+_, _≤_};
 ghost use Rattle.pack.specs.Records.{read-names, field-flags-of, read-scaling, read-authored, read-opt-reference, read-links, read-field};
 use crate::cursor::Cursor;
+use crate::cursor::fresh;
 use crate::optional::OptFloat;
 use crate::optional::OptNumber;
 use crate::text::OptText;
@@ -108,6 +110,19 @@ fn field_flags(n: u32) -> FieldFlags
     }
 }
 
+fn no_reference(c: Cursor) -> OptReferenceItem
+    ensures { λ r. ⌜ r ≡ record { value = record { given = false; kind = 0; name = record { start = 0; len = 0 } }; next = c } ⌝ }
+{
+    OptReferenceItem {
+        value: OptReference {
+            given: false,
+            kind: 0,
+            name: Text { start: 0, len: 0 },
+        },
+        next: c,
+    }
+}
+
 impl Cursor {
     fn names(self, s: &[u8]) -> NamesItem
         ensures { λ r. ⌜ r ≡ read-names (now (s .entry)) self ⌝ }
@@ -182,6 +197,16 @@ impl Cursor {
     fn opt_reference(self, s: &[u8]) -> OptReferenceItem
         ensures { λ r. ⌜ r ≡ read-opt-reference (now (s .entry)) self ⌝ }
     {
+        if self.absent(s) {
+            let c = fresh(self.at + 1);
+            return no_reference(c);
+        }
+        self.opt_reference_long(s)
+    }
+
+    fn opt_reference_long(self, s: &[u8]) -> OptReferenceItem
+        ensures { λ r. ⌜ r ≡ read-opt-reference (now (s .entry)) self ⌝ }
+    {
         let m = self.mark(s);
         let c = m.next;
         if m.value {
@@ -198,14 +223,7 @@ impl Cursor {
                 next,
             };
         }
-        OptReferenceItem {
-            value: OptReference {
-                given: false,
-                kind: 0,
-                name: Text { start: 0, len: 0 },
-            },
-            next: c,
-        }
+        no_reference(c)
     }
 
     // What a field of `bits` bits refers to.

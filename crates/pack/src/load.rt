@@ -1,17 +1,19 @@
-// `load`: every input refusal, then the offset of each record into the work buffer. One walk over the pack serves both: over an empty
-// part of the work buffer it only judges and counts.
+// `load`: every input refusal, then the offset of each record into the work buffer. One walk over the pack serves both: it judges, counts
+// and places the offsets in a list on the stack, from which they are copied.
 ghost use mathlib.Core.Path.{_≡_};
-ghost use Prim.Native.Nat.{_<_};
-ghost use lib.ListN.{length, set};
+ghost use Prim.Native.Nat.{_≤_, _<_};
+ghost use lib.ListN.{length, set, take};
 ghost use Rattle.pack.specs.Format.{types, type-offsets, entries, entry-offsets, lookups, lookup-offsets, fields, field-offsets};
-ghost use Rattle.pack.specs.Format.{pgn-next, pgn-records, pgns, pgn-offsets};
-ghost use Rattle.pack.specs.Load.{refusal-number, refusal-detail, Loads};
+ghost use Rattle.pack.specs.Format.{pgn-next, pgn-records, pgns, pgn-offsets, pack-end, offsets};
+ghost use Rattle.pack.specs.Load.{refusal-number, refusal-detail, over, most-bytes, Loads};
 ghost use Rattle.pack.specs.Placing.{Room, Placing, LookupPlacing, TreePlacing, Walking, counted};
 use crate::cursor::Cursor;
 use crate::text::OptText;
 use crate::text::Text;
 
 const MOST_BYTES: usize = 1_048_576;
+// Up to so many bytes 512 offsets are held on the stack, else 32,768.
+const SHORT_BYTES: usize = 8192;
 
 // A list of records: how many, and the work position at which it begins.
 pub struct Section {
@@ -328,17 +330,46 @@ fn place_all(s: &[u8], work: &mut [u32]) -> Walked
     }
 }
 
-pub fn load(pack: &[u8], work: &mut [u32]) -> Loaded
+// The first n numbers of a buffer, copied into another.
+fn copy(from: &[u32], to: &mut [u32], n: usize)
+    requires { ⌜ record { from : n ≤ length (now from); to : n ≤ length (now to) } ⌝ }
+    ensures { λ r. ⌜ now (to .exit) ≡ over (take n (now (from .entry))) (now (to .entry)) ⌝ }
+{
+    let mut i = 0;
+    while i < n {
+        to[i] = from[i];
+        i += 1;
+    }
+}
+
+// The n offsets of an accepted pack into the work buffer, which has room for them: those that `short` holds are copied, more are placed again.
+fn deliver(pack: &[u8], work: &mut [u32], short: &[u32], n: usize)
+    requires { ⌜ record {
+      bytes : length (now pack) < 4294967296;
+      accepted : pack-end (now pack) .refused ≡ 0;
+      counted : n ≡ length (offsets (now pack));
+      short : n ≤ length (now short) → take n (now short) ≡ offsets (now pack);
+      room : n ≤ length (now work);
+    } ⌝ }
+    ensures { λ r. ⌜ now (work .exit) ≡ over (offsets (now (pack .entry))) (now (work .entry)) ⌝ }
+{
+    if n <= short.len() {
+        copy(short, work, n);
+        return;
+    }
+    place_all(pack, work);
+}
+
+// `load` by way of `short`, since after a refusal the work buffer has not changed.
+fn load_by(pack: &[u8], work: &mut [u32], short: &mut [u32]) -> Loaded
+    requires { ⌜ length (now pack) ≤ most-bytes ⌝ }
     ensures { λ r. ⌜ Loads (now (pack .entry)) (now (work .entry)) (now (work .exit)) r ⌝ }
 {
-    if MOST_BYTES < pack.len() {
-        return Loaded::Refused(Refusal::TooLong);
-    }
-    let judged = place_all(pack, &mut work[..0]);
+    let judged = place_all(pack, short);
     let end = judged.end;
     if end.refused != 0 {
         return Loaded::Refused(Refusal::Input {
-            number: end.refused,
+            number: end.refused as u32,
             offset: end.at,
         });
     }
@@ -346,6 +377,34 @@ pub fn load(pack: &[u8], work: &mut [u32]) -> Loaded
     if work.len() < index.records {
         return Loaded::Refused(Refusal::Work(index.records));
     }
-    place_all(pack, work);
+    deliver(pack, work, short, index.records);
     Loaded::Accepted(index)
+}
+
+fn load_short(pack: &[u8], work: &mut [u32]) -> Loaded
+    requires { ⌜ length (now pack) ≤ most-bytes ⌝ }
+    ensures { λ r. ⌜ Loads (now (pack .entry)) (now (work .entry)) (now (work .exit)) r ⌝ }
+{
+    let mut short = [0u32; 512];
+    load_by(pack, work, &mut short)
+}
+
+fn load_long(pack: &[u8], work: &mut [u32]) -> Loaded
+    requires { ⌜ length (now pack) ≤ most-bytes ⌝ }
+    ensures { λ r. ⌜ Loads (now (pack .entry)) (now (work .entry)) (now (work .exit)) r ⌝ }
+{
+    let mut short = [0u32; 32768];
+    load_by(pack, work, &mut short)
+}
+
+pub fn load(pack: &[u8], work: &mut [u32]) -> Loaded
+    ensures { λ r. ⌜ Loads (now (pack .entry)) (now (work .entry)) (now (work .exit)) r ⌝ }
+{
+    if MOST_BYTES < pack.len() {
+        return Loaded::Refused(Refusal::TooLong);
+    }
+    if pack.len() <= SHORT_BYTES {
+        return load_short(pack, work);
+    }
+    load_long(pack, work)
 }

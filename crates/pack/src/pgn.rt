@@ -1,7 +1,9 @@
 // A PGN and its sets, read item by item in 01's order, up to its fields.
+ghost use mathlib.Core.Bool.{false};
 ghost use mathlib.Core.Path.{_≡_};
 ghost use Rattle.pack.specs.Records.{read-repeating, read-opt-repeating, read-pgn};
 use crate::cursor::Cursor;
+use crate::cursor::fresh;
 use crate::optional::OptNumber;
 use crate::text::Text;
 
@@ -59,6 +61,29 @@ pub struct PgnItem {
     pub next: Cursor,
 }
 
+fn no_repeating(c: Cursor) -> OptRepeatingItem
+    ensures { λ r. ⌜ r ≡ record {
+      value = record { given = false; set = record { count = 0; start = 0; counter = record { given = false; value = 0 }; nested = false } };
+      next = c;
+    } ⌝ }
+{
+    OptRepeatingItem {
+        value: OptRepeating {
+            given: false,
+            set: RepeatingView {
+                count: 0,
+                start: 0,
+                counter: OptNumber {
+                    given: false,
+                    value: 0,
+                },
+                nested: false,
+            },
+        },
+        next: c,
+    }
+}
+
 impl Cursor {
     fn repeating(self, s: &[u8]) -> RepeatingItem
         ensures { λ r. ⌜ r ≡ read-repeating (now (s .entry)) self ⌝ }
@@ -83,6 +108,16 @@ impl Cursor {
     fn opt_repeating(self, s: &[u8]) -> OptRepeatingItem
         ensures { λ r. ⌜ r ≡ read-opt-repeating (now (s .entry)) self ⌝ }
     {
+        if self.absent(s) {
+            let c = fresh(self.at + 1);
+            return no_repeating(c);
+        }
+        self.opt_repeating_long(s)
+    }
+
+    fn opt_repeating_long(self, s: &[u8]) -> OptRepeatingItem
+        ensures { λ r. ⌜ r ≡ read-opt-repeating (now (s .entry)) self ⌝ }
+    {
         let m = self.mark(s);
         let c = m.next;
         if m.value {
@@ -94,21 +129,7 @@ impl Cursor {
                 next,
             };
         }
-        OptRepeatingItem {
-            value: OptRepeating {
-                given: false,
-                set: RepeatingView {
-                    count: 0,
-                    start: 0,
-                    counter: OptNumber {
-                        given: false,
-                        value: 0,
-                    },
-                    nested: false,
-                },
-            },
-            next: c,
-        }
+        no_repeating(c)
     }
 
     // A PGN up to its fields.

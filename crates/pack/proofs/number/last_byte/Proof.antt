@@ -1,3 +1,4 @@
+use Rattle.pack.proofs.Short.{run-ends}
 use Rattle.pack.specs.Items.{run}
 use lib.Seq.{drop-cons}
 use lib.ListN.{drop-of-length-le, length, getD, drop}
@@ -7,7 +8,7 @@ use native.Mathlib.Numerals.{add-one}
 use mathlib.Core.Path.{_≡_}
 use mathlib.Core.List.{List}
 use borrow.Author.Needs.{needs}
-use borrow.Author.Tests.{lt-ltb, le-ltb}
+use borrow.Author.Tests.{le-ltb}
 use denote.Ref.{now}
 use Rattle.pack.proofs.number.last_byte.Statement.{statement}
 use Rattle.pack.proofs.number.last_byte.Tie as tie
@@ -20,9 +21,6 @@ abbrev μ-loop : tie.MeasureT-loop
 
 end : (s : List ℕ) (i : ℕ) → length s ≤ i → run (drop i s) ≡ 0
 end s i h = rw (drop-of-length-le s h)
-
-stay : (s : List ℕ) (i : ℕ) → i < length s → getD s i 0 < 128 → run (drop i s) ≡ 0
-stay s i h l = rw (drop-cons s i 0 h, lt-ltb _ _ l)
 
 go : (s : List ℕ) (i : ℕ) → i < length s → 128 ≤ getD s i 0 → run (drop i s) ≡ suc (run (drop (i + 1) s))
 go s i h l = rw (add-one, drop-cons s i 0 h, le-ltb _ _ l)
@@ -37,7 +35,7 @@ returns : tie.Need-returns Inv-loop μ-loop
 returns c =
     let start = c .before .before .before .before in
     let loop = c .before .before .before .loop in
-    omega (arith, stay (now (start .args .s)) (loop .i) (c .before .before .loop-test .taken) (c .if1 .taken))
+    omega (arith, run-ends (now (start .args .s)) (loop .i) (c .before .before .loop-test .taken) (c .if1 .taken))
 
 add-i : tie.Need-add-i Inv-loop μ-loop
 add-i c = search needs

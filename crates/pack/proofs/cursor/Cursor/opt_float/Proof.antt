@@ -1,23 +1,44 @@
+use native.Mathlib.Omega.{arith}
 use Rattle.pack.specs.Items.{read-opt-float}
 use borrow.Author.Needs.{needs}
 use Rattle.pack.proofs.cursor.Cursor.opt_float.Statement.{statement}
 use Rattle.pack.proofs.cursor.Cursor.opt_float.Tie as tie
 
-mark-requires : tie.Need-mark-requires
-mark-requires c κs = search needs
+absent-requires : tie.Need-absent-requires
+absent-requires c κs = search needs
 
-float-requires : tie.Need-float-requires
-float-requires c κs = search needs
+add-fresh : tie.Need-add-fresh
+add-fresh c =
+    let start = c .before .before .before .before in
+    omega (arith, c .before .before .absent .ensures .inside (c .before .if1 .taken), start .good)
+
+fresh-requires : tie.Need-fresh-requires
+fresh-requires c κs = search needs
+
+no-float-requires : tie.Need-no-float-requires
+no-float-requires c κs = search needs
 
 returns : tie.Need-returns
 unfolding read-opt-float
 returns c =
-    let mark = c .before .before .before .before .mark in
-    simp (← mark .ensures, c .before .before .if1 .taken, ← c .before .float .ensures)
+    let absent = c .before .before .before .before .absent in
+    let if1 = c .before .before .before .if1 in
+    simp (c .no-float .ensures, c .before .fresh .ensures, absent .ensures .mark (if1 .taken))
+
+opt-float-long-requires : tie.Need-opt-float-long-requires
+opt-float-long-requires c κs = search needs
 
 returns-2 : tie.Need-returns-2
-unfolding read-opt-float
-returns-2 c = simp (← c .before .before .mark .ensures, c .if1 .left)
+returns-2 c = search needs
 
 pub opt-float-spec : {M : Type 1} → statement M
-opt-float-spec = tie.close (tie.spec mark-requires float-requires returns returns-2)
+opt-float-spec =
+    tie.close
+    (tie.spec
+    absent-requires
+    add-fresh
+    fresh-requires
+    no-float-requires
+    returns
+    opt-float-long-requires
+    returns-2)

@@ -1,24 +1,44 @@
+use native.Mathlib.Omega.{arith}
 use Rattle.pack.specs.Items.{read-opt-text}
 use borrow.Author.Needs.{needs}
 use Rattle.pack.proofs.cursor.Cursor.opt_text.Statement.{statement}
 use Rattle.pack.proofs.cursor.Cursor.opt_text.Tie as tie
 
-mark-requires : tie.Need-mark-requires
-mark-requires c κs = search needs
+absent-requires : tie.Need-absent-requires
+absent-requires c κs = search needs
 
-text-requires : tie.Need-text-requires
-text-requires c κs = search needs
+add-fresh : tie.Need-add-fresh
+add-fresh c =
+    let start = c .before .before .before .before in
+    omega (arith, c .before .before .absent .ensures .inside (c .before .if1 .taken), start .good)
+
+fresh-requires : tie.Need-fresh-requires
+fresh-requires c κs = search needs
+
+no-text-requires : tie.Need-no-text-requires
+no-text-requires c κs = search needs
 
 returns : tie.Need-returns
 unfolding read-opt-text
 returns c =
-    let mark = c .before .before .before .before .before .mark in
+    let absent = c .before .before .before .before .absent in
     let if1 = c .before .before .before .if1 in
-    simp (← mark .ensures, if1 .taken, ← c .before .before .text .ensures)
+    simp (c .no-text .ensures, c .before .fresh .ensures, absent .ensures .mark (if1 .taken))
+
+opt-text-long-requires : tie.Need-opt-text-long-requires
+opt-text-long-requires c κs = search needs
 
 returns-2 : tie.Need-returns-2
-unfolding read-opt-text
-returns-2 c = simp (← c .before .before .mark .ensures, c .if1 .left)
+returns-2 c = search needs
 
 pub opt-text-spec : {M : Type 1} → statement M
-opt-text-spec = tie.close (tie.spec mark-requires text-requires returns returns-2)
+opt-text-spec =
+    tie.close
+    (tie.spec
+    absent-requires
+    add-fresh
+    fresh-requires
+    no-text-requires
+    returns
+    opt-text-long-requires
+    returns-2)
