@@ -56,16 +56,15 @@ pub const SHAPES: &[Shape] = &[
     }),
     // the fields of one PGN (R15, R21, R43, R44, held, walk)
     shape("fields-ids", |n| of_fields(plain_fields(0..n))),
-    shape("continues", |n| {
-        let low = plain_fields(0..n).into_iter().map(|field| Field { continuation: Some(8), ..field });
-        let high = plain_fields(n..2 * n).into_iter().enumerate();
-        of_fields(low.chain(high.map(|(i, field)| Field { continues: Some(name(i)), ..field })).collect())
+    shape("continues-first", |n| {
+        let low = Field { continuation: Some(BITS), ..plain(0) };
+        let high = (1..=n).map(|i| Field { continues: Some(name(0)), ..plain(i) });
+        of_fields([low].into_iter().chain(high).collect())
     }),
     shape("continues-last", |n| users_behind(n, |field, id| Field { continues: Some(id), ..field })),
     shape("bit-length-behind", |n| users_behind(n, variable_binary)),
     shape("bit-length-ahead", |n| {
-        let users = plain_fields(0..n).into_iter().map(|field| variable_binary(field, name(2 * n - 1)));
-        of_fields(users.chain(plain_fields(n..2 * n)).collect())
+        of_fields((0..n).map(|i| variable_binary(plain(i), name(n))).chain([plain(n)]).collect())
     }),
     shape("trailing-zero-behind", |n| {
         users_behind(n, |field, id| Field { type_: b"DECIMAL".to_vec(), ft: DECIMAL, trailing_zero: Some(id), ..field })
