@@ -26,19 +26,22 @@ pub fn introduce() {
         "CPU time, the best of many runs (seed {SEED}). All are built for release; the buffers lent are long enough, made"
     );
     println!("outside the clock, and not cleared between runs.");
+    say_what_is_missing();
+    println!(
+        "Packs: real (the sample's messages, repeated), clean (random, without error), faulty (random, many findings)."
+    );
+}
+
+/// The sides that were not there at build time.
+fn say_what_is_missing() {
     if !library::PRESENT {
-        println!(
-            "No library is linked (SARWYMP_LIB names its folder), so its side is missing, and the first side is another."
-        );
+        println!("No library is linked (SARWYMP_LIB names its folder), so its side is missing.");
     }
     if !oracle::PRESENT {
         println!(
             "The oracle's files were not there at build time (KEEL_SRC names their folder), so its side is missing."
         );
     }
-    println!(
-        "Packs: real (the sample's messages, repeated), clean (random, without error), faulty (random, many findings)."
-    );
 }
 
 /// What is said of times by size.

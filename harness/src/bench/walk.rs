@@ -37,31 +37,35 @@ pub fn bench() -> Result<(), String> {
     let mut table = Vec::new();
     for shape in shapes()? {
         println!("{}", shape.name);
-        let mut row = vec![shape.name.to_string()];
-        for length in LENGTHS {
-            let rates = rates(&shape, length)?;
-            print!("{length:>9} readings");
-            for (side, rate) in SIDES.into_iter().zip(rates) {
-                print!("   {} {}", side.name(), shown(rate));
-            }
-            let ratio = rates[0].zip(rates[1]).map_or("-".into(), |(library, rust)| format!("{:.1}", rust / library));
-            println!("   ratio {ratio}");
-            if length == LENGTHS[2] {
-                row.extend([shown(rates[0]), shown(rates[1])]);
-            }
-            row.push(ratio);
-        }
-        table.push(row);
+        table.push(row(&shape)?);
     }
     if library::PRESENT {
         println!(
-            "\nwalk, the library's time to the Rust's by the readings, and millions of visits a second over the most\n"
+            "\nwalk: the library's time to the Rust's by the readings; millions of visits a second over the most\n"
         );
-        let heads = ["PGN", "100", "10,000", "library", "Rust", "1,000,000"];
+        let heads = ["PGN", "100", "10,000", "1,000,000", "library", "Rust"];
         print_table(heads.map(String::from).into(), table);
     }
     println!("\nwalk by size, over {} readings and the PGN that takes the most of them.\n{PACKS}", packs::READINGS);
     by_size(Call::Walk, &SIDES[..2], &[("", packs::longest_walk)], milliseconds)
+}
+
+/// Prints the rates by the readings; the ratios, and the rates over the most readings, for the table.
+fn row(shape: &Shape) -> Result<Vec<String>, String> {
+    let mut row = vec![shape.name.to_string()];
+    let mut latest = [None; 3];
+    for length in LENGTHS {
+        latest = rates(shape, length)?;
+        print!("{length:>9} readings");
+        for (side, rate) in SIDES.into_iter().zip(latest) {
+            print!("   {} {}", side.name(), shown(rate));
+        }
+        let ratio = latest[0].zip(latest[1]).map_or("-".into(), |(library, rust)| format!("{:.1}", rust / library));
+        println!("   ratio {ratio}");
+        row.push(ratio);
+    }
+    row.extend(latest[..2].iter().map(|rate| shown(*rate)));
+    Ok(row)
 }
 
 fn shown(rate: Option<f64>) -> String {

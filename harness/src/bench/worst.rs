@@ -5,7 +5,7 @@ use super::call::{Call, Case, Run, Side};
 use super::clock::clocked;
 use super::packs::{self, KINDS};
 use super::shapes::{SHAPES, Shape};
-use super::table_row;
+use super::{say_what_is_missing, table_row};
 use std::fs::read_to_string;
 use std::process::{Child, Command, Stdio};
 use std::thread::sleep;
@@ -44,6 +44,7 @@ pub fn bench(limit: f64, only: Option<&str>) -> Result<(), String> {
     }
     println!("CPU seconds of one call on packs that are made to be slow; a call is ended at {limit} s.");
     println!("Readings of the walk over the last PGN: {READINGS}, and as many as it has fields where these are more.");
+    say_what_is_missing();
     println!("The place text is that of the last PGN or of the last lookup, whichever are more.\n");
     let heads = ["shape", "bytes", "records", "findings"].into_iter().chain(COLUMNS.map(|(head, ..)| head));
     let heads: Vec<&str> = heads.collect();
