@@ -8,8 +8,10 @@ const USAGE: &str = "usage:
   harness diff [--seed N] [--count N] [--what oracle|load|check|place|spns|rust|walk|all]
                         compare over random packs; what is never reached is a failure
   harness record DIR    write a fixed list of packs with their answers
-  harness bench [--what load|check|walk|all]
+  harness bench [--what load|check|walk|held|all]
                         time the same inputs on each side
+  harness bench --what worst [--limit SECONDS] [--shape NAME]
+                        time each call on packs made to be slow
   harness pack FILE     write the pack that a text says (docs/TEXT-FORM.md) to standard output
   harness unpack FILE   write a pack in the text form to standard output
   harness show          list the pack on standard input in words
@@ -21,8 +23,9 @@ fn main() -> ExitCode {
     let result = match words[..] {
         ["diff", ref options @ ..] => run_diff(options),
         ["record", folder] => record::record(folder.as_ref()),
-        ["bench"] => run_bench("all"),
-        ["bench", "--what", what] => run_bench(what),
+        ["bench", ref options @ ..] => run_bench(options),
+        // for the table of worst and for tools: one call alone
+        ["once", ref words @ ..] => bench::worst::once(words),
         ["pack", file] => pack(file),
         ["unpack", file] => unpack(file),
         ["show"] => answer(|bytes| show::show(bytes).into_bytes()),
@@ -64,7 +67,19 @@ fn run_diff(options: &[&str]) -> Result<(), String> {
     runs.into_iter().try_for_each(|(name, run)| run(seed, count).map_err(|failure| format!("{name}: {failure}")))
 }
 
-fn run_bench(what: &str) -> Result<(), String> {
+fn run_bench(options: &[&str]) -> Result<(), String> {
+    let (mut what, mut limit, mut shape) = ("all", 20.0, None);
+    for option in options.chunks(2) {
+        match option {
+            ["--what", value] => what = value,
+            ["--limit", value] => limit = value.parse().map_err(|_| USAGE)?,
+            ["--shape", value] => shape = Some(*value),
+            _ => return Err(USAGE.into()),
+        }
+    }
+    if what == "worst" {
+        return bench::worst::bench(limit, shape);
+    }
     let parts: Vec<_> = bench::PARTS.iter().filter(|(name, _)| what == "all" || what == *name).collect();
     if parts.is_empty() {
         return Err(USAGE.into());

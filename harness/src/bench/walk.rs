@@ -1,23 +1,23 @@
-//! Visits a second of the walk on each side, over short and long lists of readings.
+//! Visits a second of the walk on each side, over short and long lists of readings, and walks on packs of each size.
 
-use super::{keep, time};
-use crate::encode::encode;
+use super::call::{Call, Case, Side};
+use super::clock::time;
+use super::{PACKS, by_size, milliseconds, packs, print_table};
 use crate::library;
 use crate::quick_walk::quick_walk;
-use crate::reader::read;
 use crate::text::to_pack;
 use crate::value::*;
 use crate::walk::walk;
 use std::hint::black_box;
 
 const LENGTHS: [usize; 3] = [100, 10_000, 1_000_000];
+const SIDES: [Side; 3] = [Side::Library, Side::Rust, Side::Harness];
 
 /// A PGN that takes as many readings as there are.
 struct Shape {
     name: &'static str,
     pack: Pack,
-    /// the PGN's place
-    tree: usize,
+    /// the PGN of tree 0
     item: usize,
     /// the reading of each visit
     reading: fn(usize) -> u64,
@@ -34,69 +34,79 @@ pub fn bench() -> Result<(), String> {
     println!("           fields that is made for the call");
     println!("  harness  the same reader and the harness's own walk, which asks the whole history");
     println!("ratio: the library's time to the Rust's; over the longest list hardly anything is left of the reading.");
-    let mut longest = Vec::new();
+    let mut table = Vec::new();
     for shape in shapes()? {
-        let bytes = encode(&shape.pack).bytes;
-        println!("{}, a pack of {} bytes", shape.name, bytes.len());
-        for length in LENGTHS {
-            let rates = rates(&shape, &bytes, length)?;
-            print!("{length:>9} readings");
-            for (side, rate) in ["library", "Rust", "harness"].into_iter().zip(rates) {
-                print!("   {side} {}", rate.map_or("-".into(), |rate| format!("{rate:.2}")));
-            }
-            println!("{}", ratio(rates).map_or(String::new(), |ratio| format!("   ratio {ratio:.1}")));
-            if length == LENGTHS[2] {
-                longest.push((shape.name, rates));
-            }
-        }
+        println!("{}", shape.name);
+        table.push(row(&shape)?);
     }
     if library::PRESENT {
-        println!("\nwalk over {} readings, millions of visits a second: library, Rust, ratio", LENGTHS[2]);
-        for (name, rates) in longest {
-            let [Some(library), Some(rust), _] = rates else { continue };
-            println!("{name:>48}{library:>10.2}{rust:>10.2}{:>10.1}", rust / library);
+        println!(
+            "\nwalk: the library's time to the Rust's by the readings; millions of visits a second over the most\n"
+        );
+        let heads = ["PGN", "100", "10,000", "1,000,000", "library", "Rust"];
+        print_table(heads.map(String::from).into(), table);
+    }
+    println!("\nwalk by size, over {} readings and the PGN that takes the most of them.\n{PACKS}", packs::READINGS);
+    by_size(Call::Walk, &SIDES[..2], &[("", packs::longest_walk)], milliseconds)
+}
+
+/// Prints the rates by the readings; the ratios, and the rates over the most readings, for the table.
+fn row(shape: &Shape) -> Result<Vec<String>, String> {
+    let mut row = vec![shape.name.to_string()];
+    let mut latest = [None; 3];
+    for length in LENGTHS {
+        latest = rates(shape, length)?;
+        print!("{length:>9} readings");
+        for (side, rate) in SIDES.into_iter().zip(latest) {
+            print!("   {} {}", side.name(), shown(rate));
         }
+        let ratio = latest[0].zip(latest[1]).map_or("-".into(), |(library, rust)| format!("{:.1}", rust / library));
+        println!("   ratio {ratio}");
+        row.push(ratio);
+    }
+    row.extend(latest[..2].iter().map(|rate| shown(*rate)));
+    Ok(row)
+}
+
+fn shown(rate: Option<f64>) -> String {
+    rate.map_or("-".into(), |rate| format!("{rate:.2}"))
+}
+
+/// Millions of visits a second of each side; none for one that is not there.
+fn rates(shape: &Shape, length: usize) -> Result<[Option<f64>; 3], String> {
+    let readings = (0..length).map(shape.reading).collect();
+    let case = Case::new(shape.pack.clone(), Some((0, shape.item)), readings);
+    agree(&case).map_err(|difference| format!("{}: {difference}", shape.name))?;
+    Ok(SIDES.map(|side| {
+        let mut run = case.run(side, Call::Walk)?;
+        let micros = time(&mut || {
+            black_box(run());
+        });
+        Some(length as f64 / micros)
+    }))
+}
+
+/// Every reading is taken, and each side makes the same visits.
+fn agree(case: &Case) -> Result<(), String> {
+    let (tree, item) = case.pgn.ok_or("no PGN")?;
+    let pgn = &case.pack.trees[tree][item];
+    let length = case.readings.len();
+    let expected = walk(&case.pack, pgn, &case.readings).visits;
+    if expected.len() != length {
+        return Err("not every reading is taken".into());
+    }
+    let mut visits = vec![u32::MAX; length];
+    quick_walk(&case.pack, pgn, &case.readings, &mut visits);
+    if visits != expected {
+        return Err("the walk without history goes otherwise".into());
+    }
+    visits.fill(u32::MAX);
+    let mut work = vec![0; case.records];
+    let theirs = library::walk(&case.bytes, &mut work, tree as u32, item as u32, &case.readings, &mut visits);
+    if theirs.is_some_and(|answer| answer != (0, [10, length as u64]) || visits != expected) {
+        return Err(format!("the library walks otherwise: {theirs:?}"));
     }
     Ok(())
-}
-
-fn ratio(rates: [Option<f64>; 3]) -> Option<f64> {
-    Some(rates[1]? / rates[0]?)
-}
-
-/// Of the library, the walk without history and the one with it; none for a side that is not there.
-fn rates(shape: &Shape, bytes: &[u8], length: usize) -> Result<[Option<f64>; 3], String> {
-    let Shape { tree, item, .. } = *shape;
-    let readings: Vec<u64> = (0..length).map(shape.reading).collect();
-    let mut visits = vec![0; length];
-    let expected = walk(&shape.pack, &shape.pack.trees[tree][item], &readings);
-    let taken = expected.visits.len();
-    let mut work = vec![0; encode(&shape.pack).records.len()];
-    let (tree_number, item_number) = (tree as u32, item as u32);
-    let theirs = library::walk(bytes, &mut work, tree_number, item_number, &readings, &mut visits);
-    if theirs.is_some_and(|answer| answer != (0, [10, length as u64]) || visits != expected.visits) || taken != length {
-        return Err(format!("{}: not every reading is taken, or the library walks otherwise: {theirs:?}", shape.name));
-    }
-    let rate = |micros: f64| length as f64 / micros;
-    let library = theirs.map(|_| {
-        rate(time(&mut || {
-            keep(library::walk(black_box(bytes), &mut work, tree_number, item_number, &readings, &mut visits));
-        }))
-    });
-    // nothing of the library's may stand in for what this walk does not write
-    visits.fill(u32::MAX);
-    let rust = rate(time(&mut || {
-        let loaded = read(black_box(bytes)).expect("a good pack");
-        keep(quick_walk(&loaded.pack, &loaded.pack.trees[tree][item], &readings, &mut visits));
-    }));
-    if visits != expected.visits {
-        return Err(format!("{}: the walk without history goes otherwise", shape.name));
-    }
-    let harness = rate(time(&mut || {
-        let loaded = read(black_box(bytes)).expect("a good pack");
-        keep(walk(&loaded.pack, &loaded.pack.trees[tree][item], &readings));
-    }));
-    Ok([library, Some(rust), Some(harness)])
 }
 
 fn shapes() -> Result<Vec<Shape>, String> {
@@ -104,7 +114,7 @@ fn shapes() -> Result<Vec<Shape>, String> {
     let in_view = sample.trees[0].iter().position(|pgn| pgn.pgn == 129_540).ok_or("the sample has no 129540")?;
     let shape = |name, lines: String, reading| {
         let pack = to_pack(&format!("{TYPES}{lines}"))?;
-        Ok::<_, String>(Shape { name, pack, tree: 0, item: 0, reading })
+        Ok::<_, String>(Shape { name, pack, item: 0, reading })
     };
     let fields = |count: usize, more: &str| -> String {
         (1..=count).map(|order| format!("field f{order} F{order} NUMBER bits 8 {more}\n")).collect()
@@ -112,6 +122,8 @@ fn shapes() -> Result<Vec<Shape>, String> {
     Ok(vec![
         shape("8 plain fields, endless set", format!("set 1 start 1 count 8\n{}", fields(8, "")), |_| 3)?,
         shape("64 plain fields, endless set", format!("set 1 start 1 count 64\n{}", fields(64, "")), |_| 3)?,
+        shape("300 plain fields, endless set", format!("set 1 start 1 count 300\n{}", fields(300, "")), |_| 3)?,
+        shape("1000 plain fields, endless set", format!("set 1 start 1 count 1000\n{}", fields(1000, "")), |_| 3)?,
         shape(
             "nested sets with counts, 8 fields",
             format!("set 1 start 2 count 7 countField 1\nset 2 start 4 count 3 countField 3 nested\n{}", fields(8, "")),
@@ -122,11 +134,16 @@ fn shapes() -> Result<Vec<Shape>, String> {
             format!("set 1 start 1 count 8\n{}", fields(8, "lookupFieldtype FT")),
             |visit| visit as u64 % 17,
         )?,
-        Shape { name: "the sample's satellites in view", pack: sample, tree: 0, item: in_view, reading: |_| u64::MAX },
+        shape(
+            "8 fields with a fieldtype lookup without fault, endless set",
+            format!("set 1 start 1 count 8\n{}", fields(8, "lookupFieldtype GOOD")),
+            |visit| visit as u64 % 17,
+        )?,
+        Shape { name: "the sample's satellites in view", pack: sample, item: in_view, reading: |_| u64::MAX },
     ])
 }
 
-/// One entry of the lookup names a type that is missing, and no reading meets it.
+/// One entry of FT names a type that is missing, and no reading meets it; those of GOOD name none.
 const TYPES: &str = "
 type NUMBER prints
 lookup FT fieldtype 8
@@ -138,6 +155,15 @@ value 4 e NUMBER
 value 5 f NUMBER
 value 6 g NUMBER
 value 200 h MISSING
+lookup GOOD fieldtype 8
+value 0 a NUMBER
+value 1 b NUMBER
+value 2 c NUMBER
+value 3 d NUMBER
+value 4 e NUMBER
+value 5 f NUMBER
+value 6 g NUMBER
+value 200 h NUMBER
 tree nmea2000
 pgn 126208 a Fast
 ";
