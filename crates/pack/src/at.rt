@@ -3,7 +3,7 @@ ghost use mathlib.Core.Path.{_≡_};
 ghost use Rattle.pack.specs.Items.{fresh, read-number, read-text};
 ghost use Rattle.pack.specs.Records.{read-type, read-entry, read-lookup, read-pgn, read-field};
 ghost use Rattle.pack.specs.Format.{no-text};
-use crate::cursor::Cursor;
+use crate::cursor::fresh;
 use crate::entry::EntryView;
 use crate::field::FieldView;
 use crate::field_type::FieldTypeView;
@@ -12,17 +12,11 @@ use crate::pgn::PgnView;
 use crate::text::OptText;
 use crate::text::Text;
 
-fn cursor_at(at: usize) -> Cursor
-    ensures { λ r. ⌜ r ≡ fresh at ⌝ }
-{
-    Cursor { at, refused: 0 }
-}
-
 // The number that a record begins with: a PGN's.
 pub fn number_at(s: &[u8], at: usize) -> u32
     ensures { λ r. ⌜ r ≡ read-number (now (s .entry)) (fresh at) .value ⌝ }
 {
-    let r = cursor_at(at).number(s);
+    let r = fresh(at).number(s);
     r.value
 }
 
@@ -30,7 +24,7 @@ pub fn number_at(s: &[u8], at: usize) -> u32
 pub fn text_at(s: &[u8], at: usize) -> Text
     ensures { λ r. ⌜ r ≡ read-text (now (s .entry)) (fresh at) .value ⌝ }
 {
-    let r = cursor_at(at).text(s);
+    let r = fresh(at).text(s);
     r.value
 }
 
@@ -38,7 +32,7 @@ pub fn text_at(s: &[u8], at: usize) -> Text
 pub(crate) fn second_text_at(s: &[u8], at: usize) -> Text
     ensures { λ r. ⌜ r ≡ read-text (now (s .entry)) (read-text (now (s .entry)) (fresh at) .next) .value ⌝ }
 {
-    let first = cursor_at(at).text(s);
+    let first = fresh(at).text(s);
     let r = first.next.text(s);
     r.value
 }
@@ -46,7 +40,7 @@ pub(crate) fn second_text_at(s: &[u8], at: usize) -> Text
 pub fn type_at(s: &[u8], at: usize) -> FieldTypeView
     ensures { λ r. ⌜ r ≡ read-type (now (s .entry)) (fresh at) .value ⌝ }
 {
-    let r = cursor_at(at).field_type(s);
+    let r = fresh(at).field_type(s);
     r.value
 }
 
@@ -58,7 +52,7 @@ pub fn lookup_at(s: &[u8], at: usize) -> LookupView
         given: false,
         text: Text { start: 0, len: 0 },
     };
-    let r = cursor_at(at).lookup(s, before);
+    let r = fresh(at).lookup(s, before);
     r.value
 }
 
@@ -66,14 +60,14 @@ pub fn lookup_at(s: &[u8], at: usize) -> LookupView
 pub fn entry_at(s: &[u8], at: usize, kind: u32) -> EntryView
     ensures { λ r. ⌜ r ≡ read-entry kind (now (s .entry)) (fresh at) .value ⌝ }
 {
-    let r = cursor_at(at).entry(s, kind);
+    let r = fresh(at).entry(s, kind);
     r.value
 }
 
 pub fn pgn_at(s: &[u8], at: usize) -> PgnView
     ensures { λ r. ⌜ r ≡ read-pgn (now (s .entry)) (fresh at) .value ⌝ }
 {
-    let r = cursor_at(at).pgn(s);
+    let r = fresh(at).pgn(s);
     r.value
 }
 
@@ -81,6 +75,6 @@ pub fn pgn_at(s: &[u8], at: usize) -> PgnView
 pub fn field_at(s: &[u8], at: usize) -> FieldView
     ensures { λ r. ⌜ r ≡ read-field 4294967296 0 (now (s .entry)) (fresh at) .value ⌝ }
 {
-    let r = cursor_at(at).field(s, 0x1_0000_0000, 0);
+    let r = fresh(at).field(s, 0x1_0000_0000, 0);
     r.value
 }

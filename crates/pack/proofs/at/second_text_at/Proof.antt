@@ -2,8 +2,8 @@ use borrow.Author.Needs.{needs}
 use Rattle.pack.proofs.at.second_text_at.Statement.{statement}
 use Rattle.pack.proofs.at.second_text_at.Tie as tie
 
-cursor-at-requires : tie.Need-cursor-at-requires
-cursor-at-requires c κs = search needs
+fresh-requires : tie.Need-fresh-requires
+fresh-requires c κs = search needs
 
 text-requires : tie.Need-text-requires
 text-requires c κs = search needs
@@ -15,4 +15,4 @@ returns : tie.Need-returns
 returns c = cc
 
 pub second-text-at-spec : {M : Type 1} → statement M
-second-text-at-spec = tie.close (tie.spec cursor-at-requires text-requires text-requires-2 returns)
+second-text-at-spec = tie.close (tie.spec fresh-requires text-requires text-requires-2 returns)
