@@ -12,7 +12,7 @@ use crate::text::OptText;
 use crate::text::Text;
 
 const MOST_BYTES: usize = 1_048_576;
-// Up to so many bytes 512 offsets are held on the stack, else 32,768.
+// Up to so many bytes 512 offsets are held on the stack, else 4,096.
 const SHORT_BYTES: usize = 8192;
 
 // A list of records: how many, and the work position at which it begins.
@@ -393,7 +393,7 @@ fn load_long(pack: &[u8], work: &mut [u32]) -> Loaded
     requires { ⌜ length (now pack) ≤ most-bytes ⌝ }
     ensures { λ r. ⌜ Loads (now (pack .entry)) (now (work .entry)) (now (work .exit)) r ⌝ }
 {
-    let mut short = [0u32; 32768];
+    let mut short = [0u32; 4096];
     load_by(pack, work, &mut short)
 }
 

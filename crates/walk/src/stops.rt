@@ -353,10 +353,7 @@ pub fn judge(s: &[u8], work: &[u32], found: FoundPgn, k: u32, reading: u64) -> J
     }
     let l = fieldtype_lookup(s, work, found.index, f.links.reference);
     if lookup_names_missing(s, work, found.index, l, reading) {
-        return Judged {
-            stop: 5,
-            lookup: l,
-        };
+        return Judged { stop: 5, lookup: l };
     }
     let stop = need_stop(s, work, found, k, f);
     Judged { stop, lookup: l }
