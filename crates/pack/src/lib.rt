@@ -1,5 +1,6 @@
 // The pack layer: document 01's byte format, its five kinds of record, and `load`.
 pub mod at;
+pub mod buffers;
 pub mod cursor;
 pub mod entry;
 pub mod field;

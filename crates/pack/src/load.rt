@@ -7,6 +7,7 @@ ghost use Rattle.pack.specs.Format.{types, type-offsets, entries, entry-
 ghost use Rattle.pack.specs.Format.{pgn-next, pgn-records, pgns, pgn-offsets, pack-end, offsets};
 ghost use Rattle.pack.specs.Load.{refusal-number, refusal-detail, over, most-bytes, Loads};
 ghost use Rattle.pack.specs.Placing.{Room, Placing, LookupPlacing, TreePlacing, Walking, counted};
+use crate::buffers::copy;
 use crate::cursor::Cursor;
 use crate::text::OptText;
 use crate::text::Text;
@@ -327,18 +328,6 @@ fn place_all(s: &[u8], work: &mut [u32]) -> Walked
             records: c.place,
         },
         end,
-    }
-}
-
-// The first n numbers of a buffer, copied into another.
-fn copy(from: &[u32], to: &mut [u32], n: usize)
-    requires { ⌜ record { from : n ≤ length (now from); to : n ≤ length (now to) } ⌝ }
-    ensures { λ r. ⌜ now (to .exit) ≡ over (take n (now (from .entry))) (now (to .entry)) ⌝ }
-{
-    let mut i = 0;
-    while i < n {
-        to[i] = from[i];
-        i += 1;
     }
 }
 

@@ -17,6 +17,7 @@ use crate::spn_names::check_spn_names;
 use crate::spns::check_spns;
 use crate::trees::check_trees;
 use crate::trees::check_trees_continues;
+use pack::buffers::copy;
 use pack::load::Index;
 use pack::load::Loaded;
 use pack::load::Refusal;
@@ -70,18 +71,6 @@ fn count_errors(findings: &[u32], n: usize) -> usize
         i += 1;
     }
     errors
-}
-
-// The first n numbers of a buffer, copied into another.
-fn copy(from: &[u32], to: &mut [u32], n: usize)
-    requires { ⌜ record { from : n ≤ length (now from); to : n ≤ length (now to) } ⌝ }
-    ensures { λ r. ⌜ now (to .exit) ≡ over (take n (now (from .entry))) (now (to .entry)) ⌝ }
-{
-    let mut i = 0;
-    while i < n {
-        to[i] = from[i];
-        i += 1;
-    }
 }
 
 // The findings into the buffer, which has room for them: those that the short list holds are copied, more are looked for again.

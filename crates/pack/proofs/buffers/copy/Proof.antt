@@ -9,8 +9,8 @@ use Prim.Native.Nat.{ℕ, _+_, _-_, _≤_, _<_}
 use mathlib.Core.Path.{_≡_, refl, _∙_}
 use mathlib.Core.List.{List}
 use denote.Ref.{now}
-use Rattle.rules.proofs.check.copy.Statement.{statement}
-use Rattle.rules.proofs.check.copy.Tie as tie
+use Rattle.pack.proofs.buffers.copy.Statement.{statement}
+use Rattle.pack.proofs.buffers.copy.Tie as tie
 
 turn : (w from w′ : List ℕ) (q i : ℕ) → i < length from → Stored w 0 (take i from) w′ q → Stored w 0 (take (i + 1) from) (set w′ q (getD from i 0)) (q + 1)
 turn w from w′ q i h a = rw (add-one i, take-suc from i 0 h) (stored-one a (getD from i 0))
