@@ -3,7 +3,7 @@ use Prim.Native.Nat.{ℕ, zero, suc, _+_, _-_, _^_, _<_}
 use native.Mathlib.Omega.{arith}
 use native.Mathlib.Numerals.{add-one}
 use mathlib.Core.Path.{_≡_, refl, sym, ap, _∙_}
-use mathlib.Core.Bool.{Bool, true, false, not, _&&_, _||_, false≢true}
+use mathlib.Core.Bool.{Bool, true, false, not, _&&_}
 use mathlib.Core.List.{List}
 use mathlib.Core.Option.{Option, none, some}
 use lib.ListN.{length}
@@ -14,17 +14,19 @@ use Rattle.pack.specs.Notation.{if_then_else_, optional, _<ᵇ_, _≤ᵇ_, _≐
 use Rattle.pack.specs.Value.{Bytes, Reference, Field, Pgn, Pack, field-at, lookup-at}
 use Rattle.pack.specs.Meaning.{pack-of}
 use Rattle.rules.specs.Search.{or-else, any-below}
-use Rattle.rules.specs.SearchLaws.{first-is}
-use Rattle.rules.specs.Model.{root-of, lookup-ref, find-lookup, target, resolve-match}
+use Rattle.rules.specs.SearchLaws.{any-hit, first-is}
+use Rattle.rules.specs.Model.{lookup-ref, find-lookup, target, resolve-match}
 use Rattle.rules.specs.DynamicLength.{length-source}
-use Rattle.rules.specs.Texts.{DYNAMIC-FIELD-VALUE}
 use Rattle.rules.proofs.Types.{given-is}
-use Rattle.walk.specs.Layout.{Layout, sets-hold}
+use Rattle.walk.specs.Layout.{Layout, layout, sets-hold}
 use Rattle.walk.specs.ByPlace.{placed}
+use Rattle.walk.specs.Held.{dynamic-value-held}
 use Rattle.walk.specs.Stops.{is-missing, lookup-missing, unfit, match-unfit, entries-name-missing, reference-names-missing, is-dynamic-value, lacks}
 use Rattle.walk.specs.Stops.{lacks-length, stop-at}
-use Rattle.walk.specs.StopParts.{Named, stop-number, field-stop, need-stop}
+use Rattle.walk.specs.StopParts.{Named, IsSource, stop-number, field-stop, need-stop}
 use Rattle.walk.specs.declared.stops.FieldtypeLookup.{FieldtypeLookup}
+use Rattle.walk.specs.declared.stops.LengthGiver.{LengthGiver}
+use Rattle.walk.proofs.Tests.{and-l, and-r, and-i}
 
 -- ---- the whole
 
@@ -132,28 +134,36 @@ module _ (P : Pack) (p : Pgn) (L : Layout) (k : ℕ) where
   pub given-length : any-below (λ j. length-source (P .fieldtypes) (field-at p j) && placed L (suc k) j) k ≡ any-below (gives P p L k) k
   given-length = any-same _ _ k (λ j h. ap (λ (b : Bool). length-source (P .fieldtypes) (field-at p j) && b) (before-place j h))
 
-  module _ (F : Field) (is : F ≡ field-at p k) (root : Bytes) (r : root ≡ root-of (P .fieldtypes) F) (b : Bool) (e : b ≡ (root ≐ DYNAMIC-FIELD-VALUE)) where
-    dynamic : (root-of (P .fieldtypes) (field-at p k) ≐ DYNAMIC-FIELD-VALUE) ≡ b
-    dynamic = rw (← is, ← r) (sym e)
-
+  module _ (b : Bool) (e : b ≡ is-dynamic-value P (field-at p k)) where
     pub no-value : b ≡ false → lacks-length P p (placed L (suc k)) k ≡ false
     unfolding lacks-length
-    no-value h = rw (dynamic, h)
+    no-value h = rw (← e, h)
 
     pub a-value : b ≡ true → (g : Bool) → g ≡ any-below (gives P p L k) k → lacks-length P p (placed L (suc k)) k ≡ not g
     unfolding lacks-length
-    a-value h g y = rw (dynamic, h, given-length, ← y)
+    a-value h g y = rw (← e, h, given-length, ← y)
 
-de-morgan : (a b : Bool) → (not a || b) ≡ not (a && not b)
-de-morgan true true = refl
-de-morgan true false = refl
-de-morgan false b = refl
+-- what is held, by the same two tests
+module _ (P : Pack) (p : Pgn) (k : ℕ) (b : Bool) (e : b ≡ is-dynamic-value P (field-at p k)) where
+  pub no-value-held : b ≡ false → true ≡ dynamic-value-held P p k
+  unfolding dynamic-value-held
+  no-value-held h = rw (← e, h)
 
--- that it is held says that it has one that is current
-pub value-held : (P : Pack) (p : Pgn) (L : Layout) (k : ℕ)
-    → (not (is-dynamic-value P (field-at p k)) || any-below (gives P p L k) k) ≡ not (lacks-length P p (placed L (suc k)) k)
-unfolding lacks-length
-value-held P p L k = rw (given-length P p L k) (de-morgan (is-dynamic-value P (field-at p k)) (any-below (gives P p L k) k))
+  pub a-value-held : b ≡ true → (g : Bool) → g ≡ any-below (gives P p (layout p) k) k → g ≡ dynamic-value-held P p k
+  unfolding dynamic-value-held
+  a-value-held h g y = rw (← e, h) y
+
+module _ {P : Pack} {p : Pgn} {k : ℕ} {v : LengthGiver} (S : IsSource P p k v) where
+  pub source-later : IsSource P p (k + 1) v
+  source-later = record { before = λ g. omega (arith, S .before g); source = S .source }
+
+  -- it gives field k a length if its sets hold it
+  pub still-given : (L : Layout) → (v .given && sets-hold L (suc (v .field)) (suc k)) ≡ true → any-below (gives P p L k) k ≡ true
+  still-given L h =
+      let g = and-l (v .given) (sets-hold L (suc (v .field)) (suc k)) h in
+      any-hit (gives P p L k) k (v .field) (S .before g)
+      (and-i (length-source (P .fieldtypes) (field-at p (v .field))) (sets-hold L (suc (v .field)) (suc k)) (S .source g)
+      (and-r (v .given) (sets-hold L (suc (v .field)) (suc k)) h))
 
 -- ---- 6 to 9: at the order `own`, which is field k's
 

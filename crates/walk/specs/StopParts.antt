@@ -10,12 +10,14 @@ use Rattle.pack.specs.Notation.{if_then_else_, _<ᵇ_, _==_}
 use Rattle.pack.specs.Value.{Entry, Reference, Field, Pgn, Pack, field-at, lookup-at, entry-at}
 use Rattle.pack.specs.Meaning.{pack-of}
 use Rattle.pack.specs.Ready.{LookupAt}
+use Rattle.rules.specs.DynamicLength.{length-source}
 use Rattle.rules.specs.Model.{lookup-ref}
 use Rattle.rules.specs.Search.{any-below}
 use Rattle.walk.specs.ByPlace.{placed}
 use Rattle.walk.specs.Layout.{layout}
 use Rattle.walk.specs.Stops.{lookup-missing, match-unfit, names-missing, entries-name-missing, reference-names-missing, lacks, lacks-length, stop-at}
 use Rattle.walk.specs.declared.stops.FieldtypeLookup.{FieldtypeLookup}
+use Rattle.walk.specs.declared.stops.LengthGiver.{LengthGiver}
 
 -- a stop as a number: 0 for none
 abbrev pub stop-number : ℕ → Option ℕ
@@ -34,6 +36,11 @@ pub record Named (s w : List ℕ) (r : Option Reference) (v : FieldtypeLookup) :
   pub decide : v .given ≡ true → (reading : ℕ)
       → reference-names-missing (pack-of s) r reading ≡ entries-name-missing (pack-of s) (lookup-at (pack-of s .lookups) (v .index) .entries) reading
   pub none : v .given ≡ false → (reading : ℕ) → reference-names-missing (pack-of s) r reading ≡ false
+
+-- 8: the giver v, if there is one, is a length source before field k
+pub record IsSource (P : Pack) (p : Pgn) (k : ℕ) (v : LengthGiver) : Type 0 where
+  pub before : v .given ≡ true → v .field < k
+  pub source : v .given ≡ true → length-source (P .fieldtypes) (field-at p (v .field)) ≡ true
 
 -- 6 to 9
 unfoldable pub need-stop : Pack → Pgn → (ℕ → Bool) → ℕ → Option ℕ

@@ -1,13 +1,15 @@
 // Which PGNs are held.
 ghost use mathlib.Core.Path.{_≡_};
-ghost use Prim.Native.Nat.{_<_};
+ghost use mathlib.Core.Bool.{true, _&&_};
+ghost use Prim.Native.Nat.{suc, _+_, _<_};
 ghost use lib.ListN.{length};
 ghost use Rattle.pack.specs.Meaning.{field-meaning, pack-of};
 ghost use Rattle.pack.specs.Value.{field-at};
 ghost use Rattle.walk.specs.Held.{count-fields-held, bit-length-held, dynamic-value-held, held};
-ghost use Rattle.walk.specs.Layout.{Layout};
+ghost use Rattle.walk.specs.Layout.{Layout, sets-hold};
 ghost use Rattle.walk.specs.Naming.{IsFound, found-pgn};
 ghost use Rattle.walk.specs.SetsOf.{SetsAre, opt-order, counter-held};
+ghost use Rattle.walk.specs.StopParts.{IsSource};
 ghost use Rattle.rules.specs.Search.{every-below};
 use crate::named::FoundPgn;
 use crate::sets::OptOrder;
@@ -15,7 +17,10 @@ use crate::sets::Sets;
 use crate::sets::clash;
 use crate::sets::holds;
 use crate::sets::sets_hold;
-use crate::stops::lacks_length;
+use crate::stops::LengthGiver;
+use crate::stops::NO_GIVER;
+use crate::stops::is_value;
+use crate::stops::length_giver;
 use pack::field::FieldView;
 use pack::of::field_of;
 use pack::protocol::FieldIndex;
@@ -95,20 +100,75 @@ fn bit_lengths_held(s: &[u8], work: &[u32], found: FoundPgn) -> bool
     true
 }
 
+// Whether there is a giver, and its sets hold field k.
+fn still_gives(sets: Sets, giver: LengthGiver, k: u32) -> bool
+    requires { ⌜ record { giver : giver .given ≡ true → giver .field < 4294967295; field : k < 4294967295 } ⌝ }
+    ensures { λ r. ⌜ ((L : Layout) → SetsAre L sets → r ≡ (giver .given && sets-hold L (suc (giver .field)) (suc k))) ⌝ }
+{
+    if giver.given {
+        let own = FieldIndex(k).order();
+        return sets_hold(sets, FieldIndex(giver.field).order(), own);
+    }
+    false
+}
+
+// Whether a field is held, and the latest giver by then.
+struct ValueHeld {
+    held: bool,
+    giver: LengthGiver,
+}
+
 // "each DYNAMIC_FIELD_VALUE has a lower-order dynamicFieldLength or DYNAMIC_FIELD_KEY field whose nonempty sets hold it": then it is never
-// without one that is current.
+// without one that is current. Field k, which is f. The latest giver is asked first: as sets are ranges, a search is then made at most a few
+// times a PGN, and not for each value.
+fn value_held(
+    s: &[u8],
+    work: &[u32],
+    found: FoundPgn,
+    k: u32,
+    f: FieldView,
+    giver: LengthGiver,
+) -> ValueHeld
+    requires { ⌜ record {
+      pgn : IsFound (now s) (now work) found;
+      field : k < length (found-pgn (now s) found .fields);
+      means : field-meaning (now s) f ≡ field-at (found-pgn (now s) found) k;
+      source : IsSource (pack-of (now s)) (found-pgn (now s) found) k giver;
+    } ⌝ }
+    ensures { λ r. ⌜ record {
+      held : r .held ≡ dynamic-value-held (pack-of (now (s .entry))) (found-pgn (now (s .entry)) found) k;
+      source : IsSource (pack-of (now (s .entry))) (found-pgn (now (s .entry)) found) (k + 1) (r .giver);
+    } ⌝ }
+{
+    if !is_value(s, work, found, k, f) {
+        return ValueHeld { held: true, giver };
+    }
+    if still_gives(found.sets, giver, k) {
+        return ValueHeld { held: true, giver };
+    }
+    let latest = length_giver(s, work, found, k);
+    ValueHeld {
+        held: latest.given,
+        giver: latest,
+    }
+}
+
+// Whether every field is held so.
 fn dynamic_values_held(s: &[u8], work: &[u32], found: FoundPgn) -> bool
     requires { ⌜ IsFound (now s) (now work) found ⌝ }
     ensures { λ r. ⌜ r ≡ every-below (λ k. dynamic-value-held (pack-of (now (s .entry))) (found-pgn (now (s .entry)) found) k)
         (length (found-pgn (now (s .entry)) found .fields)) ⌝ }
 {
     let fields = found.sets.fields;
+    let mut giver = NO_GIVER;
     let mut k: u32 = 0;
     while k < fields {
         let f = field_of(s, work, found.tree, found.pgn, found.place, k);
-        if lacks_length(s, work, found, k, f) {
+        let value = value_held(s, work, found, k, f, giver);
+        if !value.held {
             return false;
         }
+        giver = value.giver;
         k += 1;
     }
     true

@@ -14,8 +14,9 @@ ghost use Rattle.rules.specs.Model.{lookup-ref};
 ghost use Rattle.walk.specs.ByPlace.{placed};
 ghost use Rattle.walk.specs.Layout.{layout, sets-hold};
 ghost use Rattle.walk.specs.Naming.{IsFound, found-pgn};
-ghost use Rattle.walk.specs.StopParts.{Named, OnlyByReading, stop-number, field-stop, need-stop};
-ghost use Rattle.walk.specs.Stops.{is-missing, lookup-missing, match-unfit, names-missing, entries-name-missing, lacks, lacks-length, stop-at};
+ghost use Rattle.walk.specs.StopParts.{Named, IsSource, OnlyByReading, stop-number, field-stop, need-stop};
+ghost use Rattle.walk.specs.Stops.{is-missing, lookup-missing, match-unfit, names-missing, entries-name-missing};
+ghost use Rattle.walk.specs.Stops.{is-dynamic-value, lacks, lacks-length, stop-at};
 use crate::named::FoundPgn;
 use crate::sets::placed;
 use crate::sets::sets_hold;
@@ -262,29 +263,59 @@ fn gives_length(s: &[u8], work: &[u32], found: FoundPgn, o: FieldOrder, j: u32) 
     false
 }
 
-// Whether a field before field k gives it a length.
-fn has_length(s: &[u8], work: &[u32], found: FoundPgn, k: u32) -> bool
+// A field that gives others a length, if there is one.
+pub struct LengthGiver {
+    pub given: bool,
+    pub field: u32,
+}
+
+pub const NO_GIVER: LengthGiver = LengthGiver {
+    given: false,
+    field: 0,
+};
+
+// The first field before field k that gives it a length.
+pub fn length_giver(s: &[u8], work: &[u32], found: FoundPgn, k: u32) -> LengthGiver
     requires { ⌜ record {
       pgn : IsFound (now s) (now work) found;
       field : k < length (found-pgn (now s) found .fields);
     } ⌝ }
-    ensures { λ r. ⌜ r ≡ any-below
-        (λ j. length-source (pack-of (now (s .entry)) .fieldtypes) (field-at (found-pgn (now (s .entry)) found) j) && sets-hold
-        (layout (found-pgn (now (s .entry)) found)) (suc j) (suc k)) k ⌝ }
+    ensures { λ r. ⌜ record {
+      given : r .given ≡ any-below
+          (λ j. length-source (pack-of (now (s .entry)) .fieldtypes) (field-at (found-pgn (now (s .entry)) found) j) && sets-hold
+          (layout (found-pgn (now (s .entry)) found)) (suc j) (suc k)) k;
+      source : IsSource (pack-of (now (s .entry))) (found-pgn (now (s .entry)) found) k r;
+    } ⌝ }
 {
     let own = FieldIndex(k).order();
     let mut j: u32 = 0;
     while j < k {
         if gives_length(s, work, found, own, j) {
-            return true;
+            return LengthGiver {
+                given: true,
+                field: j,
+            };
         }
         j += 1;
     }
-    false
+    NO_GIVER
+}
+
+// Whether field k, which is f, has the root DYNAMIC_FIELD_VALUE.
+pub fn is_value(s: &[u8], work: &[u32], found: FoundPgn, k: u32, f: FieldView) -> bool
+    requires { ⌜ record {
+      pgn : IsFound (now s) (now work) found;
+      field : k < length (found-pgn (now s) found .fields);
+      means : field-meaning (now s) f ≡ field-at (found-pgn (now s) found) k;
+    } ⌝ }
+    ensures { λ r. ⌜ r ≡ is-dynamic-value (pack-of (now (s .entry))) (field-at (found-pgn (now (s .entry)) found) k) ⌝ }
+{
+    let root = root_of(s, work, f.ft);
+    text_is(s, root, b"DYNAMIC_FIELD_VALUE")
 }
 
 // "8 root DYNAMIC_FIELD_VALUE and no lower-order dynamicFieldLength or DYNAMIC_FIELD_KEY field current": field k, which is f.
-pub fn lacks_length(s: &[u8], work: &[u32], found: FoundPgn, k: u32, f: FieldView) -> bool
+fn lacks_length(s: &[u8], work: &[u32], found: FoundPgn, k: u32, f: FieldView) -> bool
     requires { ⌜ record {
       pgn : IsFound (now s) (now work) found;
       field : k < length (found-pgn (now s) found .fields);
@@ -293,9 +324,9 @@ pub fn lacks_length(s: &[u8], work: &[u32], found: FoundPgn, k: u32, f: FieldVie
     ensures { λ r. ⌜ r ≡ lacks-length (pack-of (now (s .entry))) (found-pgn (now (s .entry)) found)
         (placed (layout (found-pgn (now (s .entry)) found)) (suc k)) k ⌝ }
 {
-    let root = root_of(s, work, f.ft);
-    if text_is(s, root, b"DYNAMIC_FIELD_VALUE") {
-        return !has_length(s, work, found, k);
+    if is_value(s, work, found, k, f) {
+        let giver = length_giver(s, work, found, k);
+        return !giver.given;
     }
     false
 }

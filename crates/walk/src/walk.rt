@@ -104,7 +104,7 @@ fn walk_short(
     walk_on(s, work, found, &mut marks, &mut bad, readings, visits)
 }
 
-// With a memory for as many fields as a pack can have, and for the readings of the first 1,024 of them.
+// With a memory for 16,384 fields, more than a message has, and for the readings of the first 256 of them.
 fn walk_long(
     s: &[u8],
     work: &[u32],
@@ -123,8 +123,8 @@ fn walk_long(
           ≡ over (walk (pack-of (now (s .entry))) (found-pgn (now (s .entry)) found) (now (readings .entry)) .visits) (now (visits .entry));
     } ⌝ }
 {
-    let mut marks = [0u8; 32768];
-    let mut bad = [0u64; 4096];
+    let mut marks = [0u8; 16384];
+    let mut bad = [0u64; 1024];
     walk_on(s, work, found, &mut marks, &mut bad, readings, visits)
 }
 

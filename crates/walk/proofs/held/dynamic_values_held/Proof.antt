@@ -1,64 +1,70 @@
-use Rattle.walk.proofs.Parts.{value-held}
 use Rattle.walk.proofs.Tests.{every-turn, every-missed}
 use Rattle.walk.specs.Held.{dynamic-value-held}
-use Rattle.walk.specs.Stops.{lacks-length}
-use Rattle.walk.specs.Layout.{layout}
-use Rattle.walk.specs.ByPlace.{placed}
+use Rattle.walk.specs.StopParts.{IsSource}
 use Rattle.rules.proofs.Sizes.{fields-few}
 use Rattle.rules.specs.Search.{every-below}
-use Rattle.pack.specs.Value.{Pgn, Pack, pgn-at}
+use Rattle.pack.specs.Value.{pgn-at}
+use borrow.Author.Tests.{not-true, not-false}
 use borrow.Author.Needs.{needs}
 use native.Mathlib.Omega.{arith}
-use Prim.Native.Nat.{ℕ, suc, _-_, _≤_}
+use Prim.Native.Nat.{_-_, _≤_}
 use mathlib.Core.Path.{_≡_, refl, sym, _∙_, ap}
-use mathlib.Core.Bool.{Bool, true, false, not}
+use mathlib.Core.Bool.{true, false≢true}
 use lib.ListN.{length}
 use denote.Ref.{now}
 use Rattle.pack.specs.Meaning.{pack-of}
 use Rattle.walk.proofs.held.dynamic_values_held.Statement.{statement}
 use Rattle.walk.proofs.held.dynamic_values_held.Tie as tie
 
-said : (P : Pack) (p : Pgn) (k : ℕ) (r b : Bool) → r ≡ lacks-length P p (placed (layout p) (suc k)) k → r ≡ b → dynamic-value-held P p k ≡ not b
-unfolding dynamic-value-held
-said P p k r b e h = value-held P p (layout p) k ∙ ap not (sym e ∙ h)
-
 abbrev Inv-loop : tie.InvT-loop
-Inv-loop s work found fields k₀ k =
+Inv-loop s work found fields giver₀ k₀ giver k =
     record {
       turns : k ≤ fields;
       so-far : every-below (dynamic-value-held (pack-of s) (pgn-at (pack-of s) (found .tree) (found .pgn))) k ≡ true;
+      source : IsSource (pack-of s) (pgn-at (pack-of s) (found .tree) (found .pgn)) k giver;
     }
 
 abbrev μ-loop : tie.MeasureT-loop
-μ-loop s work found fields k₀ k = fields - k
+μ-loop s work found fields giver₀ k₀ giver k = fields - k
 
 loop-holds : tie.Need-loop-holds Inv-loop μ-loop
-loop-holds c = record { turns = search needs; so-far = refl }
+loop-holds c =
+    record {
+      turns = search needs;
+      so-far = refl;
+      source = record { before = λ e. absurd (false≢true e); source = λ e. absurd (false≢true e) };
+    }
 
 field-of-requires : tie.Need-field-of-requires Inv-loop μ-loop
 field-of-requires c κs =
     let start = c .before .before .before .before in
     record { at = start .pre .place; field = omega (arith, start .pre .sets .fields, c .loop-test .taken) }
 
-lacks-length-requires : tie.Need-lacks-length-requires Inv-loop μ-loop
-lacks-length-requires c κs =
+value-held-requires : tie.Need-value-held-requires Inv-loop μ-loop
+value-held-requires c κs =
     let start = c .before .before .before .before .before in
-    record { pgn = start .pre; field = omega (arith, start .pre .sets .fields, c .before .loop-test .taken); means = c .field-of .ensures }
+    record {
+      pgn = start .pre;
+      field = omega (arith, start .pre .sets .fields, c .before .loop-test .taken);
+      means = c .field-of .ensures;
+      source = c .before .before .loop .inv .source;
+    }
 
 returns : tie.Need-returns Inv-loop μ-loop
 returns c =
-    let start = c .before .before .before .before .before .before .before in
-    let loop = c .before .before .before .before .loop in
-    let loop-test = c .before .before .before .loop-test in
+    let start = c .before .before .before .before .before .before .before .before in
+    let loop = c .before .before .before .before .before .loop in
+    let loop-test = c .before .before .before .before .loop-test in
+    let value-held = c .before .before .value-held in
     let s = now (start .args .s) in let t = start .args .found .tree in let i = start .args .found .pgn in
     sym (every-missed (dynamic-value-held (pack-of s) (pgn-at (pack-of s) t i)) (length (pgn-at (pack-of s) t i .fields)) (loop .k)
     (omega (arith, start .pre .sets .fields, loop-test .taken))
-    (said (pack-of s) (pgn-at (pack-of s) t i) (loop .k) (c .before .lacks-length .result) true (c .before .lacks-length .ensures) (c .if1 .taken)))
+    (sym (value-held .ensures .held) ∙ not-true (value-held .result .held) (c .if1 .taken)))
 
 add-k : tie.Need-add-k Inv-loop μ-loop
 add-k c =
-    let start = c .before .before .before .before .before .before .before in
-    let loop-test = c .before .before .before .loop-test in
+    let start = c .before .before .before .before .before .before .before .before .before in
+    let loop-test = c .before .before .before .before .before .loop-test in
     omega (arith, loop-test .taken, start .pre .sets .fields, fields-few (start .pre .place))
 
 loop-less : tie.Need-loop-less Inv-loop μ-loop
@@ -66,14 +72,15 @@ loop-less c = search needs
 
 loop-again : tie.Need-loop-again Inv-loop μ-loop
 loop-again c =
-    let start = c .before .before .before .before .before .before .before in
-    let loop = c .before .before .before .before .loop in
-    let s = now (start .args .s) in let t = start .args .found .tree in let i = start .args .found .pgn in
+    let start = c .before .before .before .before .before .before .before .before .before in
+    let loop = c .before .before .before .before .before .before .loop in
+    let value-held = c .before .before .before .value-held in
+    let s = now (start .args .s) in
     record {
       turns = omega (arith, c);
-      so-far = every-turn (dynamic-value-held (pack-of s) (pgn-at (pack-of s) t i)) (loop .k)
-          ∙ (rw (loop .inv .so-far)
-          (said (pack-of s) (pgn-at (pack-of s) t i) (loop .k) (c .before .lacks-length .result) false (c .before .lacks-length .ensures) (c .if1 .left)));
+      so-far = every-turn (dynamic-value-held (pack-of s) (pgn-at (pack-of s) (start .args .found .tree) (start .args .found .pgn))) (loop .k)
+          ∙ (rw (loop .inv .so-far) (sym (value-held .ensures .held) ∙ not-false (value-held .result .held) (c .before .if1 .left)));
+      source = value-held .ensures .source;
     }
 
 returns-2 : tie.Need-returns-2 Inv-loop μ-loop
@@ -92,7 +99,7 @@ dynamic-values-held-spec =
     μ-loop
     loop-holds
     field-of-requires
-    lacks-length-requires
+    value-held-requires
     returns
     add-k
     loop-less

@@ -26,7 +26,7 @@ walk-on-requires c κs =
     let s = now (start .args .s) in
     record {
       pgn = start .pre .pgn;
-      remembered = remembered-zeros (pack-of s) (found-pgn s (start .args .found)) 32768 (replicate {A = ℕ} 4096 0);
+      remembered = remembered-zeros (pack-of s) (found-pgn s (start .args .found)) 16384 (replicate {A = ℕ} 1024 0);
       no-stop-1 = start .pre .no-stop-1;
       room = start .pre .room;
     }

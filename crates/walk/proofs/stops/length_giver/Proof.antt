@@ -1,3 +1,4 @@
+use Rattle.walk.proofs.Tests.{and-l}
 use Rattle.walk.proofs.Parts.{gives}
 use Rattle.walk.specs.Layout.{layout, sets-hold}
 use Rattle.rules.specs.DynamicLength.{length-source}
@@ -9,13 +10,13 @@ use borrow.Author.Needs.{needs}
 use native.Mathlib.Omega.{arith}
 use Prim.Native.Nat.{ℕ, suc, _+_, _-_, _≤_}
 use mathlib.Core.Path.{_≡_, refl, sym, _∙_, ap}
-use mathlib.Core.Bool.{Bool, false, _&&_}
+use mathlib.Core.Bool.{Bool, false, _&&_, false≢true}
 use mathlib.Core.List.{List}
 use denote.Ref.{now}
 use Rattle.pack.specs.Meaning.{pack-of}
 use Rattle.pack.specs.Value.{pgn-at, field-at}
-use Rattle.walk.proofs.stops.has_length.Statement.{statement}
-use Rattle.walk.proofs.stops.has_length.Tie as tie
+use Rattle.walk.proofs.stops.length_giver.Statement.{statement}
+use Rattle.walk.proofs.stops.length_giver.Tie as tie
 
 abbrev gives-at : List ℕ → ℕ → ℕ → ℕ → ℕ → Bool
 gives-at s t i k = gives (pack-of s) (pgn-at (pack-of s) t i) (layout (pgn-at (pack-of s) t i)) k
@@ -59,8 +60,15 @@ returns c =
     let s = now (start .args .s) in let k = start .args .k in
     let t = start .args .found .tree in
     let i = start .args .found .pgn in
-    let h = said s t i k (loop .j) (order .result .0) (c .before .gives-length .result) (order .ensures) (c .before .gives-length .ensures) in
-    sym (any-hit (gives-at s t i k) k (loop .j) (c .before .before .loop-test .taken) (h ∙ c .if1 .taken))
+    let h = said s t i k (loop .j) (order .result .0) (c .before .gives-length .result) (order .ensures) (c .before .gives-length .ensures) ∙ c .if1 .taken in
+    record {
+      given = sym (any-hit (gives-at s t i k) k (loop .j) (c .before .before .loop-test .taken) h);
+      source = record {
+        before = λ e. c .before .before .loop-test .taken;
+        source = λ e. and-l (length-source (pack-of s .fieldtypes) (field-at (pgn-at (pack-of s) t i) (loop .j)))
+            (sets-hold (layout (pgn-at (pack-of s) t i)) (suc (loop .j)) (suc k)) h;
+      };
+    }
 
 add-j : tie.Need-add-j Inv-loop μ-loop
 add-j c = search needs
@@ -83,11 +91,14 @@ returns-2 : tie.Need-returns-2 Inv-loop μ-loop
 returns-2 c =
     let start = c .before .before .before .before .before in
     let q : c .before .loop .j ≡ start .args .k = omega (arith, c .before .loop .inv .turns, c .loop-test .left) in
-    sym (ap (any-below (gives-at (now (start .args .s)) (start .args .found .tree) (start .args .found .pgn) (start .args .k))) (sym q)
-    ∙ c .before .loop .inv .none-yet)
+    record {
+      given = sym (ap (any-below (gives-at (now (start .args .s)) (start .args .found .tree) (start .args .found .pgn) (start .args .k))) (sym q)
+          ∙ c .before .loop .inv .none-yet);
+      source = record { before = λ e. absurd (false≢true e); source = λ e. absurd (false≢true e) };
+    }
 
-pub has-length-spec : {M : Type 1} → statement M
-has-length-spec =
+pub length-giver-spec : {M : Type 1} → statement M
+length-giver-spec =
     tie.close
     (tie.spec
     Inv-loop
