@@ -6,8 +6,11 @@ use harness::encode::encode;
 use harness::library;
 use harness::text::to_pack;
 
-/// Where the set begins: about field 256, up to which a PGN is a short one, and field 1,024, the last whose readings are kept.
-const FIELDS: [usize; 8] = [0, 1, 254, 255, 256, 1_022, 1_023, 1_024];
+/// Where the set begins: about field 256, up to which a PGN is a short one and the readings of a field are kept.
+const FIELDS: [usize; 7] = [0, 1, 253, 254, 255, 256, 300];
+
+/// The same about field 16,384, the last with a mark.
+const FAR: [usize; 3] = [16_381, 16_382, 16_383];
 
 /// A lookup with so many entries that name a missing type, their values from 100 on and one of them twice; and a PGN with a set
 /// of three fields from field `at` on that has no end, of which the second names that lookup.
@@ -31,17 +34,19 @@ fn readings(at: usize, pass: usize, reading: u64) -> Vec<u64> {
     readings
 }
 
-fn compare(text: &str, at: usize) {
-    let bytes = encode(&to_pack(text).expect("a pack")).bytes;
+fn compare(missing: usize, at: usize, unmet: &[u64]) {
+    let bytes = encode(&to_pack(&pack(missing, at)).expect("a pack")).bytes;
     for pass in 0..5 {
-        for reading in (99..109).chain([0, 1, u64::MAX]) {
+        for reading in (99..101 + missing as u64).chain(unmet.iter().copied()) {
             let readings = readings(at, pass, reading);
-            let lent = || (vec![u32::MAX; 2_000], vec![u32::MAX; readings.len()]);
+            let lent = || (vec![u32::MAX; at + 20], vec![u32::MAX; readings.len()]);
             let ((mut work, mut visits), (mut other_work, mut other_visits)) = (lent(), lent());
             let Some(theirs) = library::walk(&bytes, &mut work, 0, 0, &readings, &mut visits) else { return };
-            let ours = calls::walk_pgn(&bytes, &mut other_work, 0, 0, &readings, &mut other_visits).expect("a good pack");
-            assert_eq!(theirs, (0, ours), "field {at}, pass {pass}, reading {reading}\n{text}");
-            assert_eq!((visits, work), (other_visits, other_work), "field {at}, pass {pass}, reading {reading}");
+            let ours =
+                calls::walk_pgn(&bytes, &mut other_work, 0, 0, &readings, &mut other_visits).expect("a good pack");
+            let what = format!("{missing} missing, field {at}, pass {pass}, reading {reading}");
+            assert_eq!(theirs, (0, ours), "{what}");
+            assert_eq!((visits, work), (other_visits, other_work), "{what}");
         }
     }
 }
@@ -49,8 +54,13 @@ fn compare(text: &str, at: usize) {
 #[test]
 fn readings_that_stop_a_field_are_remembered() {
     for missing in 0..8 {
-        for at in FIELDS {
-            compare(&pack(missing, at), at);
-        }
+        FIELDS.into_iter().for_each(|at| compare(missing, at, &[0, 1, u64::MAX]));
+    }
+}
+
+#[test]
+fn fields_far_behind_are_walked_alike() {
+    for missing in [0, 1, 5] {
+        FAR.into_iter().for_each(|at| compare(missing, at, &[]));
     }
 }
