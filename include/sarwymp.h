@@ -86,8 +86,8 @@
 
 /* No more bytes of stack than these does a call take, whatever the pack; a thread with a stack of the third size, of which
  * some is the thread's own, has room for any of them. Measured, not proved (harness/tests/stack.rs). */
-#define SARWYMP_STACK_CHECK 49152
-#define SARWYMP_STACK_OTHER 8192
+#define SARWYMP_STACK_CHECK 53248
+#define SARWYMP_STACK_OTHER 45056
 #define SARWYMP_STACK_THREAD 65536
 
 #ifdef __cplusplus

@@ -20,7 +20,8 @@ use Rattle.pack.specs.Value.{pgn-at}
 use Rattle.walk.specs.Held.{held}
 use Rattle.walk.specs.Naming.{absence, naming-refusal, refusal-of, IsFound, NamedIs}
 use Rattle.walk.specs.Walk.{End, whole, used-up, stop, Answer}
-use Rattle.walk.specs.WalkCall.{in-pack, ending, judged, walk-of, walked, visits-left, visits-after, end-number, ending-number, walk-answer, visits-tell}
+use Rattle.walk.specs.WalkCall.{in-pack, ending, judged, walk-of, walked, visits-left}
+use Rattle.walk.specs.WalkCall.{visits-after, end-number, ending-number, walk-answer, visits-tell, Told}
 use Rattle.walk.specs.WalkCall.{walk-tells, Walks}
 use Rattle.walk.specs.WalkCall.{held-judged, held-told, held-answer, held-tell, held-tells, TellsHeld}
 use Rattle.walk.specs.declared.named.FoundPgn.{FoundPgn}
@@ -30,7 +31,6 @@ use Rattle.walk.specs.declared.walk.Walked.{Walked}
 use Rattle.walk.specs.declared.walk.Walked.the-variants.{Refused}
 use Rattle.walk.specs.declared.walk.HeldAnswer.{HeldAnswer}
 use Rattle.walk.specs.declared.walk.HeldAnswer.the-variants as held-case
-use Rattle.walk.proofs.Walks.{Told}
 
 -- of a walk A over n readings, of a PGN that is in the pack
 pub record Judges (n : ℕ) (A : Answer) (w : List ℕ) (r : Walked) (w′ : List ℕ) : Type 0 where

@@ -23,7 +23,7 @@ use Rattle.walk.specs.State.{two, settled-of}
 use Rattle.walk.specs.Steps.{end-of, Stepped, ended, visited, one-step, Run, no-step, then-step, used, Within}
 use Rattle.walk.specs.StopParts.{stop-number}
 use Rattle.walk.specs.Stops.{stop-at}
-use Rattle.walk.specs.WalkCall.{ending, told}
+use Rattle.walk.specs.WalkCall.{ending, told, Told}
 use Rattle.walk.specs.declared.passes.Settling.{Settling}
 use Rattle.walk.specs.declared.walk.End.the-variants.{Whole, UsedUp, Stop}
 use Rattle.walk.specs.declared.walk.Walked.{Walked}
@@ -159,11 +159,6 @@ pub record Going (L : Layout) (stops : Stops) (A : Answer) (readings w w′ : Li
   pub made : List ℕ
   pub history : History L stops A readings made n c
   pub buffer : Written w w′ made n
-
--- an answer, and the buffer after it
-pub record Told (A : Answer) (w w′ : List ℕ) (r : Walked) : Type 0 where
-  pub answer : r ≡ told A
-  pub out : w′ ≡ over (A .visits) w
 
 -- the walk has ended here, with these visits
 pub record EndsWith (A : Answer) (made : List ℕ) (e : Ending) : Type 0 where

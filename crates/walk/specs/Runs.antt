@@ -6,15 +6,17 @@ use mathlib.Core.List.{List}
 use mathlib.Core.Option.{none}
 use lib.ListN.{getD, set}
 use Rattle.pack.specs.Notation.{_==_}
-use Rattle.walk.specs.ByPlace.{placed, counts}
+use Rattle.walk.specs.ByPlace.{placed, by-place, counts}
 use Rattle.walk.specs.Layout.{Layout}
+use Rattle.walk.specs.Passes.{goto}
 use Rattle.walk.specs.SetsOf.{SetsAre, opt-order}
 use Rattle.walk.specs.State.{place-of}
 use Rattle.walk.specs.Steps.{Run}
 use Rattle.walk.specs.StopParts.{lets-pass}
-use Rattle.walk.specs.Walk.{Stops, due}
+use Rattle.walk.specs.Walk.{Stops, due, settled}
 use Rattle.walk.specs.declared.passes.Left.{Left}
 use Rattle.walk.specs.declared.passes.Spot.{Spot}
+use Rattle.walk.specs.declared.runs.Onward.{Onward}
 use Rattle.walk.specs.declared.runs.Turn.{Turn}
 use Rattle.walk.specs.declared.sets.Set.{Set}
 use Rattle.walk.specs.declared.sets.Sets.{Sets}
@@ -49,6 +51,13 @@ left-with v n = record { present = v .present; further = record { endless = v .f
 -- the spot, with the order and the passes of t
 abbrev pub spot-at : Spot → Turn → Spot
 spot-at v t = record { order = t .order; first = left-with (v .first) (t .first); second = left-with (v .second) (t .second) }
+
+-- From the turn t the run goes on at r's, if it is given: a field has that order, and it is due once the order behind t's is settled.
+pub record GoesOn (v : Sets) (x : Spot) (t : Turn) (r : Onward) : Type 0 where
+  pub first : r .given ≡ true → 1 ≤ r .turn .order .0
+  pub within : r .given ≡ true → r .turn .order .0 ≤ v .fields
+  pub settles : r .given ≡ true → (L : Layout) → SetsAre L v → (g : ℕ → ℕ)
+      → settled L (by-place L) (goto (place-of (spot-at x t)) (suc (t .order .0))) g ≡ due (place-of (spot-at x (r .turn))) g
 
 -- What the memory lets pass does not stop, and so these visits are made, from one spot to another.
 pub record RunsTo (v : Sets) (marks bad readings w : List ℕ) (n : ℕ) (x : Spot) (w′ : List ℕ) (m : ℕ) (y : Spot) : Type 0 where

@@ -34,6 +34,11 @@ ending (stop n) = Stop n
 abbrev pub told : Answer → Walked
 told a = Ended (ending (a .ends)) (length (a .visits))
 
+-- the walk's answer r is A's, and of the visit buffer w it has made w′
+pub record Told (A : Answer) (w w′ : List ℕ) (r : Walked) : Type 0 where
+  pub answer : r ≡ told A
+  pub out : w′ ≡ over (A .visits) w
+
 -- 25: "visit buffer shorter than the readings"; the detail is "the length needed". 23 comes before it. So many readings, and room for so many visits
 abbrev pub judged : Bool → (readings room : ℕ) → Answer → Walked
 judged there readings room a = if there then (if readings ≤ᵇ room then told a else Refused (Visits readings)) else Refused Absent

@@ -7,7 +7,7 @@ ghost use lib.ListN.{length, getD, set};
 ghost use Rattle.walk.specs.ByPlace.{by-place, counts};
 ghost use Rattle.walk.specs.Layout.{Layout};
 ghost use Rattle.walk.specs.Passes.{begins, goto, turn};
-ghost use Rattle.walk.specs.Runs.{RunsTo, left-with, spot-at, written};
+ghost use Rattle.walk.specs.Runs.{GoesOn, RunsTo, left-with, spot-at, written};
 ghost use Rattle.walk.specs.SetsOf.{SetsAre, opt-order};
 ghost use Rattle.walk.specs.State.{left-of, place-of, rest-of};
 ghost use Rattle.walk.specs.StopParts.{lets-pass};
@@ -184,12 +184,7 @@ fn go_on(given: bool, fields: u32, turn: Turn) -> Onward
 // Behind set 2's last field.
 fn behind_second(sets: Sets, spot: Spot, here: Turn) -> Onward
     requires { ⌜ here .order .0 + 1 ≡ sets .second .end .0 ⌝ }
-    ensures { λ r. ⌜ record {
-      first : r .given ≡ true → 1 ≤ r .turn .order .0;
-      within : r .given ≡ true → r .turn .order .0 ≤ sets .fields;
-      settled : r .given ≡ true → (L : Layout) → SetsAre L sets → (g : ℕ → ℕ)
-          → settled L (by-place L) (goto (place-of (spot-at spot here)) (suc (here .order .0))) g ≡ due (place-of (spot-at spot (r .turn))) g;
-    } ⌝ }
+    ensures { λ r. ⌜ GoesOn sets spot here r ⌝ }
 {
     let pass = again(spot.second, here.second);
     let start = sets.second.start;
@@ -204,12 +199,7 @@ fn behind_second(sets: Sets, spot: Spot, here: Turn) -> Onward
 // Behind set 1's last field, where set 2 does not end.
 fn behind_first(sets: Sets, spot: Spot, here: Turn) -> Onward
     requires { ⌜ record { end : here .order .0 + 1 ≡ sets .first .end .0; inner : here .order .0 + 1 ≡ sets .second .end .0 → ⊥ } ⌝ }
-    ensures { λ r. ⌜ record {
-      first : r .given ≡ true → 1 ≤ r .turn .order .0;
-      within : r .given ≡ true → r .turn .order .0 ≤ sets .fields;
-      settled : r .given ≡ true → (L : Layout) → SetsAre L sets → (g : ℕ → ℕ)
-          → settled L (by-place L) (goto (place-of (spot-at spot here)) (suc (here .order .0))) g ≡ due (place-of (spot-at spot (r .turn))) g;
-    } ⌝ }
+    ensures { λ r. ⌜ GoesOn sets spot here r ⌝ }
 {
     let pass = again(spot.first, here.first);
     let start = sets.first.start;
@@ -224,12 +214,7 @@ fn behind_first(sets: Sets, spot: Spot, here: Turn) -> Onward
 // From a set's last field to its first, if another pass of it begins.
 fn turned(sets: Sets, spot: Spot, here: Turn) -> Onward
     requires { ⌜ here .order .0 < 4294967295 ⌝ }
-    ensures { λ r. ⌜ record {
-      first : r .given ≡ true → 1 ≤ r .turn .order .0;
-      within : r .given ≡ true → r .turn .order .0 ≤ sets .fields;
-      settled : r .given ≡ true → (L : Layout) → SetsAre L sets → (g : ℕ → ℕ)
-          → settled L (by-place L) (goto (place-of (spot-at spot here)) (suc (here .order .0))) g ≡ due (place-of (spot-at spot (r .turn))) g;
-    } ⌝ }
+    ensures { λ r. ⌜ GoesOn sets spot here r ⌝ }
 {
     let next = next_order(here.order);
     if same_order(next, sets.second.end) {
@@ -349,7 +334,8 @@ pub fn run(
     ensures { λ r. ⌜ record {
       at-least : n ≤ r .visits;
       read : r .visits ≤ length (now (readings .entry));
-      runs : RunsTo sets (now (marks .entry)) (now (bad .entry)) (now (readings .entry)) (now (visits .entry)) n spot (now (visits .exit)) (r .visits) (r .spot);
+      runs : RunsTo sets (now (marks .entry)) (now (bad .entry)) (now (readings .entry)) (now (visits .entry)) n spot
+          (now (visits .exit)) (r .visits) (r .spot);
     } ⌝ }
 {
     let order = spot.order;

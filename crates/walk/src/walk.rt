@@ -3,13 +3,12 @@ ghost use mathlib.Core.Path.{_≡_};
 ghost use mathlib.Core.Bool.{false};
 ghost use Prim.Native.Nat.{_≤_};
 ghost use lib.ListN.{length};
-ghost use Rattle.pack.specs.Load.{over};
 ghost use Rattle.pack.specs.Meaning.{pack-of};
 ghost use Rattle.walk.specs.Layout.{layout, stop-1};
 ghost use Rattle.walk.specs.Naming.{IsFound, found-pgn, found-walk, found-judged};
 ghost use Rattle.walk.specs.StopParts.{Remembered};
 ghost use Rattle.walk.specs.Walk.{walk};
-ghost use Rattle.walk.specs.WalkCall.{told, visits-left, Walks, TellsHeld};
+ghost use Rattle.walk.specs.WalkCall.{Told, visits-left, Walks, TellsHeld};
 use crate::held::held_at;
 use crate::named::FoundPgn;
 use crate::named::NamedPgn;
@@ -56,11 +55,8 @@ fn walk_on(
       no-stop-1 : stop-1 (layout (found-pgn (now s) found)) ≡ false;
       room : length (now readings) ≤ length (now visits);
     } ⌝ }
-    ensures { λ r. ⌜ record {
-      answer : r ≡ told (walk (pack-of (now (s .entry))) (found-pgn (now (s .entry)) found) (now (readings .entry)));
-      out : now (visits .exit)
-          ≡ over (walk (pack-of (now (s .entry))) (found-pgn (now (s .entry)) found) (now (readings .entry)) .visits) (now (visits .entry));
-    } ⌝ }
+    ensures { λ r. ⌜ Told (walk (pack-of (now (s .entry))) (found-pgn (now (s .entry)) found) (now (readings .entry))) (now (visits .entry))
+        (now (visits .exit)) r ⌝ }
 {
     let sets = found.sets;
     let mut state = begin(sets);
@@ -93,11 +89,8 @@ fn walk_short(
       no-stop-1 : stop-1 (layout (found-pgn (now s) found)) ≡ false;
       room : length (now readings) ≤ length (now visits);
     } ⌝ }
-    ensures { λ r. ⌜ record {
-      answer : r ≡ told (walk (pack-of (now (s .entry))) (found-pgn (now (s .entry)) found) (now (readings .entry)));
-      out : now (visits .exit)
-          ≡ over (walk (pack-of (now (s .entry))) (found-pgn (now (s .entry)) found) (now (readings .entry)) .visits) (now (visits .entry));
-    } ⌝ }
+    ensures { λ r. ⌜ Told (walk (pack-of (now (s .entry))) (found-pgn (now (s .entry)) found) (now (readings .entry))) (now (visits .entry))
+        (now (visits .exit)) r ⌝ }
 {
     let mut marks = [0u8; 256];
     let mut bad = [0u64; 1024];
@@ -117,11 +110,8 @@ fn walk_long(
       no-stop-1 : stop-1 (layout (found-pgn (now s) found)) ≡ false;
       room : length (now readings) ≤ length (now visits);
     } ⌝ }
-    ensures { λ r. ⌜ record {
-      answer : r ≡ told (walk (pack-of (now (s .entry))) (found-pgn (now (s .entry)) found) (now (readings .entry)));
-      out : now (visits .exit)
-          ≡ over (walk (pack-of (now (s .entry))) (found-pgn (now (s .entry)) found) (now (readings .entry)) .visits) (now (visits .entry));
-    } ⌝ }
+    ensures { λ r. ⌜ Told (walk (pack-of (now (s .entry))) (found-pgn (now (s .entry)) found) (now (readings .entry))) (now (visits .entry))
+        (now (visits .exit)) r ⌝ }
 {
     let mut marks = [0u8; 16384];
     let mut bad = [0u64; 1024];
@@ -131,11 +121,8 @@ fn walk_long(
 // The walk over a PGN that is found.
 fn walk_at(s: &[u8], work: &[u32], found: FoundPgn, readings: &[u64], visits: &mut [u32]) -> Walked
     requires { ⌜ record { pgn : IsFound (now s) (now work) found; room : length (now readings) ≤ length (now visits) } ⌝ }
-    ensures { λ r. ⌜ record {
-      answer : r ≡ told (walk (pack-of (now (s .entry))) (found-pgn (now (s .entry)) found) (now (readings .entry)));
-      out : now (visits .exit)
-          ≡ over (walk (pack-of (now (s .entry))) (found-pgn (now (s .entry)) found) (now (readings .entry)) .visits) (now (visits .entry));
-    } ⌝ }
+    ensures { λ r. ⌜ Told (walk (pack-of (now (s .entry))) (found-pgn (now (s .entry)) found) (now (readings .entry))) (now (visits .entry))
+        (now (visits .exit)) r ⌝ }
 {
     if stop_1(found.sets) {
         return Walked::Ended {

@@ -28,7 +28,7 @@ returns c =
     record {
       first = λ h. omega (arith, on .first h, at);
       within = λ h. omega (arith, on .within h, at);
-      settled = λ h L a g. let anew = again .ensures (on .given h) in
+      settles = λ h L a g. let anew = again .ensures (on .given h) in
           again-first a (start .args .spot) (start .args .here) (again .result .more) (start .pre .inner) (start .pre .end) (anew .begins) (anew .present)
           (c .go-on .result .turn) (on .turn) g;
     }

@@ -94,7 +94,7 @@ returns-4 c =
       within = c .turned .ensures .within;
       passing = λ h. rw (index-of .ensures) at (sym (lets-pass .ensures) ∙ not-false (lets-pass .result) (c .before .if3 .left));
       onward = λ h L a g r. uncounted-onward a (place-of (spot-at (start .args .spot) (start .args .here))) (o - 1) refl (uncounted .0) (uncounted .1) g r
-          ∙ c .turned .ensures .settled h L a g;
+          ∙ c .turned .ensures .settles h L a g;
     }
 
 pub pass-on-spec : {M : Type 1} → statement M

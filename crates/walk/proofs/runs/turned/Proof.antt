@@ -58,7 +58,7 @@ returns-2 c = search needs
 
 -- src/runs.rt:225:1
 returns-3 : tie.Need-returns-3
-returns-3 c = record { first = λ h. absurd (false≢true h); within = λ h. absurd (false≢true h); settled = λ h. absurd (false≢true h) }
+returns-3 c = record { first = λ h. absurd (false≢true h); within = λ h. absurd (false≢true h); settles = λ h. absurd (false≢true h) }
 
 pub turned-spec : {M : Type 1} → statement M
 turned-spec =
