@@ -21,7 +21,7 @@ use Rattle.walk.specs.Steps.{Run, no-step, then-step}
 use Rattle.walk.specs.StopParts.{lets-pass}
 use Rattle.walk.specs.declared.passes.Settling.{Settling}
 use Rattle.walk.specs.declared.passes.Spot.{Spot}
-use Rattle.walk.specs.declared.runs.Turn.{Turn}
+use Rattle.walk.specs.declared.runs.Course.{Course}
 use Rattle.walk.specs.declared.sets.Sets.{Sets}
 use Rattle.walk.proofs.Spots.{round-ready, round-again, first-goes-on, first-begins, second-goes-on, second-begins, closed-look, look-none}
 use Rattle.walk.proofs.Spots.{put-first, put-second}
@@ -81,13 +81,13 @@ module _ {L : Layout} {v : Sets} (a : SetsAre L v) where
 
   -- ---- from a set's pass into the next
 
-  module _ (x : Spot) (t : Turn) (m : ℕ) where
+  module _ (x : Spot) (t : Course) (m : ℕ) where
     abbrev behind : Place
     behind = goto (place-of (spot-at x t)) (suc (t .order .0))
 
     pub again-second : t .order .0 + 1 ≡ v .second .end .0
         → turn true (left-of (left-with (x .second) (t .second))) ≡ begins (rest-of (left-with (x .second) m .further)) → x .second .present ≡ true
-        → (u : Turn) → u ≡ record { order = v .second .start; first = t .first; second = m } → (g : ℕ → ℕ)
+        → (u : Course) → u ≡ record { order = v .second .start; first = t .first; second = m } → (g : ℕ → ℕ)
         → settled L (by-place L) behind g ≡ due (place-of (spot-at x u)) g
     unfolding settled
     again-second ends anew there u eu g =
@@ -101,7 +101,7 @@ module _ {L : Layout} {v : Sets} (a : SetsAre L v) where
 
     pub again-first : (t .order .0 + 1 ≡ v .second .end .0 → ⊥) → t .order .0 + 1 ≡ v .first .end .0
         → turn true (left-of (left-with (x .first) (t .first))) ≡ begins (rest-of (left-with (x .first) m .further)) → x .first .present ≡ true
-        → (u : Turn) → u ≡ record { order = v .first .start; first = m; second = t .second } → (g : ℕ → ℕ)
+        → (u : Course) → u ≡ record { order = v .first .start; first = m; second = t .second } → (g : ℕ → ℕ)
         → settled L (by-place L) behind g ≡ due (place-of (spot-at x u)) g
     unfolding settled
     again-first inner ends anew there u eu g =
@@ -143,7 +143,7 @@ module _ {v : Sets} {marks bad readings w : List ℕ} {n : ℕ} {x : Spot} where
   pub runs-none : (y : Spot) → y ≡ x → RunsTo v marks bad readings w n x w n y
   runs-none y e = rw e (record { run = λ L a stops harm g. no-step })
 
-  module _ {w′ : List ℕ} {m : ℕ} (t : Turn) (R : RunsTo v marks bad readings w n x w′ m (spot-at x t)) (one : 1 ≤ t .order .0) where
+  module _ {w′ : List ℕ} {m : ℕ} (t : Course) (R : RunsTo v marks bad readings w n x w′ m (spot-at x t)) (one : 1 ≤ t .order .0) where
     -- so many visits within a stretch
     module _ (L : Layout) (a : SetsAre L v) (stops : Stops)
         (harm : (k reading : ℕ) → lets-pass marks bad k reading ≡ true → stops (placed L (suc k)) k reading ≡ none) (g : ℕ → ℕ) where
@@ -168,14 +168,15 @@ module _ {v : Sets} {marks bad readings w : List ℕ} {n : ℕ} {x : Spot} where
 
     pub runs-leap : (k : ℕ) → m + k ≤ length readings → ((j : ℕ) → j < k → PlainAt v (t .order .0 + j))
         → ((j : ℕ) → j < k → lets-pass marks bad (t .order .0 - 1 + j) (getD readings (m + j) 0) ≡ true)
-        → (u : Turn) → u .order .0 ≡ t .order .0 + k → u .first ≡ t .first → u .second ≡ t .second
+        → (u : Course) → u .order .0 ≡ t .order .0 + k → u .first ≡ t .first → u .second ≡ t .second
         → RunsTo v marks bad readings w n x (written w′ m (t .order .0 - 1) k) (m + k) (spot-at x u)
     runs-leap k few plain passing u eo e₁ e₂ = record {
       run = λ L a stops harm g. rw (eo, e₁, e₂) (straight L a stops harm g k few plain passing);
     }
 
     pub runs-turn : m < length readings → lets-pass marks bad (t .order .0 - 1) (getD readings m 0) ≡ true
-        → (u : Turn) → ((L : Layout) → SetsAre L v → (g : ℕ → ℕ) (r : ℕ) → onward L (by-place L) (place-of (spot-at x t)) g r ≡ due (place-of (spot-at x u)) g)
+        → (u : Course)
+        → ((L : Layout) → SetsAre L v → (g : ℕ → ℕ) (r : ℕ) → onward L (by-place L) (place-of (spot-at x t)) g r ≡ due (place-of (spot-at x u)) g)
         → RunsTo v marks bad readings w n x (set w′ m (t .order .0 - 1)) (m + 1) (spot-at x u)
     runs-turn low passing u to = record {
       run = λ L a stops harm g. then-step (R .run L a stops harm g) low (t .order .0 - 1) (due (place-of (spot-at x u)) g)

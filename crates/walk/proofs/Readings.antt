@@ -26,33 +26,33 @@ use Rattle.walk.specs.declared.stops.FieldtypeLookup.{FieldtypeLookup}
 -- ---- what a mark says
 
 -- a field with the mark m lets the reading pass
-abbrev pub passes : (m : ℕ) → (bad : List ℕ) → (k reading : ℕ) → Bool
-passes m bad k reading = (0 <ᵇ m) && (m <ᵇ 6) && not (among bad (4 * k) (m - 1) reading)
+abbrev pub mark-passes : (m : ℕ) → (bad : List ℕ) → (k reading : ℕ) → Bool
+mark-passes m bad k reading = (0 <ᵇ m) && (m <ᵇ 6) && not (among bad (4 * k) (m - 1) reading)
 
-passes-few : (m : ℕ) (bad : List ℕ) (k reading : ℕ) → passes m bad k reading ≡ true → m < 6
+passes-few : (m : ℕ) (bad : List ℕ) (k reading : ℕ) → mark-passes m bad k reading ≡ true → m < 6
 passes-few m bad k reading e =
     ltb-true m 6 (and-r (0 <ᵇ m) (m <ᵇ 6) (and-l ((0 <ᵇ m) && (m <ᵇ 6)) (not (among bad (4 * k) (m - 1) reading)) e))
 
-passes-not : (m : ℕ) (bad : List ℕ) (k reading : ℕ) → passes m bad k reading ≡ true → among bad (4 * k) (m - 1) reading ≡ false
+passes-not : (m : ℕ) (bad : List ℕ) (k reading : ℕ) → mark-passes m bad k reading ≡ true → among bad (4 * k) (m - 1) reading ≡ false
 passes-not m bad k reading e =
     not-true (among bad (4 * k) (m - 1) reading) (and-r ((0 <ᵇ m) && (m <ᵇ 6)) (not (among bad (4 * k) (m - 1) reading)) e)
 
-pub known-passes : (m : ℕ) (bad : List ℕ) (k reading : ℕ) → 0 < m → m < 6 → passes m bad k reading ≡ not (among bad (4 * k) (m - 1) reading)
+pub known-passes : (m : ℕ) (bad : List ℕ) (k reading : ℕ) → 0 < m → m < 6 → mark-passes m bad k reading ≡ not (among bad (4 * k) (m - 1) reading)
 known-passes m bad k reading h l = rw (lt-ltb 0 m h, lt-ltb m 6 l)
 
-pub others-pass-none : (m : ℕ) (bad : List ℕ) (k reading : ℕ) → 6 ≤ m → passes m bad k reading ≡ false
+pub others-pass-none : (m : ℕ) (bad : List ℕ) (k reading : ℕ) → 6 ≤ m → mark-passes m bad k reading ≡ false
 others-pass-none m bad k reading h =
     ap (λ (b : Bool). (0 <ᵇ m) && b && not (among bad (4 * k) (m - 1) reading)) (le-ltb m 6 h)
     ∙ ap (λ (b : Bool). b && not (among bad (4 * k) (m - 1) reading)) (and-none (0 <ᵇ m))
 
 pub free-passes : (marks bad : List ℕ) (k reading : ℕ) → getD marks k 0 ≡ 1 → lets-pass marks bad k reading ≡ true
-free-passes marks bad k reading e = ap (λ (m : ℕ). passes m bad k reading) e
+free-passes marks bad k reading e = ap (λ (m : ℕ). mark-passes m bad k reading) e
 
 -- ---- nothing is remembered
 
 pub remembered-clear : (P : Pack) (p : Pgn) (marks bad : List ℕ) → ((k : ℕ) → getD marks k 0 ≡ 0) → Remembered P p marks bad
 remembered-clear P p marks bad c =
-    record { never = λ k reading h. absurd (false≢true (sym (ap (λ (m : ℕ). passes m bad k reading) (c k)) ∙ h)) }
+    record { never = λ k reading h. absurd (false≢true (sym (ap (λ (m : ℕ). mark-passes m bad k reading) (c k)) ∙ h)) }
 
 zeros : (n k : ℕ) → getD (replicate {A = ℕ} n 0) k 0 ≡ 0
 zeros zero k = refl
@@ -73,7 +73,7 @@ module _ {bad bad′ : List ℕ} {k : ℕ} (same : SameBut (4 * k) bad bad′) (
   same-reading i h =
       tri j k (λ l. same .below (4 * j + i) (omega (arith, h, l))) (λ e. absurd (other e)) (λ l. same .above (4 * j + i) (omega (arith, l)))
 
-  same-passes : (m reading : ℕ) → passes m bad′ j reading ≡ true → passes m bad j reading ≡ true
+  same-passes : (m reading : ℕ) → mark-passes m bad′ j reading ≡ true → mark-passes m bad j reading ≡ true
   same-passes m reading e =
       let few = passes-few m bad′ j reading e in
       sym (ap (λ (b : Bool). (0 <ᵇ m) && (m <ᵇ 6) && not b) (any-same (λ i. getD bad′ (4 * j + i) 0 == reading) (λ i. getD bad (4 * j + i) 0 == reading) (m - 1)
@@ -82,26 +82,26 @@ module _ {bad bad′ : List ℕ} {k : ℕ} (same : SameBut (4 * k) bad bad′) (
 
 -- the mark m at field k, whose places alone have changed, is right if what it lets pass does not stop
 pub remembered-marked : {P : Pack} {p : Pgn} {marks bad bad′ : List ℕ} (k m : ℕ) → Remembered P p marks bad → SameBut (4 * k) bad bad′
-    → ((reading : ℕ) → passes m bad′ k reading ≡ true → stop-at P p (placed (layout p) (suc k)) k reading ≡ none)
+    → ((reading : ℕ) → mark-passes m bad′ k reading ≡ true → stop-at P p (placed (layout p) (suc k)) k reading ≡ none)
     → Remembered P p (set marks k m) bad′
 remembered-marked {P} {p} {marks} {bad} {bad′} k m r same f =
     record { never = λ j reading h. go j reading (ℕ-discrete j k) h }
   where
-    own : (reading : ℕ) (b : Bool) → ltb k (length marks) ≡ b → passes (getD (set marks k m) k 0) bad′ k reading ≡ true
+    own : (reading : ℕ) (b : Bool) → ltb k (length marks) ≡ b → mark-passes (getD (set marks k m) k 0) bad′ k reading ≡ true
         → stop-at P p (placed (layout p) (suc k)) k reading ≡ none
     own reading true e h =
-        f reading (sym (ap (λ (x : ℕ). passes x bad′ k reading) (getD-set-same marks k m 0 (ltb-true k (length marks) e))) ∙ h)
+        f reading (sym (ap (λ (x : ℕ). mark-passes x bad′ k reading) (getD-set-same marks k m 0 (ltb-true k (length marks) e))) ∙ h)
     own reading false e h =
         let l = ltb-false k (length marks) e in
         let z : getD (set marks k m) k 0 ≡ 0 = ap (λ (x : List ℕ). getD x k 0) (set-out marks k m l) ∙ List·getD-eq-default marks 0 l in
-        absurd (false≢true (sym (ap (λ (x : ℕ). passes x bad′ k reading) z) ∙ h))
+        absurd (false≢true (sym (ap (λ (x : ℕ). mark-passes x bad′ k reading) z) ∙ h))
 
-    go : (j reading : ℕ) → Dec (j ≡ k) → passes (getD (set marks k m) j 0) bad′ j reading ≡ true
+    go : (j reading : ℕ) → Dec (j ≡ k) → mark-passes (getD (set marks k m) j 0) bad′ j reading ≡ true
         → stop-at P p (placed (layout p) (suc j)) j reading ≡ none
     go j reading (yes d) h = let h′ = rw d at h in rw d (own reading (ltb k (length marks)) refl h′)
     go j reading (no d) h =
         r .never j reading (same-passes same j d (getD marks j 0) reading
-        (sym (ap (λ (x : ℕ). passes x bad′ j reading) (getD-set-other marks k j m 0 d)) ∙ h))
+        (sym (ap (λ (x : ℕ). mark-passes x bad′ j reading) (getD-set-other marks k j m 0 d)) ∙ h))
 
 -- ---- the readings at which a field stops
 
@@ -205,14 +205,14 @@ module _ {s w : List ℕ} {p : Pgn} {k : ℕ} {v : FieldtypeLookup} (N : Named s
     -- so the mark by the number of values is right
     pub none-passed : {bad bad′ : List ℕ} {n : ℕ} (e m : ℕ) → Collected (pack-of s) entries e (4 * k) bad bad′ n → e ≡ length entries
         → m ≡ (if n == 0 then 1 else if 4 * k + 4 ≤ᵇ length bad′ then n + 1 else 6)
-        → (reading : ℕ) → passes m bad′ k reading ≡ true → stops reading ≡ none
+        → (reading : ℕ) → mark-passes m bad′ k reading ≡ true → stops reading ≡ none
     none-passed {bad} {bad′} {n} e m c whole is reading h =
-        go (n == 0) (4 * k + 4 ≤ᵇ length bad′) refl refl (sym (ap (λ (x : ℕ). passes x bad′ k reading) is) ∙ h)
+        go (n == 0) (4 * k + 4 ≤ᵇ length bad′) refl refl (sym (ap (λ (x : ℕ). mark-passes x bad′ k reading) is) ∙ h)
       where
         all : n < 5 → (0 < n → 4 * k + 4 ≤ length bad′) → among bad′ (4 * k) n reading ≡ false → stops reading ≡ none
         all few room missed = none-else bad′ (4 * k) n (λ i l. c .kept few room i (omega (arith, l, whole))) reading missed
 
-        go : (a b : Bool) → (n == 0) ≡ a → (4 * k + 4 ≤ᵇ length bad′) ≡ b → passes (if a then 1 else if b then n + 1 else 6) bad′ k reading ≡ true
+        go : (a b : Bool) → (n == 0) ≡ a → (4 * k + 4 ≤ᵇ length bad′) ≡ b → mark-passes (if a then 1 else if b then n + 1 else 6) bad′ k reading ≡ true
             → stops reading ≡ none
         go true b x y z =
             let q = eqb-true n 0 x in

@@ -17,7 +17,7 @@ use Rattle.walk.specs.Walk.{Stops, due, settled}
 use Rattle.walk.specs.declared.passes.Left.{Left}
 use Rattle.walk.specs.declared.passes.Spot.{Spot}
 use Rattle.walk.specs.declared.runs.Onward.{Onward}
-use Rattle.walk.specs.declared.runs.Turn.{Turn}
+use Rattle.walk.specs.declared.runs.Course.{Course}
 use Rattle.walk.specs.declared.sets.Set.{Set}
 use Rattle.walk.specs.declared.sets.Sets.{Sets}
 use Rattle.walk.specs.declared.stretches.Stretch.{Stretch}
@@ -49,11 +49,11 @@ abbrev pub left-with : Left → ℕ → Left
 left-with v n = record { present = v .present; further = record { endless = v .further .endless; more = n } }
 
 -- the spot, with the order and the passes of t
-abbrev pub spot-at : Spot → Turn → Spot
+abbrev pub spot-at : Spot → Course → Spot
 spot-at v t = record { order = t .order; first = left-with (v .first) (t .first); second = left-with (v .second) (t .second) }
 
 -- From the turn t the run goes on at r's, if it is given: a field has that order, and it is due once the order behind t's is settled.
-pub record GoesOn (v : Sets) (x : Spot) (t : Turn) (r : Onward) : Type 0 where
+pub record GoesOn (v : Sets) (x : Spot) (t : Course) (r : Onward) : Type 0 where
   pub first : r .given ≡ true → 1 ≤ r .turn .order .0
   pub within : r .given ≡ true → r .turn .order .0 ≤ v .fields
   pub settles : r .given ≡ true → (L : Layout) → SetsAre L v → (g : ℕ → ℕ)

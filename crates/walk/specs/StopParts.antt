@@ -1,5 +1,5 @@
 -- The stops 3 to 9 in the parts that code asks for: by the field alone, by its reading, by what is current. Together they are `stop-at`
--- (proofs/Parts.antt).
+-- (proofs/Parts.antt). Below them what code keeps of a field, so as not to ask again.
 use Prim.Native.Nat.{ℕ, zero, suc, _+_, _*_, _-_, _<_, _≤_}
 use mathlib.Core.Path.{_≡_}
 use mathlib.Core.Bool.{Bool, true, false, not, _&&_}
@@ -80,6 +80,6 @@ abbrev pub lets-pass : (marks bad : List ℕ) → (k reading : ℕ) → Bool
 lets-pass marks bad k reading =
     (0 <ᵇ getD marks k 0) && (getD marks k 0 <ᵇ 6) && not (among bad (4 * k) (getD marks k 0 - 1) reading)
 
--- it is right: a reading that is let pass stops the walk nowhere
+-- it is right: field k does not stop at a reading that it lets pass
 pub record Remembered (P : Pack) (p : Pgn) (marks bad : List ℕ) : Type 0 where
   pub never : (k reading : ℕ) → lets-pass marks bad k reading ≡ true → stop-at P p (placed (layout p) (suc k)) k reading ≡ none

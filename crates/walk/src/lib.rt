@@ -1,6 +1,6 @@
 pub mod guaranteed;
 mod held;
-mod memory;
+mod known;
 mod named;
 mod orders;
 mod passes;

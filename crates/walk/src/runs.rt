@@ -12,7 +12,7 @@ ghost use Rattle.walk.specs.SetsOf.{SetsAre, opt-order};
 ghost use Rattle.walk.specs.State.{left-of, place-of, rest-of};
 ghost use Rattle.walk.specs.StopParts.{lets-pass};
 ghost use Rattle.walk.specs.Walk.{due, onward, settled};
-use crate::memory::lets_pass;
+use crate::known::lets_pass;
 use crate::orders::index_of;
 use crate::orders::next_order;
 use crate::passes::Further;
@@ -28,9 +28,9 @@ use pack::protocol::FieldIndex;
 use pack::protocol::FieldOrder;
 use pack::protocol::same_order;
 
-// What changes in a run: the order, and how many passes are left of each set whose passes are counted. A spot is not changed in the loop
-// itself: the padding of its flags would go through memory at each turn.
-pub struct Turn {
+// What changes in a run: the order, and how many passes are left of each set whose passes are counted. The loop does not change a spot: the
+// padding of its flags would go through memory at each pass.
+pub struct Course {
     pub order: FieldOrder,
     pub first: u64,
     pub second: u64,
@@ -39,7 +39,7 @@ pub struct Turn {
 // Where a visit leads, if the run goes on.
 pub struct Onward {
     pub given: bool,
-    pub turn: Turn,
+    pub turn: Course,
 }
 
 // Whether another pass begins, and how many are left then.
@@ -164,7 +164,7 @@ fn again(left: Left, more: u64) -> NextPass
 }
 
 // The run goes on at the turn, if a field has its order.
-fn go_on(given: bool, fields: u32, turn: Turn) -> Onward
+fn go_on(given: bool, fields: u32, turn: Course) -> Onward
     ensures { λ r. ⌜ record {
       given : r .given ≡ true → given ≡ true;
       first : r .given ≡ true → 1 ≤ turn .order .0;
@@ -182,13 +182,13 @@ fn go_on(given: bool, fields: u32, turn: Turn) -> Onward
 }
 
 // Behind set 2's last field.
-fn behind_second(sets: Sets, spot: Spot, here: Turn) -> Onward
+fn behind_second(sets: Sets, spot: Spot, here: Course) -> Onward
     requires { ⌜ here .order .0 + 1 ≡ sets .second .end .0 ⌝ }
     ensures { λ r. ⌜ GoesOn sets spot here r ⌝ }
 {
     let pass = again(spot.second, here.second);
     let start = sets.second.start;
-    let turn = Turn {
+    let turn = Course {
         order: start,
         first: here.first,
         second: pass.more,
@@ -197,13 +197,13 @@ fn behind_second(sets: Sets, spot: Spot, here: Turn) -> Onward
 }
 
 // Behind set 1's last field, where set 2 does not end.
-fn behind_first(sets: Sets, spot: Spot, here: Turn) -> Onward
+fn behind_first(sets: Sets, spot: Spot, here: Course) -> Onward
     requires { ⌜ record { end : here .order .0 + 1 ≡ sets .first .end .0; inner : here .order .0 + 1 ≡ sets .second .end .0 → ⊥ } ⌝ }
     ensures { λ r. ⌜ GoesOn sets spot here r ⌝ }
 {
     let pass = again(spot.first, here.first);
     let start = sets.first.start;
-    let turn = Turn {
+    let turn = Course {
         order: start,
         first: pass.more,
         second: here.second,
@@ -212,7 +212,7 @@ fn behind_first(sets: Sets, spot: Spot, here: Turn) -> Onward
 }
 
 // From a set's last field to its first, if another pass of it begins.
-fn turned(sets: Sets, spot: Spot, here: Turn) -> Onward
+fn turned(sets: Sets, spot: Spot, here: Course) -> Onward
     requires { ⌜ here .order .0 < 4294967295 ⌝ }
     ensures { λ r. ⌜ GoesOn sets spot here r ⌝ }
 {
@@ -246,7 +246,7 @@ fn pass_on(
     marks: &[u8],
     bad: &[u64],
     spot: Spot,
-    here: Turn,
+    here: Course,
     readings: &[u64],
     m: usize,
 ) -> Onward
@@ -279,7 +279,7 @@ fn pass_on(
 }
 
 // The spot of a run.
-fn spot_at(spot: Spot, here: Turn) -> Spot
+fn spot_at(spot: Spot, here: Course) -> Spot
     ensures { λ r. ⌜ r ≡ spot-at spot here ⌝ }
 {
     let order = here.order;
@@ -303,11 +303,11 @@ fn spot_at(spot: Spot, here: Turn) -> Spot
 }
 
 // So many visits on within a stretch.
-fn moved_on(here: Turn, n: usize) -> Turn
+fn moved_on(here: Course, n: usize) -> Course
     requires { ⌜ here .order .0 + n < 4294967296 ⌝ }
     ensures { λ r. ⌜ record { order : r .order .0 ≡ here .order .0 + n; first : r .first ≡ here .first; second : r .second ≡ here .second } ⌝ }
 {
-    Turn {
+    Course {
         order: FieldOrder(here.order.0 + n as u32),
         first: here.first,
         second: here.second,
@@ -339,7 +339,7 @@ pub fn run(
     } ⌝ }
 {
     let order = spot.order;
-    let mut here = Turn {
+    let mut here = Course {
         order,
         first: spot.first.further.more,
         second: spot.second.further.more,

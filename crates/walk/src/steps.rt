@@ -18,7 +18,7 @@ ghost use Rattle.walk.specs.Stops.{stop-at};
 ghost use Rattle.walk.specs.Walk.{Stops, due, settled, onward};
 ghost use Rattle.walk.specs.WalkCall.{ending};
 ghost use Rattle.walk.specs.declared.walk.End.the-variants.{Whole, Stop};
-use crate::memory::stop_at;
+use crate::known::stop_at;
 use crate::named::FoundPgn;
 use crate::orders::first_order;
 use crate::orders::index_of;

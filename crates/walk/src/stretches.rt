@@ -1,4 +1,4 @@
-// Stretches: orders of which each leads to the next. Visits there need neither the sets' passes nor a field's record.
+// Stretches: orders of which each leads to the next, so that visits there do not need the sets' passes.
 ghost use mathlib.Core.Path.{_≡_};
 ghost use mathlib.Core.Bool.{true, false};
 ghost use Prim.Native.Nat.{ℕ, _+_, _-_, _≤_, _<_};
@@ -6,7 +6,7 @@ ghost use lib.ListN.{getD};
 ghost use Rattle.walk.specs.ByPlace.{counts};
 ghost use Rattle.walk.specs.Runs.{edge, PlainAt, Straight};
 ghost use Rattle.walk.specs.SetsOf.{opt-order};
-use crate::memory::is_free;
+use crate::known::is_free;
 use crate::orders::index_of;
 use crate::orders::next_order;
 use crate::sets::OptOrder;

@@ -76,49 +76,7 @@ fn walk_on(
     Walked::Ended { end, visits: n }
 }
 
-// The same with a memory for 256 fields.
-fn walk_short(
-    s: &[u8],
-    work: &[u32],
-    found: FoundPgn,
-    readings: &[u64],
-    visits: &mut [u32],
-) -> Walked
-    requires { ⌜ record {
-      pgn : IsFound (now s) (now work) found;
-      no-stop-1 : stop-1 (layout (found-pgn (now s) found)) ≡ false;
-      room : length (now readings) ≤ length (now visits);
-    } ⌝ }
-    ensures { λ r. ⌜ Told (walk (pack-of (now (s .entry))) (found-pgn (now (s .entry)) found) (now (readings .entry))) (now (visits .entry))
-        (now (visits .exit)) r ⌝ }
-{
-    let mut marks = [0u8; 256];
-    let mut bad = [0u64; 1024];
-    walk_on(s, work, found, &mut marks, &mut bad, readings, visits)
-}
-
-// With a memory for 16,384 fields, more than a message has, and for the readings of the first 256 of them.
-fn walk_long(
-    s: &[u8],
-    work: &[u32],
-    found: FoundPgn,
-    readings: &[u64],
-    visits: &mut [u32],
-) -> Walked
-    requires { ⌜ record {
-      pgn : IsFound (now s) (now work) found;
-      no-stop-1 : stop-1 (layout (found-pgn (now s) found)) ≡ false;
-      room : length (now readings) ≤ length (now visits);
-    } ⌝ }
-    ensures { λ r. ⌜ Told (walk (pack-of (now (s .entry))) (found-pgn (now (s .entry)) found) (now (readings .entry))) (now (visits .entry))
-        (now (visits .exit)) r ⌝ }
-{
-    let mut marks = [0u8; 16384];
-    let mut bad = [0u64; 1024];
-    walk_on(s, work, found, &mut marks, &mut bad, readings, visits)
-}
-
-// The walk over a PGN that is found.
+// The walk over a PGN that is found, with a memory for as many fields as a pack can have, and for the readings of the first 128 of them.
 fn walk_at(s: &[u8], work: &[u32], found: FoundPgn, readings: &[u64], visits: &mut [u32]) -> Walked
     requires { ⌜ record { pgn : IsFound (now s) (now work) found; room : length (now readings) ≤ length (now visits) } ⌝ }
     ensures { λ r. ⌜ Told (walk (pack-of (now (s .entry))) (found-pgn (now (s .entry)) found) (now (readings .entry))) (now (visits .entry))
@@ -130,10 +88,9 @@ fn walk_at(s: &[u8], work: &[u32], found: FoundPgn, readings: &[u64], visits: &m
             visits: 0,
         };
     }
-    if found.sets.fields <= 256 {
-        return walk_short(s, work, found, readings, visits);
-    }
-    walk_long(s, work, found, readings, visits)
+    let mut marks = [0u8; 32768];
+    let mut bad = [0u64; 512];
+    walk_on(s, work, found, &mut marks, &mut bad, readings, visits)
 }
 
 // "then 21, 23, 25": 25, and the walk.

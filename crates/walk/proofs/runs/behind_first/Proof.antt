@@ -1,5 +1,5 @@
 use Rattle.walk.proofs.Plain.{again-first}
-use Rattle.walk.specs.declared.runs.Turn.{Turn}
+use Rattle.walk.specs.declared.runs.Course.{Course}
 use mathlib.Core.Path.{_≡_, ap}
 use native.Mathlib.Omega.{arith}
 use borrow.Author.Needs.{needs}
@@ -24,7 +24,7 @@ returns c =
     let start = c .before .before .before in
     let again = c .before .before .again in
     let on = c .go-on .ensures in
-    let at : c .go-on .result .turn .order .0 ≡ start .args .sets .first .start .0 = ap (λ (t : Turn). t .order .0) (on .turn) in
+    let at : c .go-on .result .turn .order .0 ≡ start .args .sets .first .start .0 = ap (λ (t : Course). t .order .0) (on .turn) in
     record {
       first = λ h. omega (arith, on .first h, at);
       within = λ h. omega (arith, on .within h, at);

@@ -14,7 +14,7 @@ use Rattle.walk.proofs.runs.pass_on.Statement.{statement}
 use Rattle.walk.proofs.runs.pass_on.Tie as tie
 use Rattle.walk.proofs.runs.pass_on.Reads as reads
 use Rattle.walk.proofs.runs.pass_on.Lts as lts
-use Rattle.walk.proofs.memory.lets_pass.Reads as lets-pass-reads
+use Rattle.walk.proofs.known.lets_pass.Reads as lets-pass-reads
 use Rattle.walk.proofs.orders.index_of.Reads as index-of-reads
 use Rattle.walk.proofs.runs.is_counted_by.Reads as is-counted-by-reads
 use Rattle.walk.proofs.runs.turned.Reads as turned-reads

@@ -14,7 +14,7 @@ use Rattle.walk.proofs.runs.write_passing.Statement.{statement}
 use Rattle.walk.proofs.runs.write_passing.Tie as tie
 use Rattle.walk.proofs.runs.write_passing.Reads as reads
 use Rattle.walk.proofs.runs.write_passing.Lts as lts
-use Rattle.walk.proofs.memory.lets_pass.Reads as lets-pass-reads
+use Rattle.walk.proofs.known.lets_pass.Reads as lets-pass-reads
 use Rattle.walk.proofs.runs.write_visit.Reads as write-visit-reads
 
 abbrev Inv-loop : tie.InvT-loop

@@ -13,7 +13,7 @@ use Rattle.walk.proofs.steps.step_at.Statement.{statement}
 use Rattle.walk.proofs.steps.step_at.Tie as tie
 use Rattle.walk.proofs.steps.step_at.Reads as reads
 use Rattle.walk.proofs.steps.step_at.Lts as lts
-use Rattle.walk.proofs.memory.stop_at.Reads as stop-at-reads
+use Rattle.walk.proofs.known.stop_at.Reads as stop-at-reads
 use Rattle.walk.proofs.orders.index_of.Reads as index-of-reads
 use Rattle.walk.proofs.steps.onward.Reads as onward-reads
 

@@ -11,7 +11,7 @@ use Rattle.walk.proofs.stretches.all_free.Statement.{statement}
 use Rattle.walk.proofs.stretches.all_free.Tie as tie
 use Rattle.walk.proofs.stretches.all_free.Reads as reads
 use Rattle.walk.proofs.stretches.all_free.Lts as lts
-use Rattle.walk.proofs.memory.is_free.Reads as is-free-reads
+use Rattle.walk.proofs.known.is_free.Reads as is-free-reads
 
 abbrev Inv-loop : tie.InvT-loop
 Inv-loop marks k n j₀ j = record { count : j ≤ n; free : (i : ℕ) → i < j → getD marks (k .0 + i) 0 ≡ 1 }

@@ -1,5 +1,6 @@
-// The stops with a memory: a field is read at its first visit, where it names a fieldtype lookup at its second too, and then no more: by the
-// law of position only stop 5 goes by more than the field, and of its readings at most four are kept. A field with more is read at each visit.
+// The stops by what is known of the fields: one is read at its first visit, where it names a fieldtype lookup at its second too, and then no
+// more. By the law of position only stop 5 goes by more than the field; at most four readings are kept for it, of the first fields. A field that
+// stops at more, or has no room for them, is read at each visit.
 ghost use mathlib.Core.Path.{_≡_};
 ghost use mathlib.Core.Bool.{true, _&&_};
 ghost use Prim.Native.Nat.{suc, _+_, _*_, _<_, _≤_};
@@ -21,8 +22,7 @@ use crate::stops::names_missing;
 use pack::load::Index;
 use pack::of::entry_of;
 
-// The marks: of a field that stops at no reading; of one that stops at more readings than are kept; of one that names a fieldtype lookup and was
-// visited once.
+// The marks: of a field that stops at no reading; of one whose readings are not kept; of one that names a fieldtype lookup and was visited once.
 const FREE: u8 = 1;
 
 const TOO_MANY: u8 = 6;

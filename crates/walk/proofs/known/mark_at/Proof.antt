@@ -2,8 +2,8 @@ use mathlib.Core.Path.{sym}
 use lib.ListN.{List·getD-eq-default}
 use denote.Ref.{now}
 use borrow.Author.Needs.{needs}
-use Rattle.walk.proofs.memory.mark_at.Statement.{statement}
-use Rattle.walk.proofs.memory.mark_at.Tie as tie
+use Rattle.walk.proofs.known.mark_at.Statement.{statement}
+use Rattle.walk.proofs.known.mark_at.Tie as tie
 
 shared-slice-read-result : tie.Need-shared-slice-read-result
 shared-slice-read-result c = search needs

@@ -2,8 +2,8 @@ use mathlib.Core.Path.{sym}
 use lib.Seq.{set-out}
 use denote.Ref.{now}
 use borrow.Author.Needs.{needs}
-use Rattle.walk.proofs.memory.mark.Statement.{statement}
-use Rattle.walk.proofs.memory.mark.Tie as tie
+use Rattle.walk.proofs.known.mark.Statement.{statement}
+use Rattle.walk.proofs.known.mark.Tie as tie
 
 slice-write-marks : tie.Need-slice-write-marks
 slice-write-marks c = search needs

@@ -1,8 +1,8 @@
 use borrow.Author.Tests.{not-true, not-false, lt-ltb}
 use native.Mathlib.Omega.{arith}
 use borrow.Author.Needs.{needs}
-use Rattle.walk.proofs.memory.keep.Statement.{statement}
-use Rattle.walk.proofs.memory.keep.Tie as tie
+use Rattle.walk.proofs.known.keep.Statement.{statement}
+use Rattle.walk.proofs.known.keep.Tie as tie
 
 returns : tie.Need-returns
 returns c =

@@ -5,8 +5,8 @@ use denote.Ref.{now}
 use mathlib.Core.Bool.{false≢true}
 use Prim.Native.Nat.{_*_}
 use borrow.Author.Needs.{needs}
-use Rattle.walk.proofs.memory.remember.Statement.{statement}
-use Rattle.walk.proofs.memory.remember.Tie as tie
+use Rattle.walk.proofs.known.remember.Statement.{statement}
+use Rattle.walk.proofs.known.remember.Tie as tie
 
 mark-requires : tie.Need-mark-requires
 mark-requires c κs = search needs

@@ -13,8 +13,8 @@ use mathlib.Core.Bool.{Bool, _&&_}
 use Prim.Native.Nat.{ℕ, _+_, _-_, _≤_}
 use native.Mathlib.Omega.{arith}
 use borrow.Author.Needs.{needs}
-use Rattle.walk.proofs.memory.collect.Statement.{statement}
-use Rattle.walk.proofs.memory.collect.Tie as tie
+use Rattle.walk.proofs.known.collect.Statement.{statement}
+use Rattle.walk.proofs.known.collect.Tie as tie
 
 -- a turn, with the entry as it was read
 turned : (s : List ℕ) {es : List Entry} {e at : ℕ} {bad bad′ bad″ : List ℕ} {n n′ : ℕ} (v : EntryView) (hit : Bool)

@@ -1,8 +1,8 @@
 use Rattle.walk.specs.StopParts.{stop-number}
 use mathlib.Core.Path.{sym, ap, _∙_}
 use borrow.Author.Needs.{needs}
-use Rattle.walk.proofs.memory.stop_at.Statement.{statement}
-use Rattle.walk.proofs.memory.stop_at.Tie as tie
+use Rattle.walk.proofs.known.stop_at.Statement.{statement}
+use Rattle.walk.proofs.known.stop_at.Tie as tie
 
 lets-pass-requires : tie.Need-lets-pass-requires
 lets-pass-requires c κs = search needs

@@ -2,8 +2,8 @@ use mathlib.Core.Path.{sym}
 use lib.Seq.{set-out}
 use denote.Ref.{now}
 use borrow.Author.Needs.{needs}
-use Rattle.walk.proofs.memory.put_value.Statement.{statement}
-use Rattle.walk.proofs.memory.put_value.Tie as tie
+use Rattle.walk.proofs.known.put_value.Statement.{statement}
+use Rattle.walk.proofs.known.put_value.Tie as tie
 
 mul-bad : tie.Need-mul-bad
 mul-bad c = search needs

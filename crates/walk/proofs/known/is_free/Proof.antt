@@ -2,8 +2,8 @@ use Rattle.pack.specs.Notation.{_==_}
 use mathlib.Core.Path.{ap}
 use Prim.Native.Nat.{ℕ}
 use borrow.Author.Needs.{needs}
-use Rattle.walk.proofs.memory.is_free.Statement.{statement}
-use Rattle.walk.proofs.memory.is_free.Tie as tie
+use Rattle.walk.proofs.known.is_free.Statement.{statement}
+use Rattle.walk.proofs.known.is_free.Tie as tie
 
 mark-at-requires : tie.Need-mark-at-requires
 mark-at-requires c κs = search needs

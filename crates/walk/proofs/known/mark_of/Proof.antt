@@ -1,8 +1,8 @@
 use Prim.Native.Nat.{_+_, _*_}
 use borrow.Author.Tests.{eq-eqb, ne-eqb, le-leb, lt-leb}
 use borrow.Author.Needs.{needs}
-use Rattle.walk.proofs.memory.mark_of.Statement.{statement}
-use Rattle.walk.proofs.memory.mark_of.Tie as tie
+use Rattle.walk.proofs.known.mark_of.Statement.{statement}
+use Rattle.walk.proofs.known.mark_of.Tie as tie
 
 returns : tie.Need-returns
 returns c = rw (eq-eqb (c .before .args .n) 0 (c .if1 .taken))

@@ -2,8 +2,8 @@ use mathlib.Core.Path.{sym}
 use lib.ListN.{List·getD-eq-default}
 use denote.Ref.{now}
 use borrow.Author.Needs.{needs}
-use Rattle.walk.proofs.memory.value_at.Statement.{statement}
-use Rattle.walk.proofs.memory.value_at.Tie as tie
+use Rattle.walk.proofs.known.value_at.Statement.{statement}
+use Rattle.walk.proofs.known.value_at.Tie as tie
 
 mul-result : tie.Need-mul-result
 mul-result c = search needs

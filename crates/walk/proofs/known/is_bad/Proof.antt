@@ -9,8 +9,8 @@ use mathlib.Core.Path.{_≡_, refl, sym, ap, _∙_}
 use Prim.Native.Nat.{ℕ, _+_, _*_, _-_, _≤_}
 use native.Mathlib.Omega.{arith}
 use borrow.Author.Needs.{needs}
-use Rattle.walk.proofs.memory.is_bad.Statement.{statement}
-use Rattle.walk.proofs.memory.is_bad.Tie as tie
+use Rattle.walk.proofs.known.is_bad.Statement.{statement}
+use Rattle.walk.proofs.known.is_bad.Tie as tie
 
 abbrev Inv-loop : tie.InvT-loop
 Inv-loop bad k n reading at j₀ j = record { turns : j ≤ n; none-yet : among bad at j reading ≡ false }
