@@ -87,8 +87,8 @@
 /* No more bytes of stack than these does a call take, whatever the pack; a thread with a stack of the third size, of which
  * some is the thread's own, has room for any of them. Measured, not proved (harness/tests/stack.rs). */
 #define SARWYMP_STACK_CHECK 53248
-#define SARWYMP_STACK_OTHER 45056
-#define SARWYMP_STACK_THREAD 65536
+#define SARWYMP_STACK_OTHER 59392
+#define SARWYMP_STACK_THREAD 81920
 
 #ifdef __cplusplus
 extern "C" {
