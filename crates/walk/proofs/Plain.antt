@@ -86,7 +86,7 @@ module _ {L : Layout} {v : Sets} (a : SetsAre L v) where
     behind = goto (place-of (spot-at x t)) (suc (t .order .0))
 
     pub again-second : t .order .0 + 1 ≡ v .second .end .0
-        → turn true (left-of (left-with (x .second) (t .second))) ≡ begins (rest-of (left-with (x .second) m .further)) → x .second .present ≡ true
+        → turn true (left-of (left-with (x .second) (t .second))) ≡ begins (rest-of (left-with (x .second) m .further)) → x .second .present ≡ 1
         → (u : Course) → u ≡ record { order = v .second .start; first = t .first; second = m } → (g : ℕ → ℕ)
         → settled L (by-place L) behind g ≡ due (place-of (spot-at x u)) g
     unfolding settled
@@ -100,7 +100,7 @@ module _ {L : Layout} {v : Sets} (a : SetsAre L v) where
         ∙ (rw (eu, there))
 
     pub again-first : (t .order .0 + 1 ≡ v .second .end .0 → ⊥) → t .order .0 + 1 ≡ v .first .end .0
-        → turn true (left-of (left-with (x .first) (t .first))) ≡ begins (rest-of (left-with (x .first) m .further)) → x .first .present ≡ true
+        → turn true (left-of (left-with (x .first) (t .first))) ≡ begins (rest-of (left-with (x .first) m .further)) → x .first .present ≡ 1
         → (u : Course) → u ≡ record { order = v .first .start; first = m; second = t .second } → (g : ℕ → ℕ)
         → settled L (by-place L) behind g ≡ due (place-of (spot-at x u)) g
     unfolding settled

@@ -1,7 +1,7 @@
 -- What the values mean that the code of the walk keeps: of each of the two sets what is left, and its countField's latest reading. No history.
 use Prim.Native.Nat.{ℕ, zero, suc}
 use mathlib.Core.Option.{Option, none}
-use Rattle.pack.specs.Notation.{if_then_else_, optional}
+use Rattle.pack.specs.Notation.{if_then_else_, optional, _==_}
 use Rattle.walk.specs.Layout.{Layout}
 use Rattle.walk.specs.Passes.{Rest, endless, more, Place, Stand, again, arrived, ready, beyond, Turn, goes-on, leaves, begins, stand}
 use Rattle.walk.specs.Walk.{Arrival, not-current, over, enter, Settled, past, halted, due, settle}
@@ -27,10 +27,10 @@ two x y z (suc zero) = y
 two x y z (suc (suc k)) = z
 
 abbrev pub rest-of : Further → Rest
-rest-of v = if v .endless then endless else more (v .more)
+rest-of v = if v .endless == 1 then endless else more (v .more)
 
 abbrev pub left-of : Left → Option Rest
-left-of v = optional (v .present) (rest-of (v .further))
+left-of v = optional (v .present == 1) (rest-of (v .further))
 
 abbrev pub place-of : Spot → Place
 place-of v = record { order = v .order .0; left = two (left-of (v .first)) (left-of (v .second)) none }

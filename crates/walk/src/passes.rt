@@ -19,15 +19,16 @@ use crate::sets::placed;
 use pack::protocol::FieldOrder;
 use pack::protocol::same_order;
 
-// What is left of a set's passes after the present one: they never end, or so many.
+// What is left of a set's passes after the present one: they never end, or so many. A flag is 1 or 0, as wide as the count beside it: a struct
+// with padding is copied in overlapping parts, which wait for one another.
 pub struct Further {
-    pub endless: bool,
+    pub endless: u64,
     pub more: u64,
 }
 
 // The same of a set that may have no present pass.
 pub struct Left {
-    pub present: bool,
+    pub present: u64,
     pub further: Further,
 }
 
@@ -85,17 +86,14 @@ pub enum Round {
 fn after(further: Further) -> Turning
     ensures { λ r. ⌜ turn-of r ≡ turn true (some (rest-of further)) ⌝ }
 {
-    if further.endless {
+    if further.endless == 1 {
         return Turning::Begins(further);
     }
     if further.more == 0 {
         return Turning::Leaves;
     }
     let more = further.more - 1;
-    Turning::Begins(Further {
-        endless: false,
-        more,
-    })
+    Turning::Begins(Further { endless: 0, more })
 }
 
 // What comes of a set's pass at the order o, where it ends or not.
@@ -105,7 +103,7 @@ fn turn(left: Left, o: FieldOrder, end: FieldOrder) -> Turning
     if !same_order(o, end) {
         return Turning::GoesOn;
     }
-    if !left.present {
+    if left.present != 1 {
         return Turning::GoesOn;
     }
     after(left.further)
@@ -116,9 +114,9 @@ pub fn gone() -> Left
     ensures { λ r. ⌜ left-of r ≡ none ⌝ }
 {
     Left {
-        present: false,
+        present: 0,
         further: Further {
-            endless: false,
+            endless: 0,
             more: 0,
         },
     }
@@ -129,7 +127,7 @@ fn pass(further: Further) -> Left
     ensures { λ r. ⌜ left-of r ≡ some (rest-of further) ⌝ }
 {
     Left {
-        present: true,
+        present: 1,
         further,
     }
 }
@@ -144,7 +142,7 @@ fn arrives(set: Set, o: FieldOrder, left: Left) -> bool
     if !same_order(set.start, o) {
         return false;
     }
-    !left.present
+    left.present != 1
 }
 
 // The set that is arrived at.
@@ -243,7 +241,7 @@ fn passes(count: u64) -> Arriving
         return Arriving::Over;
     }
     Arriving::Enter(Further {
-        endless: false,
+        endless: 0,
         more: count - 1,
     })
 }
@@ -255,7 +253,7 @@ fn arrive(sets: Sets, o: FieldOrder, counter: OptOrder, count: u64) -> Arriving
 {
     if !counter.given {
         return Arriving::Enter(Further {
-            endless: true,
+            endless: 1,
             more: 0,
         });
     }

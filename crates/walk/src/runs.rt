@@ -28,8 +28,8 @@ use pack::protocol::FieldIndex;
 use pack::protocol::FieldOrder;
 use pack::protocol::same_order;
 
-// What changes in a run: the order, and how many passes are left of each set whose passes are counted. The loop does not change a spot: the
-// padding of its flags would go through memory at each pass.
+// What changes in a run: the order, and how many passes are left of each set whose passes are counted. So much, and not the whole spot, is
+// copied at each pass.
 pub struct Course {
     pub order: FieldOrder,
     pub first: u64,
@@ -145,13 +145,13 @@ fn leap(
 fn again(left: Left, more: u64) -> NextPass
     ensures { λ r. ⌜ (r .given ≡ true → record {
       begins : turn true (left-of (left-with left more)) ≡ begins (rest-of (left-with left (r .more) .further));
-      present : left .present ≡ true;
+      present : left .present ≡ 1;
     }) ⌝ }
 {
-    if !left.present {
+    if left.present != 1 {
         return NextPass { given: false, more };
     }
-    if left.further.endless {
+    if left.further.endless == 1 {
         return NextPass { given: true, more };
     }
     if more == 0 {

@@ -1,3 +1,4 @@
+use Rattle.pack.specs.Notation.{_==_}
 use Rattle.walk.specs.State.{rest-of}
 use Rattle.walk.proofs.Spots.{present-of}
 use borrow.Author.Tests.{not-true, not-false}
@@ -35,7 +36,7 @@ returns-3 c =
       not-false (is-nonempty .result) (if1 .left),
       ← same-order .ensures,
       not-false (same-order .result) (c .before .if2 .left),
-      present-of (start .args .left .present) (rest-of (start .args .left .further)),
+      present-of (start .args .left .present == 1) (rest-of (start .args .left .further)),
     )
 
 pub arrives-spec : {M : Type 1} → statement M

@@ -1,3 +1,4 @@
+use borrow.Author.Tests.{ne-eqb}
 use Rattle.walk.proofs.Spots.{turn-more}
 use borrow.Author.Tests.{not-false}
 use mathlib.Core.Bool.{false≢true}
@@ -15,8 +16,8 @@ returns c = λ h. absurd (false≢true h)
 -- src/runs.rt:155:9
 returns-2 : tie.Need-returns-2
 returns-2 c =
-    let start = c .before .before .before in
-    λ h. let there = not-false (start .args .left .present) (c .before .if1 .left) in record { begins = rw (there, c .if2 .taken); present = there }
+    let if1 = c .before .before .if1 in
+    λ h. record { begins = rw (if1 .left, c .if2 .taken); present = if1 .left }
 
 -- src/runs.rt:158:9
 returns-3 : tie.Need-returns-3
@@ -29,9 +30,12 @@ sub-t4 c = search needs
 -- src/runs.rt:145:1
 returns-4 : tie.Need-returns-4
 returns-4 c =
-    let start = c .before .before .before .before in
-    λ h. let there = not-false (start .args .left .present) (c .before .before .if1 .left) in
-    record { begins = rw (there, c .before .if2 .left) (sym (turn-more (start .args .more) (c .if3 .left))); present = there }
+    let start = c .before .before .before .before .before in
+    let if1 = c .before .before .before .if1 in
+    λ h. record {
+      begins = rw (if1 .left, ne-eqb (start .args .left .further .endless) 1 (c .before .if2 .left)) (sym (turn-more (start .args .more) (c .if3 .left)));
+      present = if1 .left;
+    }
 
 pub again-spec : {M : Type 1} → statement M
 again-spec = tie.close (tie.spec returns returns-2 returns-3 sub-t4 returns-4)
