@@ -15,7 +15,7 @@ pub mod Agree
 pub mod Rounds
 -- the loop
 pub mod Walks
--- visits between which only the order changes
+-- runs of visits
 pub mod Plain
 pub mod WalkCalls
 -- the guarantee against stops

@@ -2,7 +2,6 @@
 use Prim.Native.Nat.{ℕ, zero, suc, pred, _+_, _-_, _≤_, _<_}
 use native.Mathlib.Omega.{arith}
 use native.Mathlib.Numerals.{add-one}
-use native.Mathlib.Decide.{ℕ-discrete}
 use mathlib.Core.Path.{_≡_, refl, sym, ap, subst, _∙_, fun-ext}
 use mathlib.Core.Bool.{Bool, true, false, not, _&&_, _||_, false≢true}
 use mathlib.Core.Option.{Option, none, some}
@@ -10,10 +9,11 @@ use mathlib.Core.List.{List}
 use lib.ListN.{length, getD, set, length-set, List·getD-eq-default}
 use borrow.Author.Tests.{eq-eqb, ne-eqb}
 use Rattle.pack.specs.Notation.{_==_}
+use Rattle.rules.specs.SearchLaws.{below-suc}
 use Rattle.walk.specs.SetsOf.{SetsAre, has-orders, opt-order}
 use Rattle.walk.specs.Layout.{Layout, no-set}
-use Rattle.walk.specs.Passes.{Rest, Place, goto, goto-with, present, ready, turn, begins, goes-on, stand}
-use Rattle.walk.specs.Walk.{Stops, Settled, due, settled, onward}
+use Rattle.walk.specs.Passes.{Rest, Place, goto, goto-with, present, ready, turn, begins, stand}
+use Rattle.walk.specs.Walk.{Stops, due, settled, onward}
 use Rattle.walk.specs.ByPlace.{placed, by-place, counts}
 use Rattle.walk.specs.Runs.{edge, PlainAt, written, left-with, spot-at, RunsTo}
 use Rattle.walk.specs.State.{two, left-of, rest-of, place-of, settled-of}
@@ -117,11 +117,7 @@ module _ {L : Layout} {v : Sets} (a : SetsAre L v) where
 
 -- what holds below n and of n holds below n + 1
 pub below-next : (Q : ℕ → Type 0) {n : ℕ} → ((i : ℕ) → i < n → Q i) → Q n → (i : ℕ) → i < n + 1 → Q i
-below-next Q {n} below last i l = go (ℕ-discrete i n)
-  where
-    go : Dec (i ≡ n) → Q i
-    go (yes e) = subst Q (sym e) last
-    go (no e) = below i (omega (arith, l, e))
+below-next Q {n} below last i l = below-suc i n (omega (arith, l)) (below i) (λ e. subst Q (sym e) last)
 
 -- the orders behind plain ones are the PGN's
 pub plain-within : (v : Sets) (o k : ℕ) → o ≤ v .fields → ((j : ℕ) → j < k → PlainAt v (o + j)) → o + k ≤ v .fields

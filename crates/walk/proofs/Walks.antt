@@ -23,10 +23,9 @@ use Rattle.walk.specs.State.{two, settled-of}
 use Rattle.walk.specs.Steps.{end-of, Stepped, ended, visited, one-step, Run, no-step, then-step, used, Within}
 use Rattle.walk.specs.StopParts.{stop-number}
 use Rattle.walk.specs.Stops.{stop-at}
-use Rattle.walk.specs.WalkCall.{ending, told, Told}
+use Rattle.walk.specs.WalkCall.{ending, Told}
 use Rattle.walk.specs.declared.passes.Settling.{Settling}
 use Rattle.walk.specs.declared.walk.End.the-variants.{Whole, UsedUp, Stop}
-use Rattle.walk.specs.declared.walk.Walked.{Walked}
 use Rattle.walk.specs.declared.walk.Walked.the-variants.{Ended}
 use Rattle.walk.proofs.SetFacts.{Good, good}
 use Rattle.walk.proofs.Position.{due-order}

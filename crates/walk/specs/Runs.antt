@@ -52,7 +52,7 @@ left-with v n = record { present = v .present; further = record { endless = v .f
 abbrev pub spot-at : Spot → Course → Spot
 spot-at v t = record { order = t .order; first = left-with (v .first) (t .first); second = left-with (v .second) (t .second) }
 
--- From the turn t the run goes on at r's, if it is given: a field has that order, and it is due once the order behind t's is settled.
+-- From the course t the run goes on at r's, if that is given: a field has that order, and it is due once the order behind t's is settled.
 pub record GoesOn (v : Sets) (x : Spot) (t : Course) (r : Onward) : Type 0 where
   pub first : r .given ≡ true → 1 ≤ r .turn .order .0
   pub within : r .given ≡ true → r .turn .order .0 ≤ v .fields

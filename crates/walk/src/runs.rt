@@ -1,17 +1,16 @@
 // Runs: visits one after the other that need no field's record, within stretches and from a set's pass into the next.
 ghost use mathlib.Core.Path.{_≡_};
 ghost use mathlib.Core.Bool.{true, _||_};
-ghost use mathlib.Core.Option.{some};
-ghost use Prim.Native.Nat.{ℕ, suc, _+_, _-_, _≤_, _<_};
+ghost use Prim.Native.Nat.{ℕ, _+_, _-_, _≤_, _<_};
 ghost use lib.ListN.{length, getD, set};
 ghost use Rattle.walk.specs.ByPlace.{by-place, counts};
 ghost use Rattle.walk.specs.Layout.{Layout};
-ghost use Rattle.walk.specs.Passes.{begins, goto, turn};
+ghost use Rattle.walk.specs.Passes.{begins, turn};
 ghost use Rattle.walk.specs.Runs.{GoesOn, RunsTo, left-with, spot-at, written};
 ghost use Rattle.walk.specs.SetsOf.{SetsAre, opt-order};
 ghost use Rattle.walk.specs.State.{left-of, place-of, rest-of};
 ghost use Rattle.walk.specs.StopParts.{lets-pass};
-ghost use Rattle.walk.specs.Walk.{due, onward, settled};
+ghost use Rattle.walk.specs.Walk.{due, onward};
 use crate::known::lets_pass;
 use crate::orders::index_of;
 use crate::orders::next_order;
@@ -163,7 +162,7 @@ fn again(left: Left, more: u64) -> NextPass
     }
 }
 
-// The run goes on at the turn, if a field has its order.
+// The run goes on at that course, if a field has its order.
 fn go_on(given: bool, fields: u32, turn: Course) -> Onward
     ensures { λ r. ⌜ record {
       given : r .given ≡ true → given ≡ true;

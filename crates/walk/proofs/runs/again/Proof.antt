@@ -1,6 +1,5 @@
 use borrow.Author.Tests.{ne-eqb}
 use Rattle.walk.proofs.Spots.{turn-more}
-use borrow.Author.Tests.{not-false}
 use mathlib.Core.Bool.{false≢true}
 use mathlib.Core.Path.{sym}
 use borrow.Author.Needs.{needs}

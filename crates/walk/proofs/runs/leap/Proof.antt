@@ -2,7 +2,6 @@ use Rattle.walk.proofs.Readings.{free-passes}
 use Rattle.walk.specs.Runs.{written}
 use denote.Ref.{now}
 use lib.ListN.{getD}
-use mathlib.Core.List.{List}
 use mathlib.Core.Path.{_≡_, ap, _∙_}
 use Prim.Native.Nat.{ℕ, _+_, _-_}
 use native.Mathlib.Omega.{arith}

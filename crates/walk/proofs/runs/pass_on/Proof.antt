@@ -6,7 +6,6 @@ use Rattle.walk.specs.ByPlace.{counts}
 use borrow.Author.Tests.{not-false}
 use mathlib.Core.Bool.{false≢true}
 use mathlib.Core.Path.{refl, sym, _∙_}
-use denote.Ref.{now}
 use Prim.Native.Nat.{_-_}
 use native.Mathlib.Omega.{arith}
 use borrow.Author.Needs.{needs}

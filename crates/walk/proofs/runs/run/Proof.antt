@@ -1,6 +1,5 @@
 use Rattle.walk.proofs.Plain.{plain-within, runs-none, runs-leap, runs-turn}
 use Rattle.walk.specs.Runs.{PlainAt, Straight, RunsTo, spot-at}
-use denote.Ref.{now}
 use lib.ListN.{length}
 use mathlib.Core.Path.{_≡_, refl, _∙_}
 use Prim.Native.Nat.{ℕ, _+_, _-_, _≤_, _<_}

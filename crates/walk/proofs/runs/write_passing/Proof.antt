@@ -8,7 +8,7 @@ use denote.Ref.{now}
 use lib.ListN.{length, getD, set}
 use mathlib.Core.List.{List}
 use mathlib.Core.Bool.{true}
-use mathlib.Core.Path.{_≡_, refl, sym, ap, subst, _∙_}
+use mathlib.Core.Path.{_≡_, refl, sym, ap, _∙_}
 use Prim.Native.Nat.{ℕ, _+_, _-_, _≤_, _<_}
 use Rattle.walk.proofs.runs.write_passing.Statement.{statement}
 use Rattle.walk.proofs.runs.write_passing.Tie as tie

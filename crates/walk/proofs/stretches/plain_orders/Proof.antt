@@ -1,7 +1,6 @@
 use Rattle.walk.specs.Runs.{edge}
-use mathlib.Core.Bool.{Bool, false}
 use mathlib.Core.Path.{_≡_, ap, _∙_}
-use Prim.Native.Nat.{ℕ, _+_, _-_}
+use Prim.Native.Nat.{_+_, _-_}
 use native.Mathlib.Omega.{arith}
 use borrow.Author.Needs.{needs}
 use Rattle.walk.proofs.stretches.plain_orders.Statement.{statement}

@@ -1,5 +1,4 @@
 use borrow.Author.Tests.{ne-eqb}
-use mathlib.Core.Path.{_≡_, refl}
 use Prim.Native.Nat.{suc, _+_, _-_}
 use native.Mathlib.Omega.{arith}
 use borrow.Author.Needs.{needs}

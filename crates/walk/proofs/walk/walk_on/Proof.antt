@@ -114,10 +114,9 @@ returns c =
     let loop = c .before .before .before .before .before .before .before .before .before .before .before .before .loop in
     let loop-test = c .before .before .before .before .before .before .before .before .before .before .before .loop-test in
     let step = c .before .before .before .before .before .before .before .step in
-    let a = going-ended (layout (found-pgn (now (start .args .s)) (start .args .found))) (start .pre .no-stop-1) _ _ _ _ _ _ (state-of (loop .state))
+    going-ended (layout (found-pgn (now (start .args .s)) (start .args .found))) (start .pre .no-stop-1) _ _ _ _ _ _ (state-of (loop .state))
     (loop .inv .going) (loop-test .taken) (step-of (step .result)) (step .ensures .step) (c .before .end .given .0 .0) (ap step-of (c .before .end .given .1))
-    (omega (arith, loop .inv .turns, start .pre .room)) in
-    record { answer = a .answer; out = a .out }
+    (omega (arith, loop .inv .turns, start .pre .room))
 
 -- src/walk.rt:71:33
 enum-known-field : tie.Need-enum-known-field Inv-loop μ-loop
@@ -221,9 +220,8 @@ returns-2 : tie.Need-returns-2 Inv-loop μ-loop
 returns-2 c =
     let start = c .before .before .before .before .before .before .before .before .before .before .before in
     let loop = c .before .before .loop in
-    let a = going-used (layout (found-pgn (now (start .args .s)) (start .args .found))) (start .pre .no-stop-1) _ _ _ _ _ _ (state-of (loop .state))
-    (loop .inv .going) (c .before .loop-test .left) (omega (arith, loop .inv .turns, start .pre .room)) (c .used .result) (c .used .ensures) in
-    record { answer = a .answer; out = a .out }
+    going-used (layout (found-pgn (now (start .args .s)) (start .args .found))) (start .pre .no-stop-1) _ _ _ _ _ _ (state-of (loop .state))
+    (loop .inv .going) (c .before .loop-test .left) (omega (arith, loop .inv .turns, start .pre .room)) (c .used .result) (c .used .ensures)
 
 pub walk-on-spec : {M : Type 1} → statement M
 walk-on-spec =
