@@ -9,6 +9,7 @@ pub mod Free
 pub mod Tables
 pub mod Clean
 pub mod Values
+pub mod Sets
 pub mod Positions
 pub mod SetSums
 pub mod Accepted

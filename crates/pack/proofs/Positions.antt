@@ -25,6 +25,7 @@ use Rattle.pack.proofs.Reading.{if-all, number-fits, back, code-reader,
 use Rattle.pack.proofs.Places.{fields-turn}
 use Rattle.pack.proofs.Free.{index-below, lookup-free, field-free}
 use Rattle.pack.proofs.Clean.{fresh-at, accepted-end, pgn-clean, field-clean, lookup-clean, entry-clean, type-clean}
+use Rattle.pack.proofs.Sets.{places-read}
 use Rattle.pack.proofs.Values.{types-are, type-is, lookups-are, lookup-is, pgns-are, pgn-is, lookup-head, pgn-head, entries-are, entry-is, fields-are}
 use Rattle.pack.proofs.Values.{field-is, length-types, length-lookup, length-pgn, lookup-place, pgns-below, tree-place}
 
@@ -208,7 +209,11 @@ module _ {s w : List ℕ} {t i p : ℕ} (a : PgnAt s w t i p) where
 
   pub pgn-law : PgnIs s (pgn-at (pack-of s) t i) (read-pgn s (fresh (getD w p 0)) .value)
   unfolding pgn-of-pack
-  pgn-law = rw pgn-view (record { means = (rw (pgn-is s t i (a .tree) counted-pgn)); fields = sym (fields-are s t i (a .tree) counted-pgn) })
+  pgn-law = rw pgn-view (record {
+    means = (rw (pgn-is s t i (a .tree) counted-pgn));
+    fields = sym (fields-are s t i (a .tree) counted-pgn);
+    places = omega (arith, places-read s (pgn-start s t i));
+  })
 
   pub pgn-number-law : read-number s (fresh (getD w p 0)) .value ≡ pgn-at (pack-of s) t i .pgn
   unfolding read-pgn

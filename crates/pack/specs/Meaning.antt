@@ -2,16 +2,18 @@
 use Prim.Native.Nat.{ℕ}
 use mathlib.Core.List.{List}
 use mathlib.Core.Option.{Option}
+use lib.ListN.{getD}
 use Rattle.pack.specs.Notation.{tab, optional}
 use Rattle.pack.specs.Value.{Bytes, FieldType, Entry, Lookup, Repeating, Reference, Field, Pgn, Pack}
 use Rattle.pack.specs.Items.{bytes-of}
-use Rattle.pack.specs.Records.{read-type, read-entry, read-lookup, read-pgn, read-field}
+use Rattle.pack.specs.Records.{read-type, read-entry, read-lookup, absent-set, read-pgn, read-field}
 use Rattle.pack.specs.Format.{entries, fields, type-list, lookup-list, tree-list, type-start, lookup-start, pgn-start, offsets}
 use Rattle.pack.specs.Load.{Verdict, refused, accepted, verdict}
 use Rattle.pack.specs.declared.text.OptText.{OptText}
 use Rattle.pack.specs.declared.optional.OptNumber.{OptNumber}
 use Rattle.pack.specs.declared.optional.OptFloat.{OptFloat}
 use Rattle.pack.specs.declared.load.Refusal.{Refusal}
+use Rattle.pack.specs.declared.protocol.OptOrder.{OptOrder}
 use Rattle.pack.specs.declared.field_type.FieldTypeView.{FieldTypeView}
 use Rattle.pack.specs.declared.entry.EntryView.{EntryView}
 use Rattle.pack.specs.declared.lookup.LookupView.{LookupView}
@@ -58,9 +60,11 @@ entry-meaning s v =
 abbrev pub lookup-meaning : List ℕ → LookupView → List Entry → Lookup
 lookup-meaning s v es = record { name = bytes-of s (v .name); kind = v .kind; bits = v .bits; entries = es }
 
+abbrev pub opt-order : OptOrder → Option ℕ
+opt-order v = optional (v .given) (v .order .0)
+
 abbrev pub repeating-meaning : RepeatingView → Repeating
-repeating-meaning v =
-    record { count = v .count; start = v .start; count-field = optional-number (v .counter); nested = v .nested }
+repeating-meaning v = record { count = v .count; start = v .start .0; count-field = opt-order (v .counter); nested = v .nested }
 
 abbrev pub optional-repeating : OptRepeating → Option Repeating
 optional-repeating o = optional (o .given) (repeating-meaning (o .set))
@@ -109,8 +113,7 @@ pgn-meaning s v fs =
       missing-company-fields = v .flags .incomplete;
       length = v .length;
       min-length = optional-number (v .minimum);
-      repeating1 = optional-repeating (v .repeating1);
-      repeating2 = optional-repeating (v .repeating2);
+      sets = tab (λ k. optional-repeating (getD (v .sets) k absent-set)) (v .places);
       fields = fs;
     }
 

@@ -1,5 +1,5 @@
 -- For the layers above: a pack that `load` accepted with its work list, the work positions of its records, and what a view there is.
-use Prim.Native.Nat.{ℕ, zero, suc, _+_, _<_}
+use Prim.Native.Nat.{ℕ, zero, suc, _+_, _≤_, _<_}
 use mathlib.Core.Path.{_≡_}
 use mathlib.Core.List.{List}
 use lib.ListN.{length, getD, take}
@@ -75,10 +75,11 @@ pub record LookupIs (s : List ℕ) (L : Lookup) (v : LookupView) : Type 0 where
   pub means : lookup-meaning s v (L .entries) ≡ L
   pub entries : v .entries ≡ length (L .entries)
 
--- the view of a PGN means it, and has the number of its fields
+-- the view of a PGN means it, has the number of its fields, and has no more sets than there is room for
 pub record PgnIs (s : List ℕ) (G : Pgn) (v : PgnView) : Type 0 where
   pub means : pgn-meaning s v (G .fields) ≡ G
   pub fields : v .fields ≡ length (G .fields)
+  pub places : v .places ≤ 4
 
 -- the lookup that a lookup record is of
 abbrev pub lookup-in : List ℕ → LookupRecord → Lookup

@@ -1,6 +1,6 @@
 -- The five kinds of record, item by item in document 01's order, as views: numbers, float patterns, and texts as parts of the pack.
 use Prim.Native.Nat.{ℕ, _/_, _%_}
-use mathlib.Core.List.{List}
+use mathlib.Core.List.{List, [], _∷_}
 use mathlib.Core.Bool.{true, false}
 use Rattle.pack.specs.Notation.{_==_, if_then_else_}
 use Rattle.pack.specs.Items.{largest64, read-wide, read-number, read-code, read-index, read-sum, read-mark, read-text, read-name, read-float}
@@ -14,6 +14,7 @@ use Rattle.pack.specs.declared.entry.EntryItem.{EntryItem}
 use Rattle.pack.specs.declared.entry.KindPartItem.{KindPartItem}
 use Rattle.pack.specs.declared.lookup.LookupItem.{LookupItem}
 use Rattle.pack.specs.declared.pgn.RepeatingItem.{RepeatingItem}
+use Rattle.pack.specs.declared.pgn.OptRepeating.{OptRepeating}
 use Rattle.pack.specs.declared.pgn.OptRepeatingItem.{OptRepeatingItem}
 use Rattle.pack.specs.declared.pgn.PgnItem.{PgnItem}
 use Rattle.pack.specs.declared.field.NamesItem.{NamesItem}
@@ -98,8 +99,27 @@ read-repeating s c =
     let counter = read-opt-number s (start .next) in
     let nested = read-mark s (counter .next) in
     record {
-      value = record { count = count .value; start = start .value; counter = counter .value; nested = nested .value };
+      value =
+          record {
+            count = count .value;
+            start = record { 0 = start .value };
+            counter = record { given = counter .value .given; order = record { 0 = counter .value .value } };
+            nested = nested .value;
+          };
       next = nested .next;
+    }
+
+abbrev pub absent-set : OptRepeating
+absent-set =
+    record {
+      given = false;
+      set =
+          record {
+            count = 0;
+            start = record { 0 = 0 };
+            counter = record { given = false; order = record { 0 = 0 } };
+            nested = false;
+          };
     }
 
 unfoldable pub read-opt-repeating : List ℕ → Cursor → OptRepeatingItem
@@ -108,15 +128,7 @@ read-opt-repeating s c =
     let r = read-repeating s (m .next) in
     if m .value
     then record { value = record { given = true; set = r .value }; next = r .next }
-    else
-    record {
-      value =
-          record {
-            given = false;
-            set = record { count = 0; start = 0; counter = record { given = false; value = 0 }; nested = false };
-          };
-      next = m .next;
-    }
+    else record { value = absent-set; next = m .next }
 
 -- "PGN: number, id, type (0 Single, 1 Fast, 2 ISO, 3 Mixed), flags (1 fallback, 2 variable, 4 MissingCompanyFields), length,
 -- optional minimum length, two optional sets, list of fields": up to the count of the fields
@@ -145,8 +157,8 @@ read-pgn s c =
                 };
             length = length .value;
             minimum = minimum .value;
-            repeating1 = first .value;
-            repeating2 = second .value;
+            sets = first .value ∷ second .value ∷ absent-set ∷ absent-set ∷ [];
+            places = 2;
             fields = fields .value;
           };
       next = fields .next;

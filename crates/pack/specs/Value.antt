@@ -87,8 +87,8 @@ pub record Pgn : Type 0 where
   pub missing-company-fields : Bool
   pub length : ℕ
   pub min-length : Option ℕ
-  pub repeating1 : Option Repeating
-  pub repeating2 : Option Repeating
+  -- "two optional sets": the list of places for sets, each given or not. An absent set is no empty set: R44 counts an empty one.
+  pub sets : List (Option Repeating)
   pub fields : List Field
 
 -- "Pack: version; list of field types; list of lookups; three lists of PGNs (trees 0 NMEA 2000, 1 J1939, 2 Quick)."
@@ -156,8 +156,7 @@ no-pgn =
       missing-company-fields = false;
       length = 0;
       min-length = none;
-      repeating1 = none;
-      repeating2 = none;
+      sets = [];
       fields = [];
     }
 
@@ -174,3 +173,7 @@ pgn-at P t i = getD (pgns-of P t) i no-pgn
 
 abbrev pub field-at : Pgn → ℕ → Field
 field-at p k = getD (p .fields) k no-field
+
+-- the set at place k, counted from 0, if it is given
+abbrev pub set-place : Pgn → ℕ → Option Repeating
+set-place p k = getD (p .sets) k none

@@ -1,16 +1,19 @@
 // A PGN and its sets, read item by item in 01's order, up to its fields.
-ghost use mathlib.Core.Bool.{false};
 ghost use mathlib.Core.Path.{_≡_};
-ghost use Rattle.pack.specs.Records.{read-repeating, read-opt-repeating, read-pgn};
+ghost use Prim.Native.Nat.{_<_};
+ghost use lib.ListN.{getD};
+ghost use Rattle.pack.specs.Records.{absent-set, read-repeating, read-opt-repeating, read-pgn};
 use crate::cursor::Cursor;
 use crate::cursor::fresh;
 use crate::optional::OptNumber;
+use crate::protocol::FieldOrder;
+use crate::protocol::OptOrder;
 use crate::text::Text;
 
 pub struct RepeatingView {
     pub count: u32,
-    pub start: u32,
-    pub counter: OptNumber,
+    pub start: FieldOrder,
+    pub counter: OptOrder,
     pub nested: bool,
 }
 
@@ -35,7 +38,7 @@ pub struct PgnFlags {
     pub incomplete: bool,
 }
 
-// A PGN without its fields, which follow it.
+// A PGN without its fields, which follow it. Room for four sets, of which the first `places` are the PGN's; in version 1 two.
 pub struct PgnView {
     pub pgn: u32,
     pub id: Text,
@@ -43,8 +46,8 @@ pub struct PgnView {
     pub flags: PgnFlags,
     pub length: u32,
     pub minimum: OptNumber,
-    pub repeating1: OptRepeating,
-    pub repeating2: OptRepeating,
+    pub sets: [OptRepeating; 4],
+    pub places: u32,
     pub fields: u32,
 }
 
@@ -61,27 +64,37 @@ pub struct PgnItem {
     pub next: Cursor,
 }
 
-fn no_repeating(c: Cursor) -> OptRepeatingItem
-    ensures { λ r. ⌜ r ≡ record {
-      value = record { given = false; set = record { count = 0; start = 0; counter = record { given = false; value = 0 }; nested = false } };
-      next = c;
-    } ⌝ }
+// What stands where there is no set.
+pub fn absent_set() -> OptRepeating
+    ensures { λ r. ⌜ r ≡ absent-set ⌝ }
 {
-    OptRepeatingItem {
-        value: OptRepeating {
-            given: false,
-            set: RepeatingView {
-                count: 0,
-                start: 0,
-                counter: OptNumber {
-                    given: false,
-                    value: 0,
-                },
-                nested: false,
+    OptRepeating {
+        given: false,
+        set: RepeatingView {
+            count: 0,
+            start: FieldOrder(0),
+            counter: OptOrder {
+                given: false,
+                order: FieldOrder(0),
             },
+            nested: false,
         },
-        next: c,
     }
+}
+
+// The set at place k.
+pub fn set_at(g: PgnView, k: u32) -> OptRepeating
+    requires { ⌜ k < 4 ⌝ }
+    ensures { λ r. ⌜ r ≡ getD (g .sets) k absent-set ⌝ }
+{
+    g.sets[k as usize]
+}
+
+fn no_repeating(c: Cursor) -> OptRepeatingItem
+    ensures { λ r. ⌜ r ≡ record { value = absent-set; next = c } ⌝ }
+{
+    let value = absent_set();
+    OptRepeatingItem { value, next: c }
 }
 
 impl Cursor {
@@ -97,8 +110,11 @@ impl Cursor {
         RepeatingItem {
             value: RepeatingView {
                 count: count.value,
-                start: start.value,
-                counter: c,
+                start: FieldOrder(start.value),
+                counter: OptOrder {
+                    given: c.given,
+                    order: FieldOrder(c.value),
+                },
                 nested: nested.value,
             },
             next,
@@ -148,8 +164,10 @@ impl Cursor {
         let i = id.value;
         let f = flags.value;
         let m = minimum.value;
-        let repeating1 = first.value;
-        let repeating2 = second.value;
+        let a = first.value;
+        let b = second.value;
+        let none = absent_set();
+        let sets = [a, b, none, none];
         let next = fields.next;
         PgnItem {
             value: PgnView {
@@ -163,8 +181,8 @@ impl Cursor {
                 },
                 length: length.value,
                 minimum: m,
-                repeating1,
-                repeating2,
+                sets,
+                places: 2,
                 fields: fields.value,
             },
             next,

@@ -84,6 +84,12 @@ pub struct FieldIndex(pub u32);
 
 pub struct FieldOrder(pub u32);
 
+// An order, if it is given.
+pub struct OptOrder {
+    pub given: bool,
+    pub order: FieldOrder,
+}
+
 impl FieldIndex {
     pub fn order(self) -> FieldOrder
         requires { ⌜ self .0 < 4294967295 ⌝ }
@@ -93,17 +99,21 @@ impl FieldIndex {
     }
 }
 
-// Orders are compared by these three: whether one comes before another, whether two are the same, whether one is among a set's.
+// Orders are compared by this: whether one comes before another.
 pub fn precedes(a: FieldOrder, b: FieldOrder) -> bool
     ensures { λ r. ⌜ r ≡ (a .0 <ᵇ b .0) ⌝ }
 {
     a.0 < b.0
 }
 
+// Neither precedes the other.
 pub fn same_order(a: FieldOrder, b: FieldOrder) -> bool
     ensures { λ r. ⌜ r ≡ (a .0 == b .0) ⌝ }
 {
-    a.0 == b.0
+    if precedes(a, b) {
+        return false;
+    }
+    !precedes(b, a)
 }
 
 // So many orders from `start` on.
