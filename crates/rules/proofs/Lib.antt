@@ -16,5 +16,6 @@ pub mod SpnClashLaws
 pub mod SpnLaws
 pub mod SpnRanks
 pub mod Totals
+pub mod TwoPlaces
 pub mod Types
 pub mod VariantLaws

@@ -7,7 +7,8 @@ use mathlib.Core.Option.{Option, none, some}
 use mathlib.Core.Path.{_≡_}
 use lib.ListN.{length, getD, length-append}
 use Rattle.pack.specs.Notation.{_==_, if_then_else_, concat-below}
-use Rattle.pack.specs.Value.{Bytes, FieldType, Lookup, Entry, Reference, Repeating, Field, Pgn, Pack, pgns-of, no-pgn, no-lookup, field-at, lookup-at, entry-at}
+use Rattle.pack.specs.Value.{Bytes, FieldType, Lookup, Entry, Reference, Repeating, Field, Pgn, Pack, pgns-of, no-pgn, no-lookup, field-at, set-place}
+use Rattle.pack.specs.Value.{lookup-at, entry-at}
 use Rattle.rules.specs.declared.Finding.{Finding}
 use Rattle.rules.specs.Findings.{report-if, lookup-warning}
 use Rattle.rules.specs.Model.{fieldtype-of, lookup-ref, fieldtypes}
@@ -19,7 +20,7 @@ use Rattle.rules.specs.LookupNames.{check-lookup-names, lookup-names-of,
 use Rattle.rules.specs.SpnNames.{check-spn-names, clash-of, clash-with, clash-at}
 use Rattle.rules.specs.PgnRange.{check-pgn-range, quick-range, found-range, Range}
 use Rattle.rules.specs.FrameLength.{check-frame-length}
-use Rattle.rules.specs.Repeating.{check-repeating, check-set, set-bounds, set-count-field, set-nesting}
+use Rattle.rules.specs.Repeating.{check-repeating, set-before, check-set, set-bounds, set-count-field, set-nesting}
 use Rattle.rules.specs.DynamicLength.{check-dynamic-length, dynamic-length-at}
 use Rattle.rules.specs.Proprietary.{check-proprietary}
 use Rattle.rules.specs.SpecialValues.{check-special-values, special-values-at}
@@ -247,9 +248,9 @@ unfolding check-set set-bounds
 set-most t i n fields outer none = search Most
 set-most t i n fields outer (some r) = search (Most, set-count-most, set-nesting-most)
 
-pub repeating-most : (t i : ℕ) (p : Pgn) → AtMost 6 (check-repeating t i p)
+pub repeating-most : (t i : ℕ) (p : Pgn) → AtMost (length (p .sets) * 3) (check-repeating t i p)
 unfolding check-repeating
-repeating-most t i p = most-append 3 3 _ _ (set-most t i 1 _ none (p .repeating1)) (set-most t i 2 _ (p .repeating1) (p .repeating2))
+repeating-most t i p = most-below 3 _ (λ k. set-most t i (k + 1) (length (p .fields)) (set-before p k) (set-place p k)) (length (p .sets))
 
 pub proprietary-most : (fts : List FieldType) (t i : ℕ) (p : Pgn) → AtMost 1 (check-proprietary fts t i p)
 unfolding check-proprietary
@@ -296,13 +297,20 @@ sum-plus : (a : ℕ) (g : ℕ → ℕ) (n : ℕ) → sum-below (λ i. a + g i) n
 sum-plus a g zero = omega arith
 sum-plus a g (suc n) = omega (arith, sum-plus a g n)
 
+sum-both : (a : ℕ) (g h : ℕ → ℕ) (n : ℕ) → sum-below (λ i. a + g i + h i) n ≡ n * a + sum-below g n + sum-below h n
+sum-both a g h zero = omega arith
+sum-both a g h (suc n) = omega (arith, sum-both a g h n)
+
 abbrev pub fields-of : List Pgn → ℕ
 fields-of pgns = sum-below (λ i. length (getD pgns i no-pgn .fields)) (length pgns)
+
+abbrev pub places-of : List Pgn → ℕ
+places-of pgns = sum-below (λ i. length (getD pgns i no-pgn .sets)) (length pgns)
 
 abbrev pub entries-of : List Lookup → ℕ
 entries-of ls = sum-below (λ l. length (getD ls l no-lookup .entries)) (length ls)
 
-pgn-most : (P : Pack) (t i : ℕ) (p : Pgn) → AtMost (13 + length (p .fields) * 10) (check-pgn P t i p)
+pgn-most : (P : Pack) (t i : ℕ) (p : Pgn) → AtMost (7 + length (p .sets) * 3 + length (p .fields) * 10) (check-pgn P t i p)
 unfolding check-pgn check-dynamic-length check-special-values check-reserved-ids check-match-values check-field-type-overrides check-bit-length-field
     check-trailing-zero-is-digit
 pgn-most P t i p =
@@ -406,14 +414,16 @@ lookup-sum c ls f h =
     record { bound = omega (arith, m .bound, sum-times g c (length ls)) }
 
 tree-pgns-most : (P : Pack) (t : ℕ) (pgns : List Pgn)
-    → AtMost (length pgns * 13 + fields-of pgns * 10) (concat-below (λ i. check-pgn P t i (getD pgns i no-pgn)) (length pgns))
+    → AtMost (length pgns * 7 + places-of pgns * 3 + fields-of pgns * 10) (concat-below (λ i. check-pgn P t i (getD pgns i no-pgn)) (length pgns))
 tree-pgns-most P t pgns =
     let g : ℕ → ℕ = λ i. length (getD pgns i no-pgn .fields) in
-    let m = most-sum (λ i. 13 + g i * 10) (λ i. check-pgn P t i (getD pgns i no-pgn)) (λ i. pgn-most P t i (getD pgns i no-pgn)) (length pgns) in
-    record { bound = omega (arith, m .bound, sum-plus 13 (λ i. g i * 10) (length pgns), sum-times g 10 (length pgns)) }
+    let h : ℕ → ℕ = λ i. length (getD pgns i no-pgn .sets) in
+    let n = length pgns in
+    let m = most-sum (λ i. 7 + h i * 3 + g i * 10) (λ i. check-pgn P t i (getD pgns i no-pgn)) (λ i. pgn-most P t i (getD pgns i no-pgn)) n in
+    record { bound = omega (arith, m .bound, sum-both 7 (λ i. h i * 3) (λ i. g i * 10) n, sum-times h 3 n, sum-times g 10 n) }
 
 tree-most : (P : Pack) (t : ℕ)
-    → AtMost (length (pgns-of P t) * (length (pgns-of P t) + 15) + fields-of (pgns-of P t) * 11) (check-tree P t)
+    → AtMost (length (pgns-of P t) * (length (pgns-of P t) + 9) + places-of (pgns-of P t) * 3 + fields-of (pgns-of P t) * 11) (check-tree P t)
 unfolding check-tree
 tree-most P t =
     let pgns = pgns-of P t in
@@ -454,7 +464,7 @@ fieldtypes-most fts = search (most-below, fieldtype-most)
 
 -- HOW MANY FINDINGS A PACK CAN HAVE
 abbrev pub most-of-tree : List Pgn → ℕ
-most-of-tree pgns = length pgns * (length pgns + 15) + fields-of pgns * 22
+most-of-tree pgns = length pgns * (length pgns + 9) + places-of pgns * 3 + fields-of pgns * 22
 
 unfoldable pub most-findings : Pack → ℕ
 most-findings P =

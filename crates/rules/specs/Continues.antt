@@ -5,12 +5,12 @@ use mathlib.Core.List.{List, [], _∷_, _++_}
 use mathlib.Core.Option.{Option, none, some}
 use lib.ListN.{length}
 use Rattle.pack.specs.Notation.{_<ᵇ_, _≤ᵇ_, _==_, _≐_, if_then_else_, concat-below}
-use Rattle.pack.specs.Value.{Bytes, FieldType, Repeating, Field, Pgn, field-at}
+use Rattle.pack.specs.Value.{Bytes, FieldType, Repeating, Field, Pgn, field-at, set-place}
 use Rattle.rules.specs.declared.Finding.{Finding}
 use Rattle.rules.specs.Findings.{pgn-error, report-if}
 use Rattle.rules.specs.Floats.{float-eq, ZERO, ONE}
 use Rattle.rules.specs.Model.{given, is-text, fieldtype-of, root-of, value-bits, lookup-ref}
-use Rattle.rules.specs.Search.{first-below, count-below}
+use Rattle.rules.specs.Search.{first-below, latest-below, count-below}
 use Rattle.rules.specs.Texts.{NUMBER, LOOKUP}
 
 -- the set holds the order; an empty one holds none
@@ -18,9 +18,15 @@ abbrev pub holds-order : Option Repeating → ℕ → Bool
 holds-order none o = false
 holds-order (some r) o = (r .start ≤ᵇ o) && (o <ᵇ r .start + r .count)
 
--- `set_of` a field's index. "Set 2 first: a set nested in set 1 lies inside it, and its fields belong to the inner record."
+-- the place of an index, from 1; 0 for none
+abbrev pub place-number : Option ℕ → ℕ
+place-number none = 0
+place-number (some j) = j + 1
+
+-- `set_of` a field's index: the highest place whose set holds it, 0 for none. "Set 2 first: a set nested in set 1 lies inside it, and its
+-- fields belong to the inner record."
 unfoldable pub set-of : Pgn → ℕ → ℕ
-set-of p k = if holds-order (p .repeating2) (k + 1) then 2 else if holds-order (p .repeating1) (k + 1) then 1 else 0
+set-of p k = place-number (latest-below (λ j. holds-order (set-place p j) (k + 1)) (length (p .sets)))
 
 -- `integer`: NUMBER or LOOKUP
 unfoldable pub integer : List FieldType → Field → Bool

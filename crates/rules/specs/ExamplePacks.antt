@@ -53,8 +53,7 @@ a-pgn number id set fields =
       missing-company-fields = false;
       length = 8;
       min-length = none;
-      repeating1 = set;
-      repeating2 = none;
+      sets = set ∷ none ∷ [];
       fields = fields;
     }
 

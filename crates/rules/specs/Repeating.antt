@@ -1,11 +1,11 @@
 -- R05, `check_repeating`: repeating sets are self-consistent, and a nested set lies wholly inside the one that encloses it.
-use Prim.Native.Nat.{ℕ, _+_, _-_}
+use Prim.Native.Nat.{ℕ, zero, suc, _+_, _-_}
 use mathlib.Core.Bool.{Bool, true, _&&_, _||_}
 use mathlib.Core.List.{List, [], _∷_, _++_}
 use mathlib.Core.Option.{Option, none, some}
 use lib.ListN.{length}
-use Rattle.pack.specs.Notation.{_<ᵇ_, _≤ᵇ_, _==_, if_then_else_}
-use Rattle.pack.specs.Value.{Repeating, Pgn}
+use Rattle.pack.specs.Notation.{_<ᵇ_, _≤ᵇ_, _==_, if_then_else_, concat-below}
+use Rattle.pack.specs.Value.{Repeating, Pgn, set-place}
 use Rattle.rules.specs.declared.Finding.{Finding}
 use Rattle.rules.specs.Findings.{pgn-error, report-if}
 
@@ -42,8 +42,11 @@ module _ (t i n : ℕ) where
       if r .count == 0 then []
       else set-bounds fields r ++ set-count-field (r .start) (r .count-field) ++ (if r .nested then set-nesting outer r else [])
 
--- Nothing encloses set 1: "a nested set must be set 2".
+-- What may enclose the set at place k: the one before it. Nothing encloses the first: "a nested set must be set 2".
+abbrev pub set-before : Pgn → ℕ → Option Repeating
+set-before p zero = none
+set-before p (suc k) = set-place p k
+
+-- each place beside the one before it; the part is the place, from 1
 unfoldable pub check-repeating : (t i : ℕ) → Pgn → List Finding
-check-repeating t i p =
-    let fields = length (p .fields) in
-    check-set t i 1 fields none (p .repeating1) ++ check-set t i 2 fields (p .repeating1) (p .repeating2)
+check-repeating t i p = concat-below (λ k. check-set t i (k + 1) (length (p .fields)) (set-before p k) (set-place p k)) (length (p .sets))

@@ -3,13 +3,13 @@ use Prim.Native.Nat.{ℕ, zero, suc, _+_, _<_}
 use native.Mathlib.Decide.{ℕ-discrete}
 use native.Mathlib.Numerals.{add-one}
 use native.Mathlib.Omega.{arith}
-use mathlib.Core.Bool.{Bool, true, false, _||_, false≢true}
+use mathlib.Core.Bool.{Bool, true, false, _&&_, _||_, false≢true}
 use mathlib.Core.List.{List, [], _++_, append-nil}
 use mathlib.Core.Option.{Option, none, some, Option·none-ne-some, Option·some-injective}
 use mathlib.Core.Path.{_≡_, refl, sym, ap, _∙_}
 use Rattle.pack.specs.Notation.{if_then_else_, concat-below, optional}
-use Rattle.rules.specs.Search.{or-else, any-below, first-below, latest-below, count-below, sum-below, larger, smaller, max-below, min-below, lower-key}
-use Rattle.rules.specs.Search.{least-below, next-rank, ranked}
+use Rattle.rules.specs.Search.{or-else, any-below, every-below, first-below, latest-below, count-below, sum-below, larger, smaller, max-below}
+use Rattle.rules.specs.Search.{min-below, lower-key, least-below, next-rank, ranked}
 
 -- ---- a turn
 
@@ -18,6 +18,9 @@ concat-turn f k = rw (add-one k)
 
 pub any-turn : (p : ℕ → Bool) (k : ℕ) → any-below p (k + 1) ≡ (any-below p k || p k)
 any-turn p k = rw (add-one k)
+
+pub every-turn : (p : ℕ → Bool) (k : ℕ) → every-below p (k + 1) ≡ (every-below p k && p k)
+every-turn p k = rw (add-one k)
 
 pub first-turn : (p : ℕ → Bool) (k : ℕ) → first-below p (k + 1) ≡ or-else (first-below p k) (optional (p k) k)
 first-turn p k = rw (add-one k)
@@ -61,6 +64,15 @@ pub any-hit : (p : ℕ → Bool) (n k : ℕ) → k < n → p k ≡ true → any-
 any-hit p zero k h e = absurd (omega arith)
 any-hit p (suc n) k h e =
     below-suc k n h (λ l. rw (any-hit p n k l e)) (λ q. or-right (any-below p n) (p n) (ap p (sym q) ∙ e))
+
+and-right : (a b : Bool) → b ≡ false → (a && b) ≡ false
+and-right true b e = e
+and-right false b e = refl
+
+pub every-missed : (p : ℕ → Bool) (n k : ℕ) → k < n → p k ≡ false → every-below p n ≡ false
+every-missed p zero k h e = absurd (omega arith)
+every-missed p (suc n) k h e =
+    below-suc k n h (λ l. rw (every-missed p n k l e)) (λ q. and-right (every-below p n) (p n) (ap p (sym q) ∙ e))
 
 pub any-missed : (p : ℕ → Bool) (n : ℕ) → any-below p n ≡ false → (k : ℕ) → k < n → p k ≡ false
 any-missed p zero e k h = absurd (omega arith)

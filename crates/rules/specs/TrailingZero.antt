@@ -5,13 +5,13 @@ use mathlib.Core.List.{List, [], _∷_}
 use mathlib.Core.Option.{Option, none, some}
 use lib.ListN.{length}
 use Rattle.pack.specs.Notation.{_<ᵇ_, _≤ᵇ_, _==_, _≐_, if_then_else_, concat-below}
-use Rattle.pack.specs.Value.{Bytes, FieldType, Repeating, Field, Pgn, field-at}
+use Rattle.pack.specs.Value.{Bytes, FieldType, Repeating, Field, Pgn, field-at, set-place}
 use Rattle.rules.specs.declared.Finding.{Finding}
 use Rattle.rules.specs.Findings.{pgn-error, report-if}
 use Rattle.rules.specs.Floats.{float-eq, ZERO, ONE}
 use Rattle.rules.specs.Model.{fieldtype-of, target}
 use Rattle.rules.specs.Continues.{integer}
-use Rattle.rules.specs.Search.{any-below}
+use Rattle.rules.specs.Search.{any-below, every-below}
 use Rattle.rules.specs.Texts.{DECIMAL}
 
 -- The set, if any, starts behind the order: an empty set counts here, also one that starts at 0.
@@ -19,12 +19,11 @@ abbrev pub starts-behind : Option Repeating → ℕ → Bool
 starts-behind none o = true
 starts-behind (some r) o = o <ᵇ r .start
 
--- `fixed`: before field j "no variable-width field, no proprietary field that may be absent, and no repeating set"
+-- `fixed`: before field j "no variable-width field, no proprietary field that may be absent, and no repeating set": every given set is asked
 unfoldable pub fixed : Pgn → ℕ → Bool
 fixed p j =
     not (any-below (λ k. (field-at p k .res-bits == 0) || field-at p k .proprietary) j)
-    && starts-behind (p .repeating1) (j + 1)
-    && starts-behind (p .repeating2) (j + 1)
+    && every-below (λ k. starts-behind (set-place p k) (j + 1)) (length (p .sets))
 
 -- "an unsigned, unscaled NUMBER or LOOKUP without an offset", of 1 to 63 bits
 unfoldable pub unsigned-integer : List FieldType → Field → Bool

@@ -7,7 +7,7 @@ ghost use lib.ListN.{length};
 ghost use Rattle.pack.specs.Notation.{_==_, _<ᵇ_, _≐_, if_then_else_};
 ghost use Rattle.pack.specs.Items.{bytes-of};
 ghost use Rattle.pack.specs.Meaning.{optional-float, optional-repeating, field-meaning, pack-of};
-ghost use Rattle.pack.specs.Ready.{Ready, PgnRecordIs, pgn-in};
+ghost use Rattle.pack.specs.Ready.{Ready, PgnIs, PgnRecordIs, pgn-in};
 ghost use Rattle.pack.specs.Value.{field-at};
 ghost use Rattle.rules.specs.Emit.{Emitted, Fits};
 ghost use Rattle.rules.specs.Findings.{report-if, pgn-error};
@@ -33,7 +33,7 @@ use pack::of::type_of;
 use pack::optional::OptFloat;
 use pack::pgn::OptRepeating;
 use pack::pgn::PgnRecord;
-use pack::pgn::PgnView;
+use pack::pgn::set_at;
 use pack::protocol::FieldIndex;
 use pack::protocol::FieldOrder;
 use pack::protocol::among;
@@ -47,22 +47,23 @@ pub fn holds_order(set: OptRepeating, order: FieldOrder) -> bool
     if !set.given {
         return false;
     }
-    among(order, FieldOrder(set.set.start), set.set.count)
+    among(order, set.set.start, set.set.count)
 }
 
-// The set of field k: 2, 1, or 0 for none.
-fn set_of(g: PgnView, k: u32) -> u32
-    requires { ⌜ k < 4294967295 ⌝ }
-    ensures { λ r. ⌜ r ≡
-        (if holds-order (optional-repeating (g .repeating2)) (k + 1) then 2 else if holds-order (optional-repeating (g .repeating1)) (k + 1)
-        then 1 else 0) ⌝ }
+// The highest place whose set holds field k, from 1; 0 for none.
+fn set_of(s: &[u8], g: PgnRecord, k: u32) -> u32
+    requires { ⌜ record { is : PgnIs (now s) (pgn-in (now s) g) (g .view); field : k < 4294967295 } ⌝ }
+    ensures { λ r. ⌜ r ≡ set-of (pgn-in (now (s .entry)) g) k ⌝ }
 {
     let order = FieldIndex(k).order();
-    if holds_order(g.repeating2, order) {
-        return 2;
-    }
-    if holds_order(g.repeating1, order) {
-        return 1;
+    let mut j = g.view.places;
+    while 0 < j {
+        let below = j - 1;
+        let set = set_at(g.view, below);
+        if holds_order(set, order) {
+            return j;
+        }
+        j = below;
     }
     0
 }
@@ -195,7 +196,7 @@ fn placed_at(
         (link .earlier) ∷ [] else report-if (1 <ᵇ continued-by (pgn-in (now (s .entry)) g) (bytes-of (now (s .entry)) (link .id)))
         (pgn-error 43 4 (g .tree) (g .item) (link .field) (link .earlier))) (now (out .exit)) r ⌝ }
 {
-    if set_of(g.view, link.earlier) != set_of(g.view, link.field) {
+    if set_of(s, g, link.earlier) != set_of(s, g, link.field) {
         return put(out, n, link_error(2, g, link));
     }
     if !continued {

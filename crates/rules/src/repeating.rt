@@ -3,18 +3,20 @@ ghost use mathlib.Core.Path.{_≡_};
 ghost use mathlib.Core.Bool.{not, _&&_, _||_};
 ghost use Prim.Native.Nat.{_+_};
 ghost use Rattle.pack.specs.Notation.{_<ᵇ_, _≤ᵇ_, _==_};
-ghost use Rattle.pack.specs.Meaning.{optional-number, repeating-meaning, optional-repeating};
+ghost use Rattle.pack.specs.Meaning.{opt-order, repeating-meaning, optional-repeating};
 ghost use Rattle.pack.specs.Ready.{PgnIs, pgn-in};
 ghost use Rattle.rules.specs.Emit.{Emitted, Fits};
 ghost use Rattle.rules.specs.Repeating.{none-or-below, set-bounds, set-count-field, set-nesting, check-set, check-repeating};
 use crate::emit::pgn_error;
 use crate::emit::put;
 use crate::emit::put_if;
-use pack::optional::OptNumber;
 use pack::pgn::OptRepeating;
 use pack::pgn::PgnRecord;
 use pack::pgn::RepeatingView;
+use pack::pgn::absent_set;
+use pack::pgn::set_at;
 use pack::protocol::FieldOrder;
+use pack::protocol::OptOrder;
 use pack::protocol::precedes;
 
 // A countField that is none, or not before the set.
@@ -28,31 +30,33 @@ fn misplaced(counter: FieldOrder, start: FieldOrder) -> bool
 }
 
 // No countField, or one before the order.
-fn none_or_below(counter: OptNumber, order: FieldOrder) -> bool
-    ensures { λ r. ⌜ r ≡ none-or-below (optional-number counter) (order .0) ⌝ }
+fn none_or_below(counter: OptOrder, order: FieldOrder) -> bool
+    ensures { λ r. ⌜ r ≡ none-or-below (opt-order counter) (order .0) ⌝ }
 {
     if counter.given {
-        return precedes(FieldOrder(counter.value), order);
+        return precedes(counter.order, order);
     }
     true
 }
 
 // The number behind a set's last order.
 fn set_end(set: RepeatingView) -> u64
-    ensures { λ r. ⌜ r ≡ set .start + set .count ⌝ }
+    ensures { λ r. ⌜ r ≡ set .start .0 + set .count ⌝ }
 {
-    set.start as u64 + set.count as u64
+    set.start.0 as u64 + set.count as u64
 }
 
 // A set that starts after the start of another and ends within it.
 fn lies_inside(set: RepeatingView, outer: OptRepeating) -> bool
-    ensures { λ r. ⌜ r ≡ (outer .given && ((outer .set .start <ᵇ set .start) && (set .start + set .count ≤ᵇ outer .set .start + outer .set .count))) ⌝ }
+    ensures { λ r. ⌜ r ≡
+        (outer .given
+        && ((outer .set .start .0 <ᵇ set .start .0) && (set .start .0 + set .count ≤ᵇ outer .set .start .0 + outer .set .count))) ⌝ }
 {
     if !outer.given {
         return false;
     }
     let enclosing = outer.set;
-    if precedes(FieldOrder(enclosing.start), FieldOrder(set.start)) {
+    if precedes(enclosing.start, set.start) {
         return set_end(set) <= set_end(enclosing);
     }
     false
@@ -80,10 +84,10 @@ fn set_bounds(
     requires { ⌜ Fits n (set-bounds t i part fields (repeating-meaning set)) ⌝ }
     ensures { λ r. ⌜ Emitted (now (out .entry)) n (set-bounds t i part fields (repeating-meaning set)) (now (out .exit)) r ⌝ }
 {
-    if set.start == 0 {
+    if set.start.0 == 0 {
         return put(out, n, pgn_error(5, 1, t, i, part, 0));
     }
-    let last = (set.start - 1) as u64 + set.count as u64;
+    let last = (set.start.0 - 1) as u64 + set.count as u64;
     put_if(
         out,
         n,
@@ -99,13 +103,13 @@ fn set_count_field(
     i: u32,
     part: u32,
     start: FieldOrder,
-    counter: OptNumber,
+    counter: OptOrder,
 ) -> usize
-    requires { ⌜ Fits n (set-count-field t i part (start .0) (optional-number counter)) ⌝ }
-    ensures { λ r. ⌜ Emitted (now (out .entry)) n (set-count-field t i part (start .0) (optional-number counter)) (now (out .exit)) r ⌝ }
+    requires { ⌜ Fits n (set-count-field t i part (start .0) (opt-order counter)) ⌝ }
+    ensures { λ r. ⌜ Emitted (now (out .entry)) n (set-count-field t i part (start .0) (opt-order counter)) (now (out .exit)) r ⌝ }
 {
     if counter.given {
-        let report = misplaced(FieldOrder(counter.value), start);
+        let report = misplaced(counter.order, start);
         return put_if(out, n, report, pgn_error(5, 3, t, i, part, 0));
     }
     n
@@ -125,7 +129,7 @@ fn set_nesting(
 {
     if lies_inside(set, outer) {
         let counter = set.counter;
-        let report = none_or_below(counter, FieldOrder(outer.set.start));
+        let report = none_or_below(counter, outer.set.start);
         return put_if(out, n, report, pgn_error(5, 4, t, i, part, 0));
     }
     put(out, n, pgn_error(5, 5, t, i, part, 0))
@@ -149,7 +153,7 @@ fn check_set(
         let r = set.set;
         let counter = r.counter;
         let m = set_bounds(out, n, t, i, part, fields, r);
-        let k = set_count_field(out, m, t, i, part, FieldOrder(r.start), counter);
+        let k = set_count_field(out, m, t, i, part, r.start, counter);
         if r.nested {
             return set_nesting(out, k, t, i, part, outer, r);
         }
@@ -158,7 +162,7 @@ fn check_set(
     n
 }
 
-// R05: repeating sets are self-consistent, and a nested set lies wholly inside the one that encloses it. Nothing encloses set 1.
+// R05: repeating sets are self-consistent, and a nested set lies wholly inside the one that encloses it. Nothing encloses the first.
 pub fn check_repeating(out: &mut [u32], n: usize, s: &[u8], g: PgnRecord) -> usize
     requires { ⌜ record {
       fits : Fits n (check-repeating (g .tree) (g .item) (pgn-in (now s) g));
@@ -166,10 +170,15 @@ pub fn check_repeating(out: &mut [u32], n: usize, s: &[u8], g: PgnRecord) -> usi
     } ⌝ }
     ensures { λ r. ⌜ Emitted (now (out .entry)) n (check-repeating (g .tree) (g .item) (pgn-in (now (s .entry)) g)) (now (out .exit)) r ⌝ }
 {
-    let first = g.view.repeating1;
-    let second = g.view.repeating2;
-    let set = first.set;
-    let nothing = OptRepeating { given: false, set };
-    let m = check_set(out, n, g.tree, g.item, 1, g.view.fields, nothing, first);
-    check_set(out, m, g.tree, g.item, 2, g.view.fields, first, second)
+    let places = g.view.places;
+    let mut outer = absent_set();
+    let mut m = n;
+    let mut k: u32 = 0;
+    while k < places {
+        let set = set_at(g.view, k);
+        m = check_set(out, m, g.tree, g.item, k + 1, g.view.fields, outer, set);
+        outer = set;
+        k += 1;
+    }
+    m
 }

@@ -5,10 +5,10 @@ ghost use Prim.Native.Nat.{_≤_, _<_};
 ghost use lib.ListN.{length};
 ghost use Rattle.pack.specs.Notation.{_==_};
 ghost use Rattle.pack.specs.Meaning.{optional-number, optional-repeating, field-meaning, pack-of};
-ghost use Rattle.pack.specs.Ready.{Ready, PgnAt, PgnRecordIs, pgn-in};
-ghost use Rattle.pack.specs.Value.{field-at};
+ghost use Rattle.pack.specs.Ready.{Ready, PgnAt, PgnIs, PgnRecordIs, pgn-in};
+ghost use Rattle.pack.specs.Value.{field-at, set-place};
 ghost use Rattle.rules.specs.Emit.{Emitted, Fits};
-ghost use Rattle.rules.specs.Search.{any-below};
+ghost use Rattle.rules.specs.Search.{any-below, every-below};
 ghost use Rattle.rules.specs.TrailingZero.{starts-behind, fixed, unsigned-integer, trailing-zero-target-at, trailing-zero-at};
 ghost use Rattle.rules.specs.TrailingZero.{check-trailing-zero-is-digit};
 use crate::emit::pgn_error;
@@ -25,6 +25,7 @@ use pack::of::type_of;
 use pack::optional::OptNumber;
 use pack::pgn::OptRepeating;
 use pack::pgn::PgnRecord;
+use pack::pgn::set_at;
 use pack::protocol::FieldIndex;
 use pack::protocol::FieldOrder;
 use pack::protocol::precedes;
@@ -42,7 +43,7 @@ fn starts_behind(set: OptRepeating, order: FieldOrder) -> bool
     ensures { λ r. ⌜ r ≡ starts-behind (optional-repeating set) (order .0) ⌝ }
 {
     if counts(set) {
-        return precedes(order, FieldOrder(set.set.start));
+        return precedes(order, set.set.start);
     }
     true
 }
@@ -76,6 +77,24 @@ fn any_moves(s: &[u8], work: &[u32], g: PgnRecord, n: u32) -> bool
     false
 }
 
+// Whether every set starts behind the order.
+fn sets_start_behind(s: &[u8], g: PgnRecord, order: FieldOrder) -> bool
+    requires { ⌜ PgnIs (now s) (pgn-in (now s) g) (g .view) ⌝ }
+    ensures { λ r. ⌜ r ≡
+        every-below (λ k. starts-behind (set-place (pgn-in (now (s .entry)) g) k) (order .0)) (length (pgn-in (now (s .entry)) g .sets)) ⌝ }
+{
+    let places = g.view.places;
+    let mut k: u32 = 0;
+    while k < places {
+        let set = set_at(g.view, k);
+        if !starts_behind(set, order) {
+            return false;
+        }
+        k += 1;
+    }
+    true
+}
+
 // Whether field j has a fixed position.
 fn fixed(s: &[u8], work: &[u32], g: PgnRecord, j: u32) -> bool
     requires { ⌜ record { pgn : PgnRecordIs (now s) (now work) g; field : j < length (pgn-in (now s) g .fields) } ⌝ }
@@ -85,10 +104,7 @@ fn fixed(s: &[u8], work: &[u32], g: PgnRecord, j: u32) -> bool
         return false;
     }
     let order = FieldIndex(j).order();
-    if starts_behind(g.view.repeating1, order) {
-        return starts_behind(g.view.repeating2, order);
-    }
-    false
+    sets_start_behind(s, g, order)
 }
 
 // "an unsigned, unscaled NUMBER or LOOKUP without an offset", of 1 to 63 bits

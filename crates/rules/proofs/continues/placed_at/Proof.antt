@@ -1,35 +1,25 @@
 use Rattle.rules.proofs.Sizes.{fields-few}
-use Rattle.rules.specs.Continues.{holds-order, set-of}
-use Rattle.pack.specs.declared.pgn.PgnView.{PgnView}
-use Rattle.pack.specs.Ready.{PgnIs}
-use Rattle.pack.specs.Meaning.{optional-repeating, pack-of}
-use Rattle.pack.specs.Value.{Pgn, pgn-at}
-use Rattle.pack.specs.Notation.{if_then_else_}
-use Prim.Native.Nat.{ℕ, _+_}
 use native.Mathlib.Omega.{arith}
-use mathlib.Core.Path.{_≡_, ap, _∙_, sym}
-use mathlib.Core.List.{List}
 use borrow.Author.Needs.{needs}
 use borrow.Author.Tests.{eq-eqb, ne-eqb, not-true, not-false}
-use denote.Ref.{now}
 use Rattle.rules.proofs.continues.placed_at.Statement.{statement}
 use Rattle.rules.proofs.continues.placed_at.Tie as tie
-
-set-is : (s : List ℕ) (p : Pgn) (g : PgnView) → PgnIs s p g → (k r : ℕ)
-    → r ≡ (if holds-order (optional-repeating (g .repeating2)) (k + 1) then 2 else if holds-order (optional-repeating (g .repeating1)) (k + 1) then 1 else 0)
-    → set-of p k ≡ r
-unfolding set-of
-set-is s p g is k r e = sym (e ∙ (rw (ap (λ (G : Pgn). G .repeating1) (is .means), ap (λ (G : Pgn). G .repeating2) (is .means))))
 
 set-of-requires : tie.Need-set-of-requires
 set-of-requires c κs =
     let start = c .before .before .before in
-    omega (arith, start .pre .pgn .is .fields, start .pre .field, start .pre .earlier, fields-few (start .pre .pgn .at))
+    record {
+      is = start .pre .pgn .is;
+      field = omega (arith, start .pre .pgn .is .fields, start .pre .field, start .pre .earlier, fields-few (start .pre .pgn .at));
+    }
 
 set-of-requires-2 : tie.Need-set-of-requires-2
 set-of-requires-2 c κs =
     let start = c .before .before .before .before in
-    omega (arith, start .pre .pgn .is .fields, start .pre .field, fields-few (start .pre .pgn .at))
+    record {
+      is = start .pre .pgn .is;
+      field = omega (arith, start .pre .pgn .is .fields, start .pre .field, fields-few (start .pre .pgn .at));
+    }
 
 link-error-requires : tie.Need-link-error-requires
 link-error-requires c κs = search needs
@@ -39,10 +29,9 @@ put-requires c κs =
     let start = c .before .before .before .before .before .before .before .before in
     let set-of-call = c .before .before .before .before .set-of in
     let set-of2 = c .before .before .before .set-of2 in
-    let s = now (start .args .s) in let t = start .args .g .tree in let i = start .args .g .item in let g = start .args .g .view in
     rw (c .link-error .ensures) (rw (
-      (set-is s (pgn-at (pack-of s) t i) g (start .pre .pgn .is) (start .args .link .earlier) (set-of-call .result) (set-of-call .ensures)),
-      (set-is s (pgn-at (pack-of s) t i) g (start .pre .pgn .is) (start .args .link .field) (set-of2 .result) (set-of2 .ensures)),
+      ← set-of-call .ensures,
+      ← set-of2 .ensures,
       ne-eqb (set-of-call .result) (set-of2 .result) (c .before .before .if1 .taken),
     ) at (start .pre .fits))
 
@@ -56,10 +45,9 @@ returns c =
     let set-of2 = c .before .before .before .before .before .before .set-of2 in
     let if1 = c .before .before .before .before .before .if1 in
     let link-error-call = c .before .before .before .link-error in
-    let s = now (start .args .s) in let t = start .args .g .tree in let i = start .args .g .item in let g = start .args .g .view in
     rw (
-      (set-is s (pgn-at (pack-of s) t i) g (start .pre .pgn .is) (start .args .link .earlier) (set-of-call .result) (set-of-call .ensures)),
-      (set-is s (pgn-at (pack-of s) t i) g (start .pre .pgn .is) (start .args .link .field) (set-of2 .result) (set-of2 .ensures)),
+      ← set-of-call .ensures,
+      ← set-of2 .ensures,
       ne-eqb (set-of-call .result) (set-of2 .result) (if1 .taken),
     ) (rw (link-error-call .ensures) at (c .before .before .put .ensures))
 
@@ -72,10 +60,9 @@ put-requires-2 c κs =
     let set-of-call = c .before .before .before .before .before .set-of in
     let set-of2 = c .before .before .before .before .set-of2 in
     let if1 = c .before .before .before .if1 in
-    let s = now (start .args .s) in let t = start .args .g .tree in let i = start .args .g .item in let g = start .args .g .view in
     rw (c .link-error2 .ensures) (rw (
-      (set-is s (pgn-at (pack-of s) t i) g (start .pre .pgn .is) (start .args .link .earlier) (set-of-call .result) (set-of-call .ensures)),
-      (set-is s (pgn-at (pack-of s) t i) g (start .pre .pgn .is) (start .args .link .field) (set-of2 .result) (set-of2 .ensures)),
+      ← set-of-call .ensures,
+      ← set-of2 .ensures,
       eq-eqb (set-of-call .result) (set-of2 .result) (if1 .left),
       not-true (start .args .continued) (c .before .before .if2 .taken),
     ) at (start .pre .fits))
@@ -91,10 +78,9 @@ returns-2 c =
     let if1 = c .before .before .before .before .before .before .if1 in
     let if2 = c .before .before .before .before .before .if2 in
     let link-error2 = c .before .before .before .link-error2 in
-    let s = now (start .args .s) in let t = start .args .g .tree in let i = start .args .g .item in let g = start .args .g .view in
     rw (
-      (set-is s (pgn-at (pack-of s) t i) g (start .pre .pgn .is) (start .args .link .earlier) (set-of-call .result) (set-of-call .ensures)),
-      (set-is s (pgn-at (pack-of s) t i) g (start .pre .pgn .is) (start .args .link .field) (set-of2 .result) (set-of2 .ensures)),
+      ← set-of-call .ensures,
+      ← set-of2 .ensures,
       eq-eqb (set-of-call .result) (set-of2 .result) (if1 .left),
       not-true (start .args .continued) (if2 .taken),
     ) (rw (link-error2 .ensures) at (c .before .before .put2 .ensures))
@@ -114,11 +100,10 @@ put-if-requires c κs =
     let set-of2 = c .before .before .before .before .before .set-of2 in
     let if1 = c .before .before .before .before .if1 in
     let if2 = c .before .before .before .if2 in
-    let s = now (start .args .s) in let t = start .args .g .tree in let i = start .args .g .item in let g = start .args .g .view in
     rw (c .link-error3 .ensures, c .before .before .continued-by .ensures)
     (rw (
-      (set-is s (pgn-at (pack-of s) t i) g (start .pre .pgn .is) (start .args .link .earlier) (set-of-call .result) (set-of-call .ensures)),
-      (set-is s (pgn-at (pack-of s) t i) g (start .pre .pgn .is) (start .args .link .field) (set-of2 .result) (set-of2 .ensures)),
+      ← set-of-call .ensures,
+      ← set-of2 .ensures,
       eq-eqb (set-of-call .result) (set-of2 .result) (if1 .left),
       not-false (start .args .continued) (if2 .left),
     ) at (start .pre .fits))
@@ -136,10 +121,9 @@ returns-3 c =
     let if2 = c .before .before .before .before .before .before .if2 in
     let continued-by = c .before .before .before .before .before .continued-by in
     let link-error3 = c .before .before .before .link-error3 in
-    let s = now (start .args .s) in let t = start .args .g .tree in let i = start .args .g .item in let g = start .args .g .view in
     rw (
-      (set-is s (pgn-at (pack-of s) t i) g (start .pre .pgn .is) (start .args .link .earlier) (set-of-call .result) (set-of-call .ensures)),
-      (set-is s (pgn-at (pack-of s) t i) g (start .pre .pgn .is) (start .args .link .field) (set-of2 .result) (set-of2 .ensures)),
+      ← set-of-call .ensures,
+      ← set-of2 .ensures,
       eq-eqb (set-of-call .result) (set-of2 .result) (if1 .left),
       not-false (start .args .continued) (if2 .left),
     ) (rw (link-error3 .ensures, continued-by .ensures) at (c .before .before .put-if .ensures))

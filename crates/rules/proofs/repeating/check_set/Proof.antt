@@ -5,7 +5,7 @@ use mathlib.Core.Option.{Option}
 use mathlib.Core.Bool.{not, _&&_, false≢true, Bool, true, false}
 use Rattle.pack.specs.Value.{Repeating}
 use Rattle.pack.specs.Notation.{_==_, if_then_else_, optional}
-use Rattle.pack.specs.Meaning.{optional-number, repeating-meaning, optional-repeating}
+use Rattle.pack.specs.Meaning.{opt-order, repeating-meaning, optional-repeating}
 use Rattle.pack.specs.declared.pgn.RepeatingView.{RepeatingView}
 use Prim.Native.Nat.{ℕ}
 use mathlib.Core.Path.{_≡_, refl, _∙_, sym}
@@ -27,7 +27,7 @@ module _ (t i part fields : ℕ) (outer : Option Repeating) where
   filled : (given : Bool) (v : RepeatingView) → (given && not (v .count == 0)) ≡ true → (rest : List Finding)
       → (if v .nested then set-nesting t i part outer (repeating-meaning v) else []) ≡ rest
       → check-set t i part fields outer (optional given (repeating-meaning v))
-      ≡ set-bounds t i part fields (repeating-meaning v) ++ set-count-field t i part (v .start) (optional-number (v .counter)) ++ rest
+      ≡ set-bounds t i part fields (repeating-meaning v) ++ set-count-field t i part (v .start .0) (opt-order (v .counter)) ++ rest
   unfolding check-set
   filled true v e rest d = rw (not-true (v .count == 0) e, d)
   filled false v e rest d = absurd (false≢true e)

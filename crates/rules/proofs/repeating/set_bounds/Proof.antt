@@ -14,11 +14,12 @@ use Rattle.rules.proofs.repeating.set_bounds.Statement.{statement}
 use Rattle.rules.proofs.repeating.set_bounds.Tie as tie
 
 module _ (t i part fields : ℕ) (v : RepeatingView) (f : Finding) where
-  missing : v .start ≡ 0 → f ≡ pgn-error 5 1 t i part 0 → set-bounds t i part fields (repeating-meaning v) ≡ f ∷ []
+  missing : v .start .0 ≡ 0 → f ≡ pgn-error 5 1 t i part 0 → set-bounds t i part fields (repeating-meaning v) ≡ f ∷ []
   unfolding set-bounds
   missing e x = rw (eq-eqb _ _ e, x)
 
-  there : (v .start ≡ 0 → ⊥) → f ≡ pgn-error 5 2 t i part 0 → set-bounds t i part fields (repeating-meaning v) ≡ report-if (fields <ᵇ v .start - 1 + v .count) f
+  there : (v .start .0 ≡ 0 → ⊥) → f ≡ pgn-error 5 2 t i part 0
+      → set-bounds t i part fields (repeating-meaning v) ≡ report-if (fields <ᵇ v .start .0 - 1 + v .count) f
   unfolding set-bounds
   there e x = rw (ne-eqb _ _ e, x)
 

@@ -4,8 +4,8 @@ use Rattle.rules.specs.Findings.{report-if, pgn-error}
 use Rattle.rules.specs.declared.Finding.{Finding}
 use mathlib.Core.Bool.{_||_, Bool, true, false}
 use Rattle.pack.specs.Notation.{_==_, _≤ᵇ_}
-use Rattle.pack.specs.Meaning.{optional-number}
-use Rattle.pack.specs.declared.optional.OptNumber.{OptNumber}
+use Rattle.pack.specs.Meaning.{opt-order}
+use Rattle.pack.specs.declared.protocol.OptOrder.{OptOrder}
 use Prim.Native.Nat.{ℕ}
 use mathlib.Core.Path.{_≡_}
 use mathlib.Core.List.{[]}
@@ -14,13 +14,13 @@ use denote.Ref.{now}
 use Rattle.rules.proofs.repeating.set_count_field.Statement.{statement}
 use Rattle.rules.proofs.repeating.set_count_field.Tie as tie
 
-module _ (t i part start : ℕ) (v : OptNumber) where
-  absent : v .given ≡ false → set-count-field t i part start (optional-number v) ≡ []
+module _ (t i part start : ℕ) (v : OptOrder) where
+  absent : v .given ≡ false → set-count-field t i part start (opt-order v) ≡ []
   unfolding set-count-field
   absent e = rw e
 
-  given : v .given ≡ true → (a : Bool) → a ≡ ((v .value == 0) || (start ≤ᵇ v .value)) → (f : Finding) → f ≡ pgn-error 5 3 t i part 0
-      → set-count-field t i part start (optional-number v) ≡ report-if a f
+  given : v .given ≡ true → (a : Bool) → a ≡ ((v .order .0 == 0) || (start ≤ᵇ v .order .0)) → (f : Finding) → f ≡ pgn-error 5 3 t i part 0
+      → set-count-field t i part start (opt-order v) ≡ report-if a f
   unfolding set-count-field
   given e a d f x = rw (e, d, x)
 

@@ -3,7 +3,7 @@ use Rattle.rules.specs.Findings.{report-if, pgn-error}
 use Rattle.rules.specs.declared.Finding.{Finding}
 use mathlib.Core.Bool.{_&&_, false≢true, Bool, true, false}
 use Rattle.pack.specs.Notation.{_<ᵇ_, _≤ᵇ_, optional}
-use Rattle.pack.specs.Meaning.{optional-number, repeating-meaning}
+use Rattle.pack.specs.Meaning.{opt-order, repeating-meaning}
 use Rattle.pack.specs.declared.pgn.RepeatingView.{RepeatingView}
 use Prim.Native.Nat.{ℕ, _+_}
 use mathlib.Core.Path.{_≡_, _∙_, sym}
@@ -14,10 +14,10 @@ use Rattle.rules.proofs.repeating.set_nesting.Statement.{statement}
 use Rattle.rules.proofs.repeating.set_nesting.Tie as tie
 
 abbrev inside : Bool → RepeatingView → RepeatingView → Bool
-inside given o v = given && ((o .start <ᵇ v .start) && (v .start + v .count ≤ᵇ o .start + o .count))
+inside given o v = given && ((o .start .0 <ᵇ v .start .0) && (v .start .0 + v .count ≤ᵇ o .start .0 + o .count))
 
 module _ (t i part : ℕ) where
-  nested : (given : Bool) (o v : RepeatingView) → inside given o v ≡ true → (a : Bool) → a ≡ none-or-below (optional-number (v .counter)) (o .start)
+  nested : (given : Bool) (o v : RepeatingView) → inside given o v ≡ true → (a : Bool) → a ≡ none-or-below (opt-order (v .counter)) (o .start .0)
       → (f : Finding) → f ≡ pgn-error 5 4 t i part 0 → set-nesting t i part (optional given (repeating-meaning o)) (repeating-meaning v) ≡ report-if a f
   unfolding set-nesting
   nested true o v e a d f x = rw (e, d, x)

@@ -1,27 +1,23 @@
-use denote.Ref.{now}
-use mathlib.Core.List.{List}
-use mathlib.Core.Path.{_≡_, refl, ap, _∙_}
 use native.Mathlib.Omega.{arith}
 use Prim.Native.Nat.{ℕ, _+_}
-use mathlib.Core.Bool.{not, _&&_, _||_, Bool}
+use mathlib.Core.Bool.{Bool, not, _&&_, _||_}
+use mathlib.Core.Path.{_≡_, refl}
+use lib.ListN.{length}
+use denote.Ref.{now}
 use Rattle.pack.specs.Notation.{_==_}
-use Rattle.pack.specs.Value.{Pgn, pgn-at, field-at}
-use Rattle.pack.specs.Meaning.{optional-repeating, pack-of}
-use Rattle.pack.specs.Ready.{PgnIs}
-use Rattle.pack.specs.declared.pgn.PgnView.{PgnView}
+use Rattle.pack.specs.Value.{Pgn, pgn-at, field-at, set-place}
+use Rattle.pack.specs.Meaning.{pack-of}
 use Rattle.rules.proofs.Sizes.{fields-few}
-use Rattle.rules.specs.Search.{any-below}
+use Rattle.rules.specs.Search.{any-below, every-below}
 use Rattle.rules.specs.TrailingZero.{starts-behind, fixed}
-use borrow.Author.Needs.{needs}
 use Rattle.rules.proofs.trailing_zero.fixed.Statement.{statement}
 use Rattle.rules.proofs.trailing_zero.fixed.Tie as tie
 
--- said of the view
-said : (s : List ℕ) (p : Pgn) (g : PgnView) → PgnIs s p g → (j : ℕ) (a b c : Bool)
-    → a ≡ any-below (λ k. (field-at p k .res-bits == 0) || field-at p k .proprietary) j → b ≡ starts-behind (optional-repeating (g .repeating1)) (j + 1)
-    → c ≡ starts-behind (optional-repeating (g .repeating2)) (j + 1) → fixed p j ≡ (not a && b && c)
+-- said by the two tests
+said : (p : Pgn) (j o : ℕ) (a b : Bool) → o ≡ j + 1 → a ≡ any-below (λ k. (field-at p k .res-bits == 0) || field-at p k .proprietary) j
+    → b ≡ every-below (λ k. starts-behind (set-place p k) o) (length (p .sets)) → fixed p j ≡ (not a && b)
 unfolding fixed
-said s p g is j a b c x y z = rw (x, y, z, ap (λ (G : Pgn). G .repeating1) (is .means), ap (λ (G : Pgn). G .repeating2) (is .means))
+said p j o a b e x y = rw (x, y, e)
 
 any-moves-requires : tie.Need-any-moves-requires
 any-moves-requires c κs =
@@ -31,65 +27,28 @@ any-moves-requires c κs =
 returns : tie.Need-returns
 returns c =
     let start = c .before .before .before .before in
-    let s = now (start .args .s) in
-    rw (
-      said s (pgn-at (pack-of s) (start .args .g .tree) (start .args .g .item)) (start .args .g .view) (start .pre .pgn .is) (start .args .j)
-          (c .before .any-moves .result) _ _ (c .before .any-moves .ensures) refl refl,
-      c .if1 .taken,
-    )
+    let p = pgn-at (pack-of (now (start .args .s))) (start .args .g .tree) (start .args .g .item) in
+    rw (said p (start .args .j) _ (c .before .any-moves .result) _ refl (c .before .any-moves .ensures) refl, c .if1 .taken)
 
 order-requires : tie.Need-order-requires
 order-requires c κs =
     let start = c .before .before .before .before in
     omega (arith, start .pre .field, fields-few (start .pre .pgn .at))
 
-starts-behind-requires : tie.Need-starts-behind-requires
-starts-behind-requires c κs = search needs
-
-starts-behind-requires-2 : tie.Need-starts-behind-requires-2
-starts-behind-requires-2 c κs = search needs
+sets-start-behind-requires : tie.Need-sets-start-behind-requires
+sets-start-behind-requires c κs =
+    let start = c .before .before .before .before .before in
+    start .pre .pgn .is
 
 returns-2 : tie.Need-returns-2
 returns-2 c =
-    let start = c .before .before .before .before .before .before .before .before in
-    let any-moves = c .before .before .before .before .before .any-moves in
-    let if1 = c .before .before .before .before .if1 in
-    let order = c .before .before .before .order in
-    let starts-behind-call = c .before .before .starts-behind in
-    let s = now (start .args .s) in
-    let g = start .args .g .view in
-    let behind-1 = starts-behind-call .ensures ∙ ap (starts-behind (optional-repeating (g .repeating1))) (order .ensures) in
-    let behind-2 = c .starts-behind2 .ensures ∙ ap (starts-behind (optional-repeating (g .repeating2))) (order .ensures) in
+    let start = c .before .before .before .before .before .before in
+    let any-moves = c .before .before .before .any-moves in
+    let p = pgn-at (pack-of (now (start .args .s))) (start .args .g .tree) (start .args .g .item) in
     rw (
-      said s (pgn-at (pack-of s) (start .args .g .tree) (start .args .g .item)) g (start .pre .pgn .is) (start .args .j) (any-moves .result)
-          (starts-behind-call .result) (c .starts-behind2 .result) (any-moves .ensures) behind-1 behind-2,
-      if1 .left,
-      c .before .if2 .taken,
-    )
-
-returns-3 : tie.Need-returns-3
-returns-3 c =
-    let start = c .before .before .before .before .before .before .before in
-    let any-moves = c .before .before .before .before .any-moves in
-    let if1 = c .before .before .before .if1 in
-    let s = now (start .args .s) in
-    let g = start .args .g .view in
-    let behind-1 = c .before .starts-behind .ensures ∙ ap (starts-behind (optional-repeating (g .repeating1))) (c .before .before .order .ensures) in
-    rw (
-      said s (pgn-at (pack-of s) (start .args .g .tree) (start .args .g .item)) g (start .pre .pgn .is) (start .args .j) (any-moves .result)
-          (c .before .starts-behind .result) _ (any-moves .ensures) behind-1 refl,
-      if1 .left,
-      c .if2 .left,
+      said p (start .args .j) _ (any-moves .result) _ (c .before .order .ensures) (any-moves .ensures) (c .sets-start-behind .ensures),
+      c .before .before .if1 .left,
     )
 
 pub fixed-spec : {M : Type 1} → statement M
-fixed-spec =
-    tie.close
-    (tie.spec
-    any-moves-requires
-    returns
-    order-requires
-    starts-behind-requires
-    starts-behind-requires-2
-    returns-2
-    returns-3)
+fixed-spec = tie.close (tie.spec any-moves-requires returns order-requires sets-start-behind-requires returns-2)
