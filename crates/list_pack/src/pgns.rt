@@ -5,6 +5,9 @@ use listing::work;
 use pack::load::Section;
 use pack::pgn::OptRepeating;
 use pack::pgn::PgnFlags;
+use pack::pgn::PgnView;
+use pack::pgn::set_at;
+use pack::protocol::OptOrder;
 use pack::protocol::Protocol;
 
 fn message_type(k: u32) {
@@ -22,17 +25,36 @@ fn flags(f: PgnFlags) {
     say::flag(b", MissingCompanyFields", f.incomplete);
 }
 
-fn list_set(w: &[u8], r: OptRepeating) {
+fn count_field(counter: OptOrder) {
+    if counter.given {
+        say::number(b", countField ", counter.order.0 as u64);
+    }
+}
+
+// The set at a place, counted from 1.
+fn list_set(place: u32, r: OptRepeating) {
     if !r.given {
         return;
     }
     let set = r.set;
-    say::words(w);
-    say::number(b": start ", set.start as u64);
+    say::number(b"    set ", place as u64);
+    say::number(b": start ", set.start.0 as u64);
     say::number(b", count ", set.count as u64);
-    say::opt_number(b", countField ", set.counter);
+    count_field(set.counter);
     say::flag(b", nested", set.nested);
     say::words(b"\n");
+}
+
+fn list_sets(g: PgnView) {
+    let places = g.places;
+    let mut k: u32 = 0;
+    while k < places {
+        if 4 <= k {
+            return;
+        }
+        list_set(k + 1, set_at(g, k));
+        k += 1;
+    }
 }
 
 // Answers the place behind the PGN and its fields.
@@ -47,8 +69,7 @@ fn list_pgn(s: &[u8], work: &[u32], p: usize) -> usize {
     say::opt_number(b", minimum ", g.minimum);
     flags(g.flags);
     say::counted(b", ", g.fields as u64, b" field\n", b" fields\n");
-    list_set(b"    set 1", g.repeating1);
-    list_set(b"    set 2", g.repeating2);
+    list_sets(g);
     fields::list(s, work, work::behind(p, 0), g.fields);
     work::behind(p, g.fields)
 }
