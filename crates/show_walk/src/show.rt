@@ -83,8 +83,7 @@ fn show_visit(
     order: FieldOrder,
     reading: u64,
 ) {
-    passes::indent(g.repeating1, order);
-    passes::indent(g.repeating2, order);
+    passes::indent(g, order, g.places);
     say::number(b"order ", order.0 as u64);
     let at = work::offset(work, work::behind(place, k));
     say::text(b" ", s, text_at(s, at));

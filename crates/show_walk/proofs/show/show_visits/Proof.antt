@@ -1,12 +1,12 @@
+-- `show_visits` is safe and ends: the measure is the number of visits left.
 use native.Mathlib.Omega.{arith}
--- `show_visits` is safe and ends: no more passes have begun than there were visits.
-use Prim.Native.Nat.{_-_, _≤_}
+use Prim.Native.Nat.{_-_}
 use borrow.Author.Needs.{needs}
 use Rattle.show_walk.proofs.show.show_visits.Statement.{statement}
 use Rattle.show_walk.proofs.show.show_visits.Tie as tie
 
 abbrev Inv-loop : tie.InvT-loop
-Inv-loop s work place g readings visits n passes₀ i₀ passes i = record { first : passes .first ≤ i; second : passes .second ≤ i }
+Inv-loop s work place g readings visits n passes₀ i₀ passes i = Unit {0}
 
 abbrev μ-loop : tie.MeasureT-loop
 μ-loop s work place g readings visits n passes₀ i₀ passes i = n - i
