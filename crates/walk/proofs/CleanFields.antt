@@ -1,8 +1,8 @@
 -- What it says of a field that R08, R13, R15, R43 and R44 report no error of it: none of the stops 3 to 7 and 9 comes of it by the place.
-use Prim.Native.Nat.{ℕ, zero, suc, _+_, _-_, _≤_, _<_}
+use Prim.Native.Nat.{ℕ, zero, suc, _+_, _≤_, _<_}
 use native.Mathlib.Omega.{arith}
 use native.Mathlib.Decide.{ℕ-discrete}
-use mathlib.Core.Path.{_≡_, refl, sym}
+use mathlib.Core.Path.{_≡_, refl, sym, _∙_}
 use mathlib.Core.Bool.{Bool, true, false, not, _&&_, _||_, false≢true}
 use mathlib.Core.List.{[], _∷_}
 use mathlib.Core.Option.{Option, none, some}
@@ -10,15 +10,15 @@ use lib.ListN.{length}
 use lib.Dec.{leb, eqb}
 use borrow.Author.Tests.{ltb-true, leb-true, leb-false, eqb-true, not-false, lt-ltb, le-leb}
 use Rattle.pack.specs.Notation.{if_then_else_, _==_, _≐_}
-use Rattle.pack.specs.Value.{Bytes, Entry, Reference, Field, Repeating, Pgn, Pack, field-at, lookup-at, entry-at}
-use Rattle.rules.specs.SearchLaws.{first-is}
+use Rattle.pack.specs.Value.{Bytes, Entry, Reference, Field, Repeating, Pgn, Pack, field-at, set-place, lookup-at, entry-at}
+use Rattle.rules.specs.SearchLaws.{first-is, latest-is}
 use Rattle.rules.specs.Search.{any-below, first-below}
 use Rattle.rules.specs.Findings.{pgn-error, lookup-error, report-if}
 use Rattle.rules.specs.Model.{given, lookup-ref, find-lookup, target, fieldtypes}
 use Rattle.rules.specs.LookupWiring.{is-fieldtype, lookup-found-at, lookup-ref-at, nested-lookup-at, fieldtype-entry-at, check-nested-refs}
 use Rattle.rules.specs.MatchValues.{resolved-at, match-value-at}
 use Rattle.rules.specs.BitLengthField.{variable-binary, bit-length-target-at, bit-length-field-at}
-use Rattle.rules.specs.Continues.{holds-order, set-of, continued-at, continued-found-at, continues-at}
+use Rattle.rules.specs.Continues.{holds-order, place-number, set-of, continued-at, continued-found-at, continues-at}
 use Rattle.rules.specs.TrailingZero.{starts-behind, fixed, trailing-zero-target-at, trailing-zero-at}
 use Rattle.rules.specs.Texts.{DECIMAL}
 use Rattle.rules.specs.Clean.{Clean, clean-in-turn, clean-below, clean-if}
@@ -26,9 +26,9 @@ use Rattle.walk.specs.Layout.{set-or-empty, layout, start, sets-hold}
 use Rattle.walk.specs.Stops.{is-missing, name-of, lookup-missing, unfit, match-unfit, names-missing, entries-name-missing, lookup-names-missing}
 use Rattle.walk.specs.Stops.{reference-names-missing, lacks}
 use Rattle.walk.specs.ByPlace.{placed}
-use Rattle.walk.proofs.Tests.{and-l, and-r, and-i, or-l, or-r, or-i, none-below}
+use Rattle.walk.proofs.Tests.{and-l, and-r, and-i, or-l, or-r, or-i, every-e, none-below, Latest, latest-from}
 use Rattle.walk.proofs.Clean.{clean-then, clean-else}
-use Rattle.walk.proofs.SetFacts.{Holds, short, placed-i, Good}
+use Rattle.walk.proofs.SetFacts.{layout-length, layout-at, Holds, short, placed-i, Good}
 
 -- a first index stays the first where more are looked at
 first-more : (f : ℕ → Bool) (k n j : ℕ) → first-below f k ≡ some j → k ≤ n → first-below f n ≡ some j
@@ -125,57 +125,58 @@ module _ (p : Pgn) where
           let l = leb-false k j (clean-else (leb k j) _ _ refl b .0) in
           has (suc k) j id q (and-i _ _ (lt-ltb (suc j) (suc k) (omega arith)) (h id j refl q))
 
--- a set of the PGN, as the rules see it and as the walk does
-order-e : (r : Option Repeating) (o : ℕ) → holds-order r o ≡ true → (set-or-empty r .start ≤ o) × (o < set-or-empty r .start + set-or-empty r .count)
+-- an order in a set of the PGN, as the rules see it and as the walk does
+abbrev In : Option Repeating → ℕ → Type 0
+In x o = (set-or-empty x .start ≤ o) × (o < set-or-empty x .start + set-or-empty x .count)
+
+order-e : (x : Option Repeating) (o : ℕ) → holds-order x o ≡ true → In x o
 order-e none o e = absurd (false≢true e)
 order-e (some r) o e = (leb-true _ _ (and-l _ _ e), ltb-true _ _ (and-r (leb (r .start) o) _ e))
 
-order-i : (r : Option Repeating) (o : ℕ) → (set-or-empty r .start ≤ o) × (o < set-or-empty r .start + set-or-empty r .count) → holds-order r o ≡ true
+order-i : (x : Option Repeating) (o : ℕ) → In x o → holds-order x o ≡ true
 order-i none o h = absurd (omega arith)
 order-i (some r) o h = and-i _ _ (le-leb _ _ (h .0)) (lt-ltb _ _ (h .1))
 
--- `set-of`, of whether set 1 and set 2 hold a field
-abbrev which : Bool → Bool → ℕ
-which a b = if b then 2 else if a then 1 else 0
+-- the set at place n
+module _ (p : Pgn) (n : ℕ) where
+  in-place : (o : ℕ) → Holds (layout p) n o → In (set-place p n) o
+  in-place o h = rw (← layout-at p n) h
 
-same-2 : (a b a′ b′ : Bool) → which a b ≡ which a′ b′ → b ≡ true → b′ ≡ true
-same-2 a true a′ true q e = refl
-same-2 a true true false q e = absurd (omega arith)
-same-2 a true false false q e = absurd (omega arith)
-same-2 a false a′ b′ q e = absurd (false≢true e)
+  has-place : (o : ℕ) → Holds (layout p) n o → n < length (p .sets)
+  has-place o h = omega (arith, layout-length p, short (layout p) n o h)
 
-same-1 : (a b a′ b′ : Bool) → which a b ≡ which a′ b′ → b ≡ false → a ≡ true → a′ ≡ true
-same-1 a b true b′ q e f = refl
-same-1 true false false true q e f = absurd (omega arith)
-same-1 true false false false q e f = absurd (omega arith)
-same-1 true true false b′ q e f = absurd (false≢true (sym e))
-same-1 false b false b′ q e f = absurd (false≢true f)
+  holds-place : (j : ℕ) → holds-order (set-place p n) (j + 1) ≡ true → Holds (layout p) n (suc j)
+  holds-place j e = let a : Holds (layout p) n (j + 1) = rw (← layout-at p n) at (order-e (set-place p n) (j + 1) e) in omega arith
+
+place-injective : (x y : Option ℕ) → place-number x ≡ place-number y → x ≡ y
+place-injective none none q = refl
+place-injective none (some b) q = absurd (omega arith)
+place-injective (some a) none q = absurd (omega arith)
+place-injective (some a) (some b) q = let e : a ≡ b = omega arith in rw e
 
 -- STOP 7, by R43: where two fields are of one set, each set that holds the first holds the second
 module _ (p : Pgn) (G : Good (layout p)) where
-  -- whether set 1 and set 2 hold the field j
-  abbrev one : ℕ → Bool
-  one j = holds-order (p .repeating1) (j + 1)
-
-  abbrev two : ℕ → Bool
-  two j = holds-order (p .repeating2) (j + 1)
-
+  -- Past stop 1. Let m be the highest set that holds the field j, and so the highest that holds the field k. A lower set n that holds j
+  -- shares j's order with m. So m lies inside n (`Good .inside`), and n holds all orders of m, that of k with them.
   one-set : (j k : ℕ) → set-of p j ≡ set-of p k → (n : ℕ) → Holds (layout p) n (suc j) → Holds (layout p) n (suc k)
   unfolding set-of
-  one-set j k q zero h = go (two j) refl
+  one-set j k q n h = go (ℕ-discrete n m)
     where
-      go : (b : Bool) → two j ≡ b → Holds (layout p) 0 (suc k)
-      go true e =
-          let a = order-e (p .repeating2) (j + 1) e in
-          let b = order-e (p .repeating2) (k + 1) (same-2 (one j) (two j) (one k) (two k) q e) in
-          omega (arith, G .inside 0 1 (suc j) (omega arith) h (omega arith))
-      go false e =
-          let a = order-i (p .repeating1) (j + 1) (omega arith) in
-          omega (arith, order-e (p .repeating1) (k + 1) (same-1 (one j) (two j) (one k) (two k) q e a))
-  one-set j k q (suc zero) h =
-      let a = order-i (p .repeating2) (j + 1) (omega arith) in
-      omega (arith, order-e (p .repeating2) (k + 1) (same-2 (one j) (two j) (one k) (two k) q a))
-  one-set j k q (suc (suc n)) h = absurd (omega (arith, short (layout p) (suc (suc n)) (suc j) h))
+      highest : Latest (λ n. holds-order (set-place p n) (j + 1)) (length (p .sets)) n
+      highest = latest-from _ (length (p .sets)) n (has-place p n (suc j) h) (order-i (set-place p n) (j + 1) (in-place p n (j + 1) (omega arith)))
+
+      m : ℕ
+      m = highest .at
+
+      holds-j : Holds (layout p) m (suc j)
+      holds-j = holds-place p m j (latest-is _ (length (p .sets)) m (highest .is) .1)
+
+      holds-k : Holds (layout p) m (suc k)
+      holds-k = holds-place p m k (latest-is _ (length (p .sets)) m (sym (place-injective _ _ q) ∙ highest .is) .1)
+
+      go : Dec (n ≡ m) → Holds (layout p) n (suc k)
+      go (yes e) = rw e holds-k
+      go (no e) = let l : n < m = omega (arith, highest .from) in omega (arith, holds-k, G .inside n m (suc j) l h holds-j)
 
   pub no-stop-7 : (P : Pack) (t i k : ℕ) → k < length (p .fields) → (x : Option Bytes) → Clean (continues-at (P .fieldtypes) t i p k x)
       → lacks p (placed (layout p) (suc k)) x ≡ false
@@ -194,22 +195,17 @@ module _ (p : Pgn) (G : Good (layout p)) where
           has p (suc k) j id (first-more _ k (length (p .fields)) j q (omega arith)) (placed-i (layout p) (suc k) j (omega arith) (one-set j k s))
 
 -- STOP 9, by R44: no set begins before the target
-behind : (r : Option Repeating) (o : ℕ) → starts-behind r o ≡ true → (set-or-empty r .start ≤ o) × (o < set-or-empty r .start + set-or-empty r .count) → ⊥
+behind : (x : Option Repeating) (o : ℕ) → starts-behind x o ≡ true → In x o → ⊥
 behind none o e h = omega arith
 behind (some r) o e h = omega (arith, ltb-true o (r .start) e)
 
 module _ (p : Pgn) where
   in-no-set : (j : ℕ) → fixed p j ≡ true → (n : ℕ) → Holds (layout p) n (suc j) → ⊥
   unfolding fixed
-  in-no-set j e n h = go n h
-    where
-      narrow : Bool
-      narrow = not (any-below (λ k. (field-at p k .res-bits == 0) || field-at p k .proprietary) j)
-
-      go : (n : ℕ) → Holds (layout p) n (suc j) → ⊥
-      go zero h = behind (p .repeating1) (j + 1) (and-r narrow _ (and-l (narrow && starts-behind (p .repeating1) (j + 1)) _ e)) (omega arith)
-      go (suc zero) h = behind (p .repeating2) (j + 1) (and-r (narrow && starts-behind (p .repeating1) (j + 1)) _ e) (omega arith)
-      go (suc (suc n)) h = omega (arith, short (layout p) (suc (suc n)) (suc j) h)
+  in-no-set j e n h =
+      let narrow = not (any-below (λ k. (field-at p k .res-bits == 0) || field-at p k .proprietary) j) in
+      let each = every-e (λ n. starts-behind (set-place p n) (j + 1)) (length (p .sets)) (and-r narrow _ e) n (has-place p n (suc j) h) in
+      behind (set-place p n) (j + 1) each (in-place p n (j + 1) (omega arith))
 
   pub no-stop-9 : (P : Pack) (t i k : ℕ) (x : Option Bytes) → Clean (trailing-zero-at (P .fieldtypes) t i p k x) → lacks p (placed (layout p) (suc k)) x ≡ false
   unfolding trailing-zero-at trailing-zero-target-at lacks

@@ -3,27 +3,26 @@ use Prim.Native.Nat.{ℕ, zero, suc, _+_, _-_, _≤_, _<_}
 use native.Mathlib.Omega.{arith}
 use mathlib.Core.Path.{_≡_, refl}
 use mathlib.Core.Bool.{Bool, true, false, _&&_, _||_, false≢true}
-use mathlib.Core.List.{List, [], _∷_}
+use mathlib.Core.List.{[], _∷_}
 use mathlib.Core.Option.{Option, none, some}
 use lib.ListN.{length}
 use lib.Dec.{ltb, leb, eqb}
 use borrow.Author.Tests.{ltb-true, ltb-false, leb-true, leb-false, eqb-false, lt-ltb, le-leb, ne-eqb}
 use Rattle.pack.specs.Notation.{if_then_else_, _==_}
-use Rattle.pack.specs.Value.{Field, Repeating, Pgn}
-use Rattle.rules.specs.Repeating.{set-bounds, set-count-field, set-nesting, check-set, check-repeating}
-use Rattle.rules.specs.Clean.{Clean, clean-left, clean-right, clean-in-turn, clean-if}
-use Rattle.walk.specs.Layout.{Layout, set-or-empty, layout, start, inside-previous}
+use Rattle.pack.specs.Value.{Repeating, Pgn, set-place}
+use Rattle.rules.specs.Repeating.{set-bounds, set-count-field, set-nesting, check-set, set-before, check-repeating}
+use Rattle.rules.specs.Clean.{Clean, clean-below, clean-in-turn, clean-if}
+use Rattle.walk.specs.Layout.{set-or-empty, layout, set-at, inside-previous}
 use Rattle.walk.proofs.Tests.{and-l, and-r, and-i, or-l, or-r}
 use Rattle.walk.proofs.Clean.{clean-then, clean-else}
 use Rattle.walk.proofs.HeldSets.{Fits}
-use Rattle.walk.proofs.SetFacts.{Holds, short}
+use Rattle.walk.proofs.SetFacts.{Holds, short, layout-length, layout-at}
 
--- of a nonempty set
-abbrev Inside : Option Repeating → Repeating → Type 0
-Inside none r = ⊥
-Inside (some outer) r = (outer .start < r .start) × (r .start + r .count ≤ outer .start + outer .count)
+-- of a nonempty set: an absent one, taken as empty, encloses none
+abbrev Inside : (outer r : Repeating) → Type 0
+Inside outer r = (outer .start < r .start) × (r .start + r .count ≤ outer .start + outer .count)
 
-record Silent (fields : ℕ) (outer : Option Repeating) (r : Repeating) : Type 0 where
+record Silent (fields : ℕ) (outer r : Repeating) : Type 0 where
   low : 1 ≤ r .start
   high : r .start + r .count ≤ suc fields
   count : (c : ℕ) → r .count-field ≡ some c → (1 ≤ c) × (c < r .start)
@@ -48,18 +47,20 @@ module _ (t i n : ℕ) where
       let s : cf ≡ c = cc in
       (omega arith, omega arith)
 
-  nesting : (outer : Option Repeating) (r : Repeating) → Clean (set-nesting t i n outer r) → Inside outer r
+  nesting : (outer : Option Repeating) (r : Repeating) → Clean (set-nesting t i n outer r) → Inside (set-or-empty outer) r
   unfolding set-nesting
-  nesting none r e = false≢true e
+  nesting none r e = absurd (false≢true e)
   nesting (some outer) r e = go (ltb (outer .start) (r .start) && leb (r .start + r .count) (outer .start + outer .count)) refl
     where
-      go : (b : Bool) → (ltb (outer .start) (r .start) && leb (r .start + r .count) (outer .start + outer .count)) ≡ b → Inside (some outer) r
+      go : (b : Bool) → (ltb (outer .start) (r .start) && leb (r .start + r .count) (outer .start + outer .count)) ≡ b → Inside outer r
       go true q = (ltb-true _ _ (and-l _ _ q), leb-true _ _ (and-r (ltb (outer .start) (r .start)) _ q))
       go false q = absurd (false≢true (rw q at e))
 
-  silent : (fields : ℕ) (outer : Option Repeating) (r : Repeating) → 0 < r .count → Clean (check-set t i n fields outer (some r)) → Silent fields outer r
+  silent : (fields : ℕ) (outer x : Option Repeating) → 0 < set-or-empty x .count → Clean (check-set t i n fields outer x)
+      → Silent fields (set-or-empty outer) (set-or-empty x)
   unfolding check-set
-  silent fields outer r l e =
+  silent fields outer none l e = absurd (omega arith)
+  silent fields outer (some r) l e =
       let parts = clean-in-turn (set-bounds t i n fields r)
       (set-count-field t i n (r .start) (r .count-field) ∷ (if r .nested then set-nesting t i n outer r else []) ∷ [])
       (rw (ne-eqb (r .count) 0 (λ q. omega arith)) at e) in
@@ -71,31 +72,22 @@ module _ (t i n : ℕ) where
         nests = λ q. nesting outer r (clean-then (r .nested) _ _ q (parts .1 .1 .0));
       }
 
-abbrev two : List Field → Option Repeating → Option Repeating → Layout
-two fs r1 r2 = record { fields = fs; sets = set-or-empty r1 ∷ set-or-empty r2 ∷ [] }
-
-module _ (t i : ℕ) (fs : List Field) where
-  first-fits : (r1 r2 : Option Repeating) (o : ℕ) → Clean (check-set t i 1 (length fs) none r1) → Holds (two fs r1 r2) 0 o → Fits (two fs r1 r2) 0
-  first-fits none r2 o e h = absurd (omega arith)
-  first-fits (some r) r2 o e h =
-      let s = silent t i 1 (length fs) none r (omega arith) e in
-      record { low = s .low; high = s .high; count = s .count; nests = λ q. absurd (s .nests q) }
-
-  second-fits : (r1 r2 : Option Repeating) (o : ℕ) → Clean (check-set t i 2 (length fs) r1 r2) → Holds (two fs r1 r2) 1 o → Fits (two fs r1 r2) 1
-  unfolding inside-previous
-  second-fits r1 none o e h = absurd (omega arith)
-  second-fits r1 (some r) o e h =
-      let s = silent t i 2 (length fs) r1 r (omega arith) e in
-      record { low = s .low; high = s .high; count = s .count; nests = λ q. nests r1 (s .nests q) }
-    where
-      nests : (r1 : Option Repeating) → Inside r1 r → inside-previous (two fs r1 (some r)) 1 ≡ true
-      nests none s = absurd s
-      nests (some outer) s = and-i _ _ (lt-ltb _ _ (s .0)) (le-leb _ _ (s .1))
+nests-in : (p : Pgn) (k : ℕ) → Inside (set-or-empty (set-before p k)) (set-at (layout p) k) → inside-previous (layout p) k ≡ true
+unfolding inside-previous
+nests-in p zero s = absurd (omega arith)
+nests-in p (suc k) s =
+    let a : Inside (set-at (layout p) k) (set-at (layout p) (suc k)) = rw (← layout-at p k) at s in
+    and-i _ _ (lt-ltb _ _ (a .0)) (le-leb _ _ (a .1))
 
 pub sets-fit : (t i : ℕ) (p : Pgn) → Clean (check-repeating t i p) → (k o : ℕ) → Holds (layout p) k o → Fits (layout p) k
 unfolding check-repeating
-sets-fit t i p e zero o h =
-    first-fits t i (p .fields) (p .repeating1) (p .repeating2) o (clean-left (check-set t i 1 (length (p .fields)) none (p .repeating1)) _ e) h
-sets-fit t i p e (suc zero) o h =
-    second-fits t i (p .fields) (p .repeating1) (p .repeating2) o (clean-right (check-set t i 1 (length (p .fields)) none (p .repeating1)) _ e) h
-sets-fit t i p e (suc (suc k)) o h = absurd (omega (arith, short (layout p) (suc (suc k)) o h))
+sets-fit t i p e k o h = go (rw (← layout-at p k) at (silent t i (k + 1) (length (p .fields)) (set-before p k) (set-place p k) some-order checked))
+  where
+    checked : Clean (check-set t i (k + 1) (length (p .fields)) (set-before p k) (set-place p k))
+    checked = clean-below _ (length (p .sets)) e k (omega (arith, layout-length p, short (layout p) k o h))
+
+    some-order : 0 < set-or-empty (set-place p k) .count
+    some-order = rw (← layout-at p k) (omega arith)
+
+    go : Silent (length (p .fields)) (set-or-empty (set-before p k)) (set-at (layout p) k) → Fits (layout p) k
+    go s = record { low = s .low; high = s .high; count = s .count; nests = λ q. nests-in p k (s .nests q) }

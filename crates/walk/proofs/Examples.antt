@@ -135,8 +135,7 @@ pgn set1 set2 fields =
       missing-company-fields = false;
       length = 8;
       min-length = none;
-      repeating1 = set1;
-      repeating2 = set2;
+      sets = set1 ∷ set2 ∷ [];
       fields = fields;
     }
 

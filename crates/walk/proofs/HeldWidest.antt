@@ -1,5 +1,5 @@
 -- Every reading of "a countField lies in no nonempty set, or in set 1 for a nested set 2" implies the widest (specs/HeldReadings.antt).
-use Prim.Native.Nat.{ℕ, zero, suc, _<_}
+use Prim.Native.Nat.{ℕ, zero, suc, _≤_, _<_}
 use native.Mathlib.Omega.{arith}
 use mathlib.Core.Path.{_≡_, refl, sym, _∙_}
 use mathlib.Core.Bool.{Bool, true, false, not, _&&_, _||_, false≢true}
@@ -15,6 +15,7 @@ use Rattle.walk.specs.HeldReadings.{of-every-set, of-nonempty-sets, in-n
 use Rattle.walk.specs.HeldReadings.{count-field-letter, count-field-where-nested, count-field-widest, widest-count-fields-held}
 use Rattle.walk.specs.HeldReadings.{held-nonempty, held-letter, held-letter-nonempty, held-where-nested, held-widest}
 use Rattle.walk.proofs.Tests.{and-l, and-r, imp-e, imp-i, every-e, every-i, and-4}
+use Rattle.walk.proofs.SetFacts.{layout-length}
 
 or-right : (a b : Bool) → b ≡ true → (a || b) ≡ true
 or-right true b e = refl
@@ -47,9 +48,10 @@ letter-where-nested L k (some c) e = go (in-no-set L c) (set-at L 1 .nested && h
     go true inside e = refl
     go false inside e = and-r (eqb k 1) inside e
 
-module _ (p : Pgn) where
-  -- of two sets where set 2 is nested
-  nested-may : set-at (layout p) 1 .nested ≡ true → (j k : ℕ) → j < 2 → k < 2 → may-hold (layout p) j k ≡ true
+-- the readings that speak of set 1 and set 2: of no more than two sets
+module _ (L : Layout) (two : length (L .sets) ≤ 2) where
+  -- where set 2 is nested
+  nested-may : set-at L 1 .nested ≡ true → (j k : ℕ) → j < length (L .sets) → k < length (L .sets) → may-hold L j k ≡ true
   unfolding nested-in
   nested-may e zero zero l m = refl
   nested-may e zero (suc zero) l m = rw (e, nested-in)
@@ -59,68 +61,76 @@ module _ (p : Pgn) where
   nested-may e zero (suc (suc k)) l m = absurd (omega arith)
   nested-may e (suc zero) (suc (suc k)) l m = absurd (omega arith)
 
-  where-nested-one : (k : ℕ) → k < 2 → (x : Option ℕ) → count-field-where-nested (layout p) k x ≡ true → count-field-widest (layout p) k x ≡ true
+  where-nested-one : (k : ℕ) → k < length (L .sets) → (x : Option ℕ) → count-field-where-nested L k x ≡ true → count-field-widest L k x ≡ true
   unfolding count-field-widest
   where-nested-one k m none e = refl
-  where-nested-one k m (some c) e = every-i (λ j. not (field-in (layout p) j c) || may-hold (layout p) j k) 2
-      (λ j l. imp-i (field-in (layout p) j c) (may-hold (layout p) j k) (λ lies. may j l (and-r (ltb 0 c && leb c (length (p .fields))) _ lies)))
+  where-nested-one k m (some c) e = every-i (λ j. not (field-in L j c) || may-hold L j k) (length (L .sets))
+      (λ j l. imp-i (field-in L j c) (may-hold L j k) (λ lies. may j l (and-r (ltb 0 c && leb c (length (L .fields))) _ lies)))
     where
-      may : (j : ℕ) → j < 2 → holds (layout p) j c ≡ true → may-hold (layout p) j k ≡ true
-      may j l lies = go (any-below (λ j. holds (layout p) j c) 2) refl e
+      may : (j : ℕ) → j < length (L .sets) → holds L j c ≡ true → may-hold L j k ≡ true
+      may j l lies = go (any-below (λ j. holds L j c) (length (L .sets))) refl e
         where
-          go : (b : Bool) → any-below (λ j. holds (layout p) j c) 2 ≡ b → (not b || set-at (layout p) 1 .nested && holds (layout p) 0 c) ≡ true
-              → may-hold (layout p) j k ≡ true
-          go true q h = nested-may (and-l (set-at (layout p) 1 .nested) _ h) j k l m
-          go false q h = absurd (false≢true (sym q ∙ any-hit (λ j. holds (layout p) j c) 2 j l lies))
+          go : (b : Bool) → any-below (λ j. holds L j c) (length (L .sets)) ≡ b → (not b || set-at L 1 .nested && holds L 0 c) ≡ true → may-hold L j k ≡ true
+          go true q h = nested-may (and-l (set-at L 1 .nested) _ h) j k l m
+          go false q h = absurd (false≢true (sym q ∙ any-hit (λ j. holds L j c) (length (L .sets)) j l lies))
 
 -- ---- of all, and what is held
 
--- what is asked of one countField of a set in a PGN's layout implies what the widest reading asks of it
-abbrev Implies-widest : (Layout → ℕ → Option ℕ → Bool) → Type 0
-Implies-widest lies = (p : Pgn) (k : ℕ) → k < 2 → (x : Option ℕ) → lies (layout p) k x ≡ true → count-field-widest (layout p) k x ≡ true
+-- what is asked of one countField of a set of the layout implies what the widest reading asks of it
+abbrev Implies-widest : (Layout → ℕ → Option ℕ → Bool) → Layout → Type 0
+Implies-widest lies L = (k : ℕ) → k < length (L .sets) → (x : Option ℕ) → lies L k x ≡ true → count-field-widest L k x ≡ true
 
-module _ (lies : Layout → ℕ → Option ℕ → Bool) (one : Implies-widest lies) (P : Pack) (p : Pgn) where
+module _ (lies : Layout → ℕ → Option ℕ → Bool) (L : Layout) (one : Implies-widest lies L) where
   abbrev asked : ℕ → Bool
-  asked k = not (nonempty (layout p) k) || count-field-widest (layout p) k (set-at (layout p) k .count-field)
+  asked k = not (nonempty L k) || count-field-widest L k (set-at L k .count-field)
 
-  counts-nonempty : of-nonempty-sets lies (layout p) ≡ true → widest-count-fields-held (layout p) ≡ true
+  counts-nonempty : of-nonempty-sets lies L ≡ true → widest-count-fields-held L ≡ true
   unfolding widest-count-fields-held
-  counts-nonempty e = every-i asked 2 (λ k l. imp-i (nonempty (layout p) k) _ (λ q.
-      let each = every-e (λ k. not (nonempty (layout p) k) || lies (layout p) k (set-at (layout p) k .count-field)) 2 e k l in
-      one p k l _ (imp-e (nonempty (layout p) k) _ each q)))
+  counts-nonempty e = every-i asked (length (L .sets)) (λ k l. imp-i (nonempty L k) _ (λ q.
+      let each = every-e (λ k. not (nonempty L k) || lies L k (set-at L k .count-field)) (length (L .sets)) e k l in
+      one k l _ (imp-e (nonempty L k) _ each q)))
 
-  counts-every : of-every-set lies (layout p) ≡ true → widest-count-fields-held (layout p) ≡ true
+  counts-every : of-every-set lies L ≡ true → widest-count-fields-held L ≡ true
   unfolding widest-count-fields-held
-  counts-every e = every-i asked 2 (λ k l. imp-i (nonempty (layout p) k) _ (λ q.
-      one p k l _ (every-e (λ k. lies (layout p) k (set-at (layout p) k .count-field)) 2 e k l)))
+  counts-every e = every-i asked (length (L .sets)) (λ k l. imp-i (nonempty L k) _ (λ q.
+      one k l _ (every-e (λ k. lies L k (set-at L k .count-field)) (length (L .sets)) e k l)))
 
+module _ (lies : Layout → ℕ → Option ℕ → Bool) (P : Pack) (p : Pgn) (one : Implies-widest lies (layout p)) where
   by-nonempty : held-by (of-nonempty-sets lies) P p ≡ true → held-widest P p ≡ true
   unfolding held-widest
-  by-nonempty e = let h = and-4 (shares-held (layout p)) (of-nonempty-sets lies (layout p)) _ _ e in rw (h .0, counts-nonempty (h .1), h .2, h .3)
+  by-nonempty e =
+      let h = and-4 (shares-held (layout p)) (of-nonempty-sets lies (layout p)) _ _ e in
+      rw (h .0, counts-nonempty lies (layout p) one (h .1), h .2, h .3)
 
   by-every : held-by (of-every-set lies) P p ≡ true → held-widest P p ≡ true
   unfolding held-widest
-  by-every e = let h = and-4 (shares-held (layout p)) (of-every-set lies (layout p)) _ _ e in rw (h .0, counts-every (h .1), h .2, h .3)
+  by-every e =
+      let h = and-4 (shares-held (layout p)) (of-every-set lies (layout p)) _ _ e in
+      rw (h .0, counts-every lies (layout p) one (h .1), h .2, h .3)
 
 pub held-implies-widest : (P : Pack) (p : Pgn) → held P p ≡ true → held-widest P p ≡ true
 unfolding held count-fields-held
-held-implies-widest P p = by-every count-field-held (λ p k l. held-one (layout p) k) P p
+held-implies-widest P p = by-every count-field-held P p (λ k l. held-one (layout p) k)
 
 pub nonempty-implies-widest : (P : Pack) (p : Pgn) → held-nonempty P p ≡ true → held-widest P p ≡ true
 unfolding held-nonempty
-nonempty-implies-widest P p = by-nonempty count-field-held (λ p k l. held-one (layout p) k) P p
+nonempty-implies-widest P p = by-nonempty count-field-held P p (λ k l. held-one (layout p) k)
 
-letter-one : Implies-widest count-field-letter
-letter-one p k l x e = where-nested-one p k l x (letter-where-nested (layout p) k x e)
+module _ (P : Pack) (p : Pgn) (two : length (p .sets) ≤ 2) where
+  where-nested : Implies-widest count-field-where-nested (layout p)
+  where-nested = where-nested-one (layout p) (omega (arith, layout-length p))
 
-pub letter-implies-widest : (P : Pack) (p : Pgn) → held-letter P p ≡ true → held-widest P p ≡ true
-unfolding held-letter
-letter-implies-widest P p = by-every count-field-letter letter-one P p
+  letter : Implies-widest count-field-letter (layout p)
+  letter k l x e = where-nested k l x (letter-where-nested (layout p) k x e)
 
-pub letter-nonempty-implies-widest : (P : Pack) (p : Pgn) → held-letter-nonempty P p ≡ true → held-widest P p ≡ true
-unfolding held-letter-nonempty
-letter-nonempty-implies-widest P p = by-nonempty count-field-letter letter-one P p
+  pub letter-implies-widest : held-letter P p ≡ true → held-widest P p ≡ true
+  unfolding held-letter
+  letter-implies-widest = by-every count-field-letter P p letter
 
-pub where-nested-implies-widest : (P : Pack) (p : Pgn) → held-where-nested P p ≡ true → held-widest P p ≡ true
-unfolding held-where-nested
-where-nested-implies-widest P p = by-nonempty count-field-where-nested where-nested-one P p
+  pub letter-nonempty-implies-widest : held-letter-nonempty P p ≡ true → held-widest P p ≡ true
+  unfolding held-letter-nonempty
+  letter-nonempty-implies-widest = by-nonempty count-field-letter P p letter
+
+  pub where-nested-implies-widest : held-where-nested P p ≡ true → held-widest P p ≡ true
+  unfolding held-where-nested
+  where-nested-implies-widest = by-nonempty count-field-where-nested P p where-nested

@@ -8,9 +8,10 @@ use mathlib.Core.Option.{Option, none, some}
 use mathlib.Core.List.{List}
 use lib.ListN.{length, getD, set, length-set, List·getD-eq-default}
 use borrow.Author.Tests.{eq-eqb, ne-eqb}
+use Rattle.pack.specs.Meaning.{opt-order}
 use Rattle.pack.specs.Notation.{_==_}
 use Rattle.rules.specs.SearchLaws.{below-suc}
-use Rattle.walk.specs.SetsOf.{SetsAre, has-orders, opt-order}
+use Rattle.walk.specs.SetsOf.{SetsAre, has-orders}
 use Rattle.walk.specs.Layout.{Layout, no-set}
 use Rattle.walk.specs.Passes.{Rest, Place, goto, goto-with, present, ready, turn, begins, stand}
 use Rattle.walk.specs.Walk.{Stops, due, settled, onward}

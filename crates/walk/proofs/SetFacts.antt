@@ -1,17 +1,35 @@
 -- The sets' facts: which orders a set holds, and what stop 1 shuts out.
 use Prim.Native.Nat.{ℕ, zero, suc, _≤_, _<_}
 use native.Mathlib.Omega.{arith}
-use mathlib.Core.Path.{_≡_, refl, ap}
+use native.Mathlib.Decide.{decLt}
+use mathlib.Core.Path.{_≡_, refl, sym, ap, _∙_}
 use mathlib.Core.Bool.{Bool, true, false, not, _||_, false≢true}
+use mathlib.Core.Option.{none}
 use lib.ListN.{length, List·getD-eq-default}
 use lib.Dec.{ltb, leb, eqb}
 use borrow.Author.Tests.{ltb-true, ltb-false, leb-true, eqb-true, eqb-false, not-false, lt-ltb, le-leb}
-use Rattle.pack.specs.Value.{Repeating}
+use Rattle.pack.specs.Value.{Repeating, Pgn, set-place}
+use Rattle.pack.proofs.Tables.{length-tab, getD-tab}
 use Rattle.rules.specs.SearchLaws.{any-missed}
 use Rattle.rules.specs.Search.{any-below, every-below}
+use Rattle.walk.specs.Layout.{set-or-empty, layout}
 use Rattle.walk.specs.Layout.{Layout, no-set, set-at, start, end, nonempty, holds, sets-hold, share, nested-in, inside-previous, misplaced, clash, stop-1}
 use Rattle.walk.specs.ByPlace.{placed}
 use Rattle.walk.proofs.Tests.{and-l, and-r, and-i, or-l, or-r, imp-e, imp-i, and-false, every-e, every-i}
+
+-- the sets of a PGN: as many as it has places, each at its place
+module _ (p : Pgn) where
+  pub layout-length : length (layout p .sets) ≡ length (p .sets)
+  layout-length = length-tab (λ k. set-or-empty (set-place p k)) (length (p .sets))
+
+  pub layout-at : (k : ℕ) → set-at (layout p) k ≡ set-or-empty (set-place p k)
+  layout-at k = go (decLt k (length (p .sets)))
+    where
+      go : Dec (k < length (p .sets)) → set-at (layout p) k ≡ set-or-empty (set-place p k)
+      go (yes l) = getD-tab (λ k. set-or-empty (set-place p k)) no-set (length (p .sets)) k l
+      go (no l) =
+          List·getD-eq-default (layout p .sets) no-set (omega (arith, layout-length))
+          ∙ ap set-or-empty (sym (List·getD-eq-default (p .sets) none (omega arith)))
 
 -- set k holds the order o
 abbrev pub Holds : Layout → ℕ → ℕ → Type 0

@@ -7,8 +7,8 @@ use mathlib.Core.Bool.{Bool, true, false, not, _&&_}
 use mathlib.Core.Option.{Option, none, some}
 use lib.ListN.{length, List·getD-eq-default}
 use borrow.Author.Tests.{ne-eqb, lt-ltb, le-ltb}
+use Rattle.pack.specs.Meaning.{opt-order}
 use Rattle.pack.specs.Notation.{if_then_else_, optional, _==_}
-use Rattle.walk.specs.SetsOf.{opt-order}
 use Rattle.walk.specs.Layout.{Layout, no-set, set-at, end}
 use Rattle.walk.specs.Passes.{Rest, endless, more, Place, present, put, goto, goto-with, arrives, Stand, again, arrived, ready, beyond, look, Turn}
 use Rattle.walk.specs.Passes.{goes-on, leaves, begins, turn, close, stand}

@@ -1,13 +1,14 @@
 -- Tests as facts: what it says that a Bool is true or false.
-use Prim.Native.Nat.{ℕ, zero, suc, _+_, _<_}
+use Prim.Native.Nat.{ℕ, zero, suc, _≤_, _<_}
 use native.Mathlib.Omega.{arith}
-use native.Mathlib.Numerals.{add-one}
 use native.Mathlib.Decide.{ℕ-discrete}
-use mathlib.Core.Path.{_≡_, refl, sym, _∙_}
+use mathlib.Core.Path.{_≡_, refl, sym, ap, _∙_}
 use mathlib.Core.Bool.{Bool, true, false, not, _&&_, _||_, false≢true}
+use mathlib.Core.Option.{some}
 use lib.Dec.{ltb, leb}
 use borrow.Author.Tests.{ltb-true, ltb-false, le-leb, lt-leb, eq-eqb, ne-eqb}
-use Rattle.rules.specs.Search.{any-below, every-below}
+use Rattle.rules.specs.SearchLaws.{below-suc}
+use Rattle.rules.specs.Search.{any-below, every-below, latest-below}
 use Rattle.walk.specs.Passes.{put}
 
 pub and-l : (a b : Bool) → (a && b) ≡ true → a ≡ true
@@ -88,16 +89,6 @@ pub every-i : (f : ℕ → Bool) (n : ℕ) → ((k : ℕ) → k < n → f k ≡ 
 every-i f zero h = refl
 every-i f (suc n) h = and-i (every-below f n) _ (every-i f n (λ k l. h k (omega arith))) (h n (omega arith))
 
-pub every-turn : (f : ℕ → Bool) (k : ℕ) → every-below f (k + 1) ≡ (every-below f k && f k)
-every-turn f k = rw (add-one k)
-
-pub every-missed : (f : ℕ → Bool) (n k : ℕ) → k < n → f k ≡ false → every-below f n ≡ false
-every-missed f n k h e = go (every-below f n) refl
-  where
-    go : (b : Bool) → every-below f n ≡ b → b ≡ false
-    go true q = absurd (false≢true (sym e ∙ every-e f n q k h))
-    go false q = refl
-
 pub none-below : (f : ℕ → Bool) (n : ℕ) → ((k : ℕ) → k < n → f k ≡ false) → any-below f n ≡ false
 none-below f zero h = refl
 none-below f (suc n) h = or-i (any-below f n) _ (none-below f n (λ k l. h k (omega arith))) (h n (omega arith))
@@ -115,6 +106,23 @@ any-e f (suc n) e = go (any-below f n) refl (any-e f n)
     go : (b : Bool) → any-below f n ≡ b → (any-below f n ≡ true → Some f n) → Some f (suc n)
     go true q r = let s = r q in record { at = s .at; low = omega (arith, s .low); has = s .has }
     go false q r = record { at = n; low = omega arith; has = rw q at e }
+
+-- the latest one, not below one that is known
+pub record Latest (f : ℕ → Bool) (n k : ℕ) : Type 0 where
+  pub at : ℕ
+  pub is : latest-below f n ≡ some at
+  pub from : k ≤ at
+
+pub latest-from : (f : ℕ → Bool) (n k : ℕ) → k < n → f k ≡ true → Latest f n k
+latest-from f zero k h e = absurd (omega arith)
+latest-from f (suc n) k h e = go (f n) refl (latest-from f n k)
+  where
+    below : f n ≡ false → Latest f n k → Latest f (suc n) k
+    below q s = record { at = s .at; is = rw q (s .is); from = s .from }
+
+    go : (b : Bool) → f n ≡ b → (k < n → f k ≡ true → Latest f n k) → Latest f (suc n) k
+    go true q r = record { at = n; is = rw q; from = omega arith }
+    go false q r = below-suc k n h (λ l. below q (r l e)) (λ s. absurd (false≢true (sym q ∙ ap f (sym s) ∙ e)))
 
 pub put-same : {A : Type 0} (f : ℕ → A) (k : ℕ) (x : A) → put f k x k ≡ x
 unfolding put

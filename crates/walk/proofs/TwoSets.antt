@@ -7,8 +7,8 @@ use mathlib.Core.Option.{Option, none, some}
 use mathlib.Core.Bool.{Bool, true, false, not, _&&_, _||_}
 use lib.Dec.{ltb}
 use borrow.Author.Tests.{ltb-true, ltb-false, lt-ltb, le-ltb}
+use Rattle.pack.specs.Meaning.{opt-order}
 use Rattle.pack.specs.Notation.{_<ᵇ_}
-use Rattle.walk.specs.SetsOf.{opt-order}
 use Rattle.walk.specs.Layout.{Layout, set-at, nonempty, holds, sets-hold, share, nested-in, inside-previous, misplaced, clash, stop-1}
 use Rattle.walk.specs.Held.{shares-held, count-field-held, count-fields-held}
 use Rattle.walk.specs.ByPlace.{placed}

@@ -2,11 +2,11 @@
 -- "A field's index runs from 0 and its order from 1; sets and countField use orders": the field of index t has the order suc t.
 use Prim.Native.Nat.{ℕ, zero, suc, _+_}
 use mathlib.Core.Bool.{Bool, true, false, not, _&&_, _||_}
-use mathlib.Core.List.{List, [], _∷_}
+use mathlib.Core.List.{List}
 use mathlib.Core.Option.{Option, none, some}
 use lib.ListN.{length, getD}
-use Rattle.pack.specs.Notation.{_<ᵇ_, _≤ᵇ_, _==_}
-use Rattle.pack.specs.Value.{Field, Repeating, Pgn}
+use Rattle.pack.specs.Notation.{_<ᵇ_, _≤ᵇ_, _==_, tab}
+use Rattle.pack.specs.Value.{Field, Repeating, Pgn, set-place}
 use Rattle.rules.specs.Search.{any-below, every-below}
 
 pub record Layout : Type 0 where
@@ -21,9 +21,9 @@ abbrev pub set-or-empty : Option Repeating → Repeating
 set-or-empty none = no-set
 set-or-empty (some s) = s
 
--- "two optional sets": set 1 stands at 0, set 2 at 1.
+-- "two optional sets": the places one after the other, an absent one as an empty set.
 abbrev pub layout : Pgn → Layout
-layout p = record { fields = p .fields; sets = set-or-empty (p .repeating1) ∷ set-or-empty (p .repeating2) ∷ [] }
+layout p = record { fields = p .fields; sets = tab (λ k. set-or-empty (set-place p k)) (length (p .sets)) }
 
 abbrev pub set-at : Layout → ℕ → Repeating
 set-at L k = getD (L .sets) k no-set

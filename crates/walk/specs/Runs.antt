@@ -5,11 +5,12 @@ use mathlib.Core.Bool.{Bool, true, false, _||_}
 use mathlib.Core.List.{List}
 use mathlib.Core.Option.{none}
 use lib.ListN.{getD, set}
+use Rattle.pack.specs.Meaning.{opt-order}
 use Rattle.pack.specs.Notation.{_==_}
 use Rattle.walk.specs.ByPlace.{placed, by-place, counts}
 use Rattle.walk.specs.Layout.{Layout}
 use Rattle.walk.specs.Passes.{goto}
-use Rattle.walk.specs.SetsOf.{SetsAre, opt-order}
+use Rattle.walk.specs.SetsOf.{SetsAre}
 use Rattle.walk.specs.State.{place-of}
 use Rattle.walk.specs.Steps.{Run}
 use Rattle.walk.specs.StopParts.{lets-pass}

@@ -4,16 +4,12 @@ use mathlib.Core.Path.{_≡_}
 use mathlib.Core.Bool.{Bool, true, not, _&&_, _||_}
 use mathlib.Core.Option.{Option, none, some}
 use lib.ListN.{length}
-use Rattle.pack.specs.Notation.{_<ᵇ_, _≤ᵇ_, _==_, optional}
+use Rattle.pack.specs.Meaning.{opt-order}
+use Rattle.pack.specs.Notation.{_<ᵇ_, _≤ᵇ_, _==_}
 use Rattle.pack.specs.Value.{Repeating}
 use Rattle.walk.specs.Layout.{Layout, set-at}
-use Rattle.walk.specs.declared.sets.OptOrder.{OptOrder}
 use Rattle.walk.specs.declared.sets.Set.{Set}
 use Rattle.walk.specs.declared.sets.Sets.{Sets}
-
--- an order that may be absent
-abbrev pub opt-order : OptOrder → Option ℕ
-opt-order v = optional (v .given) (v .order .0)
 
 pub record SetIs (R : Repeating) (v : Set) : Type 0 where
   pub start : v .start .0 ≡ R .start

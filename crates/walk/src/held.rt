@@ -3,16 +3,15 @@ ghost use mathlib.Core.Path.{_≡_};
 ghost use mathlib.Core.Bool.{true, _&&_};
 ghost use Prim.Native.Nat.{suc, _+_, _<_};
 ghost use lib.ListN.{length};
-ghost use Rattle.pack.specs.Meaning.{field-meaning, pack-of};
+ghost use Rattle.pack.specs.Meaning.{opt-order, field-meaning, pack-of};
 ghost use Rattle.pack.specs.Value.{field-at};
 ghost use Rattle.walk.specs.Held.{count-fields-held, bit-length-held, dynamic-value-held, held};
 ghost use Rattle.walk.specs.Layout.{Layout, sets-hold};
 ghost use Rattle.walk.specs.Naming.{IsFound, found-pgn};
-ghost use Rattle.walk.specs.SetsOf.{SetsAre, opt-order, counter-held};
+ghost use Rattle.walk.specs.SetsOf.{SetsAre, counter-held};
 ghost use Rattle.walk.specs.StopParts.{IsSource};
 ghost use Rattle.rules.specs.Search.{every-below};
 use crate::named::FoundPgn;
-use crate::sets::OptOrder;
 use crate::sets::Sets;
 use crate::sets::clash;
 use crate::sets::holds;
@@ -24,6 +23,7 @@ use crate::stops::length_giver;
 use pack::field::FieldView;
 use pack::of::field_of;
 use pack::protocol::FieldIndex;
+use pack::protocol::OptOrder;
 use rules::targets::target;
 
 // Whether a countField lies in no nonempty set, or in set 1 where it may.

@@ -3,20 +3,21 @@ ghost use mathlib.Core.Path.{_≡_};
 ghost use mathlib.Core.Bool.{true, not, _&&_};
 ghost use mathlib.Core.Option.{none, some};
 ghost use Prim.Native.Nat.{ℕ, suc, _-_, _≤_};
+ghost use Rattle.pack.specs.Meaning.{opt-order};
 ghost use Rattle.pack.specs.Notation.{_==_, if_then_else_};
 ghost use Rattle.walk.specs.ByPlace.{by-place, counts};
 ghost use Rattle.walk.specs.Layout.{Layout};
 ghost use Rattle.walk.specs.Passes.{Place, goto, goto-with, present, turn, arrived, look, close, stand};
-ghost use Rattle.walk.specs.SetsOf.{SetsAre, opt-order, has-orders};
+ghost use Rattle.walk.specs.SetsOf.{SetsAre, has-orders};
 ghost use Rattle.walk.specs.State.{rest-of, left-of, place-of, memory-of, turn-of, stand-of, arrival-of, settled-of, round-of};
 ghost use Rattle.walk.specs.Walk.{arrive, counted, past, halted, due, settle, settled};
 use crate::orders::index_of;
-use crate::sets::OptOrder;
 use crate::sets::Set;
 use crate::sets::Sets;
 use crate::sets::is_nonempty;
 use crate::sets::placed;
 use pack::protocol::FieldOrder;
+use pack::protocol::OptOrder;
 use pack::protocol::same_order;
 
 // What is left of a set's passes after the present one: they never end, or so many. A flag is 1 or 0, as wide as the count beside it: a struct

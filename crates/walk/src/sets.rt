@@ -11,16 +11,12 @@ ghost use Rattle.walk.specs.Layout.{Layout, layout, no-set, set-or-empty
 ghost use Rattle.walk.specs.SetsOf.{SetIs, SetsAre, has-orders, in-set, holds-both, sets-share, set-misplaced, in-first};
 use pack::pgn::OptRepeating;
 use pack::pgn::PgnView;
+use pack::pgn::set_at;
 use pack::protocol::FieldIndex;
 use pack::protocol::FieldOrder;
+use pack::protocol::OptOrder;
 use pack::protocol::precedes;
 use rules::bools::and_not;
-
-// An order, if it is given.
-pub struct OptOrder {
-    pub given: bool,
-    pub order: FieldOrder,
-}
 
 // The orders from `start` to before `end`, none in an empty set; and the order of its countField.
 pub struct Set {
@@ -55,18 +51,16 @@ fn no_set() -> Set
 
 // An absent set is empty.
 fn set_of(o: OptRepeating) -> Set
-    requires { ⌜ (o .given ≡ true → o .set .start + o .set .count < 4294967296) ⌝ }
+    requires { ⌜ (o .given ≡ true → o .set .start .0 + o .set .count < 4294967296) ⌝ }
     ensures { λ r. ⌜ SetIs (set-or-empty (optional-repeating o)) r ⌝ }
 {
     if o.given {
         let set = o.set;
-        let counter = OptOrder {
-            given: set.counter.given,
-            order: FieldOrder(set.counter.value),
-        };
+        let start = set.start;
+        let counter = set.counter;
         return Set {
-            start: FieldOrder(set.start),
-            end: FieldOrder(set.start + set.count),
+            start,
+            end: FieldOrder(start.0 + set.count),
             counter,
             nested: set.nested,
         };
@@ -81,8 +75,8 @@ pub fn sets_of(s: &[u8], work: &[u32], t: u32, i: u32, p: usize, g: PgnView) -> 
 {
     Sets {
         fields: g.fields,
-        first: set_of(g.repeating1),
-        second: set_of(g.repeating2),
+        first: set_of(set_at(g, 0)),
+        second: set_of(set_at(g, 1)),
     }
 }
 

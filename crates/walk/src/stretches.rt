@@ -3,17 +3,17 @@ ghost use mathlib.Core.Path.{_≡_};
 ghost use mathlib.Core.Bool.{true, false};
 ghost use Prim.Native.Nat.{ℕ, _+_, _-_, _≤_, _<_};
 ghost use lib.ListN.{getD};
+ghost use Rattle.pack.specs.Meaning.{opt-order};
 ghost use Rattle.walk.specs.ByPlace.{counts};
 ghost use Rattle.walk.specs.Runs.{edge, PlainAt, Straight};
-ghost use Rattle.walk.specs.SetsOf.{opt-order};
 use crate::known::is_free;
 use crate::orders::index_of;
 use crate::orders::next_order;
-use crate::sets::OptOrder;
 use crate::sets::Set;
 use crate::sets::Sets;
 use pack::protocol::FieldIndex;
 use pack::protocol::FieldOrder;
+use pack::protocol::OptOrder;
 use pack::protocol::precedes;
 
 // The orders from one to before another, and whether their fields are known to stop at no reading.

@@ -1,4 +1,4 @@
-use Rattle.walk.proofs.Tests.{every-turn, every-missed}
+use Rattle.rules.specs.SearchLaws.{every-turn, every-missed}
 use Rattle.walk.specs.Held.{bit-length-held}
 use Rattle.rules.proofs.Sizes.{fields-few}
 use Rattle.rules.specs.Search.{every-below}

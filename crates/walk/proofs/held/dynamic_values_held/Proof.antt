@@ -1,4 +1,4 @@
-use Rattle.walk.proofs.Tests.{every-turn, every-missed}
+use Rattle.rules.specs.SearchLaws.{every-turn, every-missed}
 use Rattle.walk.specs.Held.{dynamic-value-held}
 use Rattle.walk.specs.StopParts.{IsSource}
 use Rattle.rules.proofs.Sizes.{fields-few}

@@ -1,5 +1,5 @@
-use Rattle.walk.specs.SetsOf.{opt-order}
 use mathlib.Core.Path.{_∙_}
+use Rattle.pack.specs.Meaning.{opt-order}
 use Rattle.walk.proofs.Spots.{arrive-at, arrive-not-current, arrive-endless}
 use borrow.Author.Tests.{not-true, not-false}
 use borrow.Author.Needs.{needs}

@@ -1,8 +1,8 @@
+use Rattle.pack.specs.Meaning.{opt-order}
 use Rattle.walk.specs.State.{left-of, rest-of, place-of, memory-of, arrival-of}
 use Rattle.walk.proofs.Spots.{put-as, round-not-current, round-over, round-enter}
 use mathlib.Core.Path.{refl, _∙_, ap}
 use mathlib.Core.Option.{some}
-use Rattle.walk.specs.SetsOf.{opt-order}
 use borrow.Author.Needs.{needs}
 use Rattle.walk.proofs.passes.at_second.Statement.{statement}
 use Rattle.walk.proofs.passes.at_second.Tie as tie

@@ -1,6 +1,6 @@
+use Rattle.pack.specs.Meaning.{opt-order}
 use Rattle.walk.proofs.Plain.{or-parts, uncounted-onward}
 use Rattle.walk.specs.State.{place-of}
-use Rattle.walk.specs.SetsOf.{opt-order}
 use Rattle.walk.specs.Runs.{spot-at}
 use Rattle.walk.specs.ByPlace.{counts}
 use borrow.Author.Tests.{not-false}

@@ -6,11 +6,14 @@ use Rattle.walk.proofs.sets.set_of.Tie as tie
 
 add-t6 : tie.Need-add-t6
 add-t6 c =
-    let start = c .before .before .before in
-    omega (arith, start .pre (c .before .before .if1 .taken))
+    let start = c .before .before .before .before .before .before in
+    let if1 = c .before .before .before .before .before .if1 in
+    omega (arith, start .pre (if1 .taken))
 
 returns : tie.Need-returns
-returns c = rw (c .before .before .if1 .taken) (record { start = refl; end = refl; counter = refl; nested = refl })
+returns c =
+    let if1 = c .before .before .before .before .before .if1 in
+    rw (if1 .taken) (record { start = refl; end = refl; counter = refl; nested = refl })
 
 no-set-requires : tie.Need-no-set-requires
 no-set-requires c κs = search needs
