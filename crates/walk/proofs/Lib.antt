@@ -1,9 +1,11 @@
 -- tests as facts; what stop 1 shuts out
 pub mod Tests
 pub mod SetFacts
--- the two sets as values
-pub mod TwoSets
+-- the sets as values, the passes as numbers
+pub mod SetValues
+pub mod PassNumbers
 pub mod Spots
+pub mod Counting
 -- the stops in parts
 pub mod Parts
 -- what is remembered of the fields

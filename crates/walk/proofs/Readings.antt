@@ -54,7 +54,7 @@ pub remembered-clear : (P : Pack) (p : Pgn) (marks bad : List ℕ) → ((k : ℕ
 remembered-clear P p marks bad c =
     record { never = λ k reading h. absurd (false≢true (sym (ap (λ (m : ℕ). mark-passes m bad k reading) (c k)) ∙ h)) }
 
-zeros : (n k : ℕ) → getD (replicate {A = ℕ} n 0) k 0 ≡ 0
+pub zeros : (n k : ℕ) → getD (replicate {A = ℕ} n 0) k 0 ≡ 0
 zeros zero k = refl
 zeros (suc n) zero = refl
 zeros (suc n) (suc k) = zeros n k

@@ -2,7 +2,7 @@
 use Prim.Native.Nat.{ℕ, zero, suc, _+_, _≤_, _<_}
 use native.Mathlib.Omega.{arith}
 use native.Mathlib.Nat.{zero-add, suc-add}
-use mathlib.Core.Path.{_≡_, refl, sym, _∙_}
+use mathlib.Core.Path.{_≡_, refl, sym, subst, _∙_}
 use mathlib.Core.Bool.{Bool, true, false}
 use lib.ListN.{length}
 use lib.Dec.{ltb, eqb}
@@ -42,6 +42,11 @@ close-ahead L (suc k) p = go (turn (eqb (p .order) (end L k)) (p .left k)) refl 
     go goes-on e rec = rw (e, close) (rec p)
     go leaves e rec = rw (e, close) (rec _)
     go (begins x) e rec = rw (e, close) tt
+
+-- a set that is arrived at ends behind the order
+pub ends-ahead : (L : Layout) (p q : Place) (k : ℕ) → arrived k q ≡ stand L p → p .order < end L k
+unfolding stand
+ends-ahead L p q k e = subst (Ahead L (p .order)) (sym e) (close-ahead L (length (L .sets)) p) .0
 
 module _ (L : Layout) {M : Type 0} (m : Memory M) (h : M) where
   one-more : (f o : ℕ) (c : Stand) → Ahead L o c → suc (length (L .fields)) ≤ f + o → settle L m (suc f) c h ≡ settle L m (suc (suc f)) c h

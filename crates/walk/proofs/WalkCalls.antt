@@ -18,13 +18,14 @@ use Rattle.pack.specs.declared.load.Refusal.{Refusal}
 use Rattle.pack.specs.declared.load.Refusal.the-variants.{Visits}
 use Rattle.pack.specs.Value.{pgn-at}
 use Rattle.walk.specs.Held.{held}
-use Rattle.walk.specs.Naming.{absence, naming-refusal, refusal-of, IsFound, NamedIs}
+use Rattle.walk.specs.Naming.{absence, naming-refusal, refusal-of, IsPlaced, NamedIs}
 use Rattle.walk.specs.Walk.{End, whole, used-up, stop, Answer}
 use Rattle.walk.specs.WalkCall.{in-pack, ending, judged, walk-of, walked, visits-left}
 use Rattle.walk.specs.WalkCall.{visits-after, end-number, ending-number, walk-answer, visits-tell, Told}
 use Rattle.walk.specs.WalkCall.{walk-tells, Walks}
 use Rattle.walk.specs.WalkCall.{held-judged, held-told, held-answer, held-tell, held-tells, TellsHeld}
 use Rattle.walk.specs.declared.named.FoundPgn.{FoundPgn}
+use Rattle.walk.specs.declared.named.PgnPlace.{PgnPlace}
 use Rattle.walk.specs.declared.named.NamedPgn.{NamedPgn}
 use Rattle.walk.specs.declared.named.NamedPgn.the-variants as naming
 use Rattle.walk.specs.declared.walk.Walked.{Walked}
@@ -46,10 +47,10 @@ module _ (n : ℕ) (A : Answer) (w : List ℕ) where
 
 -- ---- naming a PGN
 
-not-found : (r : Refusal) (f : FoundPgn) → naming.Refused r ≡ naming.Found f → ⊥
+not-found : (r : Refusal) (f : PgnPlace) → naming.Refused r ≡ naming.Found f → ⊥
 not-found r f q = let e = ap refusal-of q in let z : _≡_ {A = ℕ} 0 1 = cc in omega arith
 
-abbrev found-in : FoundPgn → NamedPgn → FoundPgn
+abbrev found-in : PgnPlace → NamedPgn → PgnPlace
 found-in d (naming.Refused r) = d
 found-in d (naming.Found f) = f
 
@@ -62,12 +63,12 @@ module _ (s w : List ℕ) (t i : ℕ) (x : Option Refusal) where
     found = λ f q. absurd (not-found r f q);
   }
 
-  pub named-found : (f : FoundPgn) → none ≡ x → f .tree ≡ t → f .pgn ≡ i → IsFound s w f → NamedIs s w t i x (naming.Found f)
+  pub named-found : (f : PgnPlace) → none ≡ x → f .tree ≡ t → f .pgn ≡ i → IsPlaced s w f → NamedIs s w t i x (naming.Found f)
   named-found f e tree pgn found = record {
     refusal = e;
-    tree = λ g q. subst (λ (h : FoundPgn). h .tree ≡ t) (ap (found-in f) q) tree;
-    pgn = λ g q. subst (λ (h : FoundPgn). h .pgn ≡ i) (ap (found-in f) q) pgn;
-    found = λ g q. subst (λ (h : FoundPgn). IsFound s w h) (ap (found-in f) q) found;
+    tree = λ g q. subst (λ (h : PgnPlace). h .tree ≡ t) (ap (found-in f) q) tree;
+    pgn = λ g q. subst (λ (h : PgnPlace). h .pgn ≡ i) (ap (found-in f) q) pgn;
+    found = λ g q. subst (λ (h : PgnPlace). IsPlaced s w h) (ap (found-in f) q) found;
   }
 
 module _ (s : List ℕ) (m t i : ℕ) where
@@ -121,31 +122,33 @@ module _ (s : List ℕ) (m t i : ℕ) where
     refused : (r : Refusal) → n ≡ naming.Refused r → naming-refusal s m t i ≡ some r
     refused r e = sym (named .refusal) ∙ ap refusal-of e
 
-    is-found : (f : FoundPgn) → n ≡ naming.Found f → naming-refusal s m t i ≡ none
+    is-found : (f : PgnPlace) → n ≡ naming.Found f → naming-refusal s m t i ≡ none
     is-found f e = sym (named .refusal) ∙ ap refusal-of e
 
     pub walk-refused : (r : Refusal) → n ≡ naming.Refused r → (readings w : List ℕ) → Answers s m t i readings w (Refused r) w
     unfolding visits-after
     walk-refused r e readings w = record { answer = rw (walk-named, refused r e); out = rw (walk-named, refused r e) }
 
-    pub walk-answers : (f : FoundPgn) → n ≡ naming.Found f → (readings w : List ℕ) (r : Walked) (w′ : List ℕ)
-        → Judges (length readings) (walk-of s (f .tree) (f .pgn) readings) w r w′ → Answers s m t i readings w r w′
-    unfolding visits-after
-    walk-answers f e readings w r w′ j =
-        let tree = named .tree f e in
-        let pgn = named .pgn f e in
-        let k : Judges (length readings) (walk-of s t i readings) w r w′ = rw (← tree, ← pgn) j in
-        record { answer = rw (walk-named, is-found f e) (k .answer); out = rw (walk-named, is-found f e) (k .out) }
-
     pub held-refused : (r : Refusal) → n ≡ naming.Refused r → held-case.Refused r ≡ held-told s m t i
     held-refused r e = rw (held-named, refused r e)
 
-    pub held-answers : (f : FoundPgn) → n ≡ naming.Found f → (h : Bool) → h ≡ held (pack-of s) (pgn-at (pack-of s) (f .tree) (f .pgn))
-        → held-case.Held h ≡ held-told s m t i
-    held-answers f e h q =
-        let tree = named .tree f e in
-        let pgn = named .pgn f e in
-        rw (held-named, is-found f e, q, tree, pgn)
+    -- f is the PGN at that place
+    module _ (at : PgnPlace) (e : n ≡ naming.Found at) (f : FoundPgn) (same-tree : f .tree ≡ at .tree) (same-pgn : f .pgn ≡ at .pgn) where
+      tree : f .tree ≡ t
+      tree = same-tree ∙ named .tree at e
+
+      pgn : f .pgn ≡ i
+      pgn = same-pgn ∙ named .pgn at e
+
+      pub walk-answers : (readings w : List ℕ) (r : Walked) (w′ : List ℕ)
+          → Judges (length readings) (walk-of s (f .tree) (f .pgn) readings) w r w′ → Answers s m t i readings w r w′
+      unfolding visits-after
+      walk-answers readings w r w′ j =
+          let k : Judges (length readings) (walk-of s t i readings) w r w′ = rw (← tree, ← pgn) j in
+          record { answer = rw (walk-named, is-found at e) (k .answer); out = rw (walk-named, is-found at e) (k .out) }
+
+      pub held-answers : (h : Bool) → h ≡ held (pack-of s) (pgn-at (pack-of s) (f .tree) (f .pgn)) → held-case.Held h ≡ held-told s m t i
+      held-answers h q = rw (held-named, is-found at e, q, tree, pgn)
 
 -- ---- in 01's numbers
 

@@ -19,7 +19,7 @@ use Rattle.walk.specs.Passes.{Rest, Place, first, goto}
 use Rattle.walk.specs.Visits.{Visits}
 use Rattle.walk.specs.Walk.{Stops, Settled, past, halted, due, settled, onward, stop, Answer, no-visit, visit-then, walk-on, walk-with, by-visits, walk}
 use Rattle.walk.specs.ByPlace.{placed, by-place}
-use Rattle.walk.specs.State.{two, settled-of}
+use Rattle.walk.specs.State.{left-of, left-at, place-of, memory-of, settled-of}
 use Rattle.walk.specs.Steps.{end-of, Stepped, ended, visited, one-step, Run, no-step, then-step, used, Within}
 use Rattle.walk.specs.StopParts.{stop-number}
 use Rattle.walk.specs.Stops.{stop-at}
@@ -63,37 +63,39 @@ module _ (L : Layout) (stops : Stops) (p : Place) (g : ℕ → ℕ) (r k : ℕ) 
   unfolding one-step
   step-visits z d e = let b : k ≡ pred (p .order) = omega arith in rw (← here, z, e, ← b, one-step)
 
-pub step-finished : (L : Layout) (stops : Stops) (v : Settling) (g : ℕ → ℕ) (r : ℕ) → v .due ≡ false → (e : Ending) → e ≡ (if v .halted then Stop 2 else Whole)
-    → ended (end-of e) ≡ one-step L stops (settled-of v g) r
+pub step-finished : (L : Layout) (stops : Stops) (v : Settling) (w : List ℕ) (r : ℕ) → v .due ≡ false → (e : Ending) → e ≡ (if v .halted then Stop 2 else Whole)
+    → ended (end-of e) ≡ one-step L stops (settled-of v w) r
 unfolding one-step
-step-finished L stops v g r d e h = go (v .halted) refl
+step-finished L stops v w r d e h = go (v .halted) refl
   where
-    go : (b : Bool) → v .halted ≡ b → ended (end-of e) ≡ one-step L stops (settled-of v g) r
+    go : (b : Bool) → v .halted ≡ b → ended (end-of e) ≡ one-step L stops (settled-of v w) r
     go true x = rw (h, d, x, one-step)
     go false x = rw (h, d, x, one-step)
 
-pub used-finished : (v : Settling) (g : ℕ → ℕ) → v .due ≡ false → (if v .halted then Stop 2 else Whole) ≡ ending (used (settled-of v g))
-used-finished v g d = go (v .halted) refl
+pub used-finished : (v : Settling) (w : List ℕ) → v .due ≡ false → (if v .halted then Stop 2 else Whole) ≡ ending (used (settled-of v w))
+used-finished v w d = go (v .halted) refl
   where
-    go : (b : Bool) → v .halted ≡ b → (if v .halted then Stop 2 else Whole) ≡ ending (used (settled-of v g))
+    go : (b : Bool) → v .halted ≡ b → (if v .halted then Stop 2 else Whole) ≡ ending (used (settled-of v w))
     go true x = rw (d, x)
     go false x = rw (d, x)
 
-pub due-within : (L : Layout) (v : Settling) (g : ℕ → ℕ) → v .due ≡ true → Within L (settled-of v g)
-    → (1 ≤ v .spot .order .0) × (v .spot .order .0 ≤ length (L .fields))
-due-within L v g d w = rw d at w
+pub due-within : (L : Layout) (v : Settling) (w : List ℕ) → v .due ≡ true → Within L (settled-of v w)
+    → (1 ≤ v .order .0) × (v .order .0 ≤ length (L .fields))
+due-within L v w d h = rw d at h
 
-all-same : {A : Type 0} (x : A) → two x x x ≡ (λ k. x)
-all-same {A} x = fun-ext go
-  where
-    go : (k : ℕ) → two x x x k ≡ x
-    go zero = refl
-    go (suc zero) = refl
-    go (suc (suc k)) = refl
+-- no set has a present pass, and no countField a reading
+pub begins-at : (L : Layout) (w : List ℕ) → ((k : ℕ) → left-of (left-at w k) ≡ none) → ((k : ℕ) → memory-of w k ≡ 0) → (o : ℕ) → o ≡ 1
+    → settled L (by-place L) (place-of o w) (memory-of w) ≡ settled L (by-place L) first (by-place L .fresh)
+begins-at L w left latest o q =
+    ap (λ (n : ℕ). settled L (by-place L) (place-of n w) (memory-of w)) q
+    ∙ ap (λ (l : ℕ → Option Rest). settled L (by-place L) (record { order = 1; left = l }) (memory-of w)) (fun-ext left)
+    ∙ ap (settled L (by-place L) first) (fun-ext latest)
 
-pub begins-at : (L : Layout) (l : Option Rest) → l ≡ none → (o : ℕ) → o ≡ 1
-    → settled L (by-place L) (record { order = o; left = two l l none }) (two 0 0 0) ≡ settled L (by-place L) first (by-place L .fresh)
-begins-at L l e o q = rw (e, q, all-same {A = Option Rest} none, all-same {A = ℕ} 0)
+-- numbers that leave the same of each set, at the next order
+pub same-left : (w w′ : List ℕ) → ((k : ℕ) → left-at w′ k ≡ left-at w k) → (o n : ℕ) → n ≡ o + 1 → place-of n w′ ≡ goto (place-of o w) (o + 1)
+same-left w w′ same o n e =
+    ap (λ (i : ℕ). place-of i w′) e
+    ∙ ap (λ (l : ℕ → Option Rest). record { order = o + 1; left = l }) (fun-ext (λ k. ap left-of (same k)))
 
 pub goes-onward : (L : Layout) (p q : Place) (g h : ℕ → ℕ) (r : ℕ) → q ≡ goto p (p .order + 1) → h ≡ by-place L .visit g (p .order - 1) r
     → settled L (by-place L) q h ≡ onward L (by-place L) p g r

@@ -19,6 +19,7 @@ use Rattle.walk.specs.SetsOf.{SetsAre}
 use Rattle.walk.specs.Walk.{Answer}
 use Rattle.walk.specs.WalkCall.{in-pack, judged, walk-of}
 use Rattle.walk.specs.declared.named.FoundPgn.{FoundPgn}
+use Rattle.walk.specs.declared.named.PgnPlace.{PgnPlace}
 use Rattle.walk.specs.declared.named.NamedPgn.{NamedPgn}
 use Rattle.walk.specs.declared.named.NamedPgn.the-variants.{Refused, Found}
 use Rattle.walk.specs.declared.walk.Walked.{Walked}
@@ -42,7 +43,12 @@ refusal-of (Found f) = none
 abbrev pub found-pgn : List ℕ → FoundPgn → Pgn
 found-pgn s f = pgn-at (pack-of s) (f .tree) (f .pgn)
 
--- f is a PGN of the pack s, whose records the work buffer w finds
+-- it is a PGN of the pack s, whose records the work buffer w finds
+pub record IsPlaced (s w : List ℕ) (at : PgnPlace) : Type 0 where
+  pub index : IndexIs (pack-of s) (at .index)
+  pub place : PgnAt s w (at .tree) (at .pgn) (at .place)
+
+-- the same with its sets
 pub record IsFound (s w : List ℕ) (f : FoundPgn) : Type 0 where
   pub index : IndexIs (pack-of s) (f .index)
   pub place : PgnAt s w (f .tree) (f .pgn) (f .place)
@@ -51,9 +57,9 @@ pub record IsFound (s w : List ℕ) (f : FoundPgn) : Type 0 where
 -- r is what naming the PGN i of tree t answers, where x is the refusal if there is one
 pub record NamedIs (s w : List ℕ) (t i : ℕ) (x : Option Refusal) (r : NamedPgn) : Type 0 where
   pub refusal : refusal-of r ≡ x
-  pub tree : (f : FoundPgn) → r ≡ Found f → f .tree ≡ t
-  pub pgn : (f : FoundPgn) → r ≡ Found f → f .pgn ≡ i
-  pub found : (f : FoundPgn) → r ≡ Found f → IsFound s w f
+  pub tree : (f : PgnPlace) → r ≡ Found f → f .tree ≡ t
+  pub pgn : (f : PgnPlace) → r ≡ Found f → f .pgn ≡ i
+  pub found : (f : PgnPlace) → r ≡ Found f → IsPlaced s w f
 
 -- its walk, and what `walk` answers of it with room for n visits
 abbrev pub found-walk : List ℕ → FoundPgn → List ℕ → Answer

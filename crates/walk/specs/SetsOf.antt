@@ -1,9 +1,8 @@
--- What the values of the repeating sets are: a set's, and the two of a layout.
-use Prim.Native.Nat.{ℕ, suc, _+_}
+-- What the values of the repeating sets are: a set's, and those of a layout.
+use Prim.Native.Nat.{ℕ, suc, _+_, _≤_}
 use mathlib.Core.Path.{_≡_}
-use mathlib.Core.Bool.{Bool, true, not, _&&_, _||_}
-use mathlib.Core.Option.{Option, none, some}
-use lib.ListN.{length}
+use mathlib.Core.Bool.{Bool, true, false, not, _&&_, _||_}
+use lib.ListN.{length, getD}
 use Rattle.pack.specs.Meaning.{opt-order}
 use Rattle.pack.specs.Notation.{_<ᵇ_, _≤ᵇ_, _==_}
 use Rattle.pack.specs.Value.{Repeating}
@@ -17,12 +16,20 @@ pub record SetIs (R : Repeating) (v : Set) : Type 0 where
   pub counter : opt-order (v .counter) ≡ R .count-field
   pub nested : v .nested ≡ R .nested
 
--- the sets of L are those two, an absent one empty
+-- what stands beyond the last set: it is empty
+abbrev pub empty-set : Set
+empty-set =
+    record { start = record { 0 = 0 }; end = record { 0 = 0 }; counter = record { given = false; order = record { 0 = 0 } }; nested = false }
+
+-- set k
+abbrev pub value-at : Sets → ℕ → Set
+value-at v k = getD (v .sets) k empty-set
+
+-- the sets of L are these, and the rest empty
 pub record SetsAre (L : Layout) (v : Sets) : Type 0 where
   pub fields : v .fields ≡ length (L .fields)
-  pub two : length (L .sets) ≡ 2
-  pub first : SetIs (set-at L 0) (v .first)
-  pub second : SetIs (set-at L 1) (v .second)
+  pub few : length (L .sets) ≤ 4
+  pub set : (k : ℕ) → SetIs (set-at L k) (value-at v k)
 
 -- ---- a set's value: its nonempty, holds, misplaced, as `Layout` says them of set k
 
@@ -43,10 +50,6 @@ sets-share v w = has-orders v && has-orders w && (v .start .0 <ᵇ w .end .0) &&
 abbrev pub set-misplaced : Set → ℕ → Bool → Bool
 set-misplaced v fields inside = has-orders v && ((v .start .0 == 0) || (suc fields <ᵇ v .end .0) || v .nested && not inside)
 
-abbrev pub in-first : Sets → Bool
-in-first v = (v .first .start .0 <ᵇ v .second .start .0) && (v .second .end .0 ≤ᵇ v .first .end .0)
-
--- the countField, of a set that is nested in set 1 or not, lies in neither set, or in set 1 if nested
-abbrev pub counter-held : Sets → Option ℕ → (nested : Bool) → Bool
-counter-held v none nested = true
-counter-held v (some c) nested = not (in-set (v .second) c) && (nested || not (in-set (v .first) c))
+-- it starts after the start of the other and ends within it
+abbrev pub set-inside : Set → Set → Bool
+set-inside v outer = (outer .start .0 <ᵇ v .start .0) && (v .end .0 ≤ᵇ outer .end .0)

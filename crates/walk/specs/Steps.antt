@@ -7,10 +7,9 @@ use lib.ListN.{length, getD, set}
 use Rattle.walk.specs.Layout.{Layout}
 use Rattle.walk.specs.Walk.{Stops, Settled, past, halted, due, onward, End, whole, used-up, stop}
 use Rattle.walk.specs.ByPlace.{placed, by-place}
-use Rattle.walk.specs.State.{memory-of, settled-of}
+use Rattle.walk.specs.State.{settled-of}
 use Rattle.walk.specs.declared.walk.End.{End as Ending}
 use Rattle.walk.specs.declared.walk.End.the-variants.{Whole, UsedUp, Stop}
-use Rattle.walk.specs.declared.steps.State.{State}
 use Rattle.walk.specs.declared.steps.Stepping.{Stepping}
 use Rattle.walk.specs.declared.steps.Stepping.the-variants as stepping
 
@@ -46,12 +45,9 @@ used (due p g) = used-up
 
 -- what the values mean
 
-abbrev pub state-of : State → Settled (ℕ → ℕ)
-state-of v = settled-of (v .settling) (memory-of (v .counts))
-
-abbrev pub step-of : Stepping → Stepped
-step-of (stepping.Ended e) = ended (end-of e)
-step-of (stepping.Visited k next) = visited (k .0) (state-of next)
+abbrev pub step-of : Stepping → List ℕ → Stepped
+step-of (stepping.Ended e) w = ended (end-of e)
+step-of (stepping.Visited k next) w = visited (k .0) (settled-of next w)
 
 -- a due field is one of the PGN's
 abbrev pub Within : Layout → Settled (ℕ → ℕ) → Type 0

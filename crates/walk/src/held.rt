@@ -1,20 +1,21 @@
 // Which PGNs are held.
 ghost use mathlib.Core.Path.{_≡_};
-ghost use mathlib.Core.Bool.{true, _&&_};
+ghost use mathlib.Core.Bool.{true, not, _&&_, _||_};
 ghost use Prim.Native.Nat.{suc, _+_, _<_};
 ghost use lib.ListN.{length};
-ghost use Rattle.pack.specs.Meaning.{opt-order, field-meaning, pack-of};
+ghost use Rattle.pack.specs.Meaning.{field-meaning, pack-of};
 ghost use Rattle.pack.specs.Value.{field-at};
-ghost use Rattle.walk.specs.Held.{count-fields-held, bit-length-held, dynamic-value-held, held};
-ghost use Rattle.walk.specs.Layout.{Layout, sets-hold};
+ghost use Rattle.walk.specs.Held.{shares-held, count-field-held, count-fields-held, bit-length-held, dynamic-value-held, held};
+ghost use Rattle.walk.specs.Layout.{Layout, set-at, holds, sets-hold, nested-in};
 ghost use Rattle.walk.specs.Naming.{IsFound, found-pgn};
-ghost use Rattle.walk.specs.SetsOf.{SetsAre, counter-held};
+ghost use Rattle.walk.specs.SetsOf.{SetsAre};
 ghost use Rattle.walk.specs.StopParts.{IsSource};
 ghost use Rattle.rules.specs.Search.{every-below};
 use crate::named::FoundPgn;
 use crate::sets::Sets;
-use crate::sets::clash;
+use crate::sets::clashes;
 use crate::sets::holds;
+use crate::sets::nested_in;
 use crate::sets::sets_hold;
 use crate::stops::LengthGiver;
 use crate::stops::NO_GIVER;
@@ -23,34 +24,66 @@ use crate::stops::length_giver;
 use pack::field::FieldView;
 use pack::of::field_of;
 use pack::protocol::FieldIndex;
-use pack::protocol::OptOrder;
+use pack::protocol::FieldOrder;
 use rules::targets::target;
 
-// Whether a countField lies in no nonempty set, or in set 1 where it may.
-fn counter_held(sets: Sets, counter: OptOrder, nested: bool) -> bool
-    ensures { λ r. ⌜ r ≡ counter-held sets (opt-order counter) nested ⌝ }
+// "nonempty sets share no order unless set 2 is nested"
+fn shares_held(sets: Sets) -> bool
+    ensures { λ r. ⌜ ((L : Layout) → SetsAre L sets → r ≡ shares-held L) ⌝ }
 {
+    let mut k = 0;
+    while k < 4 {
+        if clashes(sets, k) {
+            return false;
+        }
+        k += 1;
+    }
+    true
+}
+
+// Whether set k is nested in set j where that one holds the order.
+fn nested_or_apart(sets: Sets, j: usize, k: usize, o: FieldOrder) -> bool
+    requires { ⌜ record { first : j < 4; second : k < 4 } ⌝ }
+    ensures { λ r. ⌜ ((L : Layout) → SetsAre L sets → r ≡ (not (holds L j (o .0)) || nested-in L j k)) ⌝ }
+{
+    if holds(sets.sets[j], o) {
+        return nested_in(sets, j, k);
+    }
+    true
+}
+
+// The countField of set k.
+fn counter_held(sets: Sets, k: usize) -> bool
+    requires { ⌜ k < 4 ⌝ }
+    ensures { λ r. ⌜ ((L : Layout) → SetsAre L sets → r ≡ count-field-held L k (set-at L k .count-field)) ⌝ }
+{
+    let set = sets.sets[k];
+    let counter = set.counter;
     if !counter.given {
         return true;
     }
-    let order = counter.order;
-    if holds(sets.second, order) {
-        return false;
+    let mut j = 0;
+    while j < 4 {
+        if !nested_or_apart(sets, j, k, counter.order) {
+            return false;
+        }
+        j += 1;
     }
-    if nested {
-        return true;
-    }
-    !holds(sets.first, order)
+    true
 }
 
 // "a countField lies in no nonempty set, or in set 1 for a nested set 2"
 fn count_fields_held(sets: Sets) -> bool
     ensures { λ r. ⌜ ((L : Layout) → SetsAre L sets → r ≡ count-fields-held L) ⌝ }
 {
-    if counter_held(sets, sets.first.counter, false) {
-        return counter_held(sets, sets.second.counter, sets.second.nested);
+    let mut k = 0;
+    while k < 4 {
+        if !counter_held(sets, k) {
+            return false;
+        }
+        k += 1;
     }
-    false
+    true
 }
 
 // Whether the sets of the bitLengthField target of field k, which is f, hold field k.
@@ -179,7 +212,7 @@ pub fn held_at(s: &[u8], work: &[u32], found: FoundPgn) -> bool
     requires { ⌜ IsFound (now s) (now work) found ⌝ }
     ensures { λ r. ⌜ r ≡ held (pack-of (now (s .entry))) (found-pgn (now (s .entry)) found) ⌝ }
 {
-    if clash(found.sets) {
+    if !shares_held(found.sets) {
         return false;
     }
     if !count_fields_held(found.sets) {

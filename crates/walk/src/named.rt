@@ -4,7 +4,7 @@ ghost use lib.ListN.{length};
 ghost use Rattle.pack.specs.Load.{work-after};
 ghost use Rattle.pack.specs.Meaning.{pack-of};
 ghost use Rattle.pack.specs.Ready.{Ready, IndexIs};
-ghost use Rattle.walk.specs.Naming.{NamedIs, absence, naming-refusal};
+ghost use Rattle.walk.specs.Naming.{IsPlaced, IsFound, NamedIs, absence, naming-refusal};
 ghost use Rattle.walk.specs.WalkCall.{in-pack};
 use crate::sets::Sets;
 use crate::sets::sets_of;
@@ -16,7 +16,15 @@ use pack::of::pgn_of;
 use pack::protocol::Protocol;
 use rules::places::pgn_position;
 
-// A PGN of the pack: the pack's index, what names it, its work position, and its sets.
+// Where a PGN of the pack is: the pack's index, what names it, and its work position.
+pub struct PgnPlace {
+    pub index: Index,
+    pub tree: u32,
+    pub pgn: u32,
+    pub place: usize,
+}
+
+// The same with its sets.
 pub struct FoundPgn {
     pub index: Index,
     pub tree: u32,
@@ -28,7 +36,7 @@ pub struct FoundPgn {
 // The PGN that a call names, or the call's refusal.
 pub enum NamedPgn {
     Refused(Refusal),
-    Found(FoundPgn),
+    Found(PgnPlace),
 }
 
 // The PGN that is named, if it is in the pack: 23.
@@ -44,16 +52,29 @@ fn find_pgn(s: &[u8], work: &[u32], index: Index, tree: u32, pgn: u32) -> NamedP
         return NamedPgn::Refused(Refusal::Absent);
     }
     let place = pgn_position(s, work, tree, section.place, pgn);
-    let g = pgn_of(s, work, tree, pgn, place);
-    let sets = sets_of(s, work, tree, pgn, place, g);
-    let found = FoundPgn {
+    NamedPgn::Found(PgnPlace {
         index,
         tree,
         pgn,
         place,
+    })
+}
+
+// The PGN that is there, with its sets.
+pub fn found_pgn(s: &[u8], work: &[u32], at: PgnPlace) -> FoundPgn
+    requires { ⌜ IsPlaced (now s) (now work) at ⌝ }
+    ensures { λ r. ⌜ record { tree : r .tree ≡ at .tree; pgn : r .pgn ≡ at .pgn; found : IsFound (now (s .entry)) (now (work .entry)) r } ⌝ }
+{
+    let g = pgn_of(s, work, at.tree, at.pgn, at.place);
+    let sets = sets_of(s, work, at, g);
+    let index = at.index;
+    FoundPgn {
+        index,
+        tree: at.tree,
+        pgn: at.pgn,
+        place: at.place,
         sets,
-    };
-    NamedPgn::Found(found)
+    }
 }
 
 // The pack is loaded, and the PGN found: "Input refusals come before these; then 21, 23"

@@ -1,4 +1,4 @@
-// "A field's index runs from 0 and its order from 1": the first order, the next one, and back to an index. Else an order is `FieldIndex::order`
+// "A field's index runs from 0 and its order from 1": the first order, the next one, a later one, and back to an index. Else an order is `FieldIndex::order`
 // of a field, or a set's.
 ghost use mathlib.Core.Path.{_≡_};
 ghost use Prim.Native.Nat.{_+_, _-_, _≤_, _<_};
@@ -26,4 +26,12 @@ pub fn index_of(o: FieldOrder) -> FieldIndex
     ensures { λ r. ⌜ r .0 ≡ o .0 - 1 ⌝ }
 {
     FieldIndex(o.0 - 1)
+}
+
+// So many fields on.
+pub fn later_order(o: FieldOrder, n: usize) -> FieldOrder
+    requires { ⌜ o .0 + n < 4294967296 ⌝ }
+    ensures { λ r. ⌜ r .0 ≡ o .0 + n ⌝ }
+{
+    FieldOrder(o.0 + n as u32)
 }

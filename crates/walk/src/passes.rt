@@ -1,15 +1,20 @@
-// The passes of the sets, by value: which pass ends, which set is arrived at, which field is due.
+// The passes of the sets: which pass ends, which set is arrived at, which field is due. What is left of each set, and the latest reading of its
+// countField, are numbers in a lent array, four a set (specs/State): a value as large, copied at each step, would cost more than the step.
 ghost use mathlib.Core.Path.{_≡_};
 ghost use mathlib.Core.Bool.{true, not, _&&_};
 ghost use mathlib.Core.Option.{none, some};
-ghost use Prim.Native.Nat.{ℕ, suc, _-_, _≤_};
-ghost use Rattle.pack.specs.Meaning.{opt-order};
+ghost use Prim.Native.Nat.{ℕ, suc, _+_, _*_, _-_, _≤_, _<_};
+ghost use mathlib.Core.List.{List};
+ghost use lib.ListN.{length, set};
 ghost use Rattle.pack.specs.Notation.{_==_, if_then_else_};
+ghost use Rattle.rules.specs.Search.{any-below};
+ghost use Rattle.pack.specs.Meaning.{opt-order};
 ghost use Rattle.walk.specs.ByPlace.{by-place, counts};
-ghost use Rattle.walk.specs.Layout.{Layout};
-ghost use Rattle.walk.specs.Passes.{Place, goto, goto-with, present, turn, arrived, look, close, stand};
-ghost use Rattle.walk.specs.SetsOf.{SetsAre, has-orders};
-ghost use Rattle.walk.specs.State.{rest-of, left-of, place-of, memory-of, turn-of, stand-of, arrival-of, settled-of, round-of};
+ghost use Rattle.walk.specs.Layout.{Layout, set-at};
+ghost use Rattle.walk.specs.Passes.{Place, present, turn, again, arrived, look, close, stand};
+ghost use Rattle.walk.specs.SetsOf.{SetIs, SetsAre, value-at, has-orders};
+ghost use Rattle.walk.specs.State.{rest-of, left-of, left-at, with-left, place-of, memory-of, turn-of, stand-of, arrived-set};
+ghost use Rattle.walk.specs.State.{arrival-of, settled-of, round-of, over-order};
 ghost use Rattle.walk.specs.Walk.{arrive, counted, past, halted, due, settle, settled};
 use crate::orders::index_of;
 use crate::sets::Set;
@@ -20,8 +25,7 @@ use pack::protocol::FieldOrder;
 use pack::protocol::OptOrder;
 use pack::protocol::same_order;
 
-// What is left of a set's passes after the present one: they never end, or so many. A flag is 1 or 0, as wide as the count beside it: a struct
-// with padding is copied in overlapping parts, which wait for one another.
+// What is left of a set's passes after the present one: they never end, or so many. A flag is a number, 1 or 0.
 pub struct Further {
     pub endless: u64,
     pub more: u64,
@@ -33,19 +37,6 @@ pub struct Left {
     pub further: Further,
 }
 
-// The order that is next, and what is left of each set.
-pub struct Spot {
-    pub order: FieldOrder,
-    pub first: Left,
-    pub second: Left,
-}
-
-// Of each set, the latest reading of its countField.
-pub struct Counts {
-    pub first: u64,
-    pub second: u64,
-}
-
 // What comes of a set's pass.
 pub enum Turning {
     GoesOn,
@@ -53,13 +44,12 @@ pub enum Turning {
     Begins(Further),
 }
 
-// Where the walk stands before the next visit: at the start of another pass, on arriving at a set, at a field and no set's start.
+// Where the walk stands before the next visit: at the start of another pass, on arriving at a set, at a field and no set's start, past the last
+// order.
 pub enum Standing {
-    AgainFirst(Spot),
-    AgainSecond(Spot),
-    First(Spot),
-    Second(Spot),
-    Ready(Spot),
+    Again { set: usize, start: FieldOrder },
+    Arrived(usize),
+    Ready,
     Beyond,
 }
 
@@ -70,21 +60,44 @@ pub enum Arriving {
     Enter(Further),
 }
 
-// A field is due at the spot; or it is stop 2, or else the last order is passed.
+// A field is due at the order; or it is stop 2, or else the last order is passed.
 pub struct Settling {
     pub due: bool,
     pub halted: bool,
-    pub spot: Spot,
+    pub order: FieldOrder,
 }
 
-// One round: settled, or a set is passed over.
+// One round: settled, or a set is passed over, up to the order behind it.
 pub enum Round {
     Settled(Settling),
-    Over(Spot),
+    Over(FieldOrder),
+}
+
+// What is left of set k.
+pub fn left_at(passes: &[u64], k: usize) -> Left
+    requires { ⌜ record { set : k < 4; sixteen : length (now passes) ≡ 16 } ⌝ }
+    ensures { λ r. ⌜ r ≡ left-at (now (passes .entry)) k ⌝ }
+{
+    Left {
+        present: passes[4 * k],
+        further: Further {
+            endless: passes[4 * k + 1],
+            more: passes[4 * k + 2],
+        },
+    }
+}
+
+pub fn put_left(passes: &mut [u64], k: usize, left: Left)
+    requires { ⌜ record { set : k < 4; sixteen : length (now passes) ≡ 16 } ⌝ }
+    ensures { λ r. ⌜ now (passes .exit) ≡ with-left (now (passes .entry)) k left ⌝ }
+{
+    passes[4 * k] = left.present;
+    passes[4 * k + 1] = left.further.endless;
+    passes[4 * k + 2] = left.further.more;
 }
 
 // What comes of a pass that ends.
-fn after(further: Further) -> Turning
+pub fn after(further: Further) -> Turning
     ensures { λ r. ⌜ turn-of r ≡ turn true (some (rest-of further)) ⌝ }
 {
     if further.endless == 1 {
@@ -111,7 +124,7 @@ fn turn(left: Left, o: FieldOrder, end: FieldOrder) -> Turning
 }
 
 // No present pass.
-pub fn gone() -> Left
+fn gone() -> Left
     ensures { λ r. ⌜ left-of r ≡ none ⌝ }
 {
     Left {
@@ -124,7 +137,7 @@ pub fn gone() -> Left
 }
 
 // A present pass.
-fn pass(further: Further) -> Left
+pub fn pass(further: Further) -> Left
     ensures { λ r. ⌜ left-of r ≡ some (rest-of further) ⌝ }
 {
     Left {
@@ -147,91 +160,79 @@ fn arrives(set: Set, o: FieldOrder, left: Left) -> bool
 }
 
 // The set that is arrived at.
-fn look(sets: Sets, spot: Spot) -> Standing
-    ensures { λ r. ⌜ ((L : Layout) → SetsAre L sets → stand-of r ≡ look L 2 (place-of spot)) ⌝ }
+fn look(sets: Sets, passes: &[u64], o: FieldOrder) -> Standing
+    requires { ⌜ length (now passes) ≡ 16 ⌝ }
+    ensures { λ r. ⌜ record {
+      stands : (L : Layout) → SetsAre L sets → stand-of r (o .0) (now (passes .entry)) ≡ look L (length (L .sets)) (place-of (o .0) (now (passes .entry)));
+      few : arrived-set r < 4;
+    } ⌝ }
 {
-    if arrives(sets.second, spot.order, spot.second) {
-        return Standing::Second(spot);
+    let mut k = 4;
+    while k > 0 {
+        k -= 1;
+        let set = sets.sets[k];
+        if arrives(set, o, left_at(passes, k)) {
+            return Standing::Arrived(k);
+        }
     }
-    if arrives(sets.first, spot.order, spot.first) {
-        return Standing::First(spot);
-    }
-    Standing::Ready(spot)
+    Standing::Ready
 }
 
-// The spot at the order o.
-pub fn moved(spot: Spot, o: FieldOrder) -> Spot
-    ensures { λ r. ⌜ place-of r ≡ goto (place-of spot) (o .0) ⌝ }
+// Set k's pass, if it ends here: whether another begins.
+fn close(set: Set, passes: &mut [u64], o: FieldOrder, k: usize) -> bool
+    requires { ⌜ record { set : k < 4; sixteen : length (now passes) ≡ 16 } ⌝ }
+    ensures { λ r. ⌜ record {
+      closes : (L : Layout) → SetIs (set-at L k) set → close L (suc k) (place-of (o .0) (now (passes .entry)))
+          ≡ (if r then again k (place-of (set .start .0) (now (passes .exit))) else close L k (place-of (o .0) (now (passes .exit))));
+      memory : memory-of (now (passes .exit)) ≡ memory-of (now (passes .entry));
+    } ⌝ }
 {
-    let first = spot.first;
-    let second = spot.second;
-    Spot {
-        order: o,
-        first,
-        second,
-    }
-}
-
-// The spot at the order o, with set 1's passes.
-fn with_first(spot: Spot, o: FieldOrder, left: Left) -> Spot
-    ensures { λ r. ⌜ place-of r ≡ goto-with (place-of spot) (o .0) 0 (left-of left) ⌝ }
-{
-    let second = spot.second;
-    Spot {
-        order: o,
-        first: left,
-        second,
-    }
-}
-
-// The spot at the order o, with set 2's passes.
-fn with_second(spot: Spot, o: FieldOrder, left: Left) -> Spot
-    ensures { λ r. ⌜ place-of r ≡ goto-with (place-of spot) (o .0) 1 (left-of left) ⌝ }
-{
-    let first = spot.first;
-    Spot {
-        order: o,
-        first,
-        second: left,
+    match turn(left_at(passes, k), o, set.end) {
+        Turning::GoesOn => false,
+        Turning::Leaves => {
+            put_left(passes, k, gone());
+            false
+        }
+        Turning::Begins(further) => {
+            put_left(passes, k, pass(further));
+            true
+        }
     }
 }
 
 // No pass ends here any more.
-fn closed(sets: Sets, spot: Spot) -> Standing
-    ensures { λ r. ⌜ ((L : Layout) → SetsAre L sets → stand-of r ≡ close L 0 (place-of spot)) ⌝ }
+fn closed(sets: Sets, passes: &[u64], o: FieldOrder) -> Standing
+    requires { ⌜ length (now passes) ≡ 16 ⌝ }
+    ensures { λ r. ⌜ record {
+      stands : (L : Layout) → SetsAre L sets → stand-of r (o .0) (now (passes .entry)) ≡ close L 0 (place-of (o .0) (now (passes .entry)));
+      few : arrived-set r < 4;
+    } ⌝ }
 {
-    if sets.fields < spot.order.0 {
+    if sets.fields < o.0 {
         return Standing::Beyond;
     }
-    look(sets, spot)
+    look(sets, passes, o)
 }
 
-// Set 1's pass, if it ends here.
-fn close_first(sets: Sets, spot: Spot) -> Standing
-    ensures { λ r. ⌜ ((L : Layout) → SetsAre L sets → stand-of r ≡ close L 1 (place-of spot)) ⌝ }
+// The passes that end here are closed, the innermost set (the last) first.
+fn stand(sets: Sets, passes: &mut [u64], o: FieldOrder) -> Standing
+    requires { ⌜ length (now passes) ≡ 16 ⌝ }
+    ensures { λ r. ⌜ record {
+      stands : (L : Layout) → SetsAre L sets → 1 ≤ o .0 → stand-of r (o .0) (now (passes .exit)) ≡ stand L (place-of (o .0) (now (passes .entry)));
+      few : arrived-set r < 4;
+      memory : memory-of (now (passes .exit)) ≡ memory-of (now (passes .entry));
+    } ⌝ }
 {
-    let set = sets.first;
-    match turn(spot.first, spot.order, set.end) {
-        Turning::GoesOn => closed(sets, spot),
-        Turning::Leaves => closed(sets, with_first(spot, spot.order, gone())),
-        Turning::Begins(further) => {
-            Standing::AgainFirst(with_first(spot, set.start, pass(further)))
+    let mut k = 4;
+    while k > 0 {
+        k -= 1;
+        let set = sets.sets[k];
+        if close(set, passes, o, k) {
+            let start = set.start;
+            return Standing::Again { set: k, start };
         }
     }
-}
-
-// Set 2's first: it is the innermost.
-fn stand(sets: Sets, spot: Spot) -> Standing
-    ensures { λ r. ⌜ ((L : Layout) → SetsAre L sets → stand-of r ≡ stand L (place-of spot)) ⌝ }
-{
-    let set = sets.second;
-    match turn(spot.second, spot.order, set.end) {
-        Turning::GoesOn => close_first(sets, spot),
-        Turning::Leaves => close_first(sets, with_second(spot, spot.order, gone())),
-        Turning::Begins(further) => {
-            Standing::AgainSecond(with_second(spot, set.start, pass(further)))
-        }
-    }
+    closed(sets, passes, o)
 }
 
 // "a countField gives the passes: its reading as it is"
@@ -268,89 +269,87 @@ fn arrive(sets: Sets, o: FieldOrder, counter: OptOrder, count: u64) -> Arriving
 }
 
 // A field is due there.
-pub fn due(spot: Spot) -> Settling
-    ensures { λ r. ⌜ ((g : ℕ → ℕ) → settled-of r g ≡ due (place-of spot) g) ⌝ }
+pub fn due(o: FieldOrder) -> Settling
+    ensures { λ r. ⌜ ((w : List ℕ) → settled-of r w ≡ due (place-of (o .0) w) (memory-of w)) ⌝ }
 {
     Settling {
         due: true,
         halted: false,
-        spot,
+        order: o,
     }
 }
 
-// Stop 2, or the last order is passed: the spot does not matter.
-fn not_due(halts: bool, spot: Spot) -> Settling
-    ensures { λ r. ⌜ ((g : ℕ → ℕ) → settled-of r g ≡ (if halts then halted else past)) ⌝ }
+// Stop 2, or the last order is passed: the order does not matter.
+fn not_due(halts: bool, o: FieldOrder) -> Settling
+    ensures { λ r. ⌜ ((w : List ℕ) → settled-of r w ≡ (if halts then halted else past)) ⌝ }
 {
     Settling {
         due: false,
         halted: halts,
-        spot,
+        order: o,
     }
 }
 
-// On arriving at set 1.
-fn at_first(sets: Sets, counts: Counts, spot: Spot) -> Round
-    ensures { λ r. ⌜ ((L : Layout) → SetsAre L sets → (n : ℕ) → round-of L (memory-of counts) n r ≡ settle L (by-place L) (suc n)
-        (arrived 0 (place-of spot)) (memory-of counts)) ⌝ }
+// On arriving at set k.
+fn at_set(sets: Sets, passes: &mut [u64], o: FieldOrder, k: usize) -> Round
+    requires { ⌜ record { set : k < 4; sixteen : length (now passes) ≡ 16 } ⌝ }
+    ensures { λ r. ⌜ record {
+      round : (L : Layout) → SetsAre L sets → (n : ℕ) → round-of L n r (now (passes .exit))
+          ≡ settle L (by-place L) (suc n) (arrived k (place-of (o .0) (now (passes .entry)))) (memory-of (now (passes .entry)));
+      memory : memory-of (now (passes .exit)) ≡ memory-of (now (passes .entry));
+      end : 1 ≤ value-at sets k .end .0 → 1 ≤ over-order r;
+    } ⌝ }
 {
-    let set = sets.first;
-    match arrive(sets, spot.order, set.counter, counts.first) {
-        Arriving::NotCurrent => Round::Settled(not_due(true, spot)),
-        Arriving::Over => Round::Over(moved(spot, set.end)),
+    let set = sets.sets[k];
+    match arrive(sets, o, set.counter, passes[4 * k + 3]) {
+        Arriving::NotCurrent => Round::Settled(not_due(true, o)),
+        Arriving::Over => {
+            let end = set.end;
+            Round::Over(end)
+        }
         Arriving::Enter(further) => {
-            Round::Settled(due(with_first(spot, spot.order, pass(further))))
+            put_left(passes, k, pass(further));
+            Round::Settled(due(o))
         }
     }
 }
 
-// On arriving at set 2.
-fn at_second(sets: Sets, counts: Counts, spot: Spot) -> Round
-    ensures { λ r. ⌜ ((L : Layout) → SetsAre L sets → (n : ℕ) → round-of L (memory-of counts) n r ≡ settle L (by-place L) (suc n)
-        (arrived 1 (place-of spot)) (memory-of counts)) ⌝ }
+fn settle_once(sets: Sets, passes: &mut [u64], o: FieldOrder) -> Round
+    requires { ⌜ length (now passes) ≡ 16 ⌝ }
+    ensures { λ r. ⌜ record {
+      round : (L : Layout) → SetsAre L sets → 1 ≤ o .0 → (n : ℕ) → round-of L n r (now (passes .exit))
+          ≡ settle L (by-place L) (suc n) (stand L (place-of (o .0) (now (passes .entry)))) (memory-of (now (passes .entry)));
+      end : (L : Layout) → SetsAre L sets → 1 ≤ o .0 → 1 ≤ over-order r;
+    } ⌝ }
 {
-    let set = sets.second;
-    match arrive(sets, spot.order, set.counter, counts.second) {
-        Arriving::NotCurrent => Round::Settled(not_due(true, spot)),
-        Arriving::Over => Round::Over(moved(spot, set.end)),
-        Arriving::Enter(further) => {
-            Round::Settled(due(with_second(spot, spot.order, pass(further))))
-        }
-    }
-}
-
-fn settle_once(sets: Sets, counts: Counts, spot: Spot) -> Round
-    ensures { λ r. ⌜ ((L : Layout) → SetsAre L sets → (n : ℕ) → round-of L (memory-of counts) n r ≡ settle L (by-place L) (suc n) (stand L (place-of spot))
-        (memory-of counts)) ⌝ }
-{
-    match stand(sets, spot) {
-        Standing::AgainFirst(at) => Round::Settled(due(at)),
-        Standing::AgainSecond(at) => Round::Settled(due(at)),
-        Standing::Ready(at) => Round::Settled(due(at)),
-        Standing::First(at) => at_first(sets, counts, at),
-        Standing::Second(at) => at_second(sets, counts, at),
-        Standing::Beyond => Round::Settled(not_due(false, spot)),
+    match stand(sets, passes, o) {
+        Standing::Again { set, start } => Round::Settled(due(start)),
+        Standing::Ready => Round::Settled(due(o)),
+        Standing::Arrived(k) => at_set(sets, passes, o, k),
+        Standing::Beyond => Round::Settled(not_due(false, o)),
     }
 }
 
 // Until a field is due. Each set that is passed over takes the order up, so that 1 + fields rounds are enough.
-pub fn settle(sets: Sets, counts: Counts, spot: Spot) -> Settling
-    ensures { λ r. ⌜ ((L : Layout) → SetsAre L sets → settled-of r (memory-of counts) ≡ settled L (by-place L) (place-of spot) (memory-of counts)) ⌝ }
+pub fn settle(sets: Sets, passes: &mut [u64], o: FieldOrder) -> Settling
+    requires { ⌜ length (now passes) ≡ 16 ⌝ }
+    ensures { λ r. ⌜ ((L : Layout) → SetsAre L sets → 1 ≤ o .0 → settled-of r (now (passes .exit))
+        ≡ settled L (by-place L) (place-of (o .0) (now (passes .entry))) (memory-of (now (passes .entry)))) ⌝ }
 {
-    let mut here = spot;
+    let mut here = o;
     let mut rounds = sets.fields as u64 + 1;
     while rounds > 0 {
-        match settle_once(sets, counts, here) {
+        match settle_once(sets, passes, here) {
             Round::Settled(answer) => return answer,
             Round::Over(next) => here = next,
         }
         rounds -= 1;
     }
-    not_due(false, spot)
+    not_due(false, o)
 }
 
 // Whether the field of the order o is the countField.
-pub fn is_counter(counter: OptOrder, o: FieldOrder) -> bool
+fn is_counter(counter: OptOrder, o: FieldOrder) -> bool
     requires { ⌜ 1 ≤ o .0 ⌝ }
     ensures { λ r. ⌜ r ≡ counts (opt-order counter) (o .0 - 1) ⌝ }
 {
@@ -360,23 +359,45 @@ pub fn is_counter(counter: OptOrder, o: FieldOrder) -> bool
     false
 }
 
-// The latest reading of a countField, after a visit at the order o.
-fn count(counter: OptOrder, before: u64, o: FieldOrder, reading: u64) -> u64
+// Whether it is a set's countField.
+pub fn is_counted(sets: Sets, o: FieldOrder) -> bool
     requires { ⌜ 1 ≤ o .0 ⌝ }
-    ensures { λ r. ⌜ r ≡ (if counts (opt-order counter) (o .0 - 1) then reading else before) ⌝ }
+    ensures { λ r. ⌜ r ≡ any-below (λ k. counts (opt-order (value-at sets k .counter)) (o .0 - 1)) 4 ⌝ }
+{
+    let mut k = 0;
+    while k < 4 {
+        let set = sets.sets[k];
+        if is_counter(set.counter, o) {
+            return true;
+        }
+        k += 1;
+    }
+    false
+}
+
+// The latest reading of set k's countField, after a visit at the order o.
+fn count(passes: &mut [u64], k: usize, counter: OptOrder, o: FieldOrder, reading: u64)
+    requires { ⌜ record { set : k < 4; first : 1 ≤ o .0; sixteen : length (now passes) ≡ 16 } ⌝ }
+    ensures { λ r. ⌜ now (passes .exit)
+        ≡ (if counts (opt-order counter) (o .0 - 1) then set (now (passes .entry)) (4 * k + 3) reading else now (passes .entry)) ⌝ }
 {
     if is_counter(counter, o) {
-        return reading;
+        passes[4 * k + 3] = reading;
     }
-    before
 }
 
 // The field of the order o is visited, with this reading.
-pub fn visit(sets: Sets, counts: Counts, o: FieldOrder, reading: u64) -> Counts
-    requires { ⌜ 1 ≤ o .0 ⌝ }
-    ensures { λ r. ⌜ ((L : Layout) → SetsAre L sets → memory-of r ≡ by-place L .visit (memory-of counts) (o .0 - 1) reading) ⌝ }
+pub fn visit(sets: Sets, passes: &mut [u64], o: FieldOrder, reading: u64)
+    requires { ⌜ record { first : 1 ≤ o .0; sixteen : length (now passes) ≡ 16 } ⌝ }
+    ensures { λ r. ⌜ record {
+      memory : (L : Layout) → SetsAre L sets → memory-of (now (passes .exit)) ≡ by-place L .visit (memory-of (now (passes .entry))) (o .0 - 1) reading;
+      left : (j : ℕ) → left-at (now (passes .exit)) j ≡ left-at (now (passes .entry)) j;
+    } ⌝ }
 {
-    let first = count(sets.first.counter, counts.first, o, reading);
-    let second = count(sets.second.counter, counts.second, o, reading);
-    Counts { first, second }
+    let mut k = 0;
+    while k < 4 {
+        let set = sets.sets[k];
+        count(passes, k, set.counter, o, reading);
+        k += 1;
+    }
 }

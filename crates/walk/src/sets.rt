@@ -5,10 +5,12 @@ ghost use Prim.Native.Nat.{suc, _+_, _<_};
 ghost use Rattle.pack.specs.Meaning.{optional-repeating, pack-of};
 ghost use Rattle.pack.specs.Notation.{_<ᵇ_, _==_};
 ghost use Rattle.pack.specs.Ready.{PgnAt, PgnIs};
-ghost use Rattle.pack.specs.Value.{pgn-at};
+ghost use Rattle.pack.specs.Value.{pgn-at, set-place};
 ghost use Rattle.walk.specs.ByPlace.{placed};
-ghost use Rattle.walk.specs.Layout.{Layout, layout, no-set, set-or-empty, sets-hold, clash, stop-1};
-ghost use Rattle.walk.specs.SetsOf.{SetIs, SetsAre, has-orders, in-set, holds-both, sets-share, set-misplaced, in-first};
+ghost use Rattle.rules.specs.Search.{any-below};
+ghost use Rattle.walk.specs.Layout.{Layout, layout, no-set, set-or-empty, sets-hold, nested-in, inside-previous, misplaced, clash, stop-1};
+ghost use Rattle.walk.specs.SetsOf.{SetIs, SetsAre, has-orders, in-set, holds-both, sets-share, set-misplaced, set-inside};
+use crate::named::PgnPlace;
 use pack::pgn::OptRepeating;
 use pack::pgn::PgnView;
 use pack::pgn::set_at;
@@ -26,11 +28,10 @@ pub struct Set {
     pub nested: bool,
 }
 
-// The two sets of a PGN with so many fields.
+// The sets of a PGN with so many fields, the rest of the four empty.
 pub struct Sets {
     pub fields: u32,
-    pub first: Set,
-    pub second: Set,
+    pub sets: [Set; 4],
 }
 
 // An empty set.
@@ -68,15 +69,36 @@ fn set_of(o: OptRepeating) -> Set
     no_set()
 }
 
-// The sets of the PGN with that view.
-pub fn sets_of(s: &[u8], work: &[u32], t: u32, i: u32, p: usize, g: PgnView) -> Sets
-    requires { ⌜ record { at : PgnAt (now s) (now work) t i p; is : PgnIs (now s) (pgn-at (pack-of (now s)) t i) g } ⌝ }
-    ensures { λ r. ⌜ SetsAre (layout (pgn-at (pack-of (now (s .entry))) t i)) r ⌝ }
+// The set at place k; an empty one where the PGN has no such place.
+fn set_in(s: &[u8], work: &[u32], found: PgnPlace, g: PgnView, k: u32) -> Set
+    requires { ⌜ record {
+      at : PgnAt (now s) (now work) (found .tree) (found .pgn) (found .place);
+      is : PgnIs (now s) (pgn-at (pack-of (now s)) (found .tree) (found .pgn)) g;
+      four : k < 4;
+    } ⌝ }
+    ensures { λ r. ⌜ SetIs (set-or-empty (set-place (pgn-at (pack-of (now (s .entry))) (found .tree) (found .pgn)) k)) r ⌝ }
 {
+    if k < g.places {
+        return set_of(set_at(g, k));
+    }
+    no_set()
+}
+
+// The sets of the PGN with that view.
+pub fn sets_of(s: &[u8], work: &[u32], found: PgnPlace, g: PgnView) -> Sets
+    requires { ⌜ record {
+      at : PgnAt (now s) (now work) (found .tree) (found .pgn) (found .place);
+      is : PgnIs (now s) (pgn-at (pack-of (now s)) (found .tree) (found .pgn)) g;
+    } ⌝ }
+    ensures { λ r. ⌜ SetsAre (layout (pgn-at (pack-of (now (s .entry))) (found .tree) (found .pgn))) r ⌝ }
+{
+    let first = set_in(s, work, found, g, 0);
+    let second = set_in(s, work, found, g, 1);
+    let third = set_in(s, work, found, g, 2);
+    let fourth = set_in(s, work, found, g, 3);
     Sets {
         fields: g.fields,
-        first: set_of(set_at(g, 0)),
-        second: set_of(set_at(g, 1)),
+        sets: [first, second, third, fourth],
     }
 }
 
@@ -110,10 +132,14 @@ fn holds_both(set: Set, a: FieldOrder, b: FieldOrder) -> bool
 pub fn sets_hold(sets: Sets, a: FieldOrder, b: FieldOrder) -> bool
     ensures { λ r. ⌜ ((L : Layout) → SetsAre L sets → r ≡ sets-hold L (a .0) (b .0)) ⌝ }
 {
-    if holds_both(sets.first, a, b) {
-        return holds_both(sets.second, a, b);
+    let mut k = 0;
+    while k < 4 {
+        if !holds_both(sets.sets[k], a, b) {
+            return false;
+        }
+        k += 1;
     }
-    false
+    true
 }
 
 // Whether the field t comes before the order o, and every set that holds it holds o.
@@ -151,14 +177,48 @@ fn share(a: Set, b: Set) -> bool
     overlap(a, b)
 }
 
-// "set 2 is not nested and shares an order with set 1"
-pub fn clash(sets: Sets) -> bool
-    ensures { λ r. ⌜ ((L : Layout) → SetsAre L sets → r ≡ clash L 0 1) ⌝ }
+// Whether set k is nested in set j by the marks: each after j up to k bears one.
+pub fn nested_in(sets: Sets, j: usize, k: usize) -> bool
+    requires { ⌜ k < 4 ⌝ }
+    ensures { λ r. ⌜ ((L : Layout) → SetsAre L sets → r ≡ nested-in L j k) ⌝ }
 {
-    if sets.second.nested {
-        return false;
+    let mut inner = k;
+    while inner > 0 {
+        if !sets.sets[inner].nested {
+            return false;
+        }
+        inner -= 1;
+        if inner == j {
+            return true;
+        }
     }
-    share(sets.first, sets.second)
+    false
+}
+
+// Of two sets: "set 2 is not nested and shares an order with set 1".
+fn clash(sets: Sets, j: usize, k: usize) -> bool
+    requires { ⌜ record { first : j < 4; second : k < 4 } ⌝ }
+    ensures { λ r. ⌜ ((L : Layout) → SetsAre L sets → r ≡ clash L j k) ⌝ }
+{
+    if share(sets.sets[j], sets.sets[k]) {
+        return !nested_in(sets, j, k);
+    }
+    false
+}
+
+// Whether set k clashes with one before it.
+pub fn clashes(sets: Sets, k: usize) -> bool
+    requires { ⌜ k < 4 ⌝ }
+    ensures { λ r. ⌜ ((L : Layout) → SetsAre L sets → r ≡ any-below (λ j. clash L j k) k) ⌝ }
+{
+    let mut j = 0;
+    while j < k {
+        if clash(sets, j, k) {
+            return true;
+        }
+        j += 1;
+    }
+    false
 }
 
 // Whether a set has start 0 or runs past so many fields.
@@ -173,7 +233,7 @@ fn out_of_range(set: Set, fields: u32) -> bool
 
 // "a nonempty set has start 0, runs past the fields, or is marked nested but is not set 2 .. ending within" set 1: whether it is inside
 // is given.
-fn misplaced(set: Set, fields: u32, inside: bool) -> bool
+fn set_misplaced(set: Set, fields: u32, inside: bool) -> bool
     ensures { λ r. ⌜ r ≡ set-misplaced set fields inside ⌝ }
 {
     if !is_nonempty(set) {
@@ -185,25 +245,49 @@ fn misplaced(set: Set, fields: u32, inside: bool) -> bool
     and_not(set.nested, inside)
 }
 
-// "set 2 starting after set 1's start and ending within it"
-fn inside_first(sets: Sets) -> bool
-    ensures { λ r. ⌜ r ≡ in-first sets ⌝ }
+// Of two sets: "set 2 starting after set 1's start and ending within it".
+fn lies_inside(set: Set, outer: Set) -> bool
+    ensures { λ r. ⌜ r ≡ set-inside set outer ⌝ }
 {
-    if precedes(sets.first.start, sets.second.start) {
-        return !precedes(sets.first.end, sets.second.end);
+    if precedes(outer.start, set.start) {
+        return !precedes(outer.end, set.end);
     }
     false
+}
+
+// Whether set k lies so in the one before it.
+fn inside_previous(sets: Sets, k: usize) -> bool
+    requires { ⌜ k < 4 ⌝ }
+    ensures { λ r. ⌜ ((L : Layout) → SetsAre L sets → r ≡ inside-previous L k) ⌝ }
+{
+    if k == 0 {
+        return false;
+    }
+    lies_inside(sets.sets[k], sets.sets[k - 1])
+}
+
+// STOP 1, of set k.
+fn misplaced(sets: Sets, k: usize) -> bool
+    requires { ⌜ k < 4 ⌝ }
+    ensures { λ r. ⌜ ((L : Layout) → SetsAre L sets → r ≡ misplaced L k) ⌝ }
+{
+    let inside = inside_previous(sets, k);
+    set_misplaced(sets.sets[k], sets.fields, inside)
 }
 
 // STOP 1, before any visit.
 pub fn stop_1(sets: Sets) -> bool
     ensures { λ r. ⌜ ((L : Layout) → SetsAre L sets → r ≡ stop-1 L) ⌝ }
 {
-    if misplaced(sets.first, sets.fields, false) {
-        return true;
+    let mut k = 0;
+    while k < 4 {
+        if misplaced(sets, k) {
+            return true;
+        }
+        if clashes(sets, k) {
+            return true;
+        }
+        k += 1;
     }
-    if misplaced(sets.second, sets.fields, inside_first(sets)) {
-        return true;
-    }
-    clash(sets)
+    false
 }

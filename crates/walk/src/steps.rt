@@ -1,8 +1,9 @@
-// One step of the walk, its state, and several steps in a run.
+// One step of the walk, and several steps in a run.
 ghost use mathlib.Core.Path.{_≡_};
 ghost use mathlib.Core.Bool.{true};
 ghost use mathlib.Core.Option.{none};
 ghost use Prim.Native.Nat.{ℕ, suc, _≤_, _<_};
+ghost use mathlib.Core.List.{List};
 ghost use lib.ListN.{length};
 ghost use Rattle.pack.specs.Meaning.{pack-of};
 ghost use Rattle.pack.specs.Notation.{if_then_else_};
@@ -11,8 +12,8 @@ ghost use Rattle.walk.specs.Layout.{Layout, layout};
 ghost use Rattle.walk.specs.Naming.{IsFound, found-pgn};
 ghost use Rattle.walk.specs.Passes.{first};
 ghost use Rattle.walk.specs.SetsOf.{SetsAre};
-ghost use Rattle.walk.specs.State.{place-of, memory-of};
-ghost use Rattle.walk.specs.Steps.{Run, one-step, used, state-of, step-of, Within};
+ghost use Rattle.walk.specs.State.{left-of, left-at, place-of, memory-of, settled-of};
+ghost use Rattle.walk.specs.Steps.{Run, one-step, used, step-of, Within};
 ghost use Rattle.walk.specs.StopParts.{Remembered, lets-pass};
 ghost use Rattle.walk.specs.Stops.{stop-at};
 ghost use Rattle.walk.specs.Walk.{Stops, due, settled, onward};
@@ -23,34 +24,25 @@ use crate::named::FoundPgn;
 use crate::orders::first_order;
 use crate::orders::index_of;
 use crate::orders::next_order;
-use crate::passes::Counts;
 use crate::passes::Settling;
-use crate::passes::Spot;
 use crate::passes::due;
-use crate::passes::gone;
-use crate::passes::moved;
 use crate::passes::settle;
 use crate::passes::visit;
 use crate::runs::run;
 use crate::sets::Sets;
 use crate::walk::End;
 use pack::protocol::FieldIndex;
-
-// Where the walk is, and the latest readings of the countFields.
-pub struct State {
-    pub settling: Settling,
-    pub counts: Counts,
-}
+use pack::protocol::FieldOrder;
 
 // With one reading: the walk ends, or a field is visited.
 pub enum Stepping {
     Ended(End),
-    Visited { field: FieldIndex, next: State },
+    Visited { field: FieldIndex, next: Settling },
 }
 
 // The walk after a run, and how many visits are made by then.
 pub struct Ran {
-    pub state: State,
+    pub settling: Settling,
     pub visits: usize,
 }
 
@@ -64,38 +56,26 @@ fn finished(halted: bool) -> End
     End::Whole
 }
 
-// Before the first visit.
-pub fn begin(sets: Sets) -> State
-    ensures { λ r. ⌜ ((L : Layout) → SetsAre L sets → state-of r ≡ settled L (by-place L) first (by-place L .fresh)) ⌝ }
+// Before the first visit: no set has a present pass.
+pub fn begin(sets: Sets, passes: &mut [u64]) -> Settling
+    requires { ⌜ record {
+      sixteen : length (now passes) ≡ 16;
+      left : (k : ℕ) → left-of (left-at (now passes) k) ≡ none;
+      latest : (k : ℕ) → memory-of (now passes) k ≡ 0;
+    } ⌝ }
+    ensures { λ r. ⌜ ((L : Layout) → SetsAre L sets → settled-of r (now (passes .exit)) ≡ settled L (by-place L) first (by-place L .fresh)) ⌝ }
 {
-    let counts = Counts {
-        first: 0,
-        second: 0,
-    };
-    let none = gone();
-    let order = first_order();
-    let spot = Spot {
-        order,
-        first: none,
-        second: none,
-    };
-    let settling = settle(sets, counts, spot);
-    State { settling, counts }
+    settle(sets, passes, first_order())
 }
 
-// After a visit of the field that was due at the spot.
-fn onward(sets: Sets, counts: Counts, spot: Spot, reading: u64) -> State
-    requires { ⌜ record { first : 1 ≤ spot .order .0; small : spot .order .0 < 4294967295 } ⌝ }
-    ensures { λ r. ⌜ ((L : Layout) → SetsAre L sets → state-of r ≡ onward L (by-place L) (place-of spot) (memory-of counts) reading) ⌝ }
+// After a visit of the field that was due at the order o.
+fn onward(sets: Sets, passes: &mut [u64], o: FieldOrder, reading: u64) -> Settling
+    requires { ⌜ record { first : 1 ≤ o .0; small : o .0 < 4294967295; sixteen : length (now passes) ≡ 16 } ⌝ }
+    ensures { λ r. ⌜ ((L : Layout) → SetsAre L sets → settled-of r (now (passes .exit))
+        ≡ onward L (by-place L) (place-of (o .0) (now (passes .entry))) (memory-of (now (passes .entry))) reading) ⌝ }
 {
-    let order = spot.order;
-    let after = visit(sets, counts, order, reading);
-    let next = moved(spot, next_order(order));
-    let settling = settle(sets, after, next);
-    State {
-        settling,
-        counts: after,
-    }
+    visit(sets, passes, o, reading);
+    settle(sets, passes, next_order(o))
 }
 
 // At a due field, with its reading.
@@ -105,28 +85,30 @@ fn step_at(
     found: FoundPgn,
     marks: &mut [u8],
     bad: &mut [u64],
-    counts: Counts,
-    spot: Spot,
+    passes: &mut [u64],
+    o: FieldOrder,
     reading: u64,
 ) -> Stepping
     requires { ⌜ record {
       pgn : IsFound (now s) (now work) found;
       remembered : Remembered (pack-of (now s)) (found-pgn (now s) found) (now marks) (now bad);
-      first : 1 ≤ spot .order .0;
-      within : spot .order .0 ≤ length (found-pgn (now s) found .fields);
+      sixteen : length (now passes) ≡ 16;
+      first : 1 ≤ o .0;
+      within : o .0 ≤ length (found-pgn (now s) found .fields);
     } ⌝ }
     ensures { λ r. ⌜ record {
-      step : step-of r ≡ one-step (layout (found-pgn (now (s .entry)) found)) (stop-at (pack-of (now (s .entry))) (found-pgn (now (s .entry)) found))
-          (due (place-of spot) (memory-of counts)) reading;
+      step : step-of r (now (passes .exit)) ≡ one-step (layout (found-pgn (now (s .entry)) found))
+          (stop-at (pack-of (now (s .entry))) (found-pgn (now (s .entry)) found))
+          (due (place-of (o .0) (now (passes .entry))) (memory-of (now (passes .entry)))) reading;
       remembered : Remembered (pack-of (now (s .entry))) (found-pgn (now (s .entry)) found) (now (marks .exit)) (now (bad .exit));
     } ⌝ }
 {
-    let field = index_of(spot.order);
+    let field = index_of(o);
     let stop = stop_at(s, work, found, marks, bad, field.0, reading);
     if stop != 0 {
         return Stepping::Ended(End::Stop(stop));
     }
-    let next = onward(found.sets, counts, spot, reading);
+    let next = onward(found.sets, passes, o, reading);
     Stepping::Visited { field, next }
 }
 
@@ -137,41 +119,32 @@ pub fn step(
     found: FoundPgn,
     marks: &mut [u8],
     bad: &mut [u64],
-    state: State,
+    passes: &mut [u64],
+    settling: Settling,
     reading: u64,
 ) -> Stepping
     requires { ⌜ record {
       pgn : IsFound (now s) (now work) found;
       remembered : Remembered (pack-of (now s)) (found-pgn (now s) found) (now marks) (now bad);
-      within : Within (layout (found-pgn (now s) found)) (state-of state);
+      sixteen : length (now passes) ≡ 16;
+      within : Within (layout (found-pgn (now s) found)) (settled-of settling (now passes));
     } ⌝ }
     ensures { λ r. ⌜ record {
-      step : step-of r ≡ one-step (layout (found-pgn (now (s .entry)) found)) (stop-at (pack-of (now (s .entry))) (found-pgn (now (s .entry)) found))
-          (state-of state) reading;
+      step : step-of r (now (passes .exit)) ≡ one-step (layout (found-pgn (now (s .entry)) found))
+          (stop-at (pack-of (now (s .entry))) (found-pgn (now (s .entry)) found)) (settled-of settling (now (passes .entry))) reading;
       remembered : Remembered (pack-of (now (s .entry))) (found-pgn (now (s .entry)) found) (now (marks .exit)) (now (bad .exit));
     } ⌝ }
 {
-    let settling = state.settling;
     if settling.due {
-        return step_at(
-            s,
-            work,
-            found,
-            marks,
-            bad,
-            state.counts,
-            settling.spot,
-            reading,
-        );
+        return step_at(s, work, found, marks, bad, passes, settling.order, reading);
     }
     Stepping::Ended(finished(settling.halted))
 }
 
-// With no reading left.
-pub fn used(state: State) -> End
-    ensures { λ r. ⌜ r ≡ ending (used (state-of state)) ⌝ }
+// With no reading left: the numbers of the passes do not matter.
+pub fn used(settling: Settling) -> End
+    ensures { λ r. ⌜ ((w : List ℕ) → r ≡ ending (used (settled-of settling w))) ⌝ }
 {
-    let settling = state.settling;
     if settling.due {
         return End::UsedUp;
     }
@@ -183,14 +156,16 @@ pub fn run_on(
     sets: Sets,
     marks: &[u8],
     bad: &[u64],
-    state: State,
+    passes: &mut [u64],
+    settling: Settling,
     readings: &[u64],
     visits: &mut [u32],
     n: usize,
 ) -> Ran
     requires { ⌜ record {
-      due : state .settling .due ≡ true → record { first : 1 ≤ state .settling .spot .order .0; within : state .settling .spot .order .0 ≤ sets .fields };
+      due : settling .due ≡ true → record { first : 1 ≤ settling .order .0; within : settling .order .0 ≤ sets .fields };
       small : sets .fields < 4294967295;
+      sixteen : length (now passes) ≡ 16;
       read : n ≤ length (now readings);
       room : length (now readings) ≤ length (now visits);
     } ⌝ }
@@ -199,21 +174,29 @@ pub fn run_on(
       read : r .visits ≤ length (now (readings .entry));
       ran : (L : Layout) → SetsAre L sets → (stops : Stops)
           → ((k reading : ℕ) → lets-pass (now (marks .entry)) (now (bad .entry)) k reading ≡ true → stops (placed L (suc k)) k reading ≡ none)
-          → Run L stops (now (readings .entry)) (now (visits .entry)) n (state-of state) (now (visits .exit)) (r .visits) (state-of (r .state));
+          → Run L stops (now (readings .entry)) (now (visits .entry)) n (settled-of settling (now (passes .entry))) (now (visits .exit)) (r .visits)
+          (settled-of (r .settling) (now (passes .exit)));
     } ⌝ }
 {
-    let settling = state.settling;
     if !settling.due {
-        return Ran { state, visits: n };
+        return Ran {
+            settling,
+            visits: n,
+        };
     }
-    let end = run(sets, marks, bad, settling.spot, readings, visits, n);
-    let next = due(end.spot);
-    let counts = state.counts;
+    let end = run(
+        sets,
+        marks,
+        bad,
+        passes,
+        settling.order,
+        readings,
+        visits,
+        n,
+    );
+    let next = due(end.order);
     Ran {
-        state: State {
-            settling: next,
-            counts,
-        },
+        settling: next,
         visits: end.visits,
     }
 }

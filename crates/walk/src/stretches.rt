@@ -76,10 +76,15 @@ fn plain_orders(sets: Sets, o: FieldOrder) -> u32
         return 0;
     }
     let next = next_order(o);
-    let a = short_of_edges(sets.fields - o.0, next, sets.first);
-    let b = short_of_edges(a, next, sets.second);
-    let c = short_of_counter(b, o, sets.first.counter);
-    short_of_counter(c, o, sets.second.counter)
+    let mut n = sets.fields - o.0;
+    let mut k = 0;
+    while k < 4 {
+        let set = sets.sets[k];
+        let before = short_of_edges(n, next, set);
+        n = short_of_counter(before, o, set.counter);
+        k += 1;
+    }
+    n
 }
 
 // Whether n fields from k on are known to stop at no reading.

@@ -1,17 +1,20 @@
 // The calls `walk` and `held`.
 ghost use mathlib.Core.Path.{_≡_};
 ghost use mathlib.Core.Bool.{false};
-ghost use Prim.Native.Nat.{_≤_};
+ghost use mathlib.Core.Option.{none};
+ghost use Prim.Native.Nat.{ℕ, _≤_};
 ghost use lib.ListN.{length};
 ghost use Rattle.pack.specs.Meaning.{pack-of};
 ghost use Rattle.walk.specs.Layout.{layout, stop-1};
 ghost use Rattle.walk.specs.Naming.{IsFound, found-pgn, found-walk, found-judged};
+ghost use Rattle.walk.specs.State.{left-of, left-at, memory-of};
 ghost use Rattle.walk.specs.StopParts.{Remembered};
 ghost use Rattle.walk.specs.Walk.{walk};
 ghost use Rattle.walk.specs.WalkCall.{Told, visits-left, Walks, TellsHeld};
 use crate::held::held_at;
 use crate::named::FoundPgn;
 use crate::named::NamedPgn;
+use crate::named::found_pgn;
 use crate::named::named_pgn;
 use crate::runs::write_visit;
 use crate::sets::stop_1;
@@ -46,12 +49,16 @@ fn walk_on(
     found: FoundPgn,
     marks: &mut [u8],
     bad: &mut [u64],
+    passes: &mut [u64],
     readings: &[u64],
     visits: &mut [u32],
 ) -> Walked
     requires { ⌜ record {
       pgn : IsFound (now s) (now work) found;
       remembered : Remembered (pack-of (now s)) (found-pgn (now s) found) (now marks) (now bad);
+      sixteen : length (now passes) ≡ 16;
+      left : (k : ℕ) → left-of (left-at (now passes) k) ≡ none;
+      latest : (k : ℕ) → memory-of (now passes) k ≡ 0;
       no-stop-1 : stop-1 (layout (found-pgn (now s) found)) ≡ false;
       room : length (now readings) ≤ length (now visits);
     } ⌝ }
@@ -59,20 +66,20 @@ fn walk_on(
         (now (visits .exit)) r ⌝ }
 {
     let sets = found.sets;
-    let mut state = begin(sets);
+    let mut settling = begin(sets, passes);
     let mut n = 0;
     while n < readings.len() {
-        match step(s, work, found, marks, bad, state, readings[n]) {
+        match step(s, work, found, marks, bad, passes, settling, readings[n]) {
             Stepping::Ended(end) => return Walked::Ended { end, visits: n },
             Stepping::Visited { field, next } => {
                 write_visit(visits, n, field);
-                let ran = run_on(sets, marks, bad, next, readings, visits, n + 1);
-                state = ran.state;
+                let ran = run_on(sets, marks, bad, passes, next, readings, visits, n + 1);
+                settling = ran.settling;
                 n = ran.visits;
             }
         }
     }
-    let end = used(state);
+    let end = used(settling);
     Walked::Ended { end, visits: n }
 }
 
@@ -90,7 +97,17 @@ fn walk_at(s: &[u8], work: &[u32], found: FoundPgn, readings: &[u64], visits: &m
     }
     let mut marks = [0u8; 32768];
     let mut bad = [0u64; 512];
-    walk_on(s, work, found, &mut marks, &mut bad, readings, visits)
+    let mut passes = [0u64; 16];
+    walk_on(
+        s,
+        work,
+        found,
+        &mut marks,
+        &mut bad,
+        &mut passes,
+        readings,
+        visits,
+    )
 }
 
 // "then 21, 23, 25": 25, and the walk.
@@ -129,7 +146,9 @@ pub fn walk(
 {
     match named_pgn(pack, work, tree, pgn) {
         NamedPgn::Refused(refusal) => Walked::Refused(refusal),
-        NamedPgn::Found(found) => walk_found(pack, work, found, readings, visits),
+        NamedPgn::Found(place) => {
+            walk_found(pack, work, found_pgn(pack, work, place), readings, visits)
+        }
     }
 }
 
@@ -138,6 +157,8 @@ pub fn held(pack: &[u8], work: &mut [u32], tree: u32, pgn: u32) -> HeldAnswer
 {
     match named_pgn(pack, work, tree, pgn) {
         NamedPgn::Refused(refusal) => HeldAnswer::Refused(refusal),
-        NamedPgn::Found(found) => HeldAnswer::Held(held_at(pack, work, found)),
+        NamedPgn::Found(place) => {
+            HeldAnswer::Held(held_at(pack, work, found_pgn(pack, work, place)))
+        }
     }
 }

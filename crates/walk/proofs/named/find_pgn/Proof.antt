@@ -46,25 +46,19 @@ pgn-position-requires c κs =
     (section .result) (of-tree .ensures) (section .ensures) in
     record { ready = start .pre .ready; trees = if1 .left; first = a .place; item = omega (arith, a .count, c .if2 .left) }
 
-pgn-of-requires : tie.Need-pgn-of-requires
-pgn-of-requires c κs = search needs
-
-sets-of-requires : tie.Need-sets-of-requires
-sets-of-requires c κs = search needs
-
 returns-3 : tie.Need-returns-3
 returns-3 c =
-    let start = c .before .before .before .before .before .before .before .before .before .before in
-    let if1 = c .before .before .before .before .before .before .before .if1 in
-    let of-tree = c .before .before .before .before .before .before .of-tree in
-    let section = c .before .before .before .before .before .section in
-    let if2 = c .before .before .before .if2 in
+    let start = c .before .before .before .before .before .before .before .before in
+    let if1 = c .before .before .before .before .before .if1 in
+    let of-tree = c .before .before .before .before .of-tree in
+    let section = c .before .before .before .section in
+    let if2 = c .before .if2 in
     let s = now (start .args .s) in let tree = start .args .tree in let pgn = start .args .pgn in
     let a =
     at-tree (pack-of s) (start .args .index) (start .pre .index) tree (if1 .left) (of-tree .result) (section .result) (of-tree .ensures) (section .ensures) in
     let inside = lt-ltb pgn (length (pgns-of (pack-of s) tree)) (omega (arith, a .count, if2 .left)) in
     named-found s (now (start .args .work)) tree pgn _ _ (rw (lt-ltb tree 3 (if1 .left), inside)) refl refl
-    (record { index = start .pre .index; place = c .before .before .pgn-position .ensures; sets = c .sets-of .ensures })
+    (record { index = start .pre .index; place = c .pgn-position .ensures })
 
 pub find-pgn-spec : {M : Type 1} → statement M
 find-pgn-spec =
@@ -75,6 +69,4 @@ find-pgn-spec =
     section-requires
     returns-2
     pgn-position-requires
-    pgn-of-requires
-    sets-of-requires
     returns-3)

@@ -1,85 +1,132 @@
-use Rattle.walk.specs.State.{left-of, rest-of, place-of, turn-of}
-use Rattle.walk.specs.Passes.{again, close}
-use Rattle.walk.proofs.Spots.{put-as, second-goes-on, second-leaves, second-begins}
+use Rattle.walk.proofs.Spots.{close-four, close-below}
+use Rattle.walk.specs.State.{place-of, memory-of}
+use Rattle.walk.specs.SetsOf.{SetsAre}
+use Rattle.walk.specs.Passes.{close, stand}
+use Rattle.walk.specs.Layout.{Layout}
 use borrow.Author.Needs.{needs}
-use mathlib.Core.Path.{sym, _∙_, ap}
-use mathlib.Core.Option.{none, some}
+use denote.Ref.{now}
+use Prim.Native.Nat.{ℕ, _≤_, _-_, _<_}
+use lib.ListN.{length}
+use native.Mathlib.Omega.{arith}
+use mathlib.Core.Path.{_≡_, refl, sym, ap, _∙_}
 use Rattle.walk.proofs.passes.stand.Statement.{statement}
 use Rattle.walk.proofs.passes.stand.Tie as tie
+use Rattle.walk.proofs.passes.stand.Reads as reads
+use Rattle.walk.proofs.passes.stand.Lts as lts
+use Rattle.walk.proofs.passes.close.Reads as close-reads
+use Rattle.walk.proofs.passes.closed.Reads as closed-reads
 
-turn-requires : tie.Need-turn-requires
-turn-requires c κs = search needs
+abbrev Inv-loop : tie.InvT-loop
+Inv-loop passes₀ o sets k₀ passes k =
+    record {
+      few : k ≤ 4;
+      same : length passes ≡ length passes₀;
+      rest : (L : Layout) → SetsAre L sets → 1 ≤ o .0 → close L k (place-of (o .0) passes) ≡ stand L (place-of (o .0) passes₀);
+      memory : memory-of passes ≡ memory-of passes₀;
+    }
 
-enum-told : tie.Need-enum-told
-enum-told c = search needs
+abbrev μ-loop : tie.MeasureT-loop
+μ-loop passes₀ o sets k₀ passes k = k
 
-close-first-requires : tie.Need-close-first-requires
-close-first-requires c κs = search needs
+-- src/passes.rt:227:5
+loop-holds : tie.Need-loop-holds Inv-loop μ-loop
+loop-holds c = record { few = omega arith; same = refl; rest = λ L a l. close-four a _ l; memory = refl }
 
-enum-told-2 : tie.Need-enum-told-2
-enum-told-2 c = search needs
+-- src/passes.rt:228:9
+sub-k : tie.Need-sub-k Inv-loop μ-loop
+sub-k c = omega (arith, c .loop-test .taken)
 
-gone-requires : tie.Need-gone-requires
-gone-requires c κs = search needs
+-- src/passes.rt:229:19
+mul-set : tie.Need-mul-set Inv-loop μ-loop
+mul-set c = omega (arith, c .before .loop .inv .few)
 
-with-second-requires : tie.Need-with-second-requires
-with-second-requires c κs = search needs
+-- src/passes.rt:229:19
+element-copy-out-set : tie.Need-element-copy-out-set Inv-loop μ-loop
+element-copy-out-set c = omega (arith, c .before .loop .inv .few, c .loop-test .taken)
 
-close-first-requires-2 : tie.Need-close-first-requires-2
-close-first-requires-2 c κs = search needs
-
-enum-known-further : tie.Need-enum-known-further
-enum-known-further c = search needs
-
-pass-requires : tie.Need-pass-requires
-pass-requires c κs = search needs
-
-with-second-requires-2 : tie.Need-with-second-requires-2
-with-second-requires-2 c κs = search needs
-
-returns : tie.Need-returns
-returns c =
+-- src/passes.rt:230:12
+close-requires : tie.Need-close-requires Inv-loop μ-loop
+close-requires c κs =
     let start = c .before .before .before .before .before in
-    let turn = c .before .before .before .turn in
-    λ L a. (c .close-first .ensures L a
-    ∙ sym (second-goes-on a (place-of (start .args .spot)) (turn-of (turn .result)) (turn .ensures) (ap turn-of (c .before .enum-told .given .1))))
+    let loop = c .before .before .before .loop in
+    record { set = omega (arith, loop .inv .few, c .before .before .loop-test .taken); sixteen = loop .inv .same ∙ start .pre }
 
-returns-2 : tie.Need-returns-2
+-- src/passes.rt:232:13
+same-length : tie.Need-same-length Inv-loop μ-loop
+same-length c =
+    let loop = c .before .before .before .before .before .before .before .before .loop in
+    let close-call = c .before .before .before .before .close in
+    close-call .kept .1 .0 ∙ loop .inv .same
+
+-- src/passes.rt:232:13
+returns : tie.Need-returns Inv-loop μ-loop
+returns c =
+    let start = c .before .before .before .before .before .before .before .before .before .before in
+    let loop = c .before .before .before .before .before .before .before .before .loop in
+    let loop-test = c .before .before .before .before .before .before .before .loop-test in
+    let close-call = c .before .before .before .before .close in
+    record {
+      stands = λ L a l. close-below L (loop .k) (omega (arith, loop-test .taken)) (place-of (start .args .o .0) (loop .passes)) _ _ (loop .inv .rest L a l)
+          (rw (c .before .if1 .taken) at (close-call .ensures .closes L (a .set (loop .k - 1))));
+      few = omega (arith, c);
+      memory = close-call .ensures .memory ∙ loop .inv .memory;
+    }
+
+-- src/passes.rt:227:5
+loop-less : tie.Need-loop-less Inv-loop μ-loop
+loop-less c =
+    let loop-test = c .before .before .before .before .before .before .loop-test in
+    omega (arith, loop-test .taken)
+
+-- src/passes.rt:227:5
+loop-again : tie.Need-loop-again Inv-loop μ-loop
+loop-again c =
+    let start = c .before .before .before .before .before .before .before .before .before in
+    let loop = c .before .before .before .before .before .before .before .loop in
+    let loop-test = c .before .before .before .before .before .before .loop-test in
+    let close-call = c .before .before .before .close in
+    record {
+      few = omega (arith, loop .inv .few);
+      same = close-call .kept .1 .0 ∙ loop .inv .same;
+      rest = λ L a l. close-below L (loop .k) (omega (arith, loop-test .taken)) (place-of (start .args .o .0) (loop .passes)) _ _ (loop .inv .rest L a l)
+          (rw (c .if1 .left) at (close-call .ensures .closes L (a .set (loop .k - 1))));
+      memory = close-call .ensures .memory ∙ loop .inv .memory;
+    }
+
+-- src/passes.rt:235:5
+closed-requires : tie.Need-closed-requires Inv-loop μ-loop
+closed-requires c κs =
+    let start = c .before .before .before .before in
+    c .before .before .loop .inv .same ∙ start .pre
+
+-- src/passes.rt:218:1
+same-length-2 : tie.Need-same-length-2 Inv-loop μ-loop
+same-length-2 c =
+    let loop = c .before .before .before .loop in
+    loop .inv .same
+
+-- src/passes.rt:218:1
+returns-2 : tie.Need-returns-2 Inv-loop μ-loop
 returns-2 c =
-    let start = c .before .before .before .before .before .before .before in
-    let turn = c .before .before .before .before .before .turn in
-    let enum-told2 = c .before .before .before .enum-told2 in
-    let gone = c .before .before .gone in
-    let spot = start .args .spot in
-    λ L a. (c .close-first2 .ensures L a
-    ∙ ap (close L 1) (put-as (place-of spot) (place-of (c .before .with-second .result)) (start .args .spot .order .0) 1 (left-of (gone .result)) none
-    (c .before .with-second .ensures) (gone .ensures))
-    ∙ sym (second-leaves a (place-of spot) (turn-of (turn .result)) (turn .ensures) (ap turn-of (enum-told2 .given .1))))
-
-returns-3 : tie.Need-returns-3
-returns-3 c =
-    let start = c .before .before .before .before .before .before .before in
-    let turn = c .before .before .before .before .before .turn in
-    let further = c .before .before .before .further in
-    let spot = start .args .spot in
-    λ L a. (ap (again 1) (put-as (place-of spot) (place-of (c .with-second2 .result)) (start .args .sets .second .start .0) 1
-    (left-of (c .before .pass .result)) (some (rest-of (further .given .0 .0))) (c .with-second2 .ensures) (c .before .pass .ensures))
-    ∙ sym (second-begins a (place-of spot) (turn-of (turn .result)) (turn .ensures) (rest-of (further .given .0 .0)) (ap turn-of (further .given .1))))
+    let loop = c .before .before .before .loop in
+    let e : loop .k ≡ 0 = omega (arith, c .before .before .loop-test .left) in
+    record { stands = λ L a l. c .closed .ensures .stands L a ∙ (rw e at (loop .inv .rest L a l)); few = c .closed .ensures .few; memory = loop .inv .memory }
 
 pub stand-spec : {M : Type 1} → statement M
 stand-spec =
     tie.close
     (tie.spec
-    turn-requires
-    enum-told
-    close-first-requires
-    enum-told-2
-    gone-requires
-    with-second-requires
-    close-first-requires-2
-    enum-known-further
-    pass-requires
-    with-second-requires-2
+    Inv-loop
+    μ-loop
+    loop-holds
+    sub-k
+    mul-set
+    element-copy-out-set
+    close-requires
+    same-length
     returns
-    returns-2
-    returns-3)
+    loop-less
+    loop-again
+    closed-requires
+    same-length-2
+    returns-2)

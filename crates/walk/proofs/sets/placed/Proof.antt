@@ -1,4 +1,4 @@
-use Rattle.walk.proofs.TwoSets.{placed-by}
+use Rattle.walk.proofs.SetValues.{placed-by}
 use borrow.Author.Needs.{needs}
 use Rattle.walk.proofs.sets.placed.Statement.{statement}
 use Rattle.walk.proofs.sets.placed.Tie as tie

@@ -1,5 +1,5 @@
-use native.Mathlib.Omega.{arith}
 use mathlib.Core.Path.{refl}
+use native.Mathlib.Omega.{arith}
 use borrow.Author.Needs.{needs}
 use Rattle.walk.proofs.sets.set_of.Statement.{statement}
 use Rattle.walk.proofs.sets.set_of.Tie as tie

@@ -1,62 +1,68 @@
-use Rattle.walk.proofs.TwoSets.{misplaced-first, misplaced-second, stop-1-two}
+use Rattle.walk.proofs.SetValues.{stop-misplaced, stop-clashes, stop-none}
+use Rattle.walk.proofs.Plain.{below-next}
+use Rattle.walk.specs.SetsOf.{SetsAre}
+use Rattle.walk.specs.Layout.{Layout, misplaced, clash}
+use Rattle.rules.specs.Search.{any-below}
+use mathlib.Core.Bool.{false}
+use mathlib.Core.Path.{_≡_, sym, _∙_}
+use native.Mathlib.Omega.{arith}
+use Prim.Native.Nat.{ℕ, _-_, _≤_, _<_}
 use borrow.Author.Needs.{needs}
 use Rattle.walk.proofs.sets.stop_1.Statement.{statement}
 use Rattle.walk.proofs.sets.stop_1.Tie as tie
 
-misplaced-requires : tie.Need-misplaced-requires
+abbrev Inv-loop : tie.InvT-loop
+Inv-loop sets k₀ k =
+    record {
+      turns : k ≤ 4;
+      fit : (L : Layout) → SetsAre L sets → (j : ℕ) → j < k → misplaced L j ≡ false;
+      apart : (L : Layout) → SetsAre L sets → (j : ℕ) → j < k → any-below (λ i. clash L i j) j ≡ false;
+    }
+
+abbrev μ-loop : tie.MeasureT-loop
+μ-loop sets k₀ k = 4 - k
+
+loop-holds : tie.Need-loop-holds Inv-loop μ-loop
+loop-holds c = record { turns = omega arith; fit = λ L a j l. absurd (omega (arith, l)); apart = λ L a j l. absurd (omega (arith, l)) }
+
+misplaced-requires : tie.Need-misplaced-requires Inv-loop μ-loop
 misplaced-requires c κs = search needs
 
-returns : tie.Need-returns
-returns c = λ L a. (rw (stop-1-two a, misplaced-first a, ← c .before .misplaced .ensures, c .if1 .taken))
+returns : tie.Need-returns Inv-loop μ-loop
+returns c =
+    let loop = c .before .before .before .loop in
+    λ L a. sym (stop-misplaced a (loop .k) (sym (c .before .misplaced .ensures L a) ∙ c .if1 .taken))
 
-inside-first-requires : tie.Need-inside-first-requires
-inside-first-requires c κs = search needs
+clashes-requires : tie.Need-clashes-requires Inv-loop μ-loop
+clashes-requires c κs = search needs
 
-misplaced-requires-2 : tie.Need-misplaced-requires-2
-misplaced-requires-2 c κs = search needs
-
-returns-2 : tie.Need-returns-2
+returns-2 : tie.Need-returns-2 Inv-loop μ-loop
 returns-2 c =
-    let misplaced = c .before .before .before .before .misplaced in
-    let if1 = c .before .before .before .if1 in
-    λ L a. (rw (
-      stop-1-two a,
-      misplaced-first a,
-      ← misplaced .ensures,
-      if1 .left,
-      misplaced-second a,
-      ← c .before .before .inside-first .ensures,
-      ← c .before .misplaced2 .ensures,
-      c .if2 .taken,
-    ))
+    let loop = c .before .before .before .before .before .loop in
+    λ L a. sym (stop-clashes a (loop .k) (sym (c .before .clashes .ensures L a) ∙ c .if2 .taken))
 
-clash-requires : tie.Need-clash-requires
-clash-requires c κs = search needs
+add-k : tie.Need-add-k Inv-loop μ-loop
+add-k c = search needs
 
-returns-3 : tie.Need-returns-3
+loop-less : tie.Need-loop-less Inv-loop μ-loop
+loop-less c = search needs
+
+loop-again : tie.Need-loop-again Inv-loop μ-loop
+loop-again c =
+    let loop = c .before .before .before .before .before .loop in
+    let loop-test = c .before .before .before .before .loop-test in
+    let misplaced-call = c .before .before .before .misplaced in
+    record {
+      turns = omega (arith, loop-test .taken);
+      fit = λ L a. below-next (λ (j : ℕ). misplaced L j ≡ false) (loop .inv .fit L a) (sym (misplaced-call .ensures L a) ∙ c .before .before .if1 .left);
+      apart =
+          λ L a. below-next (λ (j : ℕ). any-below (λ i. clash L i j) j ≡ false) (loop .inv .apart L a) (sym (c .before .clashes .ensures L a) ∙ c .if2 .left);
+    }
+
+returns-3 : tie.Need-returns-3 Inv-loop μ-loop
 returns-3 c =
-    let misplaced = c .before .before .before .before .before .misplaced in
-    let if1 = c .before .before .before .before .if1 in
-    let inside-first = c .before .before .before .inside-first in
-    λ L a. (rw (
-      stop-1-two a,
-      misplaced-first a,
-      ← misplaced .ensures,
-      if1 .left,
-      misplaced-second a,
-      ← inside-first .ensures,
-      ← c .before .before .misplaced2 .ensures,
-      c .before .if2 .left,
-    ) (c .clash .ensures L a))
+    λ L a. sym (stop-none a (λ j l. c .before .loop .inv .fit L a j (omega (arith, l, c .loop-test .left)))
+    (λ j l. c .before .loop .inv .apart L a j (omega (arith, l, c .loop-test .left))))
 
 pub stop-1-spec : {M : Type 1} → statement M
-stop-1-spec =
-    tie.close
-    (tie.spec
-    misplaced-requires
-    returns
-    inside-first-requires
-    misplaced-requires-2
-    returns-2
-    clash-requires
-    returns-3)
+stop-1-spec = tie.close (tie.spec Inv-loop μ-loop loop-holds misplaced-requires returns clashes-requires returns-2 add-k loop-less loop-again returns-3)

@@ -1,8 +1,13 @@
+use Rattle.walk.proofs.Plain.{below-next}
+use Rattle.rules.specs.SearchLaws.{below-suc}
+use Rattle.walk.specs.SetsOf.{value-at}
 use Rattle.walk.specs.Runs.{edge}
-use mathlib.Core.Path.{_≡_, ap, _∙_}
-use Prim.Native.Nat.{_+_, _-_}
+use Rattle.pack.specs.Meaning.{opt-order}
+use Rattle.walk.specs.ByPlace.{counts}
+use Prim.Native.Nat.{ℕ, _≤_, _-_, _<_, _+_}
 use native.Mathlib.Omega.{arith}
-use borrow.Author.Needs.{needs}
+use mathlib.Core.Bool.{false}
+use mathlib.Core.Path.{_≡_, refl, sym, ap, _∙_}
 use Rattle.walk.proofs.stretches.plain_orders.Statement.{statement}
 use Rattle.walk.proofs.stretches.plain_orders.Tie as tie
 use Rattle.walk.proofs.stretches.plain_orders.Reads as reads
@@ -11,59 +16,97 @@ use Rattle.walk.proofs.orders.next_order.Reads as next-order-reads
 use Rattle.walk.proofs.stretches.short_of_counter.Reads as short-of-counter-reads
 use Rattle.walk.proofs.stretches.short_of_edges.Reads as short-of-edges-reads
 
+abbrev Inv-loop : tie.InvT-loop
+Inv-loop o sets next n₀ k₀ n k =
+    record {
+      few : k ≤ 4;
+      less : n ≤ sets .fields - o .0;
+      edges : (i : ℕ) → i < k → (j : ℕ) → j < n → edge (value-at sets i) (next .0 + j) ≡ false;
+      uncounted : (i : ℕ) → i < k → (j : ℕ) → j < n → counts (opt-order (value-at sets i .counter)) (o .0 + j - 1) ≡ false;
+    }
+
+abbrev μ-loop : tie.MeasureT-loop
+μ-loop o sets next n₀ k₀ n k = 4 - k
+
 -- src/stretches.rt:76:9
-returns : tie.Need-returns
-returns c =
-    let start = c .before .before .before in
-    record { small = omega (arith, start .good); plain = λ j l. absurd (omega (arith, l)) }
+returns : tie.Need-returns Inv-loop μ-loop
+returns c = record { small = omega (arith, c .before .before .good); plain = λ j l. absurd (omega (arith, l)) }
 
 -- src/stretches.rt:78:9
-next-order-requires : tie.Need-next-order-requires
-next-order-requires c κs = search needs
+next-order-requires : tie.Need-next-order-requires Inv-loop μ-loop
+next-order-requires c κs = omega (arith, c .if1 .left, c .before .struct-known .given, c .before .before .good)
 
--- src/stretches.rt:79:28
-sub-short-of-edges : tie.Need-sub-short-of-edges
-sub-short-of-edges c = search needs
+-- src/stretches.rt:79:17
+sub-n : tie.Need-sub-n Inv-loop μ-loop
+sub-n c = omega (arith, c .before .before .if1 .left)
 
--- src/stretches.rt:79:9
-short-of-edges-requires : tie.Need-short-of-edges-requires
-short-of-edges-requires c κs = search needs
+-- src/stretches.rt:81:5
+loop-holds : tie.Need-loop-holds Inv-loop μ-loop
+loop-holds c = record { few = omega arith; less = omega arith; edges = λ i l. absurd (omega (arith, l)); uncounted = λ i l. absurd (omega (arith, l)) }
 
--- src/stretches.rt:80:9
-short-of-edges-requires-2 : tie.Need-short-of-edges-requires-2
-short-of-edges-requires-2 c κs = search needs
+-- src/stretches.rt:82:19
+mul-set : tie.Need-mul-set Inv-loop μ-loop
+mul-set c = omega (arith, c .loop-test .taken)
 
--- src/stretches.rt:81:9
-short-of-counter-requires : tie.Need-short-of-counter-requires
-short-of-counter-requires c κs = search needs
+-- src/stretches.rt:82:19
+element-copy-out-set : tie.Need-element-copy-out-set Inv-loop μ-loop
+element-copy-out-set c = c .loop-test .taken
 
--- src/stretches.rt:82:5
-short-of-counter-requires-2 : tie.Need-short-of-counter-requires-2
-short-of-counter-requires-2 c κs = search needs
+-- src/stretches.rt:83:13
+short-of-edges-requires : tie.Need-short-of-edges-requires Inv-loop μ-loop
+short-of-edges-requires c κs = tt
+
+-- src/stretches.rt:84:9
+short-of-counter-requires : tie.Need-short-of-counter-requires Inv-loop μ-loop
+short-of-counter-requires c κs =
+    let start = c .before .before .before .before .before .before .before .before in
+    start .pre
+
+-- src/stretches.rt:85:9
+add-k : tie.Need-add-k Inv-loop μ-loop
+add-k c =
+    let loop-test = c .before .before .before .loop-test in
+    omega (arith, loop-test .taken)
+
+-- src/stretches.rt:81:5
+loop-less : tie.Need-loop-less Inv-loop μ-loop
+loop-less c =
+    let loop-test = c .before .before .before .loop-test in
+    omega (arith, loop-test .taken)
+
+-- src/stretches.rt:81:5
+loop-again : tie.Need-loop-again Inv-loop μ-loop
+loop-again c =
+    let start = c .before .before .before .before .before .before .before .before .before in
+    let next-order = c .before .before .before .before .before .before .next-order in
+    let loop = c .before .before .before .before .loop in
+    let loop-test = c .before .before .before .loop-test in
+    let t1 = start .args .t1 in
+    let r = c .short-of-counter .result in
+    record {
+      few = omega (arith, loop-test .taken);
+      less = omega (arith, loop .inv .less, c .before .short-of-edges .ensures .fewer, c .short-of-counter .ensures .fewer);
+      edges = below-next (λ i. (j : ℕ) → j < r → edge (value-at t1 i) (next-order .result .0 + j) ≡ false)
+          (λ i l j m. loop .inv .edges i l j (omega (arith, m, c .before .short-of-edges .ensures .fewer, c .short-of-counter .ensures .fewer)))
+          (λ j m. c .before .short-of-edges .ensures .none j (omega (arith, m, c .short-of-counter .ensures .fewer)));
+      uncounted = below-next (λ i. (j : ℕ) → j < r → counts (opt-order (value-at t1 i .counter)) (start .args .o .0 + j - 1) ≡ false)
+          (λ i l j m. loop .inv .uncounted i l j (omega (arith, m, c .before .short-of-edges .ensures .fewer, c .short-of-counter .ensures .fewer)))
+          (c .short-of-counter .ensures .none);
+    }
 
 -- src/stretches.rt:71:1
-returns-2 : tie.Need-returns-2
+returns-2 : tie.Need-returns-2 Inv-loop μ-loop
 returns-2 c =
-    let start = c .before .before .before .before .before .before .before .before .before .before in
-    let if1 = c .before .before .before .before .before .before .before .if1 in
-    let next-order = c .before .before .before .before .before .before .next-order in
-    let short-of-edges = c .before .before .before .short-of-edges in
-    let short-of-edges2 = c .before .before .short-of-edges2 in
-    let few₁ = short-of-edges .ensures .fewer in
-    let few₂ = short-of-edges2 .ensures .fewer in
-    let few₃ = c .before .short-of-counter .ensures .fewer in
-    let few₄ = c .short-of-counter2 .ensures .fewer in
-    let o = start .args .o .0 in
-    let low = if1 .left in
+    let start = c .before .before .before .before .before .before in
+    let if1 = c .before .before .before .before .if1 in
+    let next-order = c .before .before .before .next-order in
     record {
-      small = omega (arith, few₁, few₂, few₃, few₄, low, start .good);
-      plain = λ j l. let e : o + j + 1 ≡ next-order .result .0 + j = omega (arith, next-order .ensures) in
+      small = omega (arith, c .before .loop .inv .less, if1 .left, start .good);
+      plain = λ j l. let e : start .args .o .0 + j + 1 ≡ next-order .result .0 + j = omega (arith, next-order .ensures) in
           record {
-            low = omega (arith, l, few₁, few₂, few₃, few₄, low);
-            first-edge = ap (edge (start .args .sets .first)) e ∙ short-of-edges .ensures .none j (omega (arith, l, few₂, few₃, few₄));
-            second-edge = ap (edge (start .args .sets .second)) e ∙ short-of-edges2 .ensures .none j (omega (arith, l, few₃, few₄));
-            first-count = c .before .short-of-counter .ensures .none j (omega (arith, l, few₄));
-            second-count = c .short-of-counter2 .ensures .none j l;
+            low = omega (arith, l, c .before .loop .inv .less, if1 .left);
+            edges = λ k m. ap (edge (value-at (start .args .t1) k)) e ∙ c .before .loop .inv .edges k (omega (arith, m, c .loop-test .left)) j l;
+            uncounted = λ k m. c .before .loop .inv .uncounted k (omega (arith, m, c .loop-test .left)) j l;
           };
     }
 
@@ -71,11 +114,17 @@ pub plain-orders-spec : {M : Type 1} → statement M
 plain-orders-spec =
     tie.close
     (tie.spec
+    Inv-loop
+    μ-loop
     returns
     next-order-requires
-    sub-short-of-edges
+    sub-n
+    loop-holds
+    mul-set
+    element-copy-out-set
     short-of-edges-requires
-    short-of-edges-requires-2
     short-of-counter-requires
-    short-of-counter-requires-2
+    add-k
+    loop-less
+    loop-again
     returns-2)

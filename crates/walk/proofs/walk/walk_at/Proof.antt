@@ -1,3 +1,4 @@
+use Rattle.walk.proofs.PassNumbers.{zeros-left, zeros-latest}
 use Rattle.walk.proofs.Walks.{stopped-1}
 use Rattle.walk.proofs.Readings.{remembered-zeros}
 use Rattle.walk.specs.Naming.{found-pgn}
@@ -5,7 +6,7 @@ use Rattle.walk.specs.Layout.{layout}
 use Rattle.pack.specs.Meaning.{pack-of}
 use Prim.Native.Nat.{ℕ}
 use lib.ListN.{replicate}
-use mathlib.Core.Path.{sym, _∙_}
+use mathlib.Core.Path.{refl, sym, _∙_}
 use denote.Ref.{now}
 use borrow.Author.Needs.{needs}
 use Rattle.walk.proofs.walk.walk_at.Statement.{statement}
@@ -15,11 +16,11 @@ use Rattle.walk.proofs.walk.walk_at.Lts as lts
 use Rattle.walk.proofs.sets.stop_1.Reads as stop-1-reads
 use Rattle.walk.proofs.walk.walk_on.Reads as walk-on-reads
 
--- src/walk.rt:85:8
+-- src/walk.rt:92:8
 stop-1-requires : tie.Need-stop-1-requires
 stop-1-requires c κs = search needs
 
--- src/walk.rt:86:9
+-- src/walk.rt:93:9
 returns : tie.Need-returns
 returns c =
     let start = c .before .before .before .before .before .before in
@@ -28,34 +29,41 @@ returns c =
     stopped-1 (pack-of s) p (now (start .args .readings)) (now (start .args .visits))
     (sym (c .before .stop-1 .ensures (layout p) (start .pre .pgn .sets)) ∙ c .if1 .taken)
 
--- src/walk.rt:93:29
+-- src/walk.rt:105:9
 slice-aggregate-walk-on : tie.Need-slice-aggregate-walk-on
 slice-aggregate-walk-on c = search needs
 
--- src/walk.rt:93:41
+-- src/walk.rt:106:9
 slice-aggregate-walk-on-2 : tie.Need-slice-aggregate-walk-on-2
 slice-aggregate-walk-on-2 c = search needs
 
--- src/walk.rt:93:5
+-- src/walk.rt:107:9
+slice-aggregate-walk-on-3 : tie.Need-slice-aggregate-walk-on-3
+slice-aggregate-walk-on-3 c = search needs
+
+-- src/walk.rt:101:5
 walk-on-requires : tie.Need-walk-on-requires
 walk-on-requires c κs =
-    let start = c .before .before .before .before .before .before .before .before .before in
-    let stop-1 = c .before .before .before .before .stop-1 in
-    let if1 = c .before .before .before .if1 in
+    let start = c .before .before .before .before .before .before .before .before .before .before in
+    let stop-1 = c .before .before .before .before .before .stop-1 in
+    let if1 = c .before .before .before .before .if1 in
     let s = now (start .args .s) in
     let p = found-pgn s (start .args .found) in
     record {
       pgn = start .pre .pgn;
       remembered = remembered-zeros (pack-of s) p 32768 (replicate {A = ℕ} 512 0);
+      sixteen = refl;
+      left = zeros-left 16;
+      latest = zeros-latest 16;
       no-stop-1 = sym (stop-1 .ensures (layout p) (start .pre .pgn .sets)) ∙ if1 .left;
       room = start .pre .room;
     }
 
--- src/walk.rt:80:1
+-- src/walk.rt:87:1
 same-length : tie.Need-same-length
 same-length c = search needs
 
--- src/walk.rt:80:1
+-- src/walk.rt:87:1
 returns-2 : tie.Need-returns-2
 returns-2 c = search needs
 
@@ -67,6 +75,7 @@ walk-at-spec =
     returns
     slice-aggregate-walk-on
     slice-aggregate-walk-on-2
+    slice-aggregate-walk-on-3
     walk-on-requires
     same-length
     returns-2)

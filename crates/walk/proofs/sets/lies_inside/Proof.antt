@@ -1,8 +1,8 @@
 use Rattle.walk.proofs.Tests.{leb-not}
 use mathlib.Core.Path.{sym}
 use borrow.Author.Needs.{needs}
-use Rattle.walk.proofs.sets.inside_first.Statement.{statement}
-use Rattle.walk.proofs.sets.inside_first.Tie as tie
+use Rattle.walk.proofs.sets.lies_inside.Statement.{statement}
+use Rattle.walk.proofs.sets.lies_inside.Tie as tie
 
 precedes-requires : tie.Need-precedes-requires
 precedes-requires c κs = search needs
@@ -14,10 +14,10 @@ returns : tie.Need-returns
 returns c =
     let start = c .before .before .before in
     rw (← c .before .before .precedes .ensures, c .before .if1 .taken, c .precedes2 .ensures)
-    (sym (leb-not (start .args .sets .second .end .0) (start .args .sets .first .end .0)))
+    (sym (leb-not (start .args .set .end .0) (start .args .outer .end .0)))
 
 returns-2 : tie.Need-returns-2
 returns-2 c = rw (← c .before .precedes .ensures, c .if1 .left)
 
-pub inside-first-spec : {M : Type 1} → statement M
-inside-first-spec = tie.close (tie.spec precedes-requires precedes-requires-2 returns returns-2)
+pub lies-inside-spec : {M : Type 1} → statement M
+lies-inside-spec = tie.close (tie.spec precedes-requires precedes-requires-2 returns returns-2)
