@@ -1,5 +1,5 @@
-// The passes of a PGN's sets, told from the visits. A pass begins with a visit of its set's start: past stop 1 set 1's start lies in no
-// set 2, so that no pass leaves its start out.
+// The passes of a PGN's sets, told from the visits. A pass begins with a visit of its set's start: past stop 1 a set's start lies in no
+// set that is nested in it, so that no pass leaves its start out.
 ghost use Prim.Native.Nat.{_<_};
 use listing::say;
 use pack::pgn::OptRepeating;

@@ -27,7 +27,7 @@ or-left false b e = absurd (false≢true e)
 
 -- ---- of one countField
 
--- the set j may hold it
+-- what `held` asks
 held-one : (L : Layout) (k : ℕ) (x : Option ℕ) → count-field-held L k x ≡ true → count-field-widest L k x ≡ true
 unfolding count-field-held count-field-widest
 held-one L k none e = refl

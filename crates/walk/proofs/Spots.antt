@@ -9,7 +9,7 @@ use mathlib.Core.List.{List}
 use mathlib.Core.Option.{Option, none, some}
 use lib.ListN.{length, List·getD-eq-default}
 use borrow.Author.Tests.{ne-eqb, lt-ltb, le-ltb}
-use Rattle.pack.specs.Notation.{if_then_else_, optional, _==_}
+use Rattle.pack.specs.Notation.{optional, _==_}
 use Rattle.walk.specs.Layout.{Layout, no-set, set-at, end}
 use Rattle.walk.specs.Passes.{Rest, endless, more, Place, present, put, goto, goto-with, arrives, Stand, again, arrived, ready, beyond, look, Turn}
 use Rattle.walk.specs.Passes.{goes-on, leaves, begins, turn, close, stand}
@@ -192,7 +192,7 @@ module _ {L : Layout} {v : Sets} (a : SetsAre L v) where
       (ap (λ (b : Bool). turn b (p .left (n + k))) ended)
       ∙ close-skip p k n (λ j l m. elsewhere j l (omega (arith, m)))
 
-  -- elsewhere of the sets below n starts there
+  -- none of the sets below n starts there
   pub look-none : (p : Place) (n : ℕ) → ((j : ℕ) → j < n → (value-at v j .start .0 == p .order) ≡ false) → look L n p ≡ ready p
   unfolding look
   look-none p zero elsewhere = refl

@@ -1,7 +1,7 @@
 -- What the values of the repeating sets are: a set's, and those of a layout.
 use Prim.Native.Nat.{ℕ, suc, _+_, _≤_}
 use mathlib.Core.Path.{_≡_}
-use mathlib.Core.Bool.{Bool, true, false, not, _&&_, _||_}
+use mathlib.Core.Bool.{Bool, false, not, _&&_, _||_}
 use lib.ListN.{length, getD}
 use Rattle.pack.specs.Meaning.{opt-order}
 use Rattle.pack.specs.Notation.{_<ᵇ_, _≤ᵇ_, _==_}

@@ -4,11 +4,10 @@ use Rattle.walk.specs.State.{arrival-of, place-of, memory-of, rest-of}
 use Rattle.walk.specs.SetsOf.{value-at}
 use Rattle.pack.specs.Meaning.{opt-order}
 use Prim.Native.Nat.{ℕ}
-use mathlib.Core.List.{List}
 use borrow.Author.Needs.{needs}
 use denote.Ref.{now}
 use native.Mathlib.Omega.{arith}
-use mathlib.Core.Path.{refl, ap, sym, _∙_, _≡_}
+use mathlib.Core.Path.{refl, ap, _∙_}
 use Rattle.walk.proofs.passes.at_set.Statement.{statement}
 use Rattle.walk.proofs.passes.at_set.Tie as tie
 use Rattle.walk.proofs.passes.at_set.Reads as reads

@@ -1,10 +1,8 @@
 use Rattle.walk.proofs.Spots.{closes-on, closes-left, closes-again, kept-memory}
 use Rattle.walk.specs.State.{turn-of, rest-of}
 use borrow.Author.Needs.{needs}
-use lib.ListN.{length}
 use denote.Ref.{now}
-use native.Mathlib.Omega.{arith}
-use mathlib.Core.Path.{refl, ap, _∙_, _≡_}
+use mathlib.Core.Path.{refl, ap}
 use Rattle.walk.proofs.passes.close.Statement.{statement}
 use Rattle.walk.proofs.passes.close.Tie as tie
 use Rattle.walk.proofs.passes.close.Reads as reads

@@ -3,7 +3,6 @@ use Rattle.walk.specs.State.{place-of}
 use denote.Ref.{now}
 use native.Mathlib.Omega.{arith}
 use mathlib.Core.Path.{_∙_}
-use borrow.Author.Needs.{needs}
 use Rattle.walk.proofs.passes.closed.Statement.{statement}
 use Rattle.walk.proofs.passes.closed.Tie as tie
 use Rattle.walk.proofs.passes.closed.Reads as reads

@@ -1,4 +1,4 @@
-use mathlib.Core.Path.{sym, _∙_, refl}
+use mathlib.Core.Path.{sym, _∙_}
 use borrow.Author.Needs.{needs}
 use Rattle.walk.proofs.passes.count.Statement.{statement}
 use Rattle.walk.proofs.passes.count.Tie as tie

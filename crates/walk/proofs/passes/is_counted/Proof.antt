@@ -3,10 +3,9 @@ use Rattle.rules.specs.SearchLaws.{any-hit, any-turn}
 use Rattle.rules.specs.Search.{any-below}
 use Rattle.walk.specs.ByPlace.{counts}
 use Rattle.pack.specs.Meaning.{opt-order}
-use mathlib.Core.Path.{_≡_, refl, sym, ap, _∙_}
+use mathlib.Core.Path.{_≡_, refl, sym, _∙_}
 use mathlib.Core.Bool.{false}
-use lib.ListN.{length}
-use Prim.Native.Nat.{_≤_, _-_, _+_}
+use Prim.Native.Nat.{_≤_, _-_}
 use native.Mathlib.Omega.{arith}
 use Rattle.walk.proofs.passes.is_counted.Statement.{statement}
 use Rattle.walk.proofs.passes.is_counted.Tie as tie

@@ -4,8 +4,8 @@ use Rattle.walk.specs.SetsOf.{SetsAre}
 use Rattle.walk.specs.Passes.{look}
 use Rattle.walk.specs.Layout.{Layout}
 use denote.Ref.{now}
-use Prim.Native.Nat.{_≤_, _-_, _<_}
-use mathlib.Core.Path.{_≡_, refl, sym, ap, _∙_}
+use Prim.Native.Nat.{_≤_, _<_}
+use mathlib.Core.Path.{_≡_, _∙_}
 use lib.ListN.{length}
 use native.Mathlib.Omega.{arith}
 use Rattle.walk.proofs.passes.look.Statement.{statement}

@@ -1,16 +1,16 @@
 use Rattle.walk.proofs.Spots.{rounds-first, rounds-settled, rounds-over, rounds-none}
 use Rattle.walk.specs.Walk.{settle, settled}
-use Rattle.walk.specs.State.{place-of, memory-of, over-order}
+use Rattle.walk.specs.State.{place-of, memory-of}
 use Rattle.walk.specs.SetsOf.{SetsAre}
 use Rattle.walk.specs.Passes.{stand}
 use Rattle.walk.specs.Layout.{Layout}
 use Rattle.walk.specs.ByPlace.{by-place}
 use borrow.Author.Needs.{needs}
 use denote.Ref.{now}
-use Prim.Native.Nat.{ℕ, _≤_, _-_, _<_, _+_}
+use Prim.Native.Nat.{_≤_}
 use lib.ListN.{length}
 use native.Mathlib.Omega.{arith}
-use mathlib.Core.Path.{_≡_, refl, sym, ap, _∙_}
+use mathlib.Core.Path.{_≡_, refl, _∙_}
 use Rattle.walk.proofs.passes.settle.Statement.{statement}
 use Rattle.walk.proofs.passes.settle.Tie as tie
 use Rattle.walk.proofs.passes.settle.Reads as reads

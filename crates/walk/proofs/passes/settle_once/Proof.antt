@@ -1,8 +1,8 @@
 use Rattle.walk.proofs.Spots.{stands-again, stands-ready, stands-beyond, stands-arrived, arrived-end}
-use Rattle.walk.specs.State.{place-of, arrived-set}
+use Rattle.walk.specs.State.{place-of}
 use denote.Ref.{now}
 use native.Mathlib.Omega.{arith}
-use mathlib.Core.Path.{_≡_, refl, sym, ap, _∙_}
+use mathlib.Core.Path.{_∙_}
 use borrow.Author.Needs.{needs}
 use Rattle.walk.proofs.passes.settle_once.Statement.{statement}
 use Rattle.walk.proofs.passes.settle_once.Tie as tie

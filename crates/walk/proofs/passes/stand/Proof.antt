@@ -3,12 +3,10 @@ use Rattle.walk.specs.State.{place-of, memory-of}
 use Rattle.walk.specs.SetsOf.{SetsAre}
 use Rattle.walk.specs.Passes.{close, stand}
 use Rattle.walk.specs.Layout.{Layout}
-use borrow.Author.Needs.{needs}
-use denote.Ref.{now}
-use Prim.Native.Nat.{ℕ, _≤_, _-_, _<_}
+use Prim.Native.Nat.{_≤_, _-_}
 use lib.ListN.{length}
 use native.Mathlib.Omega.{arith}
-use mathlib.Core.Path.{_≡_, refl, sym, ap, _∙_}
+use mathlib.Core.Path.{_≡_, refl, _∙_}
 use Rattle.walk.proofs.passes.stand.Statement.{statement}
 use Rattle.walk.proofs.passes.stand.Tie as tie
 use Rattle.walk.proofs.passes.stand.Reads as reads

@@ -1,8 +1,7 @@
 use Rattle.walk.proofs.Counting.{Counted, counted-none, counted-turn, counted-all}
-use Rattle.walk.specs.State.{left-at}
-use mathlib.Core.Path.{_≡_, refl, sym, ap, _∙_}
+use mathlib.Core.Path.{_≡_, refl, _∙_}
 use lib.ListN.{length}
-use Prim.Native.Nat.{_≤_, _-_, _+_, ℕ}
+use Prim.Native.Nat.{_≤_, _-_}
 use native.Mathlib.Omega.{arith}
 use Rattle.walk.proofs.passes.visit.Statement.{statement}
 use Rattle.walk.proofs.passes.visit.Tie as tie

@@ -5,7 +5,7 @@ use borrow.Author.Needs.{needs}
 use denote.Ref.{now}
 use native.Mathlib.Omega.{arith}
 use mathlib.Core.Bool.{false≢true}
-use mathlib.Core.Path.{_≡_, refl, sym, ap, _∙_}
+use mathlib.Core.Path.{refl, sym, ap, _∙_}
 use Rattle.walk.proofs.runs.behind.Statement.{statement}
 use Rattle.walk.proofs.runs.behind.Tie as tie
 use Rattle.walk.proofs.runs.behind.Reads as reads

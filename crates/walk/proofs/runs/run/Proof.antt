@@ -1,11 +1,10 @@
 use Rattle.walk.proofs.Plain.{plain-within, runs-none, runs-leap, runs-turn}
 use Rattle.walk.specs.Runs.{PlainAt, Straight, RunsTo}
 use borrow.Author.Tests.{not-true, not-false}
-use denote.Ref.{now}
 use lib.ListN.{length}
 use Prim.Native.Nat.{ℕ, _+_, _-_, _≤_, _<_}
 use native.Mathlib.Omega.{arith}
-use mathlib.Core.Path.{_≡_, refl, sym, ap, _∙_}
+use mathlib.Core.Path.{_≡_, refl, sym, _∙_}
 use Rattle.walk.proofs.runs.run.Statement.{statement}
 use Rattle.walk.proofs.runs.run.Tie as tie
 use Rattle.walk.proofs.runs.run.Reads as reads

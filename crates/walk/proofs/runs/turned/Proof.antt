@@ -1,5 +1,4 @@
 use Rattle.walk.proofs.Plain.{no-pass-behind, pass-behind, from-before}
-use Rattle.walk.proofs.Plain.{no-pass-behind, pass-behind}
 use Rattle.walk.specs.SetsOf.{value-at}
 use Rattle.pack.specs.Notation.{_==_}
 use denote.Ref.{now}

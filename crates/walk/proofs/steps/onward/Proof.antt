@@ -1,11 +1,8 @@
 use Rattle.walk.proofs.Walks.{goes-onward, same-left}
-use Rattle.walk.specs.State.{left-of, left-at, place-of, memory-of}
-use Rattle.walk.specs.Passes.{Rest, Place, goto}
-use Prim.Native.Nat.{ℕ}
-use mathlib.Core.Option.{Option}
+use Rattle.walk.specs.State.{place-of, memory-of}
 use denote.Ref.{now}
 use native.Mathlib.Omega.{arith}
-use mathlib.Core.Path.{_≡_, ap, _∙_, fun-ext}
+use mathlib.Core.Path.{_∙_}
 use borrow.Author.Needs.{needs}
 use Rattle.walk.proofs.steps.onward.Statement.{statement}
 use Rattle.walk.proofs.steps.onward.Tie as tie

@@ -1,6 +1,5 @@
 use denote.Ref.{now}
 use native.Mathlib.Omega.{arith}
-use mathlib.Core.Path.{_∙_}
 use Rattle.walk.proofs.Walks.{step-stops, step-visits}
 use Rattle.walk.specs.Stops.{stop-at}
 use Rattle.walk.specs.State.{place-of, memory-of, settled-of}

@@ -1,5 +1,5 @@
 use Rattle.walk.proofs.Walks.{used-finished}
-use mathlib.Core.Path.{_∙_, refl}
+use mathlib.Core.Path.{_∙_}
 use borrow.Author.Needs.{needs}
 use Rattle.walk.proofs.steps.used.Statement.{statement}
 use Rattle.walk.proofs.steps.used.Tie as tie

@@ -1,5 +1,4 @@
 use Rattle.walk.proofs.Plain.{below-next}
-use Rattle.rules.specs.SearchLaws.{below-suc}
 use Rattle.walk.specs.SetsOf.{value-at}
 use Rattle.walk.specs.Runs.{edge}
 use Rattle.pack.specs.Meaning.{opt-order}
@@ -7,7 +6,7 @@ use Rattle.walk.specs.ByPlace.{counts}
 use Prim.Native.Nat.{ℕ, _≤_, _-_, _<_, _+_}
 use native.Mathlib.Omega.{arith}
 use mathlib.Core.Bool.{false}
-use mathlib.Core.Path.{_≡_, refl, sym, ap, _∙_}
+use mathlib.Core.Path.{_≡_, ap, _∙_}
 use Rattle.walk.proofs.stretches.plain_orders.Statement.{statement}
 use Rattle.walk.proofs.stretches.plain_orders.Tie as tie
 use Rattle.walk.proofs.stretches.plain_orders.Reads as reads
