@@ -261,8 +261,13 @@ module _ (L : Layout) (laid : stop-1 L ≡ false) (stops : Stops) (A : Answer) (
     }
 
 -- after a run
-pub going-run : (L : Layout) → stop-1 L ≡ false → (stops : Stops) (A : Answer) (readings w : List ℕ) {v v′ : List ℕ} {n n′ : ℕ} {c c′ : Settled (ℕ → ℕ)}
+going-run : (L : Layout) → stop-1 L ≡ false → (stops : Stops) (A : Answer) (readings w : List ℕ) {v v′ : List ℕ} {n n′ : ℕ} {c c′ : Settled (ℕ → ℕ)}
     → Run L stops readings v n c v′ n′ c′ → Going L stops A readings w v n c → Going L stops A readings w v′ n′ c′
 going-run L laid stops A readings w no-step g = g
 going-run L laid stops A readings w (then-step {v′} {n′} {c′} R low k d e) g =
     going-on L laid stops A readings w v′ n′ c′ (going-run L laid stops A readings w R g) low (visited k d) e k d refl
+
+-- a turn of the loop until its step: the walk settles, and a run follows
+pub going-turn : (L : Layout) → stop-1 L ≡ false → (stops : Stops) (A : Answer) (readings w : List ℕ) {v v′ : List ℕ} {n n′ : ℕ}
+    {b c c′ : Settled (ℕ → ℕ)} → c ≡ b → Going L stops A readings w v n b → Run L stops readings v n c v′ n′ c′ → Going L stops A readings w v′ n′ c′
+going-turn L laid stops A readings w {v} {n = n} e g R = going-run L laid stops A readings w R (subst (Going L stops A readings w v n) (sym e) g)

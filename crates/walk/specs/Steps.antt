@@ -5,9 +5,9 @@ use mathlib.Core.List.{List}
 use mathlib.Core.Option.{none, some}
 use lib.ListN.{length, getD, set}
 use Rattle.walk.specs.Layout.{Layout}
-use Rattle.walk.specs.Walk.{Stops, Settled, past, halted, due, onward, End, whole, used-up, stop}
+use Rattle.walk.specs.Walk.{Stops, Settled, past, halted, due, settled, onward, End, whole, used-up, stop}
 use Rattle.walk.specs.ByPlace.{placed, by-place}
-use Rattle.walk.specs.State.{settled-of}
+use Rattle.walk.specs.State.{place-of, memory-of}
 use Rattle.walk.specs.declared.walk.End.{End as Ending}
 use Rattle.walk.specs.declared.walk.End.the-variants.{Whole, UsedUp, Stop}
 use Rattle.walk.specs.declared.steps.Stepping.{Stepping}
@@ -45,9 +45,15 @@ used (due p g) = used-up
 
 -- what the values mean
 
-abbrev pub step-of : Stepping → List ℕ → Stepped
-step-of (stepping.Ended e) w = ended (end-of e)
-step-of (stepping.Visited k next) w = visited (k .0) (settled-of next w)
+-- behind the visited field the walk is not settled yet
+abbrev pub step-of : Layout → Stepping → List ℕ → Stepped
+step-of L (stepping.Ended e) w = ended (end-of e)
+step-of L (stepping.Visited k next) w = visited (k .0) (settled L (by-place L) (place-of (next .0) w) (memory-of w))
+
+-- the order behind the visited field, 1 where the walk has ended
+abbrev pub next-of : Stepping → ℕ
+next-of (stepping.Ended e) = 1
+next-of (stepping.Visited k next) = next .0
 
 -- a due field is one of the PGN's
 abbrev pub Within : Layout → Settled (ℕ → ℕ) → Type 0

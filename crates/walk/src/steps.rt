@@ -7,26 +7,23 @@ ghost use mathlib.Core.List.{List};
 ghost use lib.ListN.{length};
 ghost use Rattle.pack.specs.Meaning.{pack-of};
 ghost use Rattle.pack.specs.Notation.{if_then_else_};
-ghost use Rattle.walk.specs.ByPlace.{by-place, placed};
+ghost use Rattle.walk.specs.ByPlace.{placed};
 ghost use Rattle.walk.specs.Layout.{Layout, layout};
 ghost use Rattle.walk.specs.Naming.{IsFound, found-pgn};
-ghost use Rattle.walk.specs.Passes.{first};
 ghost use Rattle.walk.specs.SetsOf.{SetsAre};
-ghost use Rattle.walk.specs.State.{left-of, left-at, place-of, memory-of, settled-of};
-ghost use Rattle.walk.specs.Steps.{Run, one-step, used, step-of, Within};
+ghost use Rattle.walk.specs.State.{place-of, memory-of, settled-of};
+ghost use Rattle.walk.specs.Steps.{Run, one-step, used, step-of, next-of, Within};
 ghost use Rattle.walk.specs.StopParts.{Remembered, lets-pass};
 ghost use Rattle.walk.specs.Stops.{stop-at};
-ghost use Rattle.walk.specs.Walk.{Stops, due, settled, onward};
+ghost use Rattle.walk.specs.Walk.{Stops, due};
 ghost use Rattle.walk.specs.WalkCall.{ending};
 ghost use Rattle.walk.specs.declared.walk.End.the-variants.{Whole, Stop};
 use crate::known::stop_at;
 use crate::named::FoundPgn;
-use crate::orders::first_order;
 use crate::orders::index_of;
 use crate::orders::next_order;
 use crate::passes::Settling;
 use crate::passes::due;
-use crate::passes::settle;
 use crate::passes::visit;
 use crate::runs::run;
 use crate::sets::Sets;
@@ -34,10 +31,10 @@ use crate::walk::End;
 use pack::protocol::FieldIndex;
 use pack::protocol::FieldOrder;
 
-// With one reading: the walk ends, or a field is visited.
+// With one reading: the walk ends, or a field is visited, and the walk goes on behind it.
 pub enum Stepping {
     Ended(End),
-    Visited { field: FieldIndex, next: Settling },
+    Visited { field: FieldIndex, next: FieldOrder },
 }
 
 // The walk after a run, and how many visits are made by then.
@@ -54,28 +51,6 @@ fn finished(halted: bool) -> End
         return End::Stop(2);
     }
     End::Whole
-}
-
-// Before the first visit: no set has a present pass.
-pub fn begin(sets: Sets, passes: &mut [u64]) -> Settling
-    requires { ⌜ record {
-      sixteen : length (now passes) ≡ 16;
-      left : (k : ℕ) → left-of (left-at (now passes) k) ≡ none;
-      latest : (k : ℕ) → memory-of (now passes) k ≡ 0;
-    } ⌝ }
-    ensures { λ r. ⌜ ((L : Layout) → SetsAre L sets → settled-of r (now (passes .exit)) ≡ settled L (by-place L) first (by-place L .fresh)) ⌝ }
-{
-    settle(sets, passes, first_order())
-}
-
-// After a visit of the field that was due at the order o.
-fn onward(sets: Sets, passes: &mut [u64], o: FieldOrder, reading: u64) -> Settling
-    requires { ⌜ record { first : 1 ≤ o .0; small : o .0 < 4294967295; sixteen : length (now passes) ≡ 16 } ⌝ }
-    ensures { λ r. ⌜ ((L : Layout) → SetsAre L sets → settled-of r (now (passes .exit))
-        ≡ onward L (by-place L) (place-of (o .0) (now (passes .entry))) (memory-of (now (passes .entry))) reading) ⌝ }
-{
-    visit(sets, passes, o, reading);
-    settle(sets, passes, next_order(o))
 }
 
 // At a due field, with its reading.
@@ -97,9 +72,10 @@ fn step_at(
       within : o .0 ≤ length (found-pgn (now s) found .fields);
     } ⌝ }
     ensures { λ r. ⌜ record {
-      step : step-of r (now (passes .exit)) ≡ one-step (layout (found-pgn (now (s .entry)) found))
+      step : step-of (layout (found-pgn (now (s .entry)) found)) r (now (passes .exit)) ≡ one-step (layout (found-pgn (now (s .entry)) found))
           (stop-at (pack-of (now (s .entry))) (found-pgn (now (s .entry)) found))
           (due (place-of (o .0) (now (passes .entry))) (memory-of (now (passes .entry)))) reading;
+      ahead : 1 ≤ next-of r;
       remembered : Remembered (pack-of (now (s .entry))) (found-pgn (now (s .entry)) found) (now (marks .exit)) (now (bad .exit));
     } ⌝ }
 {
@@ -108,7 +84,8 @@ fn step_at(
     if stop != 0 {
         return Stepping::Ended(End::Stop(stop));
     }
-    let next = onward(found.sets, passes, o, reading);
+    visit(found.sets, passes, o, reading);
+    let next = next_order(o);
     Stepping::Visited { field, next }
 }
 
@@ -130,8 +107,9 @@ pub fn step(
       within : Within (layout (found-pgn (now s) found)) (settled-of settling (now passes));
     } ⌝ }
     ensures { λ r. ⌜ record {
-      step : step-of r (now (passes .exit)) ≡ one-step (layout (found-pgn (now (s .entry)) found))
+      step : step-of (layout (found-pgn (now (s .entry)) found)) r (now (passes .exit)) ≡ one-step (layout (found-pgn (now (s .entry)) found))
           (stop-at (pack-of (now (s .entry))) (found-pgn (now (s .entry)) found)) (settled-of settling (now (passes .entry))) reading;
+      ahead : 1 ≤ next-of r;
       remembered : Remembered (pack-of (now (s .entry))) (found-pgn (now (s .entry)) found) (now (marks .exit)) (now (bad .exit));
     } ⌝ }
 {

@@ -16,10 +16,11 @@ use crate::named::FoundPgn;
 use crate::named::NamedPgn;
 use crate::named::found_pgn;
 use crate::named::named_pgn;
+use crate::orders::first_order;
+use crate::passes::settle;
 use crate::runs::write_visit;
 use crate::sets::stop_1;
 use crate::steps::Stepping;
-use crate::steps::begin;
 use crate::steps::run_on;
 use crate::steps::step;
 use crate::steps::used;
@@ -42,7 +43,7 @@ pub enum HeldAnswer {
     Held(bool),
 }
 
-// The walk past stop 1, with a memory of what is known of the fields.
+// The walk past stop 1, with a memory of what is known of the fields. `settle` is called here alone, so that the compiler inlines it.
 fn walk_on(
     s: &[u8],
     work: &[u32],
@@ -66,21 +67,34 @@ fn walk_on(
         (now (visits .exit)) r ⌝ }
 {
     let sets = found.sets;
-    let mut settling = begin(sets, passes);
+    let mut here = first_order();
     let mut n = 0;
-    while n < readings.len() {
-        match step(s, work, found, marks, bad, passes, settling, readings[n]) {
-            Stepping::Ended(end) => return Walked::Ended { end, visits: n },
+    loop {
+        let settling = settle(sets, passes, here);
+        let ran = run_on(sets, marks, bad, passes, settling, readings, visits, n);
+        let made = ran.visits;
+        if readings.len() <= made {
+            let end = used(ran.settling);
+            return Walked::Ended { end, visits: made };
+        }
+        match step(
+            s,
+            work,
+            found,
+            marks,
+            bad,
+            passes,
+            ran.settling,
+            readings[made],
+        ) {
+            Stepping::Ended(end) => return Walked::Ended { end, visits: made },
             Stepping::Visited { field, next } => {
-                write_visit(visits, n, field);
-                let ran = run_on(sets, marks, bad, passes, next, readings, visits, n + 1);
-                settling = ran.settling;
-                n = ran.visits;
+                write_visit(visits, made, field);
+                here = next;
+                n = made + 1;
             }
         }
     }
-    let end = used(settling);
-    Walked::Ended { end, visits: n }
 }
 
 // The walk over a PGN that is found, with a memory for as many fields as a pack can have, and for the readings of the first 128 of them.

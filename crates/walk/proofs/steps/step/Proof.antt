@@ -1,9 +1,10 @@
-use denote.Ref.{now}
-use Rattle.walk.proofs.Walks.{step-finished, due-within}
-use Rattle.walk.specs.Stops.{stop-at}
-use Rattle.walk.specs.Naming.{found-pgn}
-use Rattle.walk.specs.Layout.{layout}
 use Rattle.pack.specs.Meaning.{pack-of}
+use Rattle.walk.specs.Layout.{layout}
+use Rattle.walk.specs.Naming.{found-pgn}
+use Rattle.walk.specs.Stops.{stop-at}
+use Rattle.walk.proofs.Walks.{step-finished, due-within}
+use native.Mathlib.Omega.{arith}
+use denote.Ref.{now}
 use borrow.Author.Needs.{needs}
 use Rattle.walk.proofs.steps.step.Statement.{statement}
 use Rattle.walk.proofs.steps.step.Tie as tie
@@ -12,7 +13,6 @@ use Rattle.walk.proofs.steps.step.Lts as lts
 use Rattle.walk.proofs.steps.finished.Reads as finished-reads
 use Rattle.walk.proofs.steps.step_at.Reads as step-at-reads
 
--- src/steps.rt:138:9
 step-at-requires : tie.Need-step-at-requires
 step-at-requires c κs =
     let start = c .before .before .before .before .before .before .before .before .before in
@@ -21,30 +21,24 @@ step-at-requires c κs =
     (start .pre .within) in
     record { pgn = start .pre .pgn; remembered = start .pre .remembered; sixteen = start .pre .sixteen; first = d .0; within = d .1 }
 
--- src/steps.rt:138:9
 same-length : tie.Need-same-length
 same-length c = search needs
 
--- src/steps.rt:138:9
 same-length-2 : tie.Need-same-length-2
 same-length-2 c = search needs
 
--- src/steps.rt:138:9
 same-length-3 : tie.Need-same-length-3
 same-length-3 c = search needs
 
--- src/steps.rt:138:9
 returns : tie.Need-returns
 returns c =
     let if1 = c .before .before .before .before .before .before .before .before .before .before .if1 in
     let step-at = c .before .before .before .before .before .before .step-at in
-    record { step = (rw (if1 .taken) (step-at .ensures .step)); remembered = step-at .ensures .remembered }
+    record { step = (rw (if1 .taken) (step-at .ensures .step)); ahead = step-at .ensures .ahead; remembered = step-at .ensures .remembered }
 
--- src/steps.rt:140:21
 finished-requires : tie.Need-finished-requires
 finished-requires c κs = search needs
 
--- src/steps.rt:115:1
 returns-2 : tie.Need-returns-2
 returns-2 c =
     let start = c .before .before .before .before .before .before .before in
@@ -53,6 +47,7 @@ returns-2 c =
     record {
       step = step-finished (layout p) (stop-at (pack-of s) p) (start .args .settling) (now (start .args .passes)) (start .args .reading) (c .before .if1 .left)
           (c .finished .result) (c .finished .ensures);
+      ahead = omega (arith, c);
       remembered = start .pre .remembered;
     }
 
