@@ -35,26 +35,30 @@ module _ {s : List ℕ} {G : Pgn} {v : PgnView} (is : PgnIs s G v) where
       ∙ ap (λ (l : List (Option Repeating)). getD l k none) sets-are
 
 module _ (s : List ℕ) where
-  places-of : (t i : ℕ) → t < 3 → i < length (pgns-of (pack-of s) t) → length (pgn-at (pack-of s) t i .sets) ≡ 2
+  pub places-of : (t i : ℕ) → t < 3 → i < length (pgns-of (pack-of s) t) → length (pgn-at (pack-of s) t i .sets) ≡ 2
   unfolding pgn-of-pack
   places-of t i h l =
       let m : i < tree-list s t .value = omega (arith, pgns-are s t h) in
       rw (pgn-is s t i h m) (length-tab _ _ ∙ places-read s (pgn-start s t i))
 
   -- beyond the trees and their PGNs there are none
-  pub sets-few : (t i : ℕ) → length (pgn-at (pack-of s) t i .sets) ≤ 4
-  sets-few t i = go (decLt t 3) (decLt i (length (pgns-of (pack-of s) t)))
+  pub sets-two : (t i : ℕ) → length (pgn-at (pack-of s) t i .sets) ≤ 2
+  sets-two t i = go (decLt t 3) (decLt i (length (pgns-of (pack-of s) t)))
     where
-      beyond : (t : ℕ) → 3 ≤ t → length (pgn-at (pack-of s) t i .sets) ≤ 4
+      beyond : (t : ℕ) → 3 ≤ t → length (pgn-at (pack-of s) t i .sets) ≤ 2
       beyond zero h = absurd (omega arith)
       beyond (suc zero) h = absurd (omega arith)
       beyond (suc (suc zero)) h = absurd (omega arith)
       beyond (suc (suc (suc t))) h = omega arith
 
-      go : Dec (t < 3) → Dec (i < length (pgns-of (pack-of s) t)) → length (pgn-at (pack-of s) t i .sets) ≤ 4
+      go : Dec (t < 3) → Dec (i < length (pgns-of (pack-of s) t)) → length (pgn-at (pack-of s) t i .sets) ≤ 2
       go (yes h) (yes l) = omega (arith, places-of t i h l)
       go (yes h) (no l) = rw (List·getD-eq-default (pgns-of (pack-of s) t) no-pgn {n = i} (omega arith)) (omega arith)
       go (no h) l = beyond t (omega arith)
+
+  -- a view has room for four
+  pub sets-few : (t i : ℕ) → length (pgn-at (pack-of s) t i .sets) ≤ 4
+  sets-few t i = omega (arith, sets-two t i)
 
 -- version 1: two places
 pub two-places : {s w : List ℕ} {t i p : ℕ} → PgnAt s w t i p → length (pgn-at (pack-of s) t i .sets) ≡ 2

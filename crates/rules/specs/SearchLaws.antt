@@ -56,7 +56,7 @@ below-suc {A} k n h low top = go (ℕ-discrete k n)
     go (yes e) = top e
     go (no e) = low (omega arith)
 
-or-right : (a b : Bool) → b ≡ true → (a || b) ≡ true
+pub or-right : (a b : Bool) → b ≡ true → (a || b) ≡ true
 or-right true b e = refl
 or-right false b e = e
 

@@ -1,13 +1,17 @@
--- Every reading of "a countField lies in no nonempty set, or in set 1 for a nested set 2" implies the widest (specs/HeldReadings.antt).
+-- Of the PGNs of a pack every reading of "a countField lies in no nonempty set, or in set 1 for a nested set 2" in specs/HeldReadings.antt implies
+-- the widest.
 use Prim.Native.Nat.{ℕ, zero, suc, _≤_, _<_}
 use native.Mathlib.Omega.{arith}
 use mathlib.Core.Path.{_≡_, refl, sym, _∙_}
 use mathlib.Core.Bool.{Bool, true, false, not, _&&_, _||_, false≢true}
+use mathlib.Core.List.{List}
 use mathlib.Core.Option.{Option, none, some}
 use lib.ListN.{length}
 use lib.Dec.{ltb, leb, eqb}
-use Rattle.pack.specs.Value.{Pgn, Pack}
-use Rattle.rules.specs.SearchLaws.{any-hit}
+use Rattle.pack.specs.Meaning.{pack-of}
+use Rattle.pack.specs.Value.{Pgn, Pack, pgn-at}
+use Rattle.pack.proofs.Sets.{sets-two}
+use Rattle.rules.specs.SearchLaws.{any-hit, or-right}
 use Rattle.rules.specs.Search.{any-below}
 use Rattle.walk.specs.Layout.{Layout, layout, set-at, nonempty, holds, nested-in}
 use Rattle.walk.specs.Held.{shares-held, count-field-held, count-fields-held, held-by, held}
@@ -16,10 +20,6 @@ use Rattle.walk.specs.HeldReadings.{count-field-letter, count-field-wher
 use Rattle.walk.specs.HeldReadings.{held-nonempty, held-letter, held-letter-nonempty, held-where-nested, held-widest}
 use Rattle.walk.proofs.Tests.{and-l, and-r, imp-e, imp-i, every-e, every-i, and-4}
 use Rattle.walk.proofs.SetFacts.{layout-length}
-
-or-right : (a b : Bool) → b ≡ true → (a || b) ≡ true
-or-right true b e = refl
-or-right false b e = e
 
 or-left : (a b : Bool) → a ≡ true → (a || b) ≡ true
 or-left true b e = refl
@@ -134,3 +134,14 @@ module _ (P : Pack) (p : Pgn) (two : length (p .sets) ≤ 2) where
   pub where-nested-implies-widest : held-where-nested P p ≡ true → held-widest P p ≡ true
   unfolding held-where-nested
   where-nested-implies-widest = by-nonempty count-field-where-nested P p where-nested
+
+-- of a PGN of a pack
+module _ (s : List ℕ) (t i : ℕ) where
+  pub letter-of-pack : held-letter (pack-of s) (pgn-at (pack-of s) t i) ≡ true → held-widest (pack-of s) (pgn-at (pack-of s) t i) ≡ true
+  letter-of-pack = letter-implies-widest (pack-of s) (pgn-at (pack-of s) t i) (sets-two s t i)
+
+  pub letter-nonempty-of-pack : held-letter-nonempty (pack-of s) (pgn-at (pack-of s) t i) ≡ true → held-widest (pack-of s) (pgn-at (pack-of s) t i) ≡ true
+  letter-nonempty-of-pack = letter-nonempty-implies-widest (pack-of s) (pgn-at (pack-of s) t i) (sets-two s t i)
+
+  pub where-nested-of-pack : held-where-nested (pack-of s) (pgn-at (pack-of s) t i) ≡ true → held-widest (pack-of s) (pgn-at (pack-of s) t i) ≡ true
+  where-nested-of-pack = where-nested-implies-widest (pack-of s) (pgn-at (pack-of s) t i) (sets-two s t i)

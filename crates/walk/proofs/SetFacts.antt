@@ -4,11 +4,14 @@ use native.Mathlib.Omega.{arith}
 use native.Mathlib.Decide.{decLt}
 use mathlib.Core.Path.{_≡_, refl, sym, ap, _∙_}
 use mathlib.Core.Bool.{Bool, true, false, not, _||_, false≢true}
+use mathlib.Core.List.{List, [], _∷_}
 use mathlib.Core.Option.{none}
 use lib.ListN.{length, List·getD-eq-default}
 use lib.Dec.{ltb, leb, eqb}
 use borrow.Author.Tests.{ltb-true, ltb-false, leb-true, eqb-true, eqb-false, not-false, lt-ltb, le-leb}
-use Rattle.pack.specs.Value.{Repeating, Pgn, set-place}
+use Rattle.pack.specs.Meaning.{pack-of}
+use Rattle.pack.specs.Value.{Repeating, Pgn, pgns-of, pgn-at, set-place}
+use Rattle.pack.proofs.Sets.{places-of}
 use Rattle.pack.proofs.Tables.{length-tab, getD-tab}
 use Rattle.rules.specs.SearchLaws.{any-missed}
 use Rattle.rules.specs.Search.{any-below, every-below}
@@ -30,6 +33,15 @@ module _ (p : Pgn) where
       go (no l) =
           List·getD-eq-default (layout p .sets) no-set (omega (arith, layout-length))
           ∙ ap set-or-empty (sym (List·getD-eq-default (p .sets) none (omega arith)))
+
+-- version 1: of a PGN of a pack, set 1 stands at 0 and set 2 at 1, and there is no other
+pub layout-of-pack : (s : List ℕ) (t i : ℕ) → t < 3 → i < length (pgns-of (pack-of s) t)
+    → layout (pgn-at (pack-of s) t i)
+    ≡ record {
+      fields = pgn-at (pack-of s) t i .fields;
+      sets = set-or-empty (set-place (pgn-at (pack-of s) t i) 0) ∷ set-or-empty (set-place (pgn-at (pack-of s) t i) 1) ∷ [];
+    }
+layout-of-pack s t i l m = rw (places-of s t i l m)
 
 -- set k holds the order o
 abbrev pub Holds : Layout → ℕ → ℕ → Type 0

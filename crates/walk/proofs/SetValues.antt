@@ -14,7 +14,7 @@ use Rattle.pack.specs.Meaning.{opt-order}
 use Rattle.pack.specs.Notation.{_<ᵇ_, _≤ᵇ_}
 use Rattle.pack.specs.Value.{Repeating, Pgn, set-place}
 use Rattle.rules.specs.Search.{any-below, every-below}
-use Rattle.rules.specs.SearchLaws.{any-hit}
+use Rattle.rules.specs.SearchLaws.{any-hit, every-missed, or-right}
 use Rattle.walk.specs.Layout.{Layout, layout, no-set, set-or-empty, set-at, start, end, nonempty, holds, sets-hold, share, nested-in, inside-previous}
 use Rattle.walk.specs.Layout.{misplaced, clash, stop-1}
 use Rattle.walk.specs.Held.{shares-held, count-field-held, count-fields-held}
@@ -24,7 +24,6 @@ use Rattle.walk.specs.declared.sets.Set.{Set}
 use Rattle.walk.specs.declared.sets.Sets.{Sets}
 use Rattle.walk.proofs.SetFacts.{layout-at, layout-length}
 use Rattle.walk.proofs.Tests.{or-i, and-none, every-i, none-below}
-use Rattle.rules.specs.SearchLaws.{every-missed}
 
 -- a set has orders if its count is not 0
 grows : (n k : ℕ) → (n <ᵇ n + k) ≡ (0 <ᵇ k)
@@ -47,10 +46,6 @@ every-not f (suc n) = rw (every-not f n) (go (any-below f n) (f n))
     go : (a b : Bool) → (not a && not b) ≡ not (a || b)
     go true b = refl
     go false b = refl
-
-or-true : (a b : Bool) → b ≡ true → (a || b) ≡ true
-or-true true b e = refl
-or-true false b e = e
 
 -- what a test of no more than four sets is, where it says nothing of those past the last
 module _ (f : ℕ → Bool) (n : ℕ) where
@@ -187,7 +182,7 @@ module _ {L : Layout} {v : Sets} (a : SetsAre L v) where
 
   pub stop-clashes : (k : ℕ) → any-below (λ j. clash L j k) k ≡ true → stop-1 L ≡ true
   unfolding stop-1
-  stop-clashes k e = any-met _ (length (L .sets)) passed k (or-true (misplaced L k) _ e)
+  stop-clashes k e = any-met _ (length (L .sets)) passed k (or-right (misplaced L k) _ e)
 
   pub stop-none : ((k : ℕ) → k < 4 → misplaced L k ≡ false) → ((k : ℕ) → k < 4 → any-below (λ j. clash L j k) k ≡ false) → stop-1 L ≡ false
   unfolding stop-1

@@ -17,11 +17,11 @@ use Rattle.rules.specs.declared.check.Checked.{Checked}
 use Rattle.walk.specs.Demand3.{clean, Kept, work-short, visits-short, walked-whole, walked-used-up, Demand3}
 use Rattle.walk.specs.Guarantee.{Unstopped, ends-whole, ends-used-up}
 use Rattle.walk.specs.Held.{held}
-use Rattle.walk.specs.HeldReadings.{held-widest}
+use Rattle.walk.specs.HeldReadings.{held-nonempty, held-letter, held-letter-nonempty, held-where-nested, held-widest}
 use Rattle.walk.specs.WalkCall.{in-pack, walk-of, walked, visits-after}
 use Rattle.walk.specs.declared.walk.Walked.{Walked}
 use Rattle.walk.proofs.Tests.{and-l, and-r}
-use Rattle.walk.proofs.HeldWidest.{held-implies-widest}
+use Rattle.walk.proofs.HeldWidest.{held-implies-widest, nonempty-implies-widest, letter-of-pack, letter-nonempty-of-pack, where-nested-of-pack}
 use Rattle.walk.proofs.NoStop.{guarantee-widest}
 
 -- a clean check was made of an accepted pack
@@ -56,22 +56,35 @@ kept s m t i readings w ev there u = go (leb (load-index s .records) m) refl (le
     go true ea true eb (ends-whole q l) = walked-whole (rw (ev, ea, there, eb, q)) q l (rw (ev, ea, there, eb))
     go true ea true eb (ends-used-up q l) = walked-used-up (rw (ev, ea, there, eb, q)) q l (rw (ev, ea, there, eb))
 
--- the two calls' answers, by their contracts, where being held is enough for `held-widest`
-module _ (is-held : Pack → Pgn → Bool) (enough : (P : Pack) (p : Pgn) → is-held P p ≡ true → held-widest P p ≡ true) where
-  pub demand-3-by : (s : List ℕ) (t i : ℕ) (readings w : List ℕ) (k m n : ℕ) (c : Checked) (r : Walked) (w′ : List ℕ)
-      → c ≡ checked s k n → r ≡ walked s m t i readings (length w) → w′ ≡ visits-after s m t i readings w → Demand3 is-held s t i readings m w w′ c r
-  demand-3-by s t i readings w k m n c r w′ ec er ew h there is =
-      let P = pack-of s in
+-- the two calls' answers, by their contracts
+module _ (s : List ℕ) (t i : ℕ) (readings w : List ℕ) (k m n : ℕ) (c : Checked) (r : Walked) (w′ : List ℕ) (ec : c ≡ checked s k n)
+    (er : r ≡ walked s m t i readings (length w)) (ew : w′ ≡ visits-after s m t i readings w) where
+  abbrev P : Pack
+  P = pack-of s
+
+  abbrev p : Pgn
+  p = pgn-at P t i
+
+  -- where being held is enough for `held-widest`, of the PGN that is walked
+  pub demand-3-by : (is-held : Pack → Pgn → Bool) → (is-held P p ≡ true → held-widest P p ≡ true) → Demand3 is-held s t i readings m w w′ c r
+  demand-3-by is-held enough h there is =
       let a = clean-means s k n (rw ec at h) in
       let tree = ltb-true _ _ (and-l (ltb t 3) (ltb i (length (pgns-of P t))) there) in
       let pgn = ltb-true _ _ (and-r (ltb t 3) (ltb i (length (pgns-of P t))) there) in
-      rw (er, ew) (kept s m t i readings w (a .taken) there (guarantee-widest P t i tree pgn (a .quiet) (enough P (pgn-at P t i) is) readings))
+      rw (er, ew) (kept s m t i readings w (a .taken) there (guarantee-widest P t i tree pgn (a .quiet) (enough is) readings))
 
--- under the widest reading, and so under `held`'s
-pub demand-3 : (s : List ℕ) (t i : ℕ) (readings w : List ℕ) (k m n : ℕ) (c : Checked) (r : Walked) (w′ : List ℕ)
-    → c ≡ checked s k n → r ≡ walked s m t i readings (length w) → w′ ≡ visits-after s m t i readings w
-    → Demand3 held s t i readings m w w′ c r × Demand3 held-widest s t i readings m w w′ c r
-demand-3 s t i readings w k m n c r w′ ec er ew = (
-  demand-3-by held held-implies-widest s t i readings w k m n c r w′ ec er ew,
-  demand-3-by held-widest (λ P p h. h) s t i readings w k m n c r w′ ec er ew,
-)
+  -- under the widest reading, and so under `held`'s
+  pub demand-3 : Demand3 held s t i readings m w w′ c r × Demand3 held-widest s t i readings m w w′ c r
+  demand-3 = (demand-3-by held (held-implies-widest P p), demand-3-by held-widest (λ h. h))
+
+  -- and under the others
+  pub demand-3-readings : Demand3 held-nonempty s t i readings m w w′ c r
+      × Demand3 held-letter s t i readings m w w′ c r
+      × Demand3 held-letter-nonempty s t i readings m w w′ c r
+      × Demand3 held-where-nested s t i readings m w w′ c r
+  demand-3-readings = (
+    demand-3-by held-nonempty (nonempty-implies-widest P p),
+    demand-3-by held-letter (letter-of-pack s t i),
+    demand-3-by held-letter-nonempty (letter-nonempty-of-pack s t i),
+    demand-3-by held-where-nested (where-nested-of-pack s t i),
+  )

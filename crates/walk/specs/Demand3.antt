@@ -35,9 +35,8 @@ pub data Kept (A : Answer) (n m : ℕ) (w w′ : List ℕ) (r : Walked) : Type 0
   walked-used-up : r ≡ Ended UsedUp (length (A .visits)) → A .ends ≡ used-up → length (A .visits) ≡ n → w′ ≡ over (A .visits) w → Kept A n m w w′ r
 
 -- c is check's answer on the pack s, r walk's on PGN i of tree t over the readings. What "held" means is a parameter: it is claimed for
--- `held`, which the call answers, and for `held-widest`. That one claim covers every reading of 01's sentence on countFields, since each
--- implies it (proofs/HeldWidest.antt: held-, nonempty-, letter-, letter-nonempty-, where-nested-implies-widest, the last three of at most two
--- places for sets, as version 1 has).
+-- `held`, which the call answers, and for `held-widest`. That one claim covers the other readings of 01's sentence on countFields
+-- (HeldReadings), since each implies `held-widest` of the PGNs of a pack (proofs/HeldWidest.antt): `demand-3-readings` (proofs/TwoCalls.antt).
 abbrev pub Demand3 : (Pack → Pgn → Bool) → (s : List ℕ) (t i : ℕ) (readings : List ℕ) (m : ℕ) (w w′ : List ℕ) → Checked → Walked → Type 0
 Demand3 is-held s t i readings m w w′ c r =
     clean c ≡ true → in-pack (pack-of s) t i ≡ true → is-held (pack-of s) (pgn-at (pack-of s) t i) ≡ true

@@ -1,5 +1,5 @@
 -- Other readings than `held`'s of "a countField lies in no nonempty set, or in set 1 for a nested set 2". Demand 3 is claimed under the
--- widest; every other one here, and `held`, implies it (proofs/HeldWidest.antt), those that name set 1 and set 2 of at most two places.
+-- widest; every other one here, and `held`, implies it of the PGNs of a pack (proofs/HeldWidest.antt).
 use Prim.Native.Nat.{ℕ}
 use mathlib.Core.Bool.{Bool, true, not, _&&_, _||_}
 use mathlib.Core.Option.{Option, none, some}
