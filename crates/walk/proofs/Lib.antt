@@ -4,7 +4,7 @@ pub mod SetFacts
 -- the sets as values, the passes as numbers
 pub mod SetValues
 pub mod PassNumbers
-pub mod Spots
+pub mod PassLaws
 pub mod Counting
 -- the stops in parts
 pub mod Parts

@@ -1,5 +1,5 @@
 -- Runs: visits within a stretch, from a set's pass into the next, and how they follow one another.
-use Prim.Native.Nat.{ℕ, zero, suc, pred, _+_, _-_, _≤_, _<_}
+use Prim.Native.Nat.{ℕ, zero, suc, pred, _+_, _*_, _-_, _≤_, _<_}
 use native.Mathlib.Omega.{arith}
 use native.Mathlib.Numerals.{add-one}
 use native.Mathlib.Decide.{ℕ-discrete, decLt}
@@ -8,28 +8,28 @@ use mathlib.Core.Bool.{Bool, true, false, _||_, false≢true}
 use mathlib.Core.Option.{none, some}
 use mathlib.Core.List.{List}
 use lib.ListN.{length, getD, set, length-set, List·getD-eq-default}
-use borrow.Author.Tests.{eq-eqb, eqb-true}
+use lib.Seq.{set-getD}
+use borrow.Author.Tests.{eq-eqb, eqb-true, ne-eqb}
 use Rattle.pack.specs.Meaning.{opt-order}
-use Rattle.pack.specs.Notation.{_==_, optional}
+use Rattle.pack.specs.Notation.{_==_}
 use Rattle.rules.specs.SearchLaws.{below-suc}
 use Rattle.walk.specs.SetsOf.{SetsAre, value-at}
 use Rattle.walk.specs.Layout.{Layout, no-set}
-use Rattle.walk.specs.Passes.{Place, goto, goto-with, ready, again, Turn, turn, close, stand}
-use Rattle.walk.specs.Walk.{Stops, due, settled, onward}
+use Rattle.walk.specs.Passes.{endless, more, Place, goto, goto-with, ready, again, turn, close, stand}
+use Rattle.walk.specs.Walk.{Stops, Settled, due, settled, onward}
 use Rattle.walk.specs.ByPlace.{placed, by-place, counts}
-use Rattle.walk.specs.Runs.{edge, PlainAt, written, Turns, BeginsAgain, GoesOn, PassesOn, RunsTo}
-use Rattle.walk.specs.State.{rest-of, left-of, left-at, place-of, memory-of, settled-of}
+use Rattle.walk.specs.Runs.{edge, PlainAt, EndsBehind, written, Turns, RunsTo}
+use Rattle.walk.specs.State.{left-of, left-at, with-left, place-of, memory-of, settled-of}
 use Rattle.walk.specs.Steps.{Run, no-step, then-step}
 use Rattle.walk.specs.StopParts.{lets-pass}
 use Rattle.walk.specs.declared.passes.Left.{Left}
 use Rattle.walk.specs.declared.passes.Settling.{Settling}
-use Rattle.walk.specs.declared.runs.NextPass.{NextPass}
-use Rattle.walk.specs.declared.sets.Set.{Set}
+use Rattle.walk.specs.declared.stretches.Ending.{Ending}
 use Rattle.walk.specs.declared.sets.Sets.{Sets}
-use Rattle.walk.proofs.Spots.{round-ready, round-again, pass-begins, close-four, close-skip, closed-look, look-none, look-four}
+use Rattle.walk.proofs.PassLaws.{turn-more, round-ready, round-again, pass-begins, close-four, close-skip, closed-look, look-none, look-four, entered, kept-memory}
 use Rattle.walk.proofs.Walks.{step-visits}
 
-pub or-parts : (a b : Bool) → (a || b) ≡ false → (a ≡ false) × (b ≡ false)
+or-parts : (a b : Bool) → (a || b) ≡ false → (a ≡ false) × (b ≡ false)
 or-parts false false h = (refl, refl)
 or-parts true b h = absurd (false≢true (sym h))
 or-parts false true h = absurd (false≢true (sym h))
@@ -75,7 +75,7 @@ module _ {L : Layout} {v : Sets} (a : SetsAre L v) where
 
   -- ---- from a set's pass into the next: set k ends behind the order o, and no later one does
 
-  pub begins-again : (o : ℕ) (w w′ : List ℕ) (k : ℕ) → k < 4 → suc o ≡ value-at v k .end .0
+  begins-again : (o : ℕ) (w w′ : List ℕ) (k : ℕ) → k < 4 → suc o ≡ value-at v k .end .0
       → ((j : ℕ) → k < j → j < 4 → (suc o == value-at v j .end .0) ≡ false) → Turns w k w′
       → settled L (by-place L) (place-of (suc o) w) (memory-of w) ≡ due (place-of (value-at v k .start .0) w′) (memory-of w′)
   unfolding settled
@@ -94,57 +94,74 @@ module _ {L : Layout} {v : Sets} (a : SetsAre L v) where
       ∙ ap (λ (q : Place). due q (memory-of w)) (sym (t .place start))
       ∙ ap (due (place-of start w′)) (sym (t .memory))
 
--- what is left of set k, of which a pass is present, after one that ends
-pub turns-present : (w : List ℕ) (k : ℕ) (l : Left) → l ≡ left-at w k → l .present ≡ 1 → (x : Turn) → x ≡ turn true (some (rest-of (l .further)))
-    → turn true (left-of (left-at w k)) ≡ x
-turns-present w k l el p x ex =
-    ap (λ (v : Left). turn true (left-of v)) (sym el)
-    ∙ ap (λ (b : Bool). turn true (optional b (rest-of (l .further)))) (eq-eqb (l .present) 1 p)
-    ∙ sym ex
+-- the same of a visit there, whatever the reading
+pub pass-onward : {L : Layout} {v : Sets} → SetsAre L v → (o : ℕ) (x : Ending) → EndsBehind v o x → (w w′ : List ℕ) → Turns w (x .set) w′ → (r : ℕ)
+    → onward L (by-place L) (place-of o w) (memory-of w) r ≡ due (place-of (x .start .0) w′) (memory-of w′)
+pass-onward a o x b w w′ t r =
+    uncounted-onward a (place-of o w) (o - 1) refl (b .uncounted) (memory-of w) r
+    ∙ begins-again a o w w′ (x .set) (b .set) (b .end) (b .last) t
+    ∙ ap (λ (n : ℕ). due (place-of n w′) (memory-of w′)) (sym (b .start))
 
--- no further pass
-pub no-turn : (v : Set) (fields k : ℕ) (w : List ℕ) (r : NextPass) → r .given ≡ false → BeginsAgain v fields k w r w
-no-turn v fields k w r e = record {
-  kept = λ h. refl;
-  order = λ h. absurd (false≢true (sym e ∙ h));
-  first = λ h. absurd (false≢true (sym e ∙ h));
-  within = λ h. absurd (false≢true (sym e ∙ h));
-  turns = λ h. absurd (false≢true (sym e ∙ h));
-}
+-- another pass of set k begins: of endless ones nothing changes, else one less is left
+module _ (w : List ℕ) (room : length w ≡ 16) (k : ℕ) (low : k < 4) (l : Left) (el : l ≡ left-at w k) (here : l .present ≡ 1) where
+  pub turns-endless : l .further .endless ≡ 1 → Turns w k w
+  turns-endless e = record {
+    rest = endless;
+    begins = ap (turn true) left;
+    place = entered w w room k low (left-at w k) (sym same) endless left;
+    memory = refl;
+  }
+    where
+      of : left-of l ≡ some endless
+      of = rw (here, e)
 
-pub no-pass-behind : (v : Sets) (o : ℕ) (w u : List ℕ) → u ≡ w → (r : NextPass) → r .given ≡ false → GoesOn v o w r u
-no-pass-behind v o w u q r e = record {
-  kept = λ h. q;
-  first = λ h. absurd (false≢true (sym e ∙ h));
-  within = λ h. absurd (false≢true (sym e ∙ h));
-  settles = λ h. absurd (false≢true (sym e ∙ h));
-}
+      left : left-of (left-at w k) ≡ some endless
+      left = ap left-of (sym el) ∙ of
 
-pub no-pass-on : (v : Sets) (marks bad readings : List ℕ) (m o : ℕ) (w : List ℕ) (r : NextPass) → r .given ≡ false
-    → PassesOn v marks bad readings m o w r w
-no-pass-on v marks bad readings m o w r e = record {
-  kept = λ h. refl;
-  read = λ h. absurd (false≢true (sym e ∙ h));
-  first = λ h. absurd (false≢true (sym e ∙ h));
-  within = λ h. absurd (false≢true (sym e ∙ h));
-  passing = λ h. absurd (false≢true (sym e ∙ h));
-  onward = λ h. absurd (false≢true (sym e ∙ h));
-}
+      same : with-left w k (left-at w k) ≡ w
+      same = rw (set-getD w (4 * k) 0, set-getD w (4 * k + 1) 0, set-getD w (4 * k + 2) 0)
 
--- set k ends behind the order o, no later one does, and perhaps another pass of it begins
-pub pass-behind : (v : Sets) (o : ℕ) (w u w′ : List ℕ) → u ≡ w → (k : ℕ) → k < 4 → (next : ℕ) → next ≡ o + 1 → (next == value-at v k .end .0) ≡ true
-    → ((j : ℕ) → k < j → j < 4 → (next == value-at v j .end .0) ≡ false) → (r : NextPass) → BeginsAgain (value-at v k) (v .fields) k u r w′
-    → GoesOn v o w r w′
-pass-behind v o w u w′ q k low next en ends elsewhere r b =
+  abbrev fewer : Left
+  fewer = record { present = getD w (4 * k) 0; further = record { endless = getD w (4 * k + 1) 0; more = l .further .more - 1 } }
+
+  pub turns-more : (l .further .endless ≡ 1 → ⊥) → (l .further .more ≡ 0 → ⊥) → (w′ : List ℕ) → w′ ≡ set w (4 * k + 2) (l .further .more - 1) → Turns w k w′
+  turns-more e z w′ ew = record {
+    rest = more (l .further .more - 1);
+    begins = ap (turn true) left ∙ sym (turn-more (l .further .more) z);
+    place = entered w w′ room k low fewer same (more (l .further .more - 1)) fewer-left;
+    memory = kept-memory w w′ room k low fewer same;
+  }
+    where
+      present : getD w (4 * k) 0 ≡ 1
+      present = ap (λ (x : Left). x .present) (sym el) ∙ here
+
+      ending : (getD w (4 * k + 1) 0 == 1) ≡ false
+      ending = ne-eqb (getD w (4 * k + 1) 0) 1 (λ h. e (ap (λ (x : Left). x .further .endless) el ∙ h))
+
+      left : left-of (left-at w k) ≡ some (more (l .further .more))
+      left = rw (present, ending, el)
+
+      fewer-left : left-of fewer ≡ some (more (l .further .more - 1))
+      fewer-left = rw (present, ending)
+
+      same : w′ ≡ with-left w k fewer
+      same = ew ∙ (rw (set-getD w (4 * k) 0, set-getD w (4 * k + 1) 0))
+
+-- set k ends behind the order o, and no later one does
+pub ends-behind : (v : Sets) (o k : ℕ) → k < 4 → (next : ℕ) → next ≡ o + 1 → (next == value-at v k .end .0) ≡ true
+    → ((j : ℕ) → k < j → j < 4 → (next == value-at v j .end .0) ≡ false)
+    → ((j : ℕ) → j < 4 → counts (opt-order (value-at v j .counter)) (o - 1) ≡ false) → (x : Ending) → x .set ≡ k
+    → 1 ≤ value-at v k .start .0 → value-at v k .start .0 ≤ v .fields → x .start .0 ≡ value-at v k .start .0 → EndsBehind v o x
+ends-behind v o k low next en ends elsewhere uncounted x ek first within start =
     let n : next ≡ suc o = omega (arith, en) in
-    let turns : r .given ≡ true → Turns w k w′ = λ h. subst (λ (x : List ℕ). Turns x k w′) q (b .turns h) in
     record {
-      kept = λ h. b .kept h ∙ q;
-      first = λ h. rw (b .order h) (b .first h);
-      within = λ h. rw (b .order h) (b .within h);
-      settles = λ h L a. rw (b .order h)
-          (begins-again a o w w′ k low (sym n ∙ eqb-true next (value-at v k .end .0) ends)
-          (λ j l m. ap (λ (i : ℕ). i == value-at v j .end .0) (sym n) ∙ elsewhere j l m) (turns h));
+      set = omega (arith, ek, low);
+      end = rw ek (sym n ∙ eqb-true next (value-at v k .end .0) ends);
+      last = λ j l m. ap (λ (i : ℕ). i == value-at v j .end .0) (sym n) ∙ elsewhere j (omega (arith, l, ek)) m;
+      start = rw ek start;
+      first = omega (arith, first, start);
+      within = omega (arith, within, start);
+      uncounted = uncounted;
     }
 
 -- what holds below n and of n holds below n + 1
@@ -211,6 +228,15 @@ module _ {v : Sets} {marks bad readings b : List ℕ} {n o : ℕ} {w : List ℕ}
           (step-visits L stops (place-of t w′) (memory-of w′) (getD readings m 0) (t - 1) refl one 0
           (sym (harm (t - 1) (getD readings m 0) passing)) refl (due (place-of u w″) (memory-of w″)) (sym (to L a (getD readings m 0))));
     }
+
+run-then : {L : Layout} {stops : Stops} {readings b b′ b″ : List ℕ} {n m l : ℕ} {c d e : Settled (ℕ → ℕ)}
+    → Run L stops readings b n c b′ m d → Run L stops readings b′ m d b″ l e → Run L stops readings b n c b″ l e
+run-then R no-step = R
+run-then R (then-step S low k d e) = then-step (run-then R S) low k d e
+
+pub runs-then : {v : Sets} {marks bad readings b b′ b″ : List ℕ} {n m l o t u : ℕ} {w w′ w″ : List ℕ}
+    → RunsTo v marks bad readings b n o w b′ m t w′ → RunsTo v marks bad readings b′ m t w′ b″ l u w″ → RunsTo v marks bad readings b n o w b″ l u w″
+runs-then R S = record { run = λ L a stops harm. run-then (R .run L a stops harm) (S .run L a stops harm) }
 
 -- from where a field is due
 pub run-told : {L : Layout} {stops : Stops} {readings b b′ : List ℕ} {n m : ℕ} (x y : Settling) (w w′ : List ℕ) (q : ℕ) → x .due ≡ true

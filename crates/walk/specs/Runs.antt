@@ -15,10 +15,10 @@ use Rattle.walk.specs.State.{left-of, left-at, place-of, memory-of}
 use Rattle.walk.specs.Steps.{Run}
 use Rattle.walk.specs.StopParts.{lets-pass}
 use Rattle.walk.specs.Walk.{Stops, due, settled, onward}
-use Rattle.walk.specs.declared.runs.NextPass.{NextPass}
 use Rattle.walk.specs.declared.sets.Set.{Set}
 use Rattle.walk.specs.declared.sets.Sets.{Sets}
 use Rattle.walk.specs.declared.stretches.Stretch.{Stretch}
+use Rattle.walk.specs.declared.stretches.Ending.{Ending}
 
 -- the set begins at the order n, or ends before it
 abbrev pub edge : Set → ℕ → Bool
@@ -30,10 +30,29 @@ pub record PlainAt (v : Sets) (o : ℕ) : Type 0 where
   pub edges : (k : ℕ) → k < 4 → edge (value-at v k) (o + 1) ≡ false
   pub uncounted : (k : ℕ) → k < 4 → counts (opt-order (value-at v k .counter)) (o - 1) ≡ false
 
--- each order of the stretch is plain, and of a free one each field is marked to stop at no reading
-pub record Straight (v : Sets) (marks : List ℕ) (x : Stretch) : Type 0 where
+-- Behind the order o the set x ends, and no later one; a field has its first order; and the field of the order o is no countField.
+pub record EndsBehind (v : Sets) (o : ℕ) (x : Ending) : Type 0 where
+  pub set : x .set < 4
+  pub end : suc o ≡ value-at v (x .set) .end .0
+  pub last : (j : ℕ) → x .set < j → j < 4 → (suc o == value-at v j .end .0) ≡ false
+  pub start : x .start .0 ≡ value-at v (x .set) .start .0
+  pub first : 1 ≤ x .start .0
+  pub within : x .start .0 ≤ v .fields
+  pub uncounted : (k : ℕ) → k < 4 → counts (opt-order (value-at v k .counter)) (o - 1) ≡ false
+
+-- Each order of the stretch is plain, and the set that ends it, if one is given, ends there.
+pub record Straight (v : Sets) (x : Stretch) : Type 0 where
+  pub within : x .to .0 ≤ v .fields
   pub plain : (o : ℕ) → x .from .0 ≤ o → o < x .to .0 → PlainAt v o
+  pub ending : x .ending .given ≡ true → EndsBehind v (x .to .0) (x .ending)
+
+-- what is so of a stretch whatever the sets are: of a free one each field is marked to stop at no reading
+pub record Sound (marks : List ℕ) (x : Stretch) : Type 0 where
+  pub first : 1 ≤ x .from .0
+  pub order : x .from .0 ≤ x .to .0
   pub free : x .free ≡ true → (o : ℕ) → x .from .0 ≤ o → o < x .to .0 → getD marks (o - 1) 0 ≡ 1
+  pub set : x .ending .given ≡ true → x .ending .set < 4
+  pub start : x .ending .given ≡ true → 1 ≤ x .ending .start .0
 
 -- n visits, of field k and those that follow it, written from m on
 abbrev pub written : List ℕ → (m k n : ℕ) → List ℕ
@@ -47,32 +66,13 @@ pub record Turns (w : List ℕ) (k : ℕ) (w′ : List ℕ) : Type 0 where
   pub place : (o : ℕ) → place-of o w′ ≡ goto-with (place-of o w) o k (some rest)
   pub memory : memory-of w′ ≡ memory-of w
 
--- Where set k's pass ends another begins, at its first order, which a field has; and the numbers w of the passes are w′ then.
-pub record BeginsAgain (v : Set) (fields k : ℕ) (w : List ℕ) (r : NextPass) (w′ : List ℕ) : Type 0 where
-  pub kept : r .given ≡ false → w′ ≡ w
-  pub order : r .given ≡ true → r .order ≡ v .start
-  pub first : r .given ≡ true → 1 ≤ v .start .0
-  pub within : r .given ≡ true → v .start .0 ≤ fields
-  pub turns : r .given ≡ true → Turns w k w′
-
--- Behind the order o, with the numbers w of the passes, the run goes on at r's order with w′, if that is given: a field has that order, and it is
--- due once the order behind o is settled.
-pub record GoesOn (v : Sets) (o : ℕ) (w : List ℕ) (r : NextPass) (w′ : List ℕ) : Type 0 where
-  pub kept : r .given ≡ false → w′ ≡ w
-  pub first : r .given ≡ true → 1 ≤ r .order .0
-  pub within : r .given ≡ true → r .order .0 ≤ v .fields
-  pub settles : r .given ≡ true → (L : Layout) → SetsAre L v
-      → settled L (by-place L) (place-of (suc o) w) (memory-of w) ≡ due (place-of (r .order .0) w′) (memory-of w′)
-
--- The same of a visit at the order o with the next reading, which is let pass.
-pub record PassesOn (v : Sets) (marks bad readings : List ℕ) (m o : ℕ) (w : List ℕ) (r : NextPass) (w′ : List ℕ) : Type 0 where
-  pub kept : r .given ≡ false → w′ ≡ w
-  pub read : r .given ≡ true → m < length readings
-  pub first : r .given ≡ true → 1 ≤ r .order .0
-  pub within : r .given ≡ true → r .order .0 ≤ v .fields
-  pub passing : r .given ≡ true → lets-pass marks bad (o - 1) (getD readings m 0) ≡ true
-  pub onward : r .given ≡ true → (L : Layout) → SetsAre L v → (reading : ℕ)
-      → onward L (by-place L) (place-of o w) (memory-of w) reading ≡ due (place-of (r .order .0) w′) (memory-of w′)
+-- The stretch ends at the order o with a set; the visit there with the next reading is let pass, and another pass of the set begins behind it.
+pub record PassesOn (marks bad readings : List ℕ) (x : Stretch) (m o : ℕ) (w w′ : List ℕ) : Type 0 where
+  pub read : m < length readings
+  pub at : o ≡ x .to .0
+  pub ending : x .ending .given ≡ true
+  pub passing : lets-pass marks bad (o - 1) (getD readings m 0) ≡ true
+  pub turns : Turns w (x .ending .set) w′
 
 -- What the memory lets pass does not stop, and so these visits are made: from the order o with the numbers w of the passes to o′ with w′, the
 -- visit buffer b being b′ then.

@@ -87,7 +87,7 @@ pub fn left_at(passes: &[u64], k: usize) -> Left
     }
 }
 
-pub fn put_left(passes: &mut [u64], k: usize, left: Left)
+fn put_left(passes: &mut [u64], k: usize, left: Left)
     requires { ⌜ record { set : k < 4; sixteen : length (now passes) ≡ 16 } ⌝ }
     ensures { λ r. ⌜ now (passes .exit) ≡ with-left (now (passes .entry)) k left ⌝ }
 {
@@ -97,7 +97,7 @@ pub fn put_left(passes: &mut [u64], k: usize, left: Left)
 }
 
 // What comes of a pass that ends.
-pub fn after(further: Further) -> Turning
+fn after(further: Further) -> Turning
     ensures { λ r. ⌜ turn-of r ≡ turn true (some (rest-of further)) ⌝ }
 {
     if further.endless == 1 {
@@ -137,7 +137,7 @@ fn gone() -> Left
 }
 
 // A present pass.
-pub fn pass(further: Further) -> Left
+fn pass(further: Further) -> Left
     ensures { λ r. ⌜ left-of r ≡ some (rest-of further) ⌝ }
 {
     Left {

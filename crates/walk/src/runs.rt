@@ -3,38 +3,32 @@ ghost use mathlib.Core.Path.{_≡_};
 ghost use mathlib.Core.Bool.{true, false};
 ghost use Prim.Native.Nat.{ℕ, _+_, _-_, _≤_, _<_};
 ghost use lib.ListN.{length, getD, set};
-ghost use Rattle.walk.specs.Runs.{BeginsAgain, GoesOn, PassesOn, RunsTo, written};
+ghost use Rattle.walk.specs.Runs.{Straight, Sound, Turns, PassesOn, RunsTo, written};
 ghost use Rattle.walk.specs.StopParts.{lets-pass};
 use crate::known::lets_pass;
 use crate::orders::index_of;
 use crate::orders::later_order;
-use crate::orders::next_order;
-use crate::passes::Turning;
-use crate::passes::after;
-use crate::passes::is_counted;
 use crate::passes::left_at;
-use crate::passes::pass;
-use crate::passes::put_left;
-use crate::sets::Set;
 use crate::sets::Sets;
 use crate::stretches::Stretch;
 use crate::stretches::ahead;
-use crate::stretches::no_stretch;
+use crate::stretches::is_in;
 use crate::stretches::stretch_at;
 use pack::protocol::FieldIndex;
 use pack::protocol::FieldOrder;
 use pack::protocol::same_order;
 
-// Whether another pass of a set begins, and its first order.
-pub struct NextPass {
-    pub given: bool,
-    pub order: FieldOrder,
-}
-
 // Where a run ends: the order there, and the number of visits by then.
 pub struct RunEnd {
     pub order: FieldOrder,
     pub visits: usize,
+}
+
+// The same of a run within one stretch; and whether it ends only since a pass begins outside the stretch.
+pub struct StretchEnd {
+    pub order: FieldOrder,
+    pub visits: usize,
+    pub again: bool,
 }
 
 // "each visit takes one reading and writes the index": the visit after n others.
@@ -124,83 +118,113 @@ fn leap(
     write_passing(marks, bad, readings, visits, m, k, n)
 }
 
-// No further pass.
-fn no_pass() -> NextPass
-    ensures { λ r. ⌜ r .given ≡ false ⌝ }
-{
-    NextPass {
-        given: false,
-        order: FieldOrder(0),
-    }
-}
-
-// Behind the last field of set k, of a PGN with so many fields: whether another pass of it begins, at an order that a field has.
-fn behind(set: Set, fields: u32, passes: &mut [u64], k: usize) -> NextPass
+// Where a pass of set k ends: whether another begins.
+fn begins(passes: &mut [u64], k: usize) -> bool
     requires { ⌜ record { set : k < 4; sixteen : length (now passes) ≡ 16 } ⌝ }
-    ensures { λ r. ⌜ BeginsAgain set fields k (now (passes .entry)) r (now (passes .exit)) ⌝ }
+    ensures { λ r. ⌜ record {
+      kept : r ≡ false → now (passes .exit) ≡ now (passes .entry);
+      turns : r ≡ true → Turns (now (passes .entry)) k (now (passes .exit));
+    } ⌝ }
 {
-    if set.start.0 == 0 {
-        return no_pass();
-    }
-    if fields < set.start.0 {
-        return no_pass();
-    }
     let left = left_at(passes, k);
     if left.present != 1 {
-        return no_pass();
+        return false;
     }
-    match after(left.further) {
-        Turning::Begins(further) => {
-            put_left(passes, k, pass(further));
-            let order = set.start;
-            NextPass { given: true, order }
-        }
-        Turning::Leaves => no_pass(),
-        Turning::GoesOn => no_pass(),
+    if left.further.endless == 1 {
+        return true;
     }
-}
-
-// From a set's last field to its first, if another pass of it begins. Where several sets end the innermost (the last) decides.
-fn turned(sets: Sets, passes: &mut [u64], o: FieldOrder) -> NextPass
-    requires { ⌜ record { small : o .0 < 4294967295; sixteen : length (now passes) ≡ 16 } ⌝ }
-    ensures { λ r. ⌜ GoesOn sets (o .0) (now (passes .entry)) r (now (passes .exit)) ⌝ }
-{
-    let next = next_order(o);
-    let mut k = 4;
-    while k > 0 {
-        k -= 1;
-        let set = sets.sets[k];
-        if same_order(next, set.end) {
-            return behind(set, sets.fields, passes, k);
-        }
+    if left.further.more == 0 {
+        return false;
     }
-    no_pass()
+    passes[4 * k + 2] = left.further.more - 1;
+    true
 }
 
 // Behind a stretch: the visit after m others, if it is known not to stop and another pass of a set begins behind it.
 fn pass_on(
-    sets: Sets,
     marks: &[u8],
     bad: &[u64],
     passes: &mut [u64],
+    stretch: Stretch,
     o: FieldOrder,
     readings: &[u64],
     m: usize,
-) -> NextPass
-    requires { ⌜ record { first : 1 ≤ o .0; small : o .0 < 4294967295; sixteen : length (now passes) ≡ 16 } ⌝ }
-    ensures { λ r. ⌜ PassesOn sets (now (marks .entry)) (now (bad .entry)) (now (readings .entry)) m (o .0) (now (passes .entry)) r (now (passes .exit)) ⌝ }
+) -> bool
+    requires { ⌜ record {
+      first : 1 ≤ o .0;
+      set : stretch .ending .given ≡ true → stretch .ending .set < 4;
+      sixteen : length (now passes) ≡ 16;
+    } ⌝ }
+    ensures { λ r. ⌜ record {
+      kept : r ≡ false → now (passes .exit) ≡ now (passes .entry);
+      passes : r ≡ true → PassesOn (now (marks .entry)) (now (bad .entry)) (now (readings .entry)) stretch m (o .0) (now (passes .entry)) (now (passes .exit));
+    } ⌝ }
 {
     if readings.len() <= m {
-        return no_pass();
+        return false;
     }
-    if is_counted(sets, o) {
-        return no_pass();
+    if !same_order(o, stretch.to) {
+        return false;
+    }
+    let ending = stretch.ending;
+    if !ending.given {
+        return false;
     }
     let k = index_of(o);
     if !lets_pass(marks, bad, k.0, readings[m]) {
-        return no_pass();
+        return false;
     }
-    turned(sets, passes, o)
+    begins(passes, ending.set)
+}
+
+// From the beginning of a stretch, with n visits made: its orders, and from a set's pass into the next as long as it begins among them.
+fn run_stretch(
+    marks: &[u8],
+    bad: &[u64],
+    passes: &mut [u64],
+    stretch: Stretch,
+    readings: &[u64],
+    visits: &mut [u32],
+    n: usize,
+) -> StretchEnd
+    requires { ⌜ record {
+      sound : Sound (now marks) stretch;
+      sixteen : length (now passes) ≡ 16;
+      read : n ≤ length (now readings);
+      room : length (now readings) ≤ length (now visits);
+    } ⌝ }
+    ensures { λ r. ⌜ record {
+      at-least : n ≤ r .visits;
+      more : r .again ≡ true → n < r .visits;
+      read : r .visits ≤ length (now (readings .entry));
+      first : 1 ≤ r .order .0;
+      within : (v : Sets) → Straight v stretch → r .order .0 ≤ v .fields;
+      runs : (v : Sets) → Straight v stretch → RunsTo v (now (marks .entry)) (now (bad .entry)) (now (readings .entry)) (now (visits .entry)) n
+          (stretch .from .0) (now (passes .entry)) (now (visits .exit)) (r .visits) (r .order .0) (now (passes .exit));
+    } ⌝ }
+{
+    let mut here = stretch.from;
+    let mut m = n;
+    while is_in(stretch, here) {
+        let made = leap(marks, bad, stretch, here, readings, visits, m);
+        here = later_order(here, made);
+        m += made;
+        if !pass_on(marks, bad, passes, stretch, here, readings, m) {
+            return StretchEnd {
+                order: here,
+                visits: m,
+                again: false,
+            };
+        }
+        write_visit(visits, m, index_of(here));
+        here = stretch.ending.start;
+        m += 1;
+    }
+    StretchEnd {
+        order: here,
+        visits: m,
+        again: true,
+    }
 }
 
 // From the order that is due, with n visits made.
@@ -231,25 +255,17 @@ pub fn run(
 {
     let mut here = order;
     let mut m = n;
-    let mut stretch = no_stretch();
-    while m < readings.len() {
-        stretch = stretch_at(sets, marks, stretch, here);
-        let made = leap(marks, bad, stretch, here, readings, visits, m);
-        here = later_order(here, made);
-        m += made;
-        let next = pass_on(sets, marks, bad, passes, here, readings, m);
-        if !next.given {
+    loop {
+        let stretch = stretch_at(sets, marks, here);
+        let made = run_stretch(marks, bad, passes, stretch, readings, visits, m);
+        if !made.again {
+            let order = made.order;
             return RunEnd {
-                order: here,
-                visits: m,
+                order,
+                visits: made.visits,
             };
         }
-        write_visit(visits, m, index_of(here));
-        here = next.order;
-        m += 1;
-    }
-    RunEnd {
-        order: here,
-        visits: m,
+        here = made.order;
+        m = made.visits;
     }
 }

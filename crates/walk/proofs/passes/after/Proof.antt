@@ -1,5 +1,5 @@
 use borrow.Author.Tests.{ne-eqb}
-use Rattle.walk.proofs.Spots.{turn-more}
+use Rattle.walk.proofs.PassLaws.{turn-more}
 use borrow.Author.Needs.{needs}
 use Rattle.walk.proofs.passes.after.Statement.{statement}
 use Rattle.walk.proofs.passes.after.Tie as tie

@@ -1,6 +1,6 @@
 use mathlib.Core.Path.{_∙_}
 use Rattle.pack.specs.Meaning.{opt-order}
-use Rattle.walk.proofs.Spots.{arrive-at, arrive-not-current, arrive-endless}
+use Rattle.walk.proofs.PassLaws.{arrive-at, arrive-not-current, arrive-endless}
 use borrow.Author.Tests.{not-true, not-false}
 use borrow.Author.Needs.{needs}
 use Rattle.walk.proofs.passes.arrive.Statement.{statement}

@@ -1,6 +1,6 @@
 use Rattle.pack.specs.Notation.{_==_}
 use Rattle.walk.specs.State.{rest-of}
-use Rattle.walk.proofs.Spots.{present-of}
+use Rattle.walk.proofs.PassLaws.{present-of}
 use borrow.Author.Tests.{not-true, not-false}
 use borrow.Author.Needs.{needs}
 use Rattle.walk.proofs.passes.arrives.Statement.{statement}

@@ -1,4 +1,4 @@
-use Rattle.walk.proofs.Spots.{round-not-current, round-over, round-enter, entered, kept-memory}
+use Rattle.walk.proofs.PassLaws.{round-not-current, round-over, round-enter, entered, kept-memory}
 use Rattle.walk.specs.Walk.{due}
 use Rattle.walk.specs.State.{arrival-of, place-of, memory-of, rest-of}
 use Rattle.walk.specs.SetsOf.{value-at}

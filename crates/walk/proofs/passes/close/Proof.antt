@@ -1,4 +1,4 @@
-use Rattle.walk.proofs.Spots.{closes-on, closes-left, closes-again, kept-memory}
+use Rattle.walk.proofs.PassLaws.{closes-on, closes-left, closes-again, kept-memory}
 use Rattle.walk.specs.State.{turn-of, rest-of}
 use borrow.Author.Needs.{needs}
 use denote.Ref.{now}

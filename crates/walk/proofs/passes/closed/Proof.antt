@@ -1,4 +1,4 @@
-use Rattle.walk.proofs.Spots.{closed-beyond, closed-look}
+use Rattle.walk.proofs.PassLaws.{closed-beyond, closed-look}
 use Rattle.walk.specs.State.{place-of}
 use denote.Ref.{now}
 use native.Mathlib.Omega.{arith}

@@ -1,4 +1,4 @@
-use Rattle.walk.proofs.Spots.{look-four, look-hit, look-miss, look-all}
+use Rattle.walk.proofs.PassLaws.{look-four, look-hit, look-miss, look-all}
 use Rattle.walk.specs.State.{place-of}
 use Rattle.walk.specs.SetsOf.{SetsAre}
 use Rattle.walk.specs.Passes.{look}

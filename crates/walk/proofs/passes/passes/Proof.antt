@@ -1,4 +1,4 @@
-use Rattle.walk.proofs.Spots.{counted-more}
+use Rattle.walk.proofs.PassLaws.{counted-more}
 use borrow.Author.Needs.{needs}
 use Rattle.walk.proofs.passes.passes.Statement.{statement}
 use Rattle.walk.proofs.passes.passes.Tie as tie

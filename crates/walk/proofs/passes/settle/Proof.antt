@@ -1,4 +1,4 @@
-use Rattle.walk.proofs.Spots.{rounds-first, rounds-settled, rounds-over, rounds-none}
+use Rattle.walk.proofs.PassLaws.{rounds-first, rounds-settled, rounds-over, rounds-none}
 use Rattle.walk.specs.Walk.{settle, settled}
 use Rattle.walk.specs.State.{place-of, memory-of}
 use Rattle.walk.specs.SetsOf.{SetsAre}

@@ -1,4 +1,4 @@
-use Rattle.walk.proofs.Spots.{stands-again, stands-ready, stands-beyond, stands-arrived, arrived-end}
+use Rattle.walk.proofs.PassLaws.{stands-again, stands-ready, stands-beyond, stands-arrived, arrived-end}
 use Rattle.walk.specs.State.{place-of}
 use denote.Ref.{now}
 use native.Mathlib.Omega.{arith}

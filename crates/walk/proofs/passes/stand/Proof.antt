@@ -1,4 +1,4 @@
-use Rattle.walk.proofs.Spots.{close-four, close-below}
+use Rattle.walk.proofs.PassLaws.{close-four, close-below}
 use Rattle.walk.specs.State.{place-of, memory-of}
 use Rattle.walk.specs.SetsOf.{SetsAre}
 use Rattle.walk.specs.Passes.{close, stand}

@@ -1,19 +1,18 @@
-use Rattle.walk.proofs.Plain.{below-next}
-use Rattle.walk.specs.SetsOf.{value-at}
-use Rattle.walk.specs.Runs.{edge}
-use Rattle.pack.specs.Meaning.{opt-order}
-use Rattle.walk.specs.ByPlace.{counts}
-use Prim.Native.Nat.{ℕ, _≤_, _-_, _<_, _+_}
-use native.Mathlib.Omega.{arith}
-use mathlib.Core.Bool.{false}
 use mathlib.Core.Path.{_≡_, ap, _∙_}
+use mathlib.Core.Bool.{false}
+use native.Mathlib.Omega.{arith}
+use Prim.Native.Nat.{ℕ, _≤_, _-_, _<_, _+_}
+use Rattle.walk.specs.ByPlace.{counts}
+use Rattle.pack.specs.Meaning.{opt-order}
+use Rattle.walk.specs.Runs.{edge}
+use Rattle.walk.specs.SetsOf.{value-at}
+use Rattle.walk.proofs.Plain.{below-next}
 use Rattle.walk.proofs.stretches.plain_orders.Statement.{statement}
 use Rattle.walk.proofs.stretches.plain_orders.Tie as tie
 use Rattle.walk.proofs.stretches.plain_orders.Reads as reads
 use Rattle.walk.proofs.stretches.plain_orders.Lts as lts
 use Rattle.walk.proofs.orders.next_order.Reads as next-order-reads
-use Rattle.walk.proofs.stretches.short_of_counter.Reads as short-of-counter-reads
-use Rattle.walk.proofs.stretches.short_of_edges.Reads as short-of-edges-reads
+use Rattle.walk.proofs.stretches.short_of_set.Reads as short-of-set-reads
 
 abbrev Inv-loop : tie.InvT-loop
 Inv-loop o sets next n₀ k₀ n k =
@@ -27,73 +26,64 @@ Inv-loop o sets next n₀ k₀ n k =
 abbrev μ-loop : tie.MeasureT-loop
 μ-loop o sets next n₀ k₀ n k = 4 - k
 
--- src/stretches.rt:76:9
+-- src/stretches.rt:104:9
 returns : tie.Need-returns Inv-loop μ-loop
 returns c = record { small = omega (arith, c .before .before .good); plain = λ j l. absurd (omega (arith, l)) }
 
--- src/stretches.rt:78:9
+-- src/stretches.rt:106:9
 next-order-requires : tie.Need-next-order-requires Inv-loop μ-loop
 next-order-requires c κs = omega (arith, c .if1 .left, c .before .struct-known .given, c .before .before .good)
 
--- src/stretches.rt:79:17
+-- src/stretches.rt:107:17
 sub-n : tie.Need-sub-n Inv-loop μ-loop
 sub-n c = omega (arith, c .before .before .if1 .left)
 
--- src/stretches.rt:81:5
+-- src/stretches.rt:109:5
 loop-holds : tie.Need-loop-holds Inv-loop μ-loop
 loop-holds c = record { few = omega arith; less = omega arith; edges = λ i l. absurd (omega (arith, l)); uncounted = λ i l. absurd (omega (arith, l)) }
 
--- src/stretches.rt:82:19
-mul-set : tie.Need-mul-set Inv-loop μ-loop
-mul-set c = omega (arith, c .loop-test .taken)
+-- src/stretches.rt:110:38
+mul-short-of-set : tie.Need-mul-short-of-set Inv-loop μ-loop
+mul-short-of-set c = omega (arith, c .loop-test .taken)
 
--- src/stretches.rt:82:19
-element-copy-out-set : tie.Need-element-copy-out-set Inv-loop μ-loop
-element-copy-out-set c = c .loop-test .taken
+-- src/stretches.rt:110:38
+element-copy-out-short-of-set : tie.Need-element-copy-out-short-of-set Inv-loop μ-loop
+element-copy-out-short-of-set c = c .loop-test .taken
 
--- src/stretches.rt:83:13
-short-of-edges-requires : tie.Need-short-of-edges-requires Inv-loop μ-loop
-short-of-edges-requires c κs = tt
+-- src/stretches.rt:110:9
+short-of-set-requires : tie.Need-short-of-set-requires Inv-loop μ-loop
+short-of-set-requires c κs =
+    let start = c .before .before .before .before .before .before .before in
+    let next-order = c .before .before .before .before .next-order in
+    record { first = (start .pre); next = omega (arith, next-order .ensures) }
 
--- src/stretches.rt:84:9
-short-of-counter-requires : tie.Need-short-of-counter-requires Inv-loop μ-loop
-short-of-counter-requires c κs =
-    let start = c .before .before .before .before .before .before .before .before in
-    start .pre
-
--- src/stretches.rt:85:9
+-- src/stretches.rt:111:9
 add-k : tie.Need-add-k Inv-loop μ-loop
-add-k c =
-    let loop-test = c .before .before .before .loop-test in
-    omega (arith, loop-test .taken)
+add-k c = omega (arith, c .before .before .loop-test .taken)
 
--- src/stretches.rt:81:5
+-- src/stretches.rt:109:5
 loop-less : tie.Need-loop-less Inv-loop μ-loop
-loop-less c =
-    let loop-test = c .before .before .before .loop-test in
-    omega (arith, loop-test .taken)
+loop-less c = omega (arith, c .before .before .loop-test .taken)
 
--- src/stretches.rt:81:5
+-- src/stretches.rt:109:5
 loop-again : tie.Need-loop-again Inv-loop μ-loop
 loop-again c =
-    let start = c .before .before .before .before .before .before .before .before .before in
-    let next-order = c .before .before .before .before .before .before .next-order in
-    let loop = c .before .before .before .before .loop in
-    let loop-test = c .before .before .before .loop-test in
+    let start = c .before .before .before .before .before .before .before .before in
+    let next-order = c .before .before .before .before .before .next-order in
+    let loop = c .before .before .before .loop in
     let t1 = start .args .t1 in
-    let r = c .short-of-counter .result in
+    let r = c .short-of-set .result in
+    let set = c .short-of-set .ensures in
     record {
-      few = omega (arith, loop-test .taken);
-      less = omega (arith, loop .inv .less, c .before .short-of-edges .ensures .fewer, c .short-of-counter .ensures .fewer);
+      few = omega (arith, c .before .before .loop-test .taken);
+      less = omega (arith, loop .inv .less, set .fewer);
       edges = below-next (λ i. (j : ℕ) → j < r → edge (value-at t1 i) (next-order .result .0 + j) ≡ false)
-          (λ i l j m. loop .inv .edges i l j (omega (arith, m, c .before .short-of-edges .ensures .fewer, c .short-of-counter .ensures .fewer)))
-          (λ j m. c .before .short-of-edges .ensures .none j (omega (arith, m, c .short-of-counter .ensures .fewer)));
+          (λ i l j m. loop .inv .edges i l j (omega (arith, m, set .fewer))) (set .edges);
       uncounted = below-next (λ i. (j : ℕ) → j < r → counts (opt-order (value-at t1 i .counter)) (start .args .o .0 + j - 1) ≡ false)
-          (λ i l j m. loop .inv .uncounted i l j (omega (arith, m, c .before .short-of-edges .ensures .fewer, c .short-of-counter .ensures .fewer)))
-          (c .short-of-counter .ensures .none);
+          (λ i l j m. loop .inv .uncounted i l j (omega (arith, m, set .fewer))) (set .uncounted);
     }
 
--- src/stretches.rt:71:1
+-- src/stretches.rt:99:1
 returns-2 : tie.Need-returns-2 Inv-loop μ-loop
 returns-2 c =
     let start = c .before .before .before .before .before .before in
@@ -119,10 +109,9 @@ plain-orders-spec =
     next-order-requires
     sub-n
     loop-holds
-    mul-set
-    element-copy-out-set
-    short-of-edges-requires
-    short-of-counter-requires
+    mul-short-of-set
+    element-copy-out-short-of-set
+    short-of-set-requires
     add-k
     loop-less
     loop-again

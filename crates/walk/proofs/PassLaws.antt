@@ -83,7 +83,7 @@ module _ (L : Layout) (g : ℕ → ℕ) (n : ℕ) (c : Stand) where
   unfolding settle
   round-ready p e = rw (← e, settle)
 
-  pub round-beyond : beyond ≡ c → past ≡ settle L (by-place L) (suc n) c g
+  round-beyond : beyond ≡ c → past ≡ settle L (by-place L) (suc n) c g
   unfolding settle
   round-beyond e = rw (← e, settle)
 
@@ -113,11 +113,11 @@ module _ (L : Layout) (k : ℕ) {set : Set} (is : SetIs (set-at L k) set) (p : P
   turns : x ≡ turn (p .order == end L k) (p .left k)
   turns = rw (is .end) at ex
 
-  pub pass-goes-on : x ≡ goes-on → close L (suc k) p ≡ close L k p
+  pass-goes-on : x ≡ goes-on → close L (suc k) p ≡ close L k p
   unfolding close
   pass-goes-on e = rw (← turns, e, close)
 
-  pub pass-leaves : x ≡ leaves → close L (suc k) p ≡ close L k (goto-with p (p .order) k none)
+  pass-leaves : x ≡ leaves → close L (suc k) p ≡ close L k (goto-with p (p .order) k none)
   unfolding close
   pass-leaves e = rw (← turns, e, close)
 
