@@ -3,7 +3,7 @@ use Prim.Native.Nat.{ℕ, zero, suc, _≤_, _<_}
 use native.Mathlib.Omega.{arith}
 use native.Mathlib.Decide.{decLt}
 use mathlib.Core.Path.{_≡_, refl, ap, _∙_, sym}
-use mathlib.Core.List.{List}
+use mathlib.Core.List.{List, [], _∷_}
 use mathlib.Core.Option.{Option, none}
 use lib.ListN.{length, getD, List·getD-eq-default}
 use Rattle.pack.specs.Notation.{tab}
@@ -11,7 +11,7 @@ use Rattle.pack.specs.Value.{Repeating, Pgn, pgns-of, no-pgn, pgn-at, se
 use Rattle.pack.specs.Records.{absent-set, read-pgn}
 use Rattle.pack.specs.Format.{tree-list, pgn-start}
 use Rattle.pack.specs.Meaning.{optional-repeating, pgn-of-pack, pack-of}
-use Rattle.pack.specs.Ready.{PgnAt, PgnIs}
+use Rattle.pack.specs.Ready.{PgnIs}
 use Rattle.pack.specs.declared.cursor.Cursor.{Cursor}
 use Rattle.pack.specs.declared.pgn.PgnView.{PgnView}
 use Rattle.pack.proofs.Tables.{length-tab, getD-tab}
@@ -34,12 +34,23 @@ module _ {s : List ℕ} {G : Pgn} {v : PgnView} (is : PgnIs s G v) where
       sym (getD-tab (λ k. optional-repeating (getD (v .sets) k absent-set)) none (v .places) k h)
       ∙ ap (λ (l : List (Option Repeating)). getD l k none) sets-are
 
+two-of : (l : List (Option Repeating)) → length l ≡ 2 → l ≡ getD l 0 none ∷ getD l 1 none ∷ []
+two-of [] h = absurd (omega (arith, h))
+two-of (a ∷ []) h = absurd (omega (arith, h))
+two-of (a ∷ b ∷ []) h = refl
+two-of (a ∷ b ∷ c ∷ l) h = absurd (omega (arith, h))
+
+-- version 1: two places
 module _ (s : List ℕ) where
   pub places-of : (t i : ℕ) → t < 3 → i < length (pgns-of (pack-of s) t) → length (pgn-at (pack-of s) t i .sets) ≡ 2
   unfolding pgn-of-pack
   places-of t i h l =
       let m : i < tree-list s t .value = omega (arith, pgns-are s t h) in
       rw (pgn-is s t i h m) (length-tab _ _ ∙ places-read s (pgn-start s t i))
+
+  pub two-sets : (t i : ℕ) → t < 3 → i < length (pgns-of (pack-of s) t)
+      → pgn-at (pack-of s) t i .sets ≡ set-place (pgn-at (pack-of s) t i) 0 ∷ set-place (pgn-at (pack-of s) t i) 1 ∷ []
+  two-sets t i h l = two-of (pgn-at (pack-of s) t i .sets) (places-of t i h l)
 
   -- beyond the trees and their PGNs there are none
   pub sets-two : (t i : ℕ) → length (pgn-at (pack-of s) t i .sets) ≤ 2
@@ -59,7 +70,3 @@ module _ (s : List ℕ) where
   -- a view has room for four
   pub sets-few : (t i : ℕ) → length (pgn-at (pack-of s) t i .sets) ≤ 4
   sets-few t i = omega (arith, sets-two t i)
-
--- version 1: two places
-pub two-places : {s w : List ℕ} {t i p : ℕ} → PgnAt s w t i p → length (pgn-at (pack-of s) t i .sets) ≡ 2
-two-places {s} {w} {t} {i} a = places-of s t i (a .tree) (a .pgn)

@@ -1,4 +1,4 @@
--- Version 1 has two places for sets. Of two places the rules are what they are over set 1 and set 2 by name.
+-- Version 1 has two places for sets (`two-sets`, pack/proofs/Sets). Of two places the rules are what they are over set 1 and set 2 by name.
 use Prim.Native.Nat.{ℕ, _+_}
 use mathlib.Core.Bool.{Bool, true, false, not, _&&_, _||_}
 use mathlib.Core.List.{[], _∷_, _++_}

@@ -42,8 +42,8 @@ a-field id name type bits resolution offset unit spn match reference special tra
       continuation = none;
     }
 
-abbrev pub a-pgn : (number : ℕ) (id : Bytes) → Option Repeating → List Field → Pgn
-a-pgn number id set fields =
+abbrev pub with-sets : (number : ℕ) (id : Bytes) → List (Option Repeating) → List Field → Pgn
+with-sets number id sets fields =
     record {
       pgn = number;
       id = id;
@@ -53,9 +53,12 @@ a-pgn number id set fields =
       missing-company-fields = false;
       length = 8;
       min-length = none;
-      sets = set ∷ none ∷ [];
+      sets = sets;
       fields = fields;
     }
+
+abbrev pub a-pgn : (number : ℕ) (id : Bytes) → Option Repeating → List Field → Pgn
+a-pgn number id set fields = with-sets number id (set ∷ none ∷ []) fields
 
 abbrev pub in-nmea2000 : List Lookup → List Pgn → Pack
 in-nmea2000 lookups pgns = record { fieldtypes = number-type ∷ []; lookups = lookups; pgns = pgns; pgns-j1939 = []; pgns-quick = [] }

@@ -13,7 +13,8 @@ use Rattle.rules.specs.declared.Finding.{Finding}
 use Rattle.rules.specs.declared.place_text.Placed.the-variants.{Refused, Written}
 use Rattle.rules.specs.Check.{check}
 use Rattle.rules.specs.Computed.{computed}
-use Rattle.rules.specs.ExamplePacks.{a-field, a-pgn, in-nmea2000, in-j1939, NAN, MINUS-ZERO}
+use Rattle.rules.specs.Continues.{set-of}
+use Rattle.rules.specs.ExamplePacks.{a-field, with-sets, a-pgn, in-nmea2000, in-j1939, NAN, MINUS-ZERO}
 use Rattle.rules.specs.Findings.{pgn-error, group-error, only}
 use Rattle.rules.specs.Floats.{ONE}
 use Rattle.rules.specs.Model.{resolve-match}
@@ -179,12 +180,11 @@ unfolding computed
 nan-alone = refl
 
 -- "an empty set with start 0 ignored in R44"
+abbrev decimals : List Field
+decimals = plain (bytes "f") (bytes "F") NUMBER 8 ∷ a-field (bytes "d") (bytes "D") DECIMAL 56 ONE 0 none none none none none (some (bytes "f")) ∷ []
+
 abbrev decimal : Option Repeating → Pack
-decimal set =
-    in-nmea2000 []
-    (a-pgn 127488 (bytes "a") set
-    (plain (bytes "f") (bytes "F") NUMBER 8 ∷ a-field (bytes "d") (bytes "D") DECIMAL 56 ONE 0 none none none none none (some (bytes "f")) ∷ [])
-    ∷ [])
+decimal set = in-nmea2000 [] (a-pgn 127488 (bytes "a") set decimals ∷ [])
 
 empty-set : check (decimal (some (a-set 0 0))) ≡ pgn-error 44 3 0 0 1 0 ∷ []
 unfolding computed
@@ -193,6 +193,50 @@ empty-set = refl
 no-set : check (decimal none) ≡ []
 unfolding computed
 no-set = refl
+
+-- ---- three places for sets, which no pack of version 1 has
+
+abbrev a-nested : (start count count-field : ℕ) → Repeating
+a-nested start count count-field = record { count = count; start = start; count-field = some count-field; nested = true }
+
+abbrev five : List Field
+five =
+    plain (bytes "a") (bytes "A") NUMBER 8
+    ∷ plain (bytes "b") (bytes "B") NUMBER 8
+    ∷ plain (bytes "c") (bytes "C") NUMBER 8
+    ∷ plain (bytes "d") (bytes "D") NUMBER 8
+    ∷ plain (bytes "e") (bytes "E") NUMBER 8
+    ∷ []
+
+-- set 1 holds b to e, set 2 in it c and d, the third is given
+abbrev three : Repeating → Pgn
+three third = with-sets 127488 (bytes "a") (some (a-set 2 4) ∷ some (a-nested 3 2 2) ∷ some third ∷ []) five
+
+abbrev repeating-of : Repeating → List Finding
+repeating-of third = only 5 (check (in-nmea2000 [] (three third ∷ [])))
+
+-- R05: the third beside the second
+third-inside : repeating-of (a-nested 4 1 3) ≡ []
+unfolding computed
+third-inside = refl
+
+third-outside : repeating-of (a-nested 4 2 3) ≡ pgn-error 5 5 0 0 3 0 ∷ []
+unfolding computed
+third-outside = refl
+
+third-counted-outside : repeating-of (a-nested 4 1 2) ≡ pgn-error 5 4 0 0 3 0 ∷ []
+unfolding computed
+third-counted-outside = refl
+
+-- R43: the highest that holds the field
+highest-of-three : map (set-of (three (a-nested 4 1 3))) (0 ∷ 1 ∷ 2 ∷ 3 ∷ 4 ∷ []) ≡ 0 ∷ 1 ∷ 2 ∷ 3 ∷ 1 ∷ []
+unfolding computed
+highest-of-three = refl
+
+-- R44: the third too
+third-behind : check (in-nmea2000 [] (with-sets 127488 (bytes "a") (none ∷ none ∷ some (a-set 0 0) ∷ []) decimals ∷ [])) ≡ pgn-error 44 3 0 0 1 0 ∷ []
+unfolding computed
+third-behind = refl
 
 -- "a match resolved by the lookup's own kind": it goes by the reference's
 abbrev on-off : (kind : ℕ) → Lookup

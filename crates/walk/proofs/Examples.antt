@@ -124,8 +124,8 @@ key = field (bytes "k") NUMBER 8 1 none none none none none
 abbrev value : Field
 value = field (bytes "v") NUMBER 8 2 none none none none none
 
-abbrev pgn : Option Repeating → Option Repeating → List Field → Pgn
-pgn set1 set2 fields =
+abbrev with-sets : List (Option Repeating) → List Field → Pgn
+with-sets sets fields =
     record {
       pgn = 129540;
       id = bytes "p";
@@ -135,9 +135,12 @@ pgn set1 set2 fields =
       missing-company-fields = false;
       length = 8;
       min-length = none;
-      sets = set1 ∷ set2 ∷ [];
+      sets = sets;
       fields = fields;
     }
+
+abbrev pgn : Option Repeating → Option Repeating → List Field → Pgn
+pgn set1 set2 fields = with-sets (set1 ∷ set2 ∷ []) fields
 
 abbrev set : (start count : ℕ) → Option ℕ → Bool → Option Repeating
 set start count count-field nested = some (record { count = count; start = start; count-field = count-field; nested = nested })
@@ -520,3 +523,26 @@ three-deep :
     ≡ answer used-up (0 ∷ 1 ∷ 2 ∷ 1 ∷ 2 ∷ 3 ∷ 4 ∷ 5 ∷ 5 ∷ 1 ∷ [])
 unfolding run
 three-deep = refl
+
+-- the same of a PGN, which no pack of version 1 says: a counts the passes of b to e, b those of c and d, and the third is given
+abbrev of-three : Option Repeating → Pgn
+of-three third = with-sets (set 2 4 (some 1) false ∷ set 3 2 (some 2) true ∷ third ∷ []) (a ∷ b ∷ c ∷ d ∷ e ∷ [])
+
+-- c counts the passes of d
+three-held : is-held (of-three (set 4 1 (some 3) true)) ≡ true
+unfolding is-held
+three-held = refl
+
+three-counted : run (of-three (set 4 1 (some 3) true)) (1 ∷ 2 ∷ 2 ∷ 7 ∷ 7 ∷ 0 ∷ 9 ∷ 9 ∷ []) ≡ answer whole (0 ∷ 1 ∷ 2 ∷ 3 ∷ 3 ∷ 2 ∷ 4 ∷ [])
+unfolding run
+three-counted = refl
+
+-- the third set ends behind the second
+three-misplaced : run (of-three (set 4 2 (some 3) true)) (1 ∷ []) ≡ answer (stop 1) []
+unfolding run
+three-misplaced = refl
+
+-- its countField lies in it
+three-not-held : is-held (of-three (set 4 1 (some 4) true)) ≡ false
+unfolding is-held
+three-not-held = refl

@@ -26,7 +26,8 @@ use Rattle.walk.specs.declared.passes.Left.{Left}
 use Rattle.walk.specs.declared.passes.Settling.{Settling}
 use Rattle.walk.specs.declared.stretches.Ending.{Ending}
 use Rattle.walk.specs.declared.sets.Sets.{Sets}
-use Rattle.walk.proofs.PassLaws.{turn-more, round-ready, round-again, pass-begins, close-four, close-skip, closed-look, look-none, look-four, entered, kept-memory}
+use Rattle.walk.proofs.PassLaws.{turn-more, round-ready, round-again, pass-begins, close-four, close-skip, closed-look, look-none, look-four}
+use Rattle.walk.proofs.PassLaws.{entered, kept-memory}
 use Rattle.walk.proofs.Walks.{step-visits}
 
 or-parts : (a b : Bool) → (a || b) ≡ false → (a ≡ false) × (b ≡ false)

@@ -7,14 +7,14 @@ use mathlib.Core.Option.{none, some}
 use lib.ListN.{length, getD, set}
 use Rattle.pack.specs.Meaning.{opt-order}
 use Rattle.pack.specs.Notation.{_==_}
-use Rattle.walk.specs.ByPlace.{placed, by-place, counts}
+use Rattle.walk.specs.ByPlace.{placed, counts}
 use Rattle.walk.specs.Layout.{Layout}
 use Rattle.walk.specs.Passes.{Rest, turn, begins, goto-with}
 use Rattle.walk.specs.SetsOf.{SetsAre, value-at}
 use Rattle.walk.specs.State.{left-of, left-at, place-of, memory-of}
 use Rattle.walk.specs.Steps.{Run}
 use Rattle.walk.specs.StopParts.{lets-pass}
-use Rattle.walk.specs.Walk.{Stops, due, settled, onward}
+use Rattle.walk.specs.Walk.{Stops, due}
 use Rattle.walk.specs.declared.sets.Set.{Set}
 use Rattle.walk.specs.declared.sets.Sets.{Sets}
 use Rattle.walk.specs.declared.stretches.Stretch.{Stretch}
@@ -30,7 +30,7 @@ pub record PlainAt (v : Sets) (o : ℕ) : Type 0 where
   pub edges : (k : ℕ) → k < 4 → edge (value-at v k) (o + 1) ≡ false
   pub uncounted : (k : ℕ) → k < 4 → counts (opt-order (value-at v k .counter)) (o - 1) ≡ false
 
--- Behind the order o the set x ends, and no later one; a field has its first order; and the field of the order o is no countField.
+-- Behind the order o x's set ends, and no later one; a field has its first order; and the field of the order o is no countField.
 pub record EndsBehind (v : Sets) (o : ℕ) (x : Ending) : Type 0 where
   pub set : x .set < 4
   pub end : suc o ≡ value-at v (x .set) .end .0
@@ -46,7 +46,8 @@ pub record Straight (v : Sets) (x : Stretch) : Type 0 where
   pub plain : (o : ℕ) → x .from .0 ≤ o → o < x .to .0 → PlainAt v o
   pub ending : x .ending .given ≡ true → EndsBehind v (x .to .0) (x .ending)
 
--- what is so of a stretch whatever the sets are: of a free one each field is marked to stop at no reading
+-- What is so of a stretch whatever the sets are: its orders are orders, and its set one of the four with a first order; of a free one each
+-- field is marked to stop at no reading.
 pub record Sound (marks : List ℕ) (x : Stretch) : Type 0 where
   pub first : 1 ≤ x .from .0
   pub order : x .from .0 ≤ x .to .0
@@ -59,7 +60,7 @@ abbrev pub written : List ℕ → (m k n : ℕ) → List ℕ
 written v m k zero = v
 written v m k (suc n) = set (written v m k n) (m + n) (k + n)
 
--- what is left of set k after a pass that ends: another begins
+-- a pass of set k ends and another begins, from the numbers w to w′
 pub record Turns (w : List ℕ) (k : ℕ) (w′ : List ℕ) : Type 0 where
   pub rest : Rest
   pub begins : turn true (left-of (left-at w k)) ≡ begins rest

@@ -118,7 +118,7 @@ fn leap(
     write_passing(marks, bad, readings, visits, m, k, n)
 }
 
-// Where a pass of set k ends: whether another begins.
+// Where a pass of set k ends: whether another begins, which is counted then.
 fn begins(passes: &mut [u64], k: usize) -> bool
     requires { ⌜ record { set : k < 4; sixteen : length (now passes) ≡ 16 } ⌝ }
     ensures { λ r. ⌜ record {
@@ -140,7 +140,8 @@ fn begins(passes: &mut [u64], k: usize) -> bool
     true
 }
 
-// Behind a stretch: the visit after m others, if it is known not to stop and another pass of a set begins behind it.
+// At the order o, after m visits: whether it ends the stretch with a set, the visit there is known not to stop, and another pass of the set
+// begins behind it, which is counted then.
 fn pass_on(
     marks: &[u8],
     bad: &[u64],

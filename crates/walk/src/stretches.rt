@@ -8,6 +8,7 @@ ghost use Rattle.walk.specs.ByPlace.{counts};
 ghost use Rattle.walk.specs.Runs.{edge, PlainAt, EndsBehind, Straight, Sound};
 use crate::known::is_free;
 use crate::orders::index_of;
+use crate::orders::later_order;
 use crate::orders::next_order;
 use crate::passes::is_counted;
 use crate::sets::Set;
@@ -66,7 +67,7 @@ fn short_of_counter(n: u32, o: FieldOrder, counter: OptOrder) -> u32
     n
 }
 
-// Whether a set has no orders and no countField, as those have that fill up the four.
+// Whether a set has start and end 0 and no countField, as those have that fill up the four.
 fn is_void(set: Set) -> bool
     ensures { λ r. ⌜ (r ≡ true → record { start : set .start .0 ≡ 0; end : set .end .0 ≡ 0; counter : set .counter .given ≡ false }) ⌝ }
 {
@@ -183,7 +184,7 @@ pub fn stretch_at(sets: Sets, marks: &[u8], o: FieldOrder) -> Stretch
 {
     let n = plain_orders(sets, o);
     let free = all_free(marks, index_of(o), n);
-    let to = FieldOrder(o.0 + n);
+    let to = later_order(o, n as usize);
     let ending = ending_behind(sets, to);
     Stretch {
         from: o,

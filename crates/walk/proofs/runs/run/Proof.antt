@@ -1,8 +1,7 @@
-use mathlib.Core.Path.{_≡_, refl, sym, subst, _∙_}
+use mathlib.Core.Path.{_≡_, refl, sym, _∙_}
 use native.Mathlib.Omega.{arith}
-use Prim.Native.Nat.{ℕ, _-_, _≤_}
+use Prim.Native.Nat.{_-_, _≤_}
 use lib.ListN.{length}
-use denote.Ref.{now}
 use borrow.Author.Tests.{not-false}
 use Rattle.walk.specs.Runs.{RunsTo}
 use Rattle.walk.proofs.Plain.{runs-none, runs-then}

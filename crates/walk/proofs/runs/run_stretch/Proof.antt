@@ -1,13 +1,11 @@
 use Rattle.walk.specs.Runs.{EndsBehind, Straight, RunsTo}
-use mathlib.Core.Path.{_≡_, refl, sym, ap, subst, _∙_}
+use mathlib.Core.Path.{_≡_, refl, sym, subst, _∙_}
 use mathlib.Core.Bool.{false≢true}
 use native.Mathlib.Omega.{arith}
-use Prim.Native.Nat.{ℕ, _+_, _-_, _≤_, _<_}
+use Prim.Native.Nat.{ℕ, _+_, _-_, _≤_}
 use lib.ListN.{length}
-use denote.Ref.{now}
 use borrow.Author.Tests.{not-true, not-false}
 use Rattle.walk.specs.declared.sets.Sets.{Sets}
-use Rattle.walk.specs.Runs.{Straight, PlainAt, RunsTo}
 use Rattle.walk.proofs.Plain.{runs-none, runs-leap, runs-turn, pass-onward}
 use Rattle.walk.proofs.runs.run_stretch.Statement.{statement}
 use Rattle.walk.proofs.runs.run_stretch.Tie as tie

@@ -1,7 +1,5 @@
 use borrow.Author.Tests.{not-true}
-use mathlib.Core.Path.{sym, _∙_}
 use mathlib.Core.Bool.{false≢true}
-use native.Mathlib.Omega.{arith}
 use Rattle.walk.proofs.stretches.is_void.Statement.{statement}
 use Rattle.walk.proofs.stretches.is_void.Tie as tie
 use Rattle.walk.proofs.stretches.is_void.Reads as reads
