@@ -1,7 +1,7 @@
 -- What the walk sees of a PGN: its fields, and its repeating sets one after the other.
 -- "A field's index runs from 0 and its order from 1; sets and countField use orders": the field of index t has the order suc t.
 use Prim.Native.Nat.{ℕ, zero, suc, _+_}
-use mathlib.Core.Bool.{Bool, true, false, not, _&&_, _||_}
+use mathlib.Core.Bool.{Bool, false, not, _&&_, _||_}
 use mathlib.Core.List.{List}
 use mathlib.Core.Option.{Option, none, some}
 use lib.ListN.{length, getD}

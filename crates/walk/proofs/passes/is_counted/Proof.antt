@@ -19,25 +19,25 @@ Inv-loop o sets k₀ k = record { few : k ≤ 4; missed : any-below (λ j. count
 abbrev μ-loop : tie.MeasureT-loop
 μ-loop o sets k₀ k = 4 - k
 
--- src/passes.rt:364:5
+-- src/passes.rt:368:5
 loop-holds : tie.Need-loop-holds Inv-loop μ-loop
 loop-holds c = record { few = omega arith; missed = refl }
 
--- src/passes.rt:365:19
+-- src/passes.rt:369:19
 mul-set : tie.Need-mul-set Inv-loop μ-loop
 mul-set c = omega (arith, c .loop-test .taken)
 
--- src/passes.rt:365:19
+-- src/passes.rt:369:19
 element-copy-out-set : tie.Need-element-copy-out-set Inv-loop μ-loop
 element-copy-out-set c = c .loop-test .taken
 
--- src/passes.rt:366:12
+-- src/passes.rt:370:12
 is-counter-requires : tie.Need-is-counter-requires Inv-loop μ-loop
 is-counter-requires c κs =
     let start = c .before .before .before in
     start .pre
 
--- src/passes.rt:367:13
+-- src/passes.rt:371:13
 returns : tie.Need-returns Inv-loop μ-loop
 returns c =
     let start = c .before .before .before .before .before in
@@ -46,19 +46,19 @@ returns c =
     sym (any-hit (λ j. counts (opt-order (value-at (start .args .t1) j .counter)) (start .args .o .0 - 1)) 4 (loop .k) (loop-test .taken)
     (sym (c .before .is-counter .ensures) ∙ c .if1 .taken))
 
--- src/passes.rt:369:9
+-- src/passes.rt:373:9
 add-k : tie.Need-add-k Inv-loop μ-loop
 add-k c =
     let loop-test = c .before .before .before .loop-test in
     omega (arith, loop-test .taken)
 
--- src/passes.rt:364:5
+-- src/passes.rt:368:5
 loop-less : tie.Need-loop-less Inv-loop μ-loop
 loop-less c =
     let loop-test = c .before .before .before .loop-test in
     omega (arith, loop-test .taken)
 
--- src/passes.rt:364:5
+-- src/passes.rt:368:5
 loop-again : tie.Need-loop-again Inv-loop μ-loop
 loop-again c =
     let start = c .before .before .before .before .before in
@@ -70,7 +70,7 @@ loop-again c =
           (sym (c .before .is-counter .ensures) ∙ c .if1 .left);
     }
 
--- src/passes.rt:359:1
+-- src/passes.rt:363:1
 returns-2 : tie.Need-returns-2 Inv-loop μ-loop
 returns-2 c = let e : c .before .loop .k ≡ 4 = omega (arith, c .before .loop .inv .few, c .loop-test .left) in sym (rw e at (c .before .loop .inv .missed))
 

@@ -15,27 +15,27 @@ use Rattle.walk.proofs.runs.write_passing.Reads as write-passing-reads
 use Rattle.walk.proofs.runs.write_visits.Reads as write-visits-reads
 use Rattle.walk.proofs.stretches.ahead.Reads as ahead-reads
 
--- src/runs.rt:135:31
+-- src/runs.rt:112:31
 sub-ahead : tie.Need-sub-ahead
 sub-ahead c = search needs
 
--- src/runs.rt:135:9
+-- src/runs.rt:112:9
 ahead-requires : tie.Need-ahead-requires
 ahead-requires c κs = search needs
 
--- src/runs.rt:136:9
+-- src/runs.rt:113:9
 index-of-requires : tie.Need-index-of-requires
 index-of-requires c κs = search needs
 
--- src/runs.rt:138:9
+-- src/runs.rt:115:9
 write-visits-requires : tie.Need-write-visits-requires
 write-visits-requires c κs = search needs
 
--- src/runs.rt:139:9
+-- src/runs.rt:116:9
 same-length : tie.Need-same-length
 same-length c = search needs
 
--- src/runs.rt:139:9
+-- src/runs.rt:116:9
 returns : tie.Need-returns
 returns c =
     let start = c .before .before .before .before .before .before .before .before .before .before .before in
@@ -53,15 +53,15 @@ returns c =
           (ap (λ (i : ℕ). getD marks i 0) e ∙ start .pre .free (if1 .taken) (o + j) (omega (arith, c)) (omega (arith, l, ahead .ensures .within)));
     }
 
--- src/runs.rt:141:5
+-- src/runs.rt:118:5
 write-passing-requires : tie.Need-write-passing-requires
 write-passing-requires c κs = search needs
 
--- src/runs.rt:111:1
+-- src/runs.rt:88:1
 same-length-2 : tie.Need-same-length-2
 same-length-2 c = search needs
 
--- src/runs.rt:111:1
+-- src/runs.rt:88:1
 returns-2 : tie.Need-returns-2
 returns-2 c =
     let start = c .before .before .before .before .before .before .before .before .before .before .before in

@@ -12,43 +12,43 @@ use Rattle.walk.proofs.known.lets_pass.Reads as lets-pass-reads
 use Rattle.walk.proofs.orders.index_of.Reads as index-of-reads
 use Rattle.walk.proofs.runs.begins.Reads as begins-reads
 
--- src/runs.rt:164:9
+-- src/runs.rt:165:9
 returns : tie.Need-returns
 returns c = record { kept = λ h. refl; passes = λ h. absurd (false≢true h) }
 
--- src/runs.rt:166:9
+-- src/runs.rt:167:9
 same-order-requires : tie.Need-same-order-requires
 same-order-requires c κs = search needs
 
--- src/runs.rt:167:9
+-- src/runs.rt:168:9
 returns-2 : tie.Need-returns-2
 returns-2 c = record { kept = λ h. refl; passes = λ h. absurd (false≢true h) }
 
--- src/runs.rt:171:9
+-- src/runs.rt:172:9
 returns-3 : tie.Need-returns-3
 returns-3 c = record { kept = λ h. refl; passes = λ h. absurd (false≢true h) }
 
--- src/runs.rt:173:9
+-- src/runs.rt:174:9
 index-of-requires : tie.Need-index-of-requires
 index-of-requires c κs = search needs
 
--- src/runs.rt:174:36
+-- src/runs.rt:175:36
 mul-lets-pass : tie.Need-mul-lets-pass
 mul-lets-pass c = search needs
 
--- src/runs.rt:174:36
+-- src/runs.rt:175:36
 shared-slice-read-lets-pass : tie.Need-shared-slice-read-lets-pass
 shared-slice-read-lets-pass c = search needs
 
--- src/runs.rt:174:9
+-- src/runs.rt:175:9
 lets-pass-requires : tie.Need-lets-pass-requires
 lets-pass-requires c κs = search needs
 
--- src/runs.rt:175:9
+-- src/runs.rt:176:9
 returns-4 : tie.Need-returns-4
 returns-4 c = record { kept = λ h. refl; passes = λ h. absurd (false≢true h) }
 
--- src/runs.rt:177:5
+-- src/runs.rt:178:5
 begins-requires : tie.Need-begins-requires
 begins-requires c κs =
     let back12 = c .before .before .before .before .before .before .before .before .before .before .before .before in
@@ -56,11 +56,11 @@ begins-requires c κs =
     let if3 = c .before .before .before .before .before .if3 in
     record { set = start .pre .set (not-false (start .args .stretch .ending .given) (if3 .left)); sixteen = start .pre .sixteen }
 
--- src/runs.rt:144:1
+-- src/runs.rt:145:1
 same-length : tie.Need-same-length
 same-length c = search needs
 
--- src/runs.rt:144:1
+-- src/runs.rt:145:1
 returns-5 : tie.Need-returns-5
 returns-5 c =
     let back12 = c .before .before .before .before .before .before .before .before .before .before .before .before in

@@ -34,7 +34,7 @@ Inv-loop marks bad passes₀ stretch readings visits₀ n here₀ m₀ passes vi
 abbrev μ-loop : tie.MeasureT-loop
 μ-loop marks bad passes₀ stretch readings visits₀ n here₀ m₀ passes visits here m = length readings - m
 
--- src/runs.rt:208:5
+-- src/runs.rt:209:5
 loop-holds : tie.Need-loop-holds Inv-loop μ-loop
 loop-holds c =
     let start = c .before .before .before .before .before .before in
@@ -49,11 +49,11 @@ loop-holds c =
       runs = λ v x. runs-none;
     }
 
--- src/runs.rt:208:11
+-- src/runs.rt:209:11
 is-in-requires : tie.Need-is-in-requires Inv-loop μ-loop
 is-in-requires c κs = tt
 
--- src/runs.rt:209:13
+-- src/runs.rt:210:13
 leap-requires : tie.Need-leap-requires Inv-loop μ-loop
 leap-requires c κs =
     let start = c .before .before .before .before .before .before .before .before .before .before in
@@ -67,14 +67,14 @@ leap-requires c κs =
       room = omega (arith, start .pre .room, loop .inv .same);
     }
 
--- src/runs.rt:210:9
+-- src/runs.rt:211:9
 later-order-requires : tie.Need-later-order-requires Inv-loop μ-loop
 later-order-requires c κs =
     let back12 = c .before .before .before .before .before .before .before .before .before .before .before .before in
     let start = back12 .before in
     omega (arith, c .before .before .leap .ensures .within, start .good)
 
--- src/runs.rt:211:9
+-- src/runs.rt:212:9
 add-m : tie.Need-add-m Inv-loop μ-loop
 add-m c =
     let back12 = c .before .before .before .before .before .before .before .before .before .before .before .before in
@@ -82,7 +82,7 @@ add-m c =
     let leap = c .before .before .before .leap in
     omega (arith, leap .ensures .read, start .good)
 
--- src/runs.rt:212:13
+-- src/runs.rt:213:13
 pass-on-requires : tie.Need-pass-on-requires Inv-loop μ-loop
 pass-on-requires c κs =
     let back12 = c .before .before .before .before .before .before .before .before .before .before .before .before in
@@ -90,7 +90,7 @@ pass-on-requires c κs =
     let loop = c .before .before .before .before .before .before .before .before .loop in
     record { first = omega (arith, c .before .later-order .ensures, loop .inv .first); set = start .pre .sound .set; sixteen = loop .inv .sixteen }
 
--- src/runs.rt:213:13
+-- src/runs.rt:214:13
 same-length : tie.Need-same-length Inv-loop μ-loop
 same-length c =
     let back12 = c .before .before .before .before .before .before .before .before .before .before .before .before in
@@ -99,14 +99,14 @@ same-length c =
     let pass-on = c .before .before .before .pass-on in
     pass-on .kept .1 .1 .0 ∙ loop .inv .sixteen ∙ sym (start .pre .sixteen)
 
--- src/runs.rt:213:13
+-- src/runs.rt:214:13
 same-length-2 : tie.Need-same-length-2 Inv-loop μ-loop
 same-length-2 c =
     let loop = c .before .before .before .before .before .before .before .before .before .before .before .before .loop in
     let leap = c .before .before .before .before .before .before .before .before .leap in
     leap .kept .1 .1 .1 .1 .1 .0 ∙ loop .inv .same
 
--- src/runs.rt:213:13
+-- src/runs.rt:214:13
 returns : tie.Need-returns Inv-loop μ-loop
 returns c =
     let loop = c .before .before .before .before .before .before .before .before .before .before .before .before .loop in
@@ -129,7 +129,7 @@ returns c =
           (later-order .ensures));
     }
 
--- src/runs.rt:219:32
+-- src/runs.rt:220:32
 index-of-requires : tie.Need-index-of-requires Inv-loop μ-loop
 index-of-requires c κs =
     let back12 = c .before .before .before .before .before .before .before .before .before .before .before .before in
@@ -137,7 +137,7 @@ index-of-requires c κs =
     let later-order = c .before .before .before .before .before .before .later-order in
     omega (arith, later-order .ensures, loop .inv .first)
 
--- src/runs.rt:219:9
+-- src/runs.rt:220:9
 write-visit-requires : tie.Need-write-visit-requires Inv-loop μ-loop
 write-visit-requires c κs =
     let back12 = c .before .before .before .before .before .before .before .before .before .before .before .before in
@@ -153,7 +153,7 @@ write-visit-requires c κs =
       loop .inv .same,
     )
 
--- src/runs.rt:221:9
+-- src/runs.rt:222:9
 add-m-2 : tie.Need-add-m-2 Inv-loop μ-loop
 add-m-2 c =
     let back12 = c .before .before .before .before .before .before .before .before .before .before .before .before in
@@ -163,14 +163,14 @@ add-m-2 c =
     let if2 = c .before .before .before .before .before .before .if2 in
     omega (arith, pass-on .ensures .passes (not-false (pass-on .result) (if2 .left)) .read, start .good)
 
--- src/runs.rt:208:5
+-- src/runs.rt:209:5
 loop-less : tie.Need-loop-less Inv-loop μ-loop
 loop-less c =
     let pass-on = c .before .before .before .before .before .before .before .before .before .pass-on in
     let if2 = c .before .before .before .before .before .before .if2 in
     omega (arith, pass-on .ensures .passes (not-false (pass-on .result) (if2 .left)) .read)
 
--- src/runs.rt:208:5
+-- src/runs.rt:209:5
 loop-again : tie.Need-loop-again Inv-loop μ-loop
 loop-again c =
     let back12 = c .before .before .before .before .before .before .before .before .before .before .before .before in
@@ -206,17 +206,17 @@ loop-again c =
           (subst (λ (i : ℕ). EndsBehind v i (start .args .stretch .ending)) (sym (on .at)) (x .ending (on .ending))) (loop .passes) w′ (on .turns) r));
     }
 
--- src/runs.rt:181:1
+-- src/runs.rt:182:1
 same-length-3 : tie.Need-same-length-3 Inv-loop μ-loop
 same-length-3 c =
     let start = c .before .before .before .before .before .before .before .before .before in
     c .before .before .loop .inv .sixteen ∙ sym (start .pre .sixteen)
 
--- src/runs.rt:181:1
+-- src/runs.rt:182:1
 same-length-4 : tie.Need-same-length-4 Inv-loop μ-loop
 same-length-4 c = c .before .before .loop .inv .same
 
--- src/runs.rt:181:1
+-- src/runs.rt:182:1
 returns-2 : tie.Need-returns-2 Inv-loop μ-loop
 returns-2 c =
     let start = c .before .before .before .before .before .before .before .before .before in

@@ -28,65 +28,65 @@ Inv-loop marks bad readings visits₀ m k n j₀ visits j =
 abbrev μ-loop : tie.MeasureT-loop
 μ-loop marks bad readings visits₀ m k n j₀ visits j = n - j
 
--- src/runs.rt:99:5
+-- src/runs.rt:76:5
 loop-holds : tie.Need-loop-holds Inv-loop μ-loop
 loop-holds c = record { count = omega arith; out = refl; passing = λ i l. absurd (omega (arith, l)) }
 
--- src/runs.rt:100:27
+-- src/runs.rt:77:27
 cast-field : tie.Need-cast-field Inv-loop μ-loop
 cast-field c =
     let start = c .before .before .before .before .before .before in
     omega (arith, c .loop-test .taken, start .pre .fields)
 
--- src/runs.rt:100:21
+-- src/runs.rt:77:21
 add-field : tie.Need-add-field Inv-loop μ-loop
 add-field c =
     let start = c .before .before .before .before .before .before .before in
     omega (arith, c .before .loop-test .taken, start .pre .fields)
 
--- src/runs.rt:101:51
+-- src/runs.rt:78:51
 add-lets-pass : tie.Need-add-lets-pass Inv-loop μ-loop
 add-lets-pass c =
     let start = c .before .before .before .before .before .before .before in
     omega (arith, c .before .loop-test .taken, start .pre .read, start .good .1 .1 .0)
 
--- src/runs.rt:101:42
+-- src/runs.rt:78:42
 mul-lets-pass : tie.Need-mul-lets-pass Inv-loop μ-loop
 mul-lets-pass c =
     let start = c .before .before .before .before .before .before .before in
     omega (arith, c .before .loop-test .taken, start .pre .read, start .good .1 .1 .0)
 
--- src/runs.rt:101:42
+-- src/runs.rt:78:42
 shared-slice-read-lets-pass : tie.Need-shared-slice-read-lets-pass Inv-loop μ-loop
 shared-slice-read-lets-pass c =
     let start = c .before .before .before .before .before .before .before .before in
     omega (arith, c .before .before .loop-test .taken, start .pre .read)
 
--- src/runs.rt:101:13
+-- src/runs.rt:78:13
 lets-pass-requires : tie.Need-lets-pass-requires Inv-loop μ-loop
 lets-pass-requires c κs = search needs
 
--- src/runs.rt:102:13
+-- src/runs.rt:79:13
 same-length : tie.Need-same-length Inv-loop μ-loop
 same-length c =
     let start = c .before .before .before .before .before .before .before .before .before .before in
     let loop = c .before .before .before .before .before .loop in
     ap length (loop .inv .out) ∙ length-written (now (start .args .visits)) (start .args .m) (start .args .k .0) (loop .j)
 
--- src/runs.rt:102:13
+-- src/runs.rt:79:13
 returns : tie.Need-returns Inv-loop μ-loop
 returns c =
     let loop = c .before .before .before .before .before .loop in
     record { few = loop .inv .count; out = loop .inv .out; passing = loop .inv .passing }
 
--- src/runs.rt:104:29
+-- src/runs.rt:81:29
 add-write-visit : tie.Need-add-write-visit Inv-loop μ-loop
 add-write-visit c =
     let start = c .before .before .before .before .before .before .before .before .before .before .before in
     let loop-test = c .before .before .before .before .before .loop-test in
     omega (arith, loop-test .taken, start .pre .read, start .good .1 .1 .0)
 
--- src/runs.rt:104:9
+-- src/runs.rt:81:9
 write-visit-requires : tie.Need-write-visit-requires Inv-loop μ-loop
 write-visit-requires c κs =
     let start = c .before .before .before .before .before .before .before .before .before .before .before in
@@ -95,7 +95,7 @@ write-visit-requires c κs =
     let same = ap length (loop .inv .out) ∙ length-written (now (start .args .visits)) (start .args .m) (start .args .k .0) (loop .j) in
     omega (arith, loop-test .taken, start .pre .read, start .pre .room, same)
 
--- src/runs.rt:105:9
+-- src/runs.rt:82:9
 add-j : tie.Need-add-j Inv-loop μ-loop
 add-j c =
     let back12 = c .before .before .before .before .before .before .before .before .before .before .before .before in
@@ -103,13 +103,13 @@ add-j c =
     let loop-test = c .before .before .before .before .before .before .before .before .loop-test in
     omega (arith, loop-test .taken, start .pre .read, start .good .1 .1 .0)
 
--- src/runs.rt:99:5
+-- src/runs.rt:76:5
 loop-less : tie.Need-loop-less Inv-loop μ-loop
 loop-less c =
     let loop-test = c .before .before .before .before .before .before .before .before .loop-test in
     omega (arith, loop-test .taken)
 
--- src/runs.rt:99:5
+-- src/runs.rt:76:5
 loop-again : tie.Need-loop-again Inv-loop μ-loop
 loop-again c =
     let back12 = c .before .before .before .before .before .before .before .before .before .before .before .before in
@@ -130,13 +130,13 @@ loop-again c =
           (loop .inv .passing) (sym (lets-pass-call .ensures) ∙ not-false (lets-pass-call .result) (if1 .left));
     }
 
--- src/runs.rt:78:1
+-- src/runs.rt:55:1
 same-length-2 : tie.Need-same-length-2 Inv-loop μ-loop
 same-length-2 c =
     let start = c .before .before .before .before .before .before in
     ap length (c .before .loop .inv .out) ∙ length-written (now (start .args .visits)) (start .args .m) (start .args .k .0) (c .before .loop .j)
 
--- src/runs.rt:78:1
+-- src/runs.rt:55:1
 returns-2 : tie.Need-returns-2 Inv-loop μ-loop
 returns-2 c = record { few = c .before .loop .inv .count; out = c .before .loop .inv .out; passing = c .before .loop .inv .passing }
 

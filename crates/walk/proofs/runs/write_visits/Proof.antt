@@ -19,29 +19,29 @@ Inv-loop visits₀ m k n j₀ visits j = record { count : j ≤ n; out : visits 
 abbrev μ-loop : tie.MeasureT-loop
 μ-loop visits₀ m k n j₀ visits j = n - j
 
--- src/runs.rt:71:5
+-- src/runs.rt:48:5
 loop-holds : tie.Need-loop-holds Inv-loop μ-loop
 loop-holds c = record { count = omega arith; out = refl }
 
--- src/runs.rt:72:29
+-- src/runs.rt:49:29
 add-write-visit : tie.Need-add-write-visit Inv-loop μ-loop
 add-write-visit c =
     let start = c .before .before .before .before in
     omega (arith, c .before .loop-test .taken, start .pre .room, start .good .0)
 
--- src/runs.rt:72:53
+-- src/runs.rt:49:53
 cast-t11 : tie.Need-cast-t11 Inv-loop μ-loop
 cast-t11 c =
     let start = c .before .before .before .before in
     omega (arith, c .before .loop-test .taken, start .pre .fields)
 
--- src/runs.rt:72:47
+-- src/runs.rt:49:47
 add-t12 : tie.Need-add-t12 Inv-loop μ-loop
 add-t12 c =
     let start = c .before .before .before .before .before in
     omega (arith, c .before .before .loop-test .taken, start .pre .fields)
 
--- src/runs.rt:72:9
+-- src/runs.rt:49:9
 write-visit-requires : tie.Need-write-visit-requires Inv-loop μ-loop
 write-visit-requires c κs =
     let start = c .before .before .before .before .before in
@@ -49,20 +49,20 @@ write-visit-requires c κs =
     let same = ap length (loop .inv .out) ∙ length-written (now (start .args .visits)) (start .args .m) (start .args .k .0) (loop .j) in
     omega (arith, c .before .before .loop-test .taken, start .pre .room, same)
 
--- src/runs.rt:73:9
+-- src/runs.rt:50:9
 add-j : tie.Need-add-j Inv-loop μ-loop
 add-j c =
     let start = c .before .before .before .before .before .before .before .before in
     let loop-test = c .before .before .before .before .before .loop-test in
     omega (arith, loop-test .taken, start .pre .room, start .good .0)
 
--- src/runs.rt:71:5
+-- src/runs.rt:48:5
 loop-less : tie.Need-loop-less Inv-loop μ-loop
 loop-less c =
     let loop-test = c .before .before .before .before .before .loop-test in
     omega (arith, loop-test .taken)
 
--- src/runs.rt:71:5
+-- src/runs.rt:48:5
 loop-again : tie.Need-loop-again Inv-loop μ-loop
 loop-again c =
     let start = c .before .before .before .before .before .before .before .before in
@@ -78,13 +78,13 @@ loop-again c =
           ∙ sym (written-next (now (start .args .visits)) m k j);
     }
 
--- src/runs.rt:66:1
+-- src/runs.rt:43:1
 same-length : tie.Need-same-length Inv-loop μ-loop
 same-length c =
     let start = c .before .before .before in
     ap length (c .before .loop .inv .out) ∙ length-written (now (start .args .visits)) (start .args .m) (start .args .k .0) (c .before .loop .j)
 
--- src/runs.rt:66:1
+-- src/runs.rt:43:1
 returns : tie.Need-returns Inv-loop μ-loop
 returns c =
     let start = c .before .before .before in

@@ -11,32 +11,32 @@ use Rattle.walk.proofs.steps.run_on.Lts as lts
 use Rattle.walk.proofs.passes.due.Reads as due-reads
 use Rattle.walk.proofs.runs.run.Reads as run-reads
 
--- src/steps.rt:181:9
+-- src/steps.rt:160:9
 returns : tie.Need-returns
 returns c =
     let start = c .before .before .before .before .before .before .before in
     record { at-least = omega (arith, c); read = start .pre .read; ran = λ L a stops harm. no-step }
 
--- src/steps.rt:186:9
+-- src/steps.rt:165:9
 run-requires : tie.Need-run-requires
 run-requires c κs =
     let start = c .before .before .before .before .before .before .before .before .before in
     let d = start .pre .due (not-false (start .args .settling .due) (c .before .before .if1 .left)) in
     record { first = d .first; within = d .within; small = start .pre .small; sixteen = start .pre .sixteen; read = start .pre .read; room = start .pre .room }
 
--- src/steps.rt:187:9
+-- src/steps.rt:166:9
 due-requires : tie.Need-due-requires
 due-requires c κs = search needs
 
--- src/steps.rt:154:1
+-- src/steps.rt:133:1
 same-length : tie.Need-same-length
 same-length c = search needs
 
--- src/steps.rt:154:1
+-- src/steps.rt:133:1
 same-length-2 : tie.Need-same-length-2
 same-length-2 c = search needs
 
--- src/steps.rt:154:1
+-- src/steps.rt:133:1
 returns-2 : tie.Need-returns-2
 returns-2 c =
     let back12 = c .before .before .before .before .before .before .before .before .before .before .before .before in

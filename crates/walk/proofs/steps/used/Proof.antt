@@ -7,15 +7,15 @@ use Rattle.walk.proofs.steps.used.Reads as reads
 use Rattle.walk.proofs.steps.used.Lts as lts
 use Rattle.walk.proofs.steps.finished.Reads as finished-reads
 
--- src/steps.rt:148:9
+-- src/steps.rt:127:9
 returns : tie.Need-returns
 returns c = λ w. (rw (c .if1 .taken))
 
--- src/steps.rt:150:5
+-- src/steps.rt:129:5
 finished-requires : tie.Need-finished-requires
 finished-requires c κs = search needs
 
--- src/steps.rt:144:1
+-- src/steps.rt:123:1
 returns-2 : tie.Need-returns-2
 returns-2 c = λ w. (c .finished .ensures ∙ used-finished (c .before .before .args .settling) w (c .before .if1 .left))
 

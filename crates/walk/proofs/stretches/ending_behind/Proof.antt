@@ -24,47 +24,47 @@ Inv-loop sets next k₀ k = record { few : k ≤ 4; elsewhere : (j : ℕ) → k 
 abbrev μ-loop : tie.MeasureT-loop
 μ-loop sets next k₀ k = k
 
--- src/stretches.rt:164:8
+-- src/stretches.rt:165:8
 is-counted-requires : tie.Need-is-counted-requires Inv-loop μ-loop
 is-counted-requires c κs = c .pre .first
 
--- src/stretches.rt:165:9
+-- src/stretches.rt:166:9
 no-ending-requires : tie.Need-no-ending-requires Inv-loop μ-loop
 no-ending-requires c κs = tt
 
--- src/stretches.rt:165:9
+-- src/stretches.rt:166:9
 returns : tie.Need-returns Inv-loop μ-loop
 returns c = λ h. absurd (false≢true (sym (c .no-ending .ensures) ∙ h))
 
--- src/stretches.rt:167:9
+-- src/stretches.rt:168:9
 next-order-requires : tie.Need-next-order-requires Inv-loop μ-loop
 next-order-requires c κs = c .before .before .pre .small
 
--- src/stretches.rt:169:5
+-- src/stretches.rt:170:5
 loop-holds : tie.Need-loop-holds Inv-loop μ-loop
 loop-holds c = record { few = omega arith; elsewhere = λ j l m. absurd (omega (arith, l, m)) }
 
--- src/stretches.rt:170:9
+-- src/stretches.rt:171:9
 sub-k : tie.Need-sub-k Inv-loop μ-loop
 sub-k c = omega (arith, c .loop-test .taken)
 
--- src/stretches.rt:171:19
+-- src/stretches.rt:172:19
 mul-set : tie.Need-mul-set Inv-loop μ-loop
 mul-set c = omega (arith, c .before .loop .inv .few)
 
--- src/stretches.rt:171:19
+-- src/stretches.rt:172:19
 element-copy-out-set : tie.Need-element-copy-out-set Inv-loop μ-loop
 element-copy-out-set c = omega (arith, c .before .loop .inv .few, c .loop-test .taken)
 
--- src/stretches.rt:172:12
+-- src/stretches.rt:173:12
 same-order-requires : tie.Need-same-order-requires Inv-loop μ-loop
 same-order-requires c κs = tt
 
--- src/stretches.rt:173:13
+-- src/stretches.rt:174:13
 ending-of-requires : tie.Need-ending-of-requires Inv-loop μ-loop
 ending-of-requires c κs = tt
 
--- src/stretches.rt:173:13
+-- src/stretches.rt:174:13
 returns-2 : tie.Need-returns-2 Inv-loop μ-loop
 returns-2 c =
     let start = c .before .before .before .before .before .before .before .before .before in
@@ -80,13 +80,13 @@ returns-2 c =
     (any-missed (λ i. counts (opt-order (value-at sets i .counter)) (start .args .o .0 - 1)) 4 (sym (is-counted .ensures) ∙ if1 .left)) (c .ending-of .result)
     (b .set) (b .first) (b .within) (b .start)
 
--- src/stretches.rt:169:5
+-- src/stretches.rt:170:5
 loop-less : tie.Need-loop-less Inv-loop μ-loop
 loop-less c =
     let loop-test = c .before .before .before .loop-test in
     omega (arith, loop-test .taken)
 
--- src/stretches.rt:169:5
+-- src/stretches.rt:170:5
 loop-again : tie.Need-loop-again Inv-loop μ-loop
 loop-again c =
     let start = c .before .before .before .before .before .before .before .before in
@@ -98,11 +98,11 @@ loop-again c =
           (sym (c .before .same-order .ensures) ∙ c .if2 .left);
     }
 
--- src/stretches.rt:176:5
+-- src/stretches.rt:177:5
 no-ending-requires-2 : tie.Need-no-ending-requires-2 Inv-loop μ-loop
 no-ending-requires-2 c κs = tt
 
--- src/stretches.rt:160:1
+-- src/stretches.rt:161:1
 returns-3 : tie.Need-returns-3 Inv-loop μ-loop
 returns-3 c = λ h. absurd (false≢true (sym (c .no-ending2 .ensures) ∙ h))
 

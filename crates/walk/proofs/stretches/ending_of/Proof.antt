@@ -7,23 +7,23 @@ use Rattle.walk.proofs.stretches.ending_of.Reads as reads
 use Rattle.walk.proofs.stretches.ending_of.Lts as lts
 use Rattle.walk.proofs.stretches.no_ending.Reads as no-ending-reads
 
--- src/stretches.rt:147:9
+-- src/stretches.rt:148:9
 no-ending-requires : tie.Need-no-ending-requires
 no-ending-requires c κs = search needs
 
--- src/stretches.rt:147:9
+-- src/stretches.rt:148:9
 returns : tie.Need-returns
 returns c = λ h. absurd (false≢true (sym (c .no-ending .ensures) ∙ h))
 
--- src/stretches.rt:150:9
+-- src/stretches.rt:151:9
 no-ending-requires-2 : tie.Need-no-ending-requires-2
 no-ending-requires-2 c κs = search needs
 
--- src/stretches.rt:150:9
+-- src/stretches.rt:151:9
 returns-2 : tie.Need-returns-2
 returns-2 c = λ h. absurd (false≢true (sym (c .no-ending2 .ensures) ∙ h))
 
--- src/stretches.rt:143:1
+-- src/stretches.rt:144:1
 returns-3 : tie.Need-returns-3
 returns-3 c = search needs
 

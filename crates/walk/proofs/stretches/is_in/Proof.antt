@@ -9,11 +9,11 @@ use Rattle.walk.proofs.stretches.is_in.Reads as reads
 use Rattle.walk.proofs.stretches.is_in.Lts as lts
 use Rattle.pack.proofs.protocol.precedes.Reads as precedes-reads
 
--- src/stretches.rt:203:8
+-- src/stretches.rt:204:8
 precedes-requires : tie.Need-precedes-requires
 precedes-requires c κs = search needs
 
--- src/stretches.rt:204:9
+-- src/stretches.rt:205:9
 returns : tie.Need-returns
 returns c =
     let start = c .before .before in
@@ -22,11 +22,11 @@ returns c =
       outside = λ h a b. omega (arith, a, ltb-true (start .args .o .0) (start .args .stretch .from .0) (sym (c .before .precedes .ensures) ∙ c .if1 .taken));
     }
 
--- src/stretches.rt:206:6
+-- src/stretches.rt:207:6
 precedes-requires-2 : tie.Need-precedes-requires-2
 precedes-requires-2 c κs = search needs
 
--- src/stretches.rt:197:1
+-- src/stretches.rt:198:1
 returns-2 : tie.Need-returns-2
 returns-2 c =
     let start = c .before .before .before in

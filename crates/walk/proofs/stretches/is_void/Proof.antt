@@ -5,15 +5,15 @@ use Rattle.walk.proofs.stretches.is_void.Tie as tie
 use Rattle.walk.proofs.stretches.is_void.Reads as reads
 use Rattle.walk.proofs.stretches.is_void.Lts as lts
 
--- src/stretches.rt:74:9
+-- src/stretches.rt:75:9
 returns : tie.Need-returns
 returns c = λ h. absurd (false≢true h)
 
--- src/stretches.rt:77:9
+-- src/stretches.rt:78:9
 returns-2 : tie.Need-returns-2
 returns-2 c = λ h. absurd (false≢true h)
 
--- src/stretches.rt:70:1
+-- src/stretches.rt:71:1
 returns-3 : tie.Need-returns-3
 returns-3 c =
     let start-here = c .before .before .before .before .before in

@@ -26,46 +26,46 @@ Inv-loop o sets next n₀ k₀ n k =
 abbrev μ-loop : tie.MeasureT-loop
 μ-loop o sets next n₀ k₀ n k = 4 - k
 
--- src/stretches.rt:104:9
+-- src/stretches.rt:105:9
 returns : tie.Need-returns Inv-loop μ-loop
 returns c = record { small = omega (arith, c .before .before .good); plain = λ j l. absurd (omega (arith, l)) }
 
--- src/stretches.rt:106:9
+-- src/stretches.rt:107:9
 next-order-requires : tie.Need-next-order-requires Inv-loop μ-loop
 next-order-requires c κs = omega (arith, c .if1 .left, c .before .struct-known .given, c .before .before .good)
 
--- src/stretches.rt:107:17
+-- src/stretches.rt:108:17
 sub-n : tie.Need-sub-n Inv-loop μ-loop
 sub-n c = omega (arith, c .before .before .if1 .left)
 
--- src/stretches.rt:109:5
+-- src/stretches.rt:110:5
 loop-holds : tie.Need-loop-holds Inv-loop μ-loop
 loop-holds c = record { few = omega arith; less = omega arith; edges = λ i l. absurd (omega (arith, l)); uncounted = λ i l. absurd (omega (arith, l)) }
 
--- src/stretches.rt:110:38
+-- src/stretches.rt:111:38
 mul-short-of-set : tie.Need-mul-short-of-set Inv-loop μ-loop
 mul-short-of-set c = omega (arith, c .loop-test .taken)
 
--- src/stretches.rt:110:38
+-- src/stretches.rt:111:38
 element-copy-out-short-of-set : tie.Need-element-copy-out-short-of-set Inv-loop μ-loop
 element-copy-out-short-of-set c = c .loop-test .taken
 
--- src/stretches.rt:110:9
+-- src/stretches.rt:111:9
 short-of-set-requires : tie.Need-short-of-set-requires Inv-loop μ-loop
 short-of-set-requires c κs =
     let start = c .before .before .before .before .before .before .before in
     let next-order = c .before .before .before .before .next-order in
     record { first = (start .pre); next = omega (arith, next-order .ensures) }
 
--- src/stretches.rt:111:9
+-- src/stretches.rt:112:9
 add-k : tie.Need-add-k Inv-loop μ-loop
 add-k c = omega (arith, c .before .before .loop-test .taken)
 
--- src/stretches.rt:109:5
+-- src/stretches.rt:110:5
 loop-less : tie.Need-loop-less Inv-loop μ-loop
 loop-less c = omega (arith, c .before .before .loop-test .taken)
 
--- src/stretches.rt:109:5
+-- src/stretches.rt:110:5
 loop-again : tie.Need-loop-again Inv-loop μ-loop
 loop-again c =
     let start = c .before .before .before .before .before .before .before .before in
@@ -83,7 +83,7 @@ loop-again c =
           (λ i l j m. loop .inv .uncounted i l j (omega (arith, m, set .fewer))) (set .uncounted);
     }
 
--- src/stretches.rt:99:1
+-- src/stretches.rt:100:1
 returns-2 : tie.Need-returns-2 Inv-loop μ-loop
 returns-2 c =
     let start = c .before .before .before .before .before .before in

@@ -10,11 +10,11 @@ use Rattle.walk.proofs.stretches.is_void.Reads as is-void-reads
 use Rattle.walk.proofs.stretches.short_of_counter.Reads as short-of-counter-reads
 use Rattle.walk.proofs.stretches.short_of_edges.Reads as short-of-edges-reads
 
--- src/stretches.rt:91:8
+-- src/stretches.rt:92:8
 is-void-requires : tie.Need-is-void-requires
 is-void-requires c κs = search needs
 
--- src/stretches.rt:92:9
+-- src/stretches.rt:93:9
 returns : tie.Need-returns
 returns c =
     let start = c .before .before in
@@ -26,15 +26,15 @@ returns c =
       uncounted = λ j l. rw (void .counter);
     }
 
--- src/stretches.rt:94:9
+-- src/stretches.rt:95:9
 short-of-edges-requires : tie.Need-short-of-edges-requires
 short-of-edges-requires c κs = search needs
 
--- src/stretches.rt:95:5
+-- src/stretches.rt:96:5
 short-of-counter-requires : tie.Need-short-of-counter-requires
 short-of-counter-requires c κs = search needs
 
--- src/stretches.rt:83:1
+-- src/stretches.rt:84:1
 returns-2 : tie.Need-returns-2
 returns-2 c =
     record {

@@ -16,11 +16,11 @@ use Rattle.walk.proofs.walk.walk_at.Lts as lts
 use Rattle.walk.proofs.sets.stop_1.Reads as stop-1-reads
 use Rattle.walk.proofs.walk.walk_on.Reads as walk-on-reads
 
--- src/walk.rt:92:8
+-- src/walk.rt:106:8
 stop-1-requires : tie.Need-stop-1-requires
 stop-1-requires c κs = search needs
 
--- src/walk.rt:93:9
+-- src/walk.rt:107:9
 returns : tie.Need-returns
 returns c =
     let start = c .before .before .before .before .before .before in
@@ -29,19 +29,19 @@ returns c =
     stopped-1 (pack-of s) p (now (start .args .readings)) (now (start .args .visits))
     (sym (c .before .stop-1 .ensures (layout p) (start .pre .pgn .sets)) ∙ c .if1 .taken)
 
--- src/walk.rt:105:9
+-- src/walk.rt:119:9
 slice-aggregate-walk-on : tie.Need-slice-aggregate-walk-on
 slice-aggregate-walk-on c = search needs
 
--- src/walk.rt:106:9
+-- src/walk.rt:120:9
 slice-aggregate-walk-on-2 : tie.Need-slice-aggregate-walk-on-2
 slice-aggregate-walk-on-2 c = search needs
 
--- src/walk.rt:107:9
+-- src/walk.rt:121:9
 slice-aggregate-walk-on-3 : tie.Need-slice-aggregate-walk-on-3
 slice-aggregate-walk-on-3 c = search needs
 
--- src/walk.rt:101:5
+-- src/walk.rt:115:5
 walk-on-requires : tie.Need-walk-on-requires
 walk-on-requires c κs =
     let start = c .before .before .before .before .before .before .before .before .before .before in
@@ -59,11 +59,11 @@ walk-on-requires c κs =
       room = start .pre .room;
     }
 
--- src/walk.rt:87:1
+-- src/walk.rt:101:1
 same-length : tie.Need-same-length
 same-length c = search needs
 
--- src/walk.rt:87:1
+-- src/walk.rt:101:1
 returns-2 : tie.Need-returns-2
 returns-2 c = search needs
 
