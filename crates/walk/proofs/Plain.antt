@@ -4,7 +4,7 @@ use native.Mathlib.Omega.{arith}
 use native.Mathlib.Numerals.{add-one}
 use native.Mathlib.Decide.{ℕ-discrete, decLt}
 use mathlib.Core.Path.{_≡_, refl, sym, ap, subst, _∙_, fun-ext}
-use mathlib.Core.Bool.{Bool, true, false, _||_, false≢true}
+use mathlib.Core.Bool.{Bool, true, false, _||_}
 use mathlib.Core.Option.{none, some}
 use mathlib.Core.List.{List}
 use lib.ListN.{length, getD, set, length-set, List·getD-eq-default}
@@ -28,12 +28,8 @@ use Rattle.walk.specs.declared.stretches.Ending.{Ending}
 use Rattle.walk.specs.declared.sets.Sets.{Sets}
 use Rattle.walk.proofs.PassLaws.{turn-more, round-ready, round-again, pass-begins, close-four, close-skip, closed-look, look-none, look-four}
 use Rattle.walk.proofs.PassLaws.{entered, kept-memory}
+use Rattle.walk.proofs.Tests.{or-l, or-r}
 use Rattle.walk.proofs.Walks.{step-visits}
-
-or-parts : (a b : Bool) → (a || b) ≡ false → (a ≡ false) × (b ≡ false)
-or-parts false false h = (refl, refl)
-or-parts true b h = absurd (false≢true (sym h))
-or-parts false true h = absurd (false≢true (sym h))
 
 module _ {L : Layout} {v : Sets} (a : SetsAre L v) where
   -- a visit of a field that is no countField
@@ -57,7 +53,10 @@ module _ {L : Layout} {v : Sets} (a : SetsAre L v) where
 
     no-edge : (k : ℕ) → k < 4 → ((value-at v k .start .0 == suc o) ≡ false) × ((suc o == value-at v k .end .0) ≡ false)
     no-edge k l =
-        or-parts (value-at v k .start .0 == suc o) (suc o == value-at v k .end .0) (ap (edge (value-at v k)) (sym (add-one o)) ∙ x .edges k l)
+        let begins = value-at v k .start .0 == suc o in
+        let ends = suc o == value-at v k .end .0 in
+        let neither : (begins || ends) ≡ false = ap (edge (value-at v k)) (sym (add-one o)) ∙ x .edges k l in
+        (or-l begins ends neither, or-r begins ends neither)
 
     stand-ready : stand L next ≡ ready next
     stand-ready =
