@@ -1,4 +1,6 @@
 // The calls as a Rust or C program makes them: numbers and slices alone. Each answers 01's refusal number, 0 where there is none.
+#![tactic(auto)]
+
 ghost use Rattle.std.specs.Prelude.{◌≡◌, length};
 ghost use Rattle.pack.specs.Load.{load_tells, work_after};
 ghost use Rattle.exports.specs.Answers.{filled};

@@ -1,4 +1,6 @@
 // Lists the pack on standard input in words: every record with the byte at which it begins, or why the pack is refused.
+#![tactic(auto)]
+
 mod fields;
 mod lookups;
 mod pgns;

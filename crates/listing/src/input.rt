@@ -5,7 +5,7 @@ use crate::say;
 use libc::STDIN_FILENO;
 
 // Whether the buffer has the whole input, and how many bytes that are.
-#[derive(Drop)]
+#[derive(Clone, Copy)]
 pub struct Input {
     pub whole: bool,
     pub len: usize,

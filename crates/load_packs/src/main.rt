@@ -1,5 +1,7 @@
 // Loads each pack that an argument names, and packs of the largest size, and prints what `load` answers and what it leaves in work
 // buffers of several lengths.
+#![tactic(auto)]
+
 use libc::STDOUT_FILENO;
 use pack::load::{Index, Loaded, Refusal, Section, load};
 
@@ -9,7 +11,7 @@ const ROOM: usize = 64;
 const UNUSED: u32 = 0xaaaa_aaaa;
 
 // What a load answered: whether the pack was accepted, and how many records it has.
-#[derive(Drop)]
+#[derive(Clone, Copy)]
 struct Answer {
     accepted: bool,
     records: usize,

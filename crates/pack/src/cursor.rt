@@ -8,32 +8,32 @@ ghost use Rattle.pack.specs.Items.{fresh, finish};
 use crate::number::{decode, is_shortest, last_byte};
 use crate::text::{OptText, Text, text_precedes};
 
-#[derive(Drop)]
+#[derive(Clone, Copy)]
 pub struct Cursor {
     pub at: usize,
     // 01's number of the refusal, 0 where there is none; as wide as `at`, so that there is no padding to copy
     pub refused: usize,
 }
 
-#[derive(Drop)]
+#[derive(Clone, Copy)]
 pub struct WideItem {
     pub value: u64,
     pub next: Cursor,
 }
 
-#[derive(Drop)]
+#[derive(Clone, Copy)]
 pub struct NumberItem {
     pub value: u32,
     pub next: Cursor,
 }
 
-#[derive(Drop)]
+#[derive(Clone, Copy)]
 pub struct MarkItem {
     pub value: bool,
     pub next: Cursor,
 }
 
-#[derive(Drop)]
+#[derive(Clone, Copy)]
 pub struct TextItem {
     pub value: Text,
     pub next: Cursor,

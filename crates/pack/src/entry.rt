@@ -6,7 +6,7 @@ use crate::cursor::{Cursor, WideItem};
 use crate::text::{OptText, Text};
 
 // An entry of a lookup; what its kind does not have is 0 or empty.
-#[derive(Drop)]
+#[derive(Clone, Copy)]
 pub struct EntryView {
     pub first: u64,
     pub value: u64,
@@ -15,14 +15,14 @@ pub struct EntryView {
     pub nested: OptText,
 }
 
-#[derive(Drop)]
+#[derive(Clone, Copy)]
 pub struct EntryItem {
     pub value: EntryView,
     pub next: Cursor,
 }
 
 // What a fieldtype entry has besides value and name.
-#[derive(Drop)]
+#[derive(Clone, Copy)]
 pub struct KindPartItem {
     pub fieldtype: Text,
     pub nested: OptText,

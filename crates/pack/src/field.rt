@@ -7,20 +7,20 @@ use crate::optional::{OptFloat, OptNumber};
 use crate::text::{OptText, Text};
 
 // What a field is called.
-#[derive(Drop)]
+#[derive(Clone, Copy)]
 pub struct NamesView {
     pub id: Text,
     pub name: Text,
     pub kind: Text,
 }
 
-#[derive(Drop)]
+#[derive(Clone, Copy)]
 pub struct NamesItem {
     pub value: NamesView,
     pub next: Cursor,
 }
 
-#[derive(Drop)]
+#[derive(Clone, Copy)]
 pub struct FieldFlags {
     pub bits: bool,
     pub unit: bool,
@@ -31,7 +31,7 @@ pub struct FieldFlags {
 }
 
 // How a field is scaled.
-#[derive(Drop)]
+#[derive(Clone, Copy)]
 pub struct ScalingView {
     pub bits: u32,
     pub resolution: u64,
@@ -39,14 +39,14 @@ pub struct ScalingView {
     pub unit: OptText,
 }
 
-#[derive(Drop)]
+#[derive(Clone, Copy)]
 pub struct ScalingItem {
     pub value: ScalingView,
     pub next: Cursor,
 }
 
 // What the author wrote.
-#[derive(Drop)]
+#[derive(Clone, Copy)]
 pub struct AuthoredView {
     pub resolution: OptFloat,
     pub offset: OptFloat,
@@ -55,27 +55,27 @@ pub struct AuthoredView {
     pub matched: OptText,
 }
 
-#[derive(Drop)]
+#[derive(Clone, Copy)]
 pub struct AuthoredItem {
     pub value: AuthoredView,
     pub next: Cursor,
 }
 
-#[derive(Drop)]
+#[derive(Clone, Copy)]
 pub struct OptReference {
     pub given: bool,
     pub kind: u32,
     pub name: Text,
 }
 
-#[derive(Drop)]
+#[derive(Clone, Copy)]
 pub struct OptReferenceItem {
     pub value: OptReference,
     pub next: Cursor,
 }
 
 // What a field refers to.
-#[derive(Drop)]
+#[derive(Clone, Copy)]
 pub struct LinksView {
     pub reference: OptReference,
     pub special: OptNumber,
@@ -84,13 +84,13 @@ pub struct LinksView {
     pub continuation: OptNumber,
 }
 
-#[derive(Drop)]
+#[derive(Clone, Copy)]
 pub struct LinksItem {
     pub value: LinksView,
     pub next: Cursor,
 }
 
-#[derive(Drop)]
+#[derive(Clone, Copy)]
 pub struct FieldView {
     pub names: NamesView,
     pub ft: u32,
@@ -100,7 +100,7 @@ pub struct FieldView {
     pub links: LinksView,
 }
 
-#[derive(Drop)]
+#[derive(Clone, Copy)]
 pub struct FieldItem {
     pub value: FieldView,
     pub next: Cursor,

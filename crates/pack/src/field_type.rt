@@ -5,7 +5,7 @@ ghost use Rattle.pack.specs.Records.{read_type};
 use crate::cursor::Cursor;
 use crate::text::Text;
 
-#[derive(Drop)]
+#[derive(Clone, Copy)]
 pub struct FieldTypeView {
     pub name: Text,
     pub base: bool,
@@ -16,7 +16,7 @@ pub struct FieldTypeView {
     pub root: Text,
 }
 
-#[derive(Drop)]
+#[derive(Clone, Copy)]
 pub struct FieldTypeItem {
     pub value: FieldTypeView,
     pub next: Cursor,

@@ -1,4 +1,6 @@
 // The pack layer: document 01's byte format, its five kinds of record, and `load`.
+#![tactic(auto)]
+
 pub mod at;
 pub mod buffers;
 pub mod cursor;

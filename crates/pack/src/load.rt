@@ -15,13 +15,13 @@ const MOST_BYTES: usize = 1_048_576;
 const SHORT_BYTES: usize = 8192;
 
 // A list of records: how many, and the work position at which it begins.
-#[derive(Drop)]
+#[derive(Clone, Copy)]
 pub struct Section {
     pub count: u32,
     pub place: usize,
 }
 
-#[derive(Drop)]
+#[derive(Clone, Copy)]
 pub struct Index {
     pub types: Section,
     pub lookups: Section,
@@ -32,7 +32,7 @@ pub struct Index {
 }
 
 // Every refusal of every call.
-#[derive(Drop)]
+#[derive(Clone, Copy)]
 pub enum Refusal {
     // 1 to 8
     Input { number: u32, offset: usize },
@@ -81,34 +81,34 @@ impl Refusal {
     }
 }
 
-#[derive(Drop)]
+#[derive(Clone, Copy)]
 pub enum Loaded {
     Refused(Refusal),
     Accepted(Index),
 }
 
 // Past some records: the cursor, and the work position behind them.
-#[derive(Drop)]
+#[derive(Clone, Copy)]
 struct Placed {
     next: Cursor,
     place: usize,
 }
 
-#[derive(Drop)]
+#[derive(Clone, Copy)]
 struct LookupPlaced {
     next: Cursor,
     before: OptText,
     place: usize,
 }
 
-#[derive(Drop)]
+#[derive(Clone, Copy)]
 struct TreePlaced {
     count: u32,
     next: Cursor,
     place: usize,
 }
 
-#[derive(Drop)]
+#[derive(Clone, Copy)]
 struct Walked {
     index: Index,
     end: Cursor,

@@ -6,7 +6,7 @@ use crate::cursor::Cursor;
 use crate::text::{OptText, Text};
 
 // A lookup without its entries, which follow it.
-#[derive(Drop)]
+#[derive(Clone, Copy)]
 pub struct LookupView {
     pub name: Text,
     pub kind: u32,
@@ -15,14 +15,14 @@ pub struct LookupView {
 }
 
 // A lookup at hand: which one, the work position, and the view.
-#[derive(Drop)]
+#[derive(Clone, Copy)]
 pub struct LookupRecord {
     pub item: u32,
     pub place: usize,
     pub view: LookupView,
 }
 
-#[derive(Drop)]
+#[derive(Clone, Copy)]
 pub struct LookupItem {
     pub value: LookupView,
     pub next: Cursor,

@@ -3,7 +3,7 @@ ghost use Rattle.std.specs.Prelude.{◌≡◌, ◌≤◌, ◌<◌, length};
 ghost use Rattle.pack.specs.Items.{last_byte_at, groups, shortest, capped};
 
 // A number, or that it is above what its width holds.
-#[derive(Drop)]
+#[derive(Clone, Copy)]
 pub(crate) struct Value {
     pub over: bool,
     pub value: u64,

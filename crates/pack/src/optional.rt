@@ -6,32 +6,32 @@ ghost use Rattle.pack.specs.Items.{fresh, read_mark};
 use crate::cursor::{Cursor, NumberItem, fresh};
 use crate::text::{OptText, Text};
 
-#[derive(Drop)]
+#[derive(Clone, Copy)]
 pub struct OptNumber {
     pub given: bool,
     pub value: u32,
 }
 
 // An optional float, by its 64-bit pattern.
-#[derive(Drop)]
+#[derive(Clone, Copy)]
 pub struct OptFloat {
     pub given: bool,
     pub pattern: u64,
 }
 
-#[derive(Drop)]
+#[derive(Clone, Copy)]
 pub struct OptTextItem {
     pub value: OptText,
     pub next: Cursor,
 }
 
-#[derive(Drop)]
+#[derive(Clone, Copy)]
 pub struct OptNumberItem {
     pub value: OptNumber,
     pub next: Cursor,
 }
 
-#[derive(Drop)]
+#[derive(Clone, Copy)]
 pub struct OptFloatItem {
     pub value: OptFloat,
     pub next: Cursor,

@@ -7,7 +7,7 @@ use crate::optional::OptNumber;
 use crate::protocol::{FieldOrder, OptOrder};
 use crate::text::Text;
 
-#[derive(Drop)]
+#[derive(Clone, Copy)]
 pub struct RepeatingView {
     pub count: u32,
     pub start: FieldOrder,
@@ -15,25 +15,25 @@ pub struct RepeatingView {
     pub nested: bool,
 }
 
-#[derive(Drop)]
+#[derive(Clone, Copy)]
 pub struct RepeatingItem {
     pub value: RepeatingView,
     pub next: Cursor,
 }
 
-#[derive(Drop)]
+#[derive(Clone, Copy)]
 pub struct OptRepeating {
     pub given: bool,
     pub set: RepeatingView,
 }
 
-#[derive(Drop)]
+#[derive(Clone, Copy)]
 pub struct OptRepeatingItem {
     pub value: OptRepeating,
     pub next: Cursor,
 }
 
-#[derive(Drop)]
+#[derive(Clone, Copy)]
 pub struct PgnFlags {
     pub fallback: bool,
     pub variable: bool,
@@ -41,7 +41,7 @@ pub struct PgnFlags {
 }
 
 // A PGN without its fields, which follow it. Room for four sets, of which the first `places` are the PGN's; in version 1 two.
-#[derive(Drop)]
+#[derive(Clone, Copy)]
 pub struct PgnView {
     pub pgn: u32,
     pub id: Text,
@@ -55,7 +55,7 @@ pub struct PgnView {
 }
 
 // A PGN at hand: its tree, which one of it, the work position, and the view.
-#[derive(Drop)]
+#[derive(Clone, Copy)]
 pub struct PgnRecord {
     pub tree: u32,
     pub item: u32,
@@ -63,7 +63,7 @@ pub struct PgnRecord {
     pub view: PgnView,
 }
 
-#[derive(Drop)]
+#[derive(Clone, Copy)]
 pub struct PgnItem {
     pub value: PgnView,
     pub next: Cursor,

@@ -5,7 +5,7 @@ ghost use Rattle.pack.specs.Trees.{tree_number, protocol_of, prefix_of, section_
 
 use crate::load::{Index, Section};
 
-#[derive(Drop)]
+#[derive(Clone, Copy)]
 pub enum Protocol {
     Nmea2000,
     J1939,
@@ -13,7 +13,7 @@ pub enum Protocol {
 }
 
 // The prefix of a tree's place texts: `len` of the bytes.
-#[derive(Drop)]
+#[derive(Clone, Copy)]
 pub struct Prefix {
     pub bytes: [u8; 6],
     pub len: usize,
@@ -80,14 +80,14 @@ impl Protocol {
 }
 
 // "A field's index runs from 0 and its order from 1; sets and countField use orders."
-#[derive(Drop)]
+#[derive(Clone, Copy)]
 pub struct FieldIndex(pub u32);
 
-#[derive(Drop)]
+#[derive(Clone, Copy)]
 pub struct FieldOrder(pub u32);
 
 // An order, if it is given.
-#[derive(Drop)]
+#[derive(Clone, Copy)]
 pub struct OptOrder {
     pub given: bool,
     pub order: FieldOrder,

@@ -4,13 +4,13 @@ ghost use Rattle.pack.specs.Notation.{◌≐◌};
 ghost use Rattle.pack.specs.Items.{◌≺◌, bytes_of};
 
 // A text, as the part of the pack that its bytes are.
-#[derive(Drop)]
+#[derive(Clone, Copy)]
 pub struct Text {
     pub start: usize,
     pub len: usize,
 }
 
-#[derive(Drop)]
+#[derive(Clone, Copy)]
 pub struct OptText {
     pub given: bool,
     pub text: Text,

@@ -1,13 +1,15 @@
 // Replays the recorded cases of the exported calls: reads them from standard input and writes what each call answers; of `load` the work
 // buffer too, of the place text the text buffer, of `walk` the visit buffer, also after a refusal.
 // The input has the cases of `load`, of `check`, of the place text and of `walk`, each list as its length and its cases.
+#![tactic(auto)]
+
 mod cases;
 mod check;
 mod load;
 mod place;
 mod walk;
 
-#[derive(Drop)]
+#[derive(Clone, Copy)]
 enum Call {
     Load,
     Check,

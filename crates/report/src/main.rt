@@ -1,4 +1,6 @@
 // The report: the findings of the pack on standard input, one a line, and how many there are.
+#![tactic(auto)]
+
 ghost use Rattle.std.specs.Prelude.{◌*◌, ◌≤◌, length};
 
 mod line;

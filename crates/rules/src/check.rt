@@ -18,7 +18,7 @@ use crate::trees::{check_trees, check_trees_continues};
 use pack::buffers::copy;
 use pack::load::{Index, Loaded, Refusal, load};
 
-#[derive(Drop)]
+#[derive(Clone, Copy)]
 pub enum Checked {
     Refused(Refusal),
     // how many, and how many of them have severity 1

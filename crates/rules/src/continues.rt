@@ -143,7 +143,7 @@ fn too_wide(s: &[u8], low: FieldView) -> bool
 }
 
 // A field that continues an earlier one, by its id.
-#[derive(Drop)]
+#[derive(Clone, Copy)]
 struct Continuing {
     field: u32,
     id: Text,

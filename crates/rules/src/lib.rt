@@ -1,3 +1,5 @@
+#![tactic(auto)]
+
 ghost use Rattle.std.specs.Prelude.{◌≡◌};
 ghost use Rattle.rules.specs.Proprietary.{is_manufacturer_pgn};
 
@@ -45,7 +47,7 @@ mod variants;
 pub mod widths;
 
 // A finding's eight numbers.
-#[derive(Drop)]
+#[derive(Clone, Copy)]
 pub struct Finding {
     pub rule: u32,
     pub severity: u32,

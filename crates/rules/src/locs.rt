@@ -12,7 +12,7 @@ use pack::protocol::Protocol;
 use pack::text::{Text, part};
 
 // What a place text is made of.
-#[derive(Drop)]
+#[derive(Clone, Copy)]
 pub enum Loc {
     FieldTypes,
     Pgn { tree: u32, number: u32, id: Text },

@@ -11,7 +11,7 @@ use pack::of::lookup_of;
 use pack::text::{Text, same_text};
 
 // A lookup, if there is one: its index and its work position.
-#[derive(Drop)]
+#[derive(Clone, Copy)]
 pub struct FoundLookup {
     pub given: bool,
     pub index: u32,

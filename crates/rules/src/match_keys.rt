@@ -11,7 +11,7 @@ use pack::pgn::PgnRecord;
 use pack::text::{Text, part};
 
 // What is still to come of a key: the head from `at` on, the text, and the fields from `field` on.
-#[derive(Drop)]
+#[derive(Clone, Copy)]
 pub struct MatchKey {
     pub field: u32,
     pub head: [u8; 11],
@@ -20,7 +20,7 @@ pub struct MatchKey {
 }
 
 // A byte, if there is one, and what comes after it.
-#[derive(Drop)]
+#[derive(Clone, Copy)]
 pub struct KeyByte {
     pub given: bool,
     pub byte: u8,

@@ -21,14 +21,14 @@ const ISO: u32 = 2;
 const MIXED: u32 = 3;
 
 // The PGNs from start to end, and their packet type. Those of PDU1 go in steps of 256.
-#[derive(Drop)]
+#[derive(Clone, Copy)]
 pub struct Range {
     pub start: u32,
     pub end: u32,
     pub kind: u32,
 }
 
-#[derive(Drop)]
+#[derive(Clone, Copy)]
 pub struct OptRange {
     pub given: bool,
     pub range: Range,

@@ -9,7 +9,7 @@ use crate::locs::put_loc;
 use crate::places::find_loc;
 use pack::load::{Index, Loaded, Refusal, load};
 
-#[derive(Drop)]
+#[derive(Clone, Copy)]
 pub enum Placed {
     Refused(Refusal),
     // how long the text is

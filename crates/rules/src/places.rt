@@ -13,7 +13,7 @@ use pack::of::{lookup_name_of, lookup_of, pgn_of};
 use pack::protocol::Protocol;
 
 // The text of a place, if it is in the pack.
-#[derive(Drop)]
+#[derive(Clone, Copy)]
 pub(crate) struct FoundLoc {
     pub given: bool,
     pub loc: Loc,

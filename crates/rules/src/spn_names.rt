@@ -25,7 +25,7 @@ use pack::pgn::PgnView;
 use pack::text::{Text, same_text};
 
 // The field that names an SPN, if one carries it: its PGN's index, work position and number, and its index there.
-#[derive(Drop)]
+#[derive(Clone, Copy)]
 pub struct Namer {
     pub given: bool,
     pub pgn: u32,

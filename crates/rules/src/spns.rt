@@ -26,7 +26,7 @@ use pack::text::{OptText, same_text};
 const MAX_SPN: u32 = 0x7ffff;
 
 // "SPN scaling is a width, two floats compared as floats, and a unit."
-#[derive(Drop)]
+#[derive(Clone, Copy)]
 struct Scaling {
     width: u32,
     resolution: f64,
@@ -35,7 +35,7 @@ struct Scaling {
 }
 
 // A field by its PGN's index and work position, and its index there.
-#[derive(Drop)]
+#[derive(Clone, Copy)]
 struct Carrier {
     pgn: u32,
     place: usize,

@@ -1,4 +1,6 @@
 // What a report says of the J1939 fields that carry one SPN, over the call `check`.
+#![tactic(auto)]
+
 ghost use Rattle.std.specs.Prelude.{◌≡◌, ◌+◌, ◌*◌, ◌≤◌, length};
 ghost use Rattle.pack.specs.Meaning.{pack_of};
 ghost use Rattle.rules.specs.Checked.{Checks};
@@ -7,7 +9,7 @@ ghost use Rattle.scalings.specs.Report.{finding_is, reports, Room, silent, Says}
 use rules::check::{Checked, check};
 
 // check's answer, and whether it is a report in which R42 has no cause 3.
-#[derive(Drop)]
+#[derive(Clone, Copy)]
 pub struct CheckedAlike {
     pub checked: Checked,
     pub alike: bool,

@@ -8,7 +8,7 @@ use pack::pgn::PgnView;
 use pack::text::text_is;
 
 // Its index in the tree, and its work position.
-#[derive(Drop)]
+#[derive(Clone, Copy)]
 pub struct Found {
     pub given: bool,
     pub pgn: u32,

@@ -1,4 +1,6 @@
 // Shows a walk in words: over a PGN of the pack on standard input, with the readings that the arguments give.
+#![tactic(auto)]
+
 mod arguments;
 mod find;
 mod passes;

@@ -8,7 +8,7 @@ use pack::protocol::{FieldOrder, same_order};
 use rules::continues::holds_order;
 
 // How many passes of the set at each place have begun, since the latest pass of a set before it.
-#[derive(Drop)]
+#[derive(Clone, Copy)]
 pub struct Passes {
     pub begun: [u64; 4],
 }

@@ -10,7 +10,7 @@ use crate::walk::{Walked, walk};
 use rules::check::{Checked, check};
 
 // The answers of the two calls.
-#[derive(Drop)]
+#[derive(Clone, Copy)]
 pub struct TwoAnswers {
     pub checked: Checked,
     pub walked: Walked,

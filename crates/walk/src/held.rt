@@ -136,7 +136,7 @@ fn still_gives(sets: Sets, giver: LengthGiver, k: u32) -> bool
 }
 
 // Whether a field is held, and the latest giver by then.
-#[derive(Drop)]
+#[derive(Clone, Copy)]
 struct ValueHeld {
     held: bool,
     giver: LengthGiver,

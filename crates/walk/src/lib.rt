@@ -1,3 +1,5 @@
+#![tactic(auto)]
+
 pub mod guaranteed;
 mod held;
 mod known;

@@ -13,7 +13,7 @@ use pack::protocol::Protocol;
 use rules::places::pgn_position;
 
 // Where a PGN of the pack is: the pack's index, what names it, and its work position.
-#[derive(Drop)]
+#[derive(Clone, Copy)]
 pub struct PgnPlace {
     pub index: Index,
     pub tree: u32,
@@ -22,7 +22,7 @@ pub struct PgnPlace {
 }
 
 // The same with its sets.
-#[derive(Drop)]
+#[derive(Clone, Copy)]
 pub struct FoundPgn {
     pub index: Index,
     pub tree: u32,
@@ -32,7 +32,7 @@ pub struct FoundPgn {
 }
 
 // The PGN that a call names, or the call's refusal.
-#[derive(Drop)]
+#[derive(Clone, Copy)]
 pub enum NamedPgn {
     Refused(Refusal),
     Found(PgnPlace),

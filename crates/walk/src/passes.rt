@@ -18,21 +18,21 @@ use crate::sets::{Set, Sets, is_nonempty, placed};
 use pack::protocol::{FieldOrder, OptOrder, same_order};
 
 // What is left of a set's passes after the present one: they never end, or so many. A flag is a number, 1 or 0.
-#[derive(Drop)]
+#[derive(Clone, Copy)]
 pub struct Further {
     pub endless: u64,
     pub more: u64,
 }
 
 // The same of a set that may have no present pass.
-#[derive(Drop)]
+#[derive(Clone, Copy)]
 pub struct Left {
     pub present: u64,
     pub further: Further,
 }
 
 // What comes of a set's pass.
-#[derive(Drop)]
+#[derive(Clone, Copy)]
 pub enum Turning {
     GoesOn,
     Leaves,
@@ -41,7 +41,7 @@ pub enum Turning {
 
 // Where the walk stands before the next visit: at the start of another pass, on arriving at a set, at a field and no set's start, past the last
 // order.
-#[derive(Drop)]
+#[derive(Clone, Copy)]
 pub enum Standing {
     Again { set: usize, start: FieldOrder },
     Arrived(usize),
@@ -50,7 +50,7 @@ pub enum Standing {
 }
 
 // On arriving at a set: stop 2, passed over, or entered.
-#[derive(Drop)]
+#[derive(Clone, Copy)]
 pub enum Arriving {
     NotCurrent,
     Over,
@@ -58,7 +58,7 @@ pub enum Arriving {
 }
 
 // A field is due at the order; or it is stop 2, or else the last order is passed.
-#[derive(Drop)]
+#[derive(Clone, Copy)]
 pub struct Settling {
     pub due: bool,
     pub halted: bool,
@@ -66,7 +66,7 @@ pub struct Settling {
 }
 
 // One round: settled, or a set is passed over, up to the order behind it.
-#[derive(Drop)]
+#[derive(Clone, Copy)]
 pub enum Round {
     Settled(Settling),
     Over(FieldOrder),

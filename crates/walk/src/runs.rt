@@ -11,14 +11,14 @@ use crate::stretches::{Stretch, ahead, is_in, stretch_at};
 use pack::protocol::{FieldIndex, FieldOrder, same_order};
 
 // Where a run ends: the order there, and the number of visits by then.
-#[derive(Drop)]
+#[derive(Clone, Copy)]
 pub struct RunEnd {
     pub order: FieldOrder,
     pub visits: usize,
 }
 
 // The same of a run within one stretch; and whether it ends only since a pass begins outside the stretch.
-#[derive(Drop)]
+#[derive(Clone, Copy)]
 pub struct StretchEnd {
     pub order: FieldOrder,
     pub visits: usize,

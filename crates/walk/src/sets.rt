@@ -15,7 +15,7 @@ use pack::protocol::{FieldIndex, FieldOrder, OptOrder, precedes};
 use rules::bools::and_not;
 
 // The orders from `start` to before `end`, none in an empty set; and the order of its countField.
-#[derive(Drop)]
+#[derive(Clone, Copy)]
 pub struct Set {
     pub start: FieldOrder,
     pub end: FieldOrder,
@@ -24,7 +24,7 @@ pub struct Set {
 }
 
 // The sets of a PGN with so many fields, the rest of the four empty.
-#[derive(Drop)]
+#[derive(Clone, Copy)]
 pub struct Sets {
     pub fields: u32,
     pub sets: [Set; 4],

@@ -25,14 +25,14 @@ use crate::walk::End;
 use pack::protocol::{FieldIndex, FieldOrder};
 
 // With one reading: the walk ends, or a field is visited, and the walk goes on behind it.
-#[derive(Drop)]
+#[derive(Clone, Copy)]
 pub enum Stepping {
     Ended(End),
     Visited { field: FieldIndex, next: FieldOrder },
 }
 
 // The walk after a run, and how many visits are made by then.
-#[derive(Drop)]
+#[derive(Clone, Copy)]
 pub struct Ran {
     pub settling: Settling,
     pub visits: usize,

@@ -142,7 +142,7 @@ fn entries_name_missing(
 }
 
 // A fieldtype lookup, if there is one: its index, its work position and the number of its entries.
-#[derive(Drop)]
+#[derive(Clone, Copy)]
 pub struct FieldtypeLookup {
     pub given: bool,
     pub index: u32,
@@ -257,7 +257,7 @@ fn gives_length(s: &[u8], work: &[u32], found: FoundPgn, o: FieldOrder, j: u32) 
 }
 
 // A field that gives others a length, if there is one.
-#[derive(Drop)]
+#[derive(Clone, Copy)]
 pub struct LengthGiver {
     pub given: bool,
     pub field: u32,
@@ -352,7 +352,7 @@ fn need_stop(s: &[u8], work: &[u32], found: FoundPgn, k: u32, f: FieldView) -> u
 }
 
 // The stop at a field with its reading, 0 for none; where it does not stop, the fieldtype lookup that it names.
-#[derive(Drop)]
+#[derive(Clone, Copy)]
 pub struct Judged {
     pub stop: u32,
     pub lookup: FieldtypeLookup,

@@ -11,7 +11,7 @@ use crate::sets::{Set, Sets};
 use pack::protocol::{FieldIndex, FieldOrder, OptOrder, precedes, same_order};
 
 // A set whose pass ends behind an order, and its first order; or none.
-#[derive(Drop)]
+#[derive(Clone, Copy)]
 pub struct Ending {
     pub given: bool,
     pub set: usize,
@@ -19,7 +19,7 @@ pub struct Ending {
 }
 
 // The orders from one to before another, whether their fields are known to stop at no reading, and the set that ends behind the other.
-#[derive(Drop)]
+#[derive(Clone, Copy)]
 pub struct Stretch {
     pub from: FieldOrder,
     pub to: FieldOrder,

@@ -18,21 +18,21 @@ use crate::sets::stop_1;
 use crate::steps::{Stepping, run_on, step, used};
 use pack::load::Refusal;
 
-#[derive(Drop)]
+#[derive(Clone, Copy)]
 pub enum End {
     Whole,
     UsedUp,
     Stop(u32),
 }
 
-#[derive(Drop)]
+#[derive(Clone, Copy)]
 pub enum Walked {
     Refused(Refusal),
     // how it ended, and how many visits were made
     Ended { end: End, visits: usize },
 }
 
-#[derive(Drop)]
+#[derive(Clone, Copy)]
 pub enum HeldAnswer {
     Refused(Refusal),
     Held(bool),
