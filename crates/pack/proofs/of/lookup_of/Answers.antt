@@ -1,0 +1,10 @@
+use Rattle.pack.proofs.Positions.{lookup_law, lookup_room}
+use native.Mathlib.Omega.{arith}
+use Rattle.pack.proofs.of.lookup_of.Goals as goal
+
+pub offset-at-requires : goal.offset-at-requires
+offset-at-requires c = omega (arith, lookup_room c.requires)
+
+pub returns : goal.returns
+returns c =
+    rw (c.lookup_at.ensures, c.offset-at.ensures) (lookup_law c.requires)
