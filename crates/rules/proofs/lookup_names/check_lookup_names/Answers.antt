@@ -1,0 +1,60 @@
+use Rattle.rules.proofs.Sizes.{at_lookup, entries_few, lookups_few}
+use Rattle.pack.proofs.Positions.{lookup_place_next}
+use Rattle.rules.proofs.Emits.{fits_turn, reporting_none, reporting_turn}
+use Rattle.pack.specs.Meaning.{pack_of}
+use native.Mathlib.Omega.{arith}
+use mathlib.Core.Path.{◌≡◌}
+use lib.ListN.{length}
+use Rattle.rules.proofs.lookup_names.check_lookup_names.Invariants.{of-lookup}
+use Rattle.rules.proofs.lookup_names.check_lookup_names.Goals as goal
+
+pub loop-l-init : goal.loop-l-init
+loop-l-init c =
+    record { reporting = reporting_none _ _ _ _; place = c.requires.lookups.place }
+
+pub lookup_of-view-requires : goal.lookup_of-view-requires
+lookup_of-view-requires c =
+    (at_lookup c.requires.ready c.requires.lookups.count c.loop-l.invariant.place c.loop-l-test.true)
+
+pub lookup_names_of-m-requires : goal.lookup_names_of-m-requires
+lookup_names_of-m-requires c =
+    record {
+      fits = fits_turn (of-lookup c.args.s.now) c.args.lookups.count c.loop-l.l c.loop-l-test.true
+          (rw (← c.requires.lookups.count) at c.requires.fits) c.loop-l.invariant.reporting.emitted;
+      lookup = record {
+        at = (at_lookup c.requires.ready c.requires.lookups.count c.loop-l.invariant.place c.loop-l-test.true);
+        is = c.lookup_of-view.ensures;
+      };
+    }
+
+pub overflow_add-p : goal.overflow_add-p
+overflow_add-p c =
+    omega (arith, entries_few (at_lookup c.requires.ready c.requires.lookups.count c.loop-l.invariant.place c.loop-l-test.true))
+
+pub overflow_cast-p : goal.overflow_cast-p
+overflow_cast-p c =
+    omega (arith, entries_few (at_lookup c.requires.ready c.requires.lookups.count c.loop-l.invariant.place c.loop-l-test.true), c.lookup_of-view.ensures.entries)
+
+pub overflow_add-p-in-loop-l : goal.overflow_add-p-in-loop-l
+overflow_add-p-in-loop-l c =
+    omega (arith, entries_few (at_lookup c.requires.ready c.requires.lookups.count c.loop-l.invariant.place c.loop-l-test.true), c.lookup_of-view.ensures.entries)
+
+pub overflow_add-l : goal.overflow_add-l
+overflow_add-l c =
+    omega (arith, lookups_few (at_lookup c.requires.ready c.requires.lookups.count c.loop-l.invariant.place c.loop-l-test.true))
+
+pub loop-l-preserved : goal.loop-l-preserved
+loop-l-preserved c =
+    let s = c.args.s.now in
+    record {
+      reporting = reporting_turn c.loop-l.invariant.reporting (omega (arith, c)) c.lookup_names_of-m.ensures;
+      place = omega (arith, lookup_place_next (pack_of s) c.loop-l.l, c.lookup_of-view.ensures.entries, c.loop-l.invariant.place);
+    }
+
+pub shape_of-out : goal.shape_of-out
+shape_of-out c = c.loop-l.invariant.reporting.emitted.length
+
+pub returns : goal.returns
+returns c =
+    let e : c.args.lookups.count ≡ c.loop-l.l = omega (arith, c.loop-l.invariant.reporting.turns, c.loop-l-test.false) in
+    rw (← c.requires.lookups.count, e) c.loop-l.invariant.reporting.emitted

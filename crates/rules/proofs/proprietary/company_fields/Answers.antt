@@ -1,0 +1,122 @@
+use Rattle.rules.specs.Texts.{MANUFACTURER_CODE, RESERVED, INDUSTRY_CODE}
+use Rattle.rules.specs.Proprietary.{pair_is, company_fields}
+use Rattle.rules.specs.Model.{root_of}
+use mathlib.Core.Bool.{◌&&◌, Bool, true, false}
+use Rattle.pack.proofs.Positions.{field_ft_law}
+use Rattle.pack.specs.Value.{FieldType, Field, Pgn, pgn_at, field_at}
+use Rattle.pack.specs.Notation.{◌==◌, ◌≐◌, ◌≤ᵇ◌}
+use Rattle.pack.specs.Meaning.{field_meaning, optional_reference, pack_of}
+use Rattle.pack.specs.declared.field.FieldView.{FieldView}
+use Prim.Native.Nat.{ℕ, ◌≤◌, ◌<◌}
+use native.Mathlib.Omega.{arith}
+use mathlib.Core.Path.{◌≡◌, refl, ap, ◌∙◌, sym}
+use mathlib.Core.List.{List}
+use borrow.Author.Tests.{le-leb, lt-leb}
+use lib.ListN.{length}
+use Rattle.rules.proofs.proprietary.company_fields.Goals as goal
+
+-- the seven tests, one for each field after the first
+regroup : (a b c d e f g : Bool) → (a && b && c && d && e && f && g) ≡ (a && ((b && c) && ((d && e) && (f && g))))
+regroup false b c d e f g = refl
+regroup true false c d e f g = refl
+regroup true true false d e f g = refl
+regroup true true true false e f g = refl
+regroup true true true true false f g = refl
+regroup true true true true true f g = refl
+
+at_first : (a x y : Bool) → x ≡ false → (a && (x && y)) ≡ false
+at_first true x y e = rw e
+at_first false x y e = refl
+
+at_second : (a x y z : Bool) → y ≡ false → (a && (x && (y && z))) ≡ false
+at_second true true y z e = rw e
+at_second true false y z e = refl
+at_second false x y z e = refl
+
+abbrev pair : List ℕ → FieldView → List ℕ → ℕ → Bool
+pair s v name bits = pair_is (optional_reference s v.links.reference) name && (v.scaling.bits == bits)
+
+abbrev reserved : List ℕ → List FieldType → FieldView → ℕ → Bool
+reserved s fts v bits = (root_of fts (field_meaning s v) ≐ RESERVED) && (v.scaling.bits == bits)
+
+at-third : (a x y z : Bool) → a ≡ true → x ≡ true → y ≡ true → (a && (x && (y && z))) ≡ z
+at-third a x y z e d f = rw (e, d, f)
+
+abbrev coded : Pgn → Bool
+coded P = pair_is (field_at P 0).reference MANUFACTURER_CODE && ((field_at P 0).res_bits == 11)
+
+abbrev spared : List FieldType → Pgn → Bool
+spared fts P = (root_of fts (field_at P 1) ≐ RESERVED) && ((field_at P 1).res_bits == 2)
+
+abbrev grouped : Pgn → Bool
+grouped P = pair_is (field_at P 2).reference INDUSTRY_CODE && ((field_at P 2).res_bits == 3)
+
+-- the rule's part, said of the views
+module _ (s : List ℕ) (fts : List FieldType) (P : Pgn) where
+  few : length P.fields < 3 → company_fields fts P ≡ false
+  unfolding company_fields
+  few h = rw (lt-leb 3 _ h)
+
+  parted : company_fields fts P ≡ ((3 ≤ᵇ length P.fields) && (coded P && (spared fts P && grouped P)))
+  unfolding company_fields
+  parted =
+      regroup (3 ≤ᵇ length P.fields) (pair_is (field_at P 0).reference MANUFACTURER_CODE) ((field_at P 0).res_bits == 11)
+      (root_of fts (field_at P 1) ≐ RESERVED) ((field_at P 1).res_bits == 2) (pair_is (field_at P 2).reference INDUSTRY_CODE) ((field_at P 2).res_bits == 3)
+
+  first : (u : FieldView) → field_meaning s u ≡ field_at P 0 → pair s u MANUFACTURER_CODE 11 ≡ false → company_fields fts P ≡ false
+  first u e x = parted ∙ at_first (3 ≤ᵇ length P.fields) (coded P) (spared fts P && grouped P) (rw (← e) x)
+
+  second : (v : FieldView) → field_meaning s v ≡ field_at P 1 → reserved s fts v 2 ≡ false → company_fields fts P ≡ false
+  second v e x = parted ∙ at_second (3 ≤ᵇ length P.fields) (coded P) (spared fts P) (grouped P) (rw (← e) x)
+
+  third : (u v w : FieldView) → 3 ≤ length P.fields → field_meaning s u ≡ field_at P 0 → field_meaning s v ≡ field_at P 1 → field_meaning s w ≡ field_at P 2
+      → pair s u MANUFACTURER_CODE 11 ≡ true → reserved s fts v 2 ≡ true → company_fields fts P ≡ pair s w INDUSTRY_CODE 3
+  third u v w h a b c x y =
+      parted ∙ at-third (3 ≤ᵇ length P.fields) (coded P) (spared fts P) (grouped P) (le-leb 3 (length P.fields) h) (rw (← a) x) (rw (← b) y) ∙ (rw (← c))
+
+pub returns-then-fields-lt3 : goal.returns-then-fields-lt3
+returns-then-fields-lt3 c =
+    let s = c.args.s.now in
+    sym
+    (few s (pack_of s).fieldtypes (pgn_at (pack_of s) c.args.g.tree c.args.g.item) (omega (arith, c.requires.is.fields, c.if-fields-lt3.true)))
+
+pub field_of-code-requires : goal.field_of-code-requires
+field_of-code-requires c =
+    record { at = c.requires.at; field = omega (arith, c.requires.is.fields, c.if-fields-lt3.false) }
+
+pub returns-then-not-is_pair : goal.returns-then-not-is_pair
+returns-then-not-is_pair c =
+    let s = c.args.s.now in
+    sym (first s (pack_of s).fieldtypes (pgn_at (pack_of s) c.args.g.tree c.args.g.item) c.field_of-code.result c.field_of-code.ensures
+    (sym c.is_pair.ensures ∙ c.if-not-is_pair.true))
+
+pub field_of-reserved-requires : goal.field_of-reserved-requires
+field_of-reserved-requires c =
+    record { at = c.requires.at; field = omega (arith, c.requires.is.fields, c.if-fields-lt3.false) }
+
+pub is_reserved-requires : goal.is_reserved-requires
+is_reserved-requires c =
+    record {
+      ready = c.requires.at.ready;
+      type = (let e : c.field_of-reserved.result.ft ≡ (field_at (pgn_at (pack_of c.args.s.now) c.args.g.tree c.args.g.item) 1).ft =
+          ap (λ (F : Field). F.ft) c.field_of-reserved.ensures in
+          omega (arith, e, field_ft_law c.requires.at 1 (omega (arith, c.requires.is.fields, c.if-fields-lt3.false))));
+    }
+
+pub returns-then-not-is_reserved : goal.returns-then-not-is_reserved
+returns-then-not-is_reserved c =
+    let s = c.args.s.now in
+    sym (second s (pack_of s).fieldtypes (pgn_at (pack_of s) c.args.g.tree c.args.g.item) c.field_of-reserved.result c.field_of-reserved.ensures
+    (sym c.is_reserved.ensures ∙ c.if-not-is_reserved.true))
+
+pub field_of-industry-requires : goal.field_of-industry-requires
+field_of-industry-requires c =
+    record { at = c.requires.at; field = omega (arith, c.requires.is.fields, c.if-fields-lt3.false) }
+
+pub returns : goal.returns
+returns c =
+    let s = c.args.s.now in
+    c.is_pair-2.ensures
+    ∙ sym (third s (pack_of s).fieldtypes (pgn_at (pack_of s) c.args.g.tree c.args.g.item) c.field_of-code.result c.field_of-reserved.result
+    c.field_of-industry.result (omega (arith, c.requires.is.fields, c.if-fields-lt3.false)) c.field_of-code.ensures c.field_of-reserved.ensures c.field_of-industry.ensures
+    (sym c.is_pair.ensures ∙ c.if-not-is_pair.false) (sym c.is_reserved.ensures ∙ c.if-not-is_reserved.false))

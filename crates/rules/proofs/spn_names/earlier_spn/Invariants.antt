@@ -1,0 +1,12 @@
+use Rattle.pack.specs.Items.{bytes_of}
+use Rattle.rules.proofs.Candidates.{upto}
+use Rattle.rules.specs.SpnNames.{earlier_spn}
+use mathlib.Core.Path.{◌≡◌}
+use Rattle.pack.specs.Meaning.{pack_of}
+use Rattle.rules.proofs.spn_names.earlier_spn.Given as goal
+
+abbrev pub invariant-loop-tree : goal.invariant-loop-tree
+invariant-loop-tree l = upto (pack_of l.s).pgns_j1939 (bytes_of l.s l.name) l.b ≡ earlier_spn (pack_of l.s).pgns_j1939 l.spn
+
+abbrev pub decreases-loop-tree : goal.decreases-loop-tree
+decreases-loop-tree l = l.b

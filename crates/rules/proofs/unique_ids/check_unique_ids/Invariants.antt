@@ -1,0 +1,26 @@
+use Rattle.rules.specs.Emit.{Reporting}
+use Rattle.rules.specs.UniqueIds.{same_id_as, unique_field_ids}
+use Rattle.rules.specs.Search.{latest_below}
+use Rattle.pack.specs.Ready.{place_of_pgn}
+use Rattle.rules.specs.declared.Finding.{Finding}
+use Rattle.pack.specs.Meaning.{pack_of}
+use Rattle.pack.specs.Notation.{◌≐◌}
+use Rattle.pack.specs.Value.{pgn_at}
+use Prim.Native.Nat.{ℕ, ◌-◌}
+use mathlib.Core.Path.{◌≡◌}
+use mathlib.Core.List.{List, ◌++◌}
+use Rattle.rules.proofs.unique_ids.check_unique_ids.Given as goal
+
+-- the findings of PGN i
+abbrev pub of_pgn : List ℕ → ℕ → ℕ → List Finding
+of_pgn s t i = same_id_as t i (latest_below (λ j. (pgn_at (pack_of s) t j).id ≐ (pgn_at (pack_of s) t i).id) i) ++ unique_field_ids t i (pgn_at (pack_of s) t i)
+
+abbrev pub invariant-loop-i : goal.invariant-loop-i
+invariant-loop-i l =
+    record {
+      reporting : Reporting l.initial.out l.n (of_pgn l.s l.t) l.count l.i l.out l.m;
+      place : l.p ≡ place_of_pgn (pack_of l.s) l.t l.i;
+    }
+
+abbrev pub decreases-loop-i : goal.decreases-loop-i
+decreases-loop-i l = l.count - l.i
