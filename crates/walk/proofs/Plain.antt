@@ -229,7 +229,7 @@ module _ {v : Sets} {marks bad readings b : List ℕ} {n o : ℕ} {w : List ℕ}
           (sym (harm (t - 1) (get_or readings m 0) passing)) refl (due (place_of u w'') (memory_of w'')) (sym (to L a (get_or readings m 0))));
     }
 
-run_then : {L : Layout} {stops : Stops} {readings b b' b'' : List ℕ} {n m l : ℕ} {c d e : Settled (ℕ → ℕ)}
+run_then : {L : Layout} {stops : Stops} {readings b b' : List ℕ} {n m : ℕ} {c d : Settled (ℕ → ℕ)} {b'' : List ℕ} {l : ℕ} {e : Settled (ℕ → ℕ)}
     → Run L stops readings b n c b' m d → Run L stops readings b' m d b'' l e → Run L stops readings b n c b'' l e
 run_then R no_step = R
 run_then R (then_step S low k d e) = then_step (run_then R S) low k d e

@@ -261,8 +261,8 @@ module _ (L : Layout) (laid : stop_1 L ≡ false) (stops : Stops) (A : Answer) (
     }
 
 -- after a run
-going_run : (L : Layout) → stop_1 L ≡ false → (stops : Stops) (A : Answer) (readings w : List ℕ) {v v' : List ℕ} {n n' : ℕ} {c c' : Settled (ℕ → ℕ)}
-    → Run L stops readings v n c v' n' c' → Going L stops A readings w v n c → Going L stops A readings w v' n' c'
+going_run : (L : Layout) → stop_1 L ≡ false → (stops : Stops) (A : Answer) (readings w : List ℕ) {v : List ℕ} {n : ℕ} {c : Settled (ℕ → ℕ)} {v' : List ℕ}
+    {n' : ℕ} {c' : Settled (ℕ → ℕ)} → Run L stops readings v n c v' n' c' → Going L stops A readings w v n c → Going L stops A readings w v' n' c'
 going_run L laid stops A readings w no_step g = g
 going_run L laid stops A readings w (then_step {v'} {n'} {c'} R low k d e) g =
     going_on L laid stops A readings w v' n' c' (going_run L laid stops A readings w R g) low (visited k d) e k d refl

@@ -1,0 +1,22 @@
+use Rattle.walk.specs.Runs.{Straight, RunsTo}
+use mathlib.Core.Path.{◌≡◌}
+use Prim.Native.Nat.{◌-◌, ◌≤◌}
+use lib.ListN.{length}
+use Rattle.walk.specs.declared.sets.Sets.{Sets}
+use Rattle.walk.proofs.runs.run_stretch.Given as goal
+
+abbrev pub invariant-loop-stretch : goal.invariant-loop-stretch
+invariant-loop-stretch l =
+    record {
+      first : 1 ≤ l.here.0;
+      within : (v : Sets) → Straight v l.stretch → l.here.0 ≤ v.fields;
+      begun : l.m ≤ l.n → l.here.0 ≡ l.stretch.from.0;
+      at_least : l.n ≤ l.m;
+      read : l.m ≤ length l.readings;
+      sixteen : length l.passes ≡ 16;
+      same : length l.visits ≡ length l.initial.visits;
+      runs : (v : Sets) → Straight v l.stretch → RunsTo v l.marks l.bad l.readings l.initial.visits l.n l.stretch.from.0 l.initial.passes l.visits l.m l.here.0 l.passes;
+    }
+
+abbrev pub decreases-loop-stretch : goal.decreases-loop-stretch
+decreases-loop-stretch l = length l.readings - l.m

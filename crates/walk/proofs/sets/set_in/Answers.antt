@@ -1,0 +1,43 @@
+use lib.ListN.{length, get_or-eq_default}
+use mathlib.Core.Option.{Option, none, some}
+use mathlib.Core.Bool.{true}
+use mathlib.Core.Path.{◌≡◌, sym, ◌∙◌, ap}
+use Prim.Native.Nat.{ℕ, ◌+◌, ◌≤◌, ◌<◌}
+use native.Mathlib.Omega.{arith}
+use Rattle.walk.specs.SetsOf.{SetIs}
+use Rattle.walk.specs.Layout.{no_set, set_or_empty}
+use Rattle.walk.specs.declared.sets.Set.{Set}
+use Rattle.pack.specs.Value.{Repeating, Pgn, pgn_at, set_place}
+use Rattle.pack.specs.Meaning.{repeating_meaning, optional_repeating, pack_of}
+use Rattle.pack.specs.declared.pgn.OptRepeating.{OptRepeating}
+use Rattle.pack.proofs.SetSums.{SetFits, pgn_sets_law}
+use Rattle.pack.proofs.Sets.{places_are, set_is}
+use Rattle.walk.proofs.sets.set_in.Goals as goal
+
+-- o is what stands there
+module _ (o : OptRepeating) (G : Option Repeating) (e : optional_repeating o ≡ G) where
+  fits : SetFits G → o.given ≡ true → o.set.start.0 + o.set.count < 4294967296
+  fits f h = let q : optional_repeating o ≡ some (repeating_meaning o.set) = rw h in omega (arith, f (repeating_meaning o.set) (sym e ∙ q))
+
+  told : (v : Set) → SetIs (set_or_empty (optional_repeating o)) v → SetIs (set_or_empty G) v
+  told v is = rw (← e) is
+
+absent : (p : Pgn) (k : ℕ) → length p.sets ≤ k → (v : Set) → SetIs no_set v → SetIs (set_or_empty (set_place p k)) v
+absent p k h v is = rw (get_or-eq_default p.sets none h) is
+
+pub set_of-requires : goal.set_of-requires
+set_of-requires c =
+    let k = c.args.k in
+    fits c.set_at.result _ (ap optional_repeating c.set_at.ensures ∙ set_is c.requires.is k c.if-k-g.true)
+    (pgn_sets_law c.requires.at k)
+
+pub returns-then-k-g : goal.returns-then-k-g
+returns-then-k-g c =
+    told c.set_at.result _
+    (ap optional_repeating c.set_at.ensures ∙ set_is c.requires.is c.args.k c.if-k-g.true) c.set_of.result
+    c.set_of.ensures
+
+pub returns : goal.returns
+returns c =
+    absent (pgn_at (pack_of c.args.s.now) c.args.found.tree c.args.found.pgn) c.args.k
+    (omega (arith, places_are c.requires.is, c.if-k-g.false)) c.no_set.result c.no_set.ensures

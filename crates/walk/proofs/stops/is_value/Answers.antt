@@ -1,0 +1,30 @@
+use Rattle.rules.specs.Model.{root_of}
+use Rattle.rules.specs.Texts.{DYNAMIC_FIELD_VALUE}
+use Rattle.walk.specs.Stops.{is_dynamic_value}
+use Rattle.pack.proofs.Positions.{field_ft_law}
+use Rattle.pack.specs.Items.{bytes_of}
+use Rattle.pack.specs.Notation.{◌≐◌}
+use Rattle.pack.specs.Value.{Bytes, Field, Pack, pgn_at, field_at}
+use native.Mathlib.Omega.{arith}
+use mathlib.Core.Path.{◌≡◌, ap}
+use mathlib.Core.Bool.{Bool}
+use Rattle.pack.specs.Meaning.{pack_of, field_meaning}
+use Rattle.walk.proofs.stops.is_value.Goals as goal
+
+told : (P : Pack) (F G : Field) → F ≡ G → (root : Bytes) → root ≡ root_of P.fieldtypes F → (b : Bool) → b ≡ (root ≐ DYNAMIC_FIELD_VALUE)
+    → b ≡ is_dynamic_value P G
+told P F G is root r b e = rw (← is, ← r) e
+
+pub root_of-root-requires : goal.root_of-root-requires
+root_of-root-requires c =
+    let k = c.args.k in
+    let e : c.args.f.ft ≡ (field_at (pgn_at (pack_of c.args.s.now) c.args.found.tree c.args.found.pgn) k).ft =
+    ap (λ (F : Field). F.ft) c.requires.means in
+    record { ready = c.requires.pgn.place.ready; type = omega (arith, e, field_ft_law c.requires.pgn.place k c.requires.field) }
+
+pub returns : goal.returns
+returns c =
+    let s = c.args.s.now in
+    told (pack_of s) (field_meaning s c.args.f)
+    (field_at (pgn_at (pack_of s) c.args.found.tree c.args.found.pgn) c.args.k) c.requires.means
+    (bytes_of s c.root_of-root.result) c.root_of-root.ensures c.text_is.result c.text_is.ensures
