@@ -21,8 +21,7 @@ mod answers;
 
 // The eleven numbers are the detail and zeros where the pack is refused; else the number of records, then for field types, lookups and the
 // three trees in turn the count and the work position of the first.
-#[unsafe(no_mangle)]
-pub extern "C" fn sarwymp_load(pack: &[u8], work: &mut [u32], answer: &mut [u64; 11]) -> u32
+pub fn sarwymp_load(pack: &[u8], work: &mut [u32], answer: &mut [u64; 11]) -> u32
     ensures number { result ≡ (load_tells pack.now (length work.old)).number }
     ensures numbers { answer.new ≡ filled 11 (load_tells pack.now (length work.old)).values }
     ensures work { work.new ≡ work_after pack.now work.old }
@@ -33,8 +32,7 @@ pub extern "C" fn sarwymp_load(pack: &[u8], work: &mut [u32], answer: &mut [u64;
 }
 
 // The two numbers are the detail and 0 where the call is refused; else the number of findings and of errors.
-#[unsafe(no_mangle)]
-pub extern "C" fn sarwymp_check(
+pub fn sarwymp_check(
     pack: &[u8],
     work: &mut [u32],
     findings: &mut [u32],
@@ -52,8 +50,7 @@ pub extern "C" fn sarwymp_check(
 }
 
 // The number is the detail where the call is refused; else the length of the text.
-#[unsafe(no_mangle)]
-pub extern "C" fn sarwymp_place_text(
+pub fn sarwymp_place_text(
     pack: &[u8],
     work: &mut [u32],
     place: u32,
@@ -75,8 +72,7 @@ pub extern "C" fn sarwymp_place_text(
 
 // The two numbers are the detail and 0 where the call is refused; else the end (0 whole, 1 to 9 the stop, 10 used up) and the number of
 // visits, with which the visit buffer begins.
-#[unsafe(no_mangle)]
-pub extern "C" fn sarwymp_walk(
+pub fn sarwymp_walk(
     pack: &[u8],
     work: &mut [u32],
     tree: u32,
@@ -100,8 +96,7 @@ pub extern "C" fn sarwymp_walk(
 }
 
 // The number is the detail where the call is refused; else 1 where the PGN is held, 0 where it is not.
-#[unsafe(no_mangle)]
-pub extern "C" fn sarwymp_held(
+pub fn sarwymp_held(
     pack: &[u8],
     work: &mut [u32],
     tree: u32,

@@ -1,0 +1,13 @@
+use Rattle.exports.specs.Answers.{filled}
+use Rattle.pack.specs.Load.{Answer}
+use mathlib.Core.Path.{◌∙◌, ap}
+use Rattle.exports.proofs.sarwymp_held.Goals as goal
+
+pub returns : goal.returns
+returns c =
+    let call = c.held-h.ensures in
+    record {
+      number = c.held_number.ensures ∙ ap (λ (a : Answer). a.number) call.told;
+      numbers = c.held_answer.ensures ∙ ap (λ (a : Answer). filled 1 a.values) call.told;
+      work = call.work;
+    }
