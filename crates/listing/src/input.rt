@@ -2,7 +2,9 @@
 ghost use Rattle.io.specs.Counts.{IsPrefixLen};
 
 use crate::say;
-use libc::STDIN_FILENO;
+
+// Standard input, as the system numbers it.
+const STDIN: i32 = 0;
 
 // Whether the buffer has the whole input, and how many bytes that are.
 #[derive(Clone, Copy)]
@@ -15,9 +17,9 @@ pub struct Input {
 pub fn read_pack(buf: &mut [u8]) -> Input
     ensures { IsPrefixLen result.len buf.new }
 {
-    let len = io::read_full(STDIN_FILENO, buf);
+    let len = io::read_full(STDIN, buf);
     let mut more = [0u8; 1];
-    if len == buf.len() && io::read_full(STDIN_FILENO, &mut more) == 1 {
+    if len == buf.len() && io::read_full(STDIN, &mut more) == 1 {
         say::words(b"too long\n");
         return Input { whole: false, len };
     }

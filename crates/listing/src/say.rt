@@ -1,17 +1,19 @@
 // Words, numbers, texts and float patterns on standard output, each behind the words that introduce it.
-use libc::STDOUT_FILENO;
 use pack::load::Refusal;
 use pack::optional::{OptFloat, OptNumber};
 use pack::protocol::Protocol;
 use pack::text::{OptText, Text, part};
 
+// Standard output, as the system numbers it.
+const STDOUT: i32 = 1;
+
 pub fn words(w: &[u8]) {
-    io::write_all(STDOUT_FILENO, w);
+    io::write_all(STDOUT, w);
 }
 
 pub fn number(w: &[u8], n: u64) {
     words(w);
-    io::print_decimal(STDOUT_FILENO, n);
+    io::print_decimal(STDOUT, n);
 }
 
 // So many, with the word for one or for any other number of them.
@@ -32,7 +34,7 @@ pub fn text(w: &[u8], s: &[u8], t: Text) {
 // A float by its bits, in 16 hexadecimal digits.
 pub fn pattern(w: &[u8], p: u64) {
     words(w);
-    io::print_hex(STDOUT_FILENO, p, 16);
+    io::print_hex(STDOUT, p, 16);
 }
 
 pub fn flag(w: &[u8], given: bool) {

@@ -2,13 +2,20 @@
 // buffers of several lengths.
 #![tactic(auto)]
 
-use libc::STDOUT_FILENO;
+ghost use Rattle.std.specs.Prelude.{◌≤◌, length, IfOk};
+
 use pack::load::{Index, Loaded, Refusal, Section, load};
+use std::fs::File;
+use std::io::Read;
+use std::{env, fs};
 
 // The most numbers that a work buffer has here, and what each of them is before a load.
 const ROOM: usize = 64;
 
 const UNUSED: u32 = 0xaaaa_aaaa;
+
+// Standard output, as the system numbers it.
+const STDOUT: i32 = 1;
 
 // What a load answered: whether the pack was accepted, and how many records it has.
 #[derive(Clone, Copy)]
@@ -18,11 +25,11 @@ struct Answer {
 }
 
 fn say(words: &[u8]) {
-    io::write_all(STDOUT_FILENO, words);
+    io::write_all(STDOUT, words);
 }
 
 fn say_number(n: usize) {
-    io::print_decimal(STDOUT_FILENO, n as u64);
+    io::print_decimal(STDOUT, n as u64);
 }
 
 fn say_count(n: u32) {
@@ -149,22 +156,27 @@ fn report(name: &[u8], pack: &[u8]) {
     }
 }
 
-fn report_file(name: &[u8]) {
-    let fd = os::open_read(name);
-    if fd < 0 {
-        os::fail(name);
-        return;
+// The file's first bytes, as many as there is room for.
+fn read_full(file: &mut File, buf: &mut [u8]) -> std::io::Result<usize>
+    ensures { IfOk result (λ n. n ≤ length buf.new) }
+{
+    let mut n = 0;
+    while n < buf.len() {
+        let got = file.read(&mut buf[n..])?;
+        if got == 0 {
+            break;
+        }
+        n += got;
     }
-    let mut buf = io::buffer();
-    let n = io::read_full(fd, &mut buf);
-    libc::close(fd);
-    report(name, &buf[..n]);
+    Ok(n)
 }
 
-fn report_argument(i: usize) {
-    let mut name = io::buffer();
-    let n = os::arg(i, &mut name);
-    report_file(&name[..n]);
+fn report_file(rt: &HostRuntime, name: &str) -> std::io::Result<()> {
+    let mut file = fs::open(rt, name)?;
+    let mut buf = io::buffer();
+    let n = read_full(&mut file, &mut buf)?;
+    report(name.as_bytes(), &buf[..n]);
+    Ok(())
 }
 
 // A byte more than a pack may have.
@@ -187,12 +199,9 @@ fn report_large(pack: &mut [u8], version: u8, largest: &[u8], larger: &[u8]) {
     report(larger, pack);
 }
 
-fn main() {
-    let count = os::arg_count();
-    let mut i = 1;
-    while i < count {
-        report_argument(i);
-        i += 1;
+fn main(rt: HostRuntime) -> std::io::Result<()> {
+    for name in env::args(&rt)?.skip(1) {
+        report_file(&rt, name.as_str())?;
     }
     let mut pack = large_buffer();
     report_large(&mut pack, 1, b"largest", b"larger_by_one_byte");
@@ -202,4 +211,5 @@ fn main() {
         b"largest_of_version_2",
         b"larger_by_one_byte_of_version_2",
     );
+    Ok(())
 }

@@ -2,16 +2,28 @@
 use numerals::OptWide;
 use numerals::decimal::parse_u64;
 
+// An argument longer than this is read as an empty one.
+const LONGEST: usize = 4096;
+
+pub fn word(args: &[String], i: usize) -> &[u8] {
+    if args.len() <= i {
+        return b"";
+    }
+    let bytes = args[i].as_bytes();
+    if LONGEST < bytes.len() {
+        return b"";
+    }
+    bytes
+}
+
 // "digits, one leading + allowed"
-fn number(i: usize) -> OptWide {
-    let mut word = io::buffer();
-    let n = os::arg(i, &mut word);
-    parse_u64(&word[..n])
+fn number(args: &[String], i: usize) -> OptWide {
+    parse_u64(word(args, i))
 }
 
 // 0 to 2, or 3 where the argument is no tree's number.
-pub fn tree() -> u32 {
-    let tree = number(1);
+pub fn tree(args: &[String]) -> u32 {
+    let tree = number(args, 1);
     if tree.given {
         if tree.value < 3 {
             return tree.value as u32;
@@ -21,10 +33,10 @@ pub fn tree() -> u32 {
 }
 
 // Whether every one of them is a number.
-pub fn read_readings(readings: &mut [u64]) -> bool {
+pub fn read_readings(args: &[String], readings: &mut [u64]) -> bool {
     let mut i = 0;
     while i < readings.len() {
-        let reading = number(3 + i);
+        let reading = number(args, 3 + i);
         if !reading.given {
             return false;
         }

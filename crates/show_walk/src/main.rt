@@ -8,6 +8,7 @@ mod show;
 
 use listing::input::{longest_pack, most_records, read_pack};
 use listing::say;
+use std::env;
 
 fn usage() {
     say::words(b"use: show_walk TREE PGN READING .. < PACK\n");
@@ -23,16 +24,15 @@ fn show_named(
     work: &mut [u32],
     findings: &mut [u32],
     tree: u32,
+    name: &[u8],
     readings: &[u64],
     visits: &mut [u32],
 ) {
-    let mut name = io::buffer();
-    let n = os::arg(2, &mut name);
-    if n == 0 {
+    if name.len() == 0 {
         usage();
         return;
     }
-    show::show(pack, work, findings, tree, &name[..n], readings, visits);
+    show::show(pack, work, findings, tree, name, readings, visits);
 }
 
 fn read_and_show(
@@ -40,13 +40,14 @@ fn read_and_show(
     work: &mut [u32],
     findings: &mut [u32],
     tree: u32,
+    name: &[u8],
     readings: &[u64],
     visits: &mut [u32],
 ) {
     let input = read_pack(buf);
     if input.whole {
         let n = input.len;
-        show_named(&buf[..n], work, findings, tree, readings, visits);
+        show_named(&buf[..n], work, findings, tree, name, readings, visits);
     }
 }
 
@@ -56,13 +57,14 @@ fn lend(
     work: &mut [u32; 524_288],
     findings: &mut [u32; 16_384],
     tree: u32,
+    name: &[u8],
     readings: &[u64],
     visits: &mut [u32; 256],
 ) {
-    read_and_show(buf, work, findings, tree, readings, visits);
+    read_and_show(buf, work, findings, tree, name, readings, visits);
 }
 
-fn show_in_pack(tree: u32, readings: &[u64]) {
+fn show_in_pack(tree: u32, name: &[u8], readings: &[u64]) {
     let mut buf = longest_pack();
     let mut work = most_records();
     let mut findings = [0u32; 16_384];
@@ -72,43 +74,46 @@ fn show_in_pack(tree: u32, readings: &[u64]) {
         &mut work,
         &mut findings,
         tree,
+        name,
         readings,
         &mut visits,
     );
 }
 
 // As many readings as there are arguments behind the second.
-fn with_readings(readings: &mut [u64]) {
-    let tree = arguments::tree();
+fn with_readings(args: &[String], readings: &mut [u64]) {
+    let tree = arguments::tree(args);
     if 2 < tree {
         usage();
         return;
     }
-    if !arguments::read_readings(readings) {
+    if !arguments::read_readings(args, readings) {
         usage();
         return;
     }
-    show_in_pack(tree, readings);
+    show_in_pack(tree, arguments::word(args, 2), readings);
 }
 
-fn first_readings(readings: &mut [u64], n: usize) {
+fn first_readings(args: &[String], readings: &mut [u64], n: usize) {
     if readings.len() < n {
         usage();
         return;
     }
-    with_readings(&mut readings[..n]);
+    with_readings(args, &mut readings[..n]);
 }
 
-fn lend_readings(readings: &mut [u64; 256], n: usize) {
-    first_readings(readings, n);
+fn lend_readings(args: &[String], readings: &mut [u64; 256], n: usize) {
+    first_readings(args, readings, n);
 }
 
-fn main() {
-    let count = os::arg_count();
+fn main(rt: HostRuntime) -> std::io::Result<()> {
+    let args: Vec<String> = env::args(&rt)?.collect(rt.alloc())?;
+    let count = args.len();
     if count < 3 {
         usage();
-        return;
+        return Ok(());
     }
     let mut readings = [0u64; 256];
-    lend_readings(&mut readings, count - 3);
+    lend_readings(&args, &mut readings, count - 3);
+    Ok(())
 }

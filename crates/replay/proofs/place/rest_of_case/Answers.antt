@@ -1,0 +1,11 @@
+use lib.Seq.{length-take-le}
+use mathlib.Core.Path.{sym}
+use Rattle.replay.proofs.place.rest_of_case.Goals as goal
+
+pub slice_bounds-replay-end-2 : goal.slice_bounds-replay-end-2
+slice_bounds-replay-end-2 c =
+    sym (length-take-le _ _ c.count-m.ensures)
+
+pub slice_bounds-replay-end-4 : goal.slice_bounds-replay-end-4
+slice_bounds-replay-end-4 c =
+    sym (length-take-le _ _ c.count-k.ensures)
