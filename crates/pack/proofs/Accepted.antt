@@ -8,7 +8,7 @@ use lib.ListN.{length, drop}
 use lib.Seq.{take-append_seam}
 use Rattle.pack.specs.Notation.{◌≤ᵇ◌, if◌then◌else◌}
 use Rattle.pack.specs.Value.{pgns_of}
-use Rattle.pack.specs.Format.{types, lookups, type_list, offsets}
+use Rattle.pack.specs.Format.{type_list, offsets}
 use Rattle.pack.specs.Load.{Verdict, refused, accepted, verdict, load_index, loaded, work_after}
 use Rattle.pack.specs.Meaning.{pack_of, Reading, refused_by, holds, read}
 use Rattle.pack.specs.Ready.{Ready, IndexIs, place_of_tree}

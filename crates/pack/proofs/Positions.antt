@@ -14,7 +14,6 @@ use Rattle.pack.specs.Format.{types, type_offsets, entries, entry_offsets, looku
 use Rattle.pack.specs.Format.{field_offsets, pgn_records, pgn_offsets, type_list, lookup_list, tree_list, type_part, lookup_part, tree_part}
 use Rattle.pack.specs.Format.{before, offsets}
 use Rattle.pack.specs.Format.{type_start, lookup_start, pgn_start, pack_end}
-use Rattle.pack.specs.Load.{accepted}
 use Rattle.pack.specs.Meaning.{type_meaning, entry_meaning, field_meaning, type_of_pack, lookup_of_pack, pgn_of_pack, pack_of}
 use Rattle.pack.specs.Ready.{Ready, place_of_lookup, place_of_pgn, LookupAt, PgnAt, LookupIs, PgnIs}
 use Rattle.pack.specs.declared.cursor.Cursor.{Cursor}

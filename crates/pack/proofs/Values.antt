@@ -6,7 +6,7 @@ use mathlib.Core.List.{List}
 use lib.ListN.{length, get_or, length-append}
 use Rattle.pack.specs.Value.{pgns_of, no_field_type, no_entry, no_lookup, no_field, no_pgn, pgn_at, field_at, lookup_at}
 use Rattle.pack.specs.Records.{read_entry, read_lookup, read_pgn, read_field}
-use Rattle.pack.specs.Format.{types, type_offsets, entries, entry_offsets, LookupState, lookups, lookup_records, lookup_offsets, fields, field_offsets}
+use Rattle.pack.specs.Format.{types, type_offsets, entries, entry_offsets, LookupState, lookup_records, lookup_offsets, fields, field_offsets}
 use Rattle.pack.specs.Format.{pgn_records, pgn_offsets, type_list, lookup_list, tree_list, type_part, lookup_part, tree_part, before}
 use Rattle.pack.specs.Format.{lookup_start, pgn_start}
 use Rattle.pack.specs.Meaning.{type_of_pack, lookup_of_pack, pgn_of_pack, tree_of_pack, pack_of, entry_meaning, field_meaning}

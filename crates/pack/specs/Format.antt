@@ -1,5 +1,5 @@
 -- The pack as a whole: its lists of records one after the other, where each record begins, and how far reading gets.
-use Rattle.std.specs.Prelude.{ℕ, zero, suc, ◌+◌, false, true, List, [], ◌∷◌, ◌++◌}
+use Rattle.std.specs.Prelude.{ℕ, zero, suc, ◌+◌, false, true, List, ◌∷◌, ◌++◌}
 use Rattle.pack.specs.Notation.{concat_below, tab}
 use Rattle.pack.specs.Items.{fresh, read_number, read_version, finish}
 use Rattle.pack.specs.Records.{read_type, read_entry, read_lookup, read_pgn, read_field}

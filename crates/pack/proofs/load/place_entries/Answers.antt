@@ -3,7 +3,6 @@ use Rattle.pack.proofs.Reading.{entry_reader, entry_moves}
 use Rattle.pack.specs.Format.{entries, entry_offsets}
 use native.Mathlib.Omega.{arith}
 use mathlib.Core.Path.{◌≡◌, refl, ap, ◌∙◌, sym}
-use lib.ListN.{length}
 use Rattle.pack.proofs.load.place_entries.Goals as goal
 
 pub loop-i-init : goal.loop-i-init

@@ -4,7 +4,6 @@ use Rattle.pack.specs.Format.{fields, field_offsets, field_next}
 use Prim.Native.Nat.{◌+◌}
 use native.Mathlib.Omega.{arith}
 use mathlib.Core.Path.{◌≡◌, refl, ap, ◌∙◌, sym}
-use lib.ListN.{length}
 use Rattle.pack.proofs.load.place_fields.Goals as goal
 
 pub loop-i-init : goal.loop-i-init

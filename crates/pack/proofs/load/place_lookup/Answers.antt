@@ -1,7 +1,7 @@
 use Rattle.pack.proofs.Places.{placed_refused, placed_parts, room_head}
 use Rattle.pack.proofs.Reading.{lookup_reader, lookup_moves, entries_reader}
 use Rattle.pack.specs.declared.lookup.LookupItem.{LookupItem}
-use Rattle.pack.specs.Format.{entries, lookup_next, lookup_records}
+use Rattle.pack.specs.Format.{lookup_next, lookup_records}
 use Rattle.pack.specs.Records.{read_lookup}
 use native.Mathlib.Omega.{arith}
 use mathlib.Core.Path.{◌≡◌, ap, ◌∙◌, sym}

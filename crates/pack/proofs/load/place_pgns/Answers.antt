@@ -3,7 +3,6 @@ use Rattle.pack.proofs.Reading.{pgn_next_reader}
 use Rattle.pack.specs.Format.{pgns, pgn_offsets}
 use native.Mathlib.Omega.{arith}
 use mathlib.Core.Path.{◌≡◌, refl, ◌∙◌, sym}
-use lib.ListN.{length}
 use Rattle.pack.proofs.load.place_pgns.Goals as goal
 
 pub loop-i-init : goal.loop-i-init

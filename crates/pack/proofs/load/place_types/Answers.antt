@@ -1,7 +1,6 @@
 use Rattle.pack.proofs.Places.{placed_none, placed_one, placed_append, placed_refused, room_after, types_turn, type_offsets_turn, types_stay}
 use Rattle.pack.proofs.Reading.{type_reader, type_moves}
 use Rattle.pack.specs.Format.{types, type_offsets}
-use lib.ListN.{length}
 use native.Mathlib.Omega.{arith}
 use mathlib.Core.Path.{◌≡◌, refl, ap, ◌∙◌, sym}
 use Rattle.pack.proofs.load.place_types.Goals as goal

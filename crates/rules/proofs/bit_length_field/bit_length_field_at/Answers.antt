@@ -1,5 +1,5 @@
 use Rattle.rules.specs.BitLengthField.{variable_binary, bit_length_target_at, bit_length_field_at}
-use Rattle.rules.specs.Model.{target, given}
+use Rattle.rules.specs.Model.{target}
 use Rattle.rules.specs.Findings.{report_if, pgn_error}
 use Rattle.rules.specs.declared.Finding.{Finding}
 use Rattle.pack.specs.declared.field.FieldView.{FieldView}
@@ -13,7 +13,6 @@ use native.Mathlib.Omega.{arith}
 use mathlib.Core.Path.{◌≡◌}
 use mathlib.Core.List.{List, [], ◌∷◌}
 use borrow.Author.Tests.{not-true, not-false}
-use lib.ListN.{length}
 use Rattle.rules.proofs.bit_length_field.bit_length_field_at.Goals as goal
 
 module _ (s : List ℕ) (t i k : ℕ) (p : Pgn) (f : FieldView) (is : field_meaning s f ≡ field_at p k) (b : Bool)

@@ -1,6 +1,6 @@
 use Rattle.rules.proofs.Types.{given_is}
 use Rattle.rules.specs.Continues.{set_of, integer, not_raw, continued_by, continued_at}
-use Rattle.rules.specs.Model.{fieldtype_of, root_of, value_bits, given}
+use Rattle.rules.specs.Model.{fieldtype_of, root_of, value_bits}
 use Rattle.rules.specs.Texts.{NUMBER}
 use Rattle.rules.specs.Floats.{float_eq, ZERO}
 use Rattle.pack.proofs.Positions.{field_ft_law}

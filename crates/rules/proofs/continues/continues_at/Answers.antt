@@ -2,7 +2,6 @@ use Rattle.rules.specs.Continues.{continued_at, continued_found_at, continues_at
 use Rattle.rules.specs.SearchLaws.{first_is}
 use Rattle.rules.specs.Search.{first_below}
 use Rattle.rules.proofs.Emits.{emitted_none}
-use Rattle.rules.specs.Model.{given}
 use Rattle.rules.specs.Findings.{pgn_error}
 use Rattle.rules.specs.declared.Finding.{Finding}
 use Rattle.pack.specs.declared.field.FieldView.{FieldView}

@@ -1,7 +1,6 @@
 use Rattle.rules.proofs.Types.{given_is}
 use Rattle.rules.specs.Continues.{differs_from, not_raw}
 use Rattle.rules.specs.Floats.{ZERO, ONE}
-use Rattle.rules.specs.Model.{given}
 use Rattle.pack.specs.declared.field.FieldView.{FieldView}
 use Rattle.pack.specs.Meaning.{optional_float, field_meaning}
 use mathlib.Core.Bool.{◌||◌, Bool}

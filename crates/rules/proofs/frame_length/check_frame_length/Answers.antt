@@ -11,7 +11,6 @@ use Prim.Native.Nat.{ℕ}
 use mathlib.Core.Path.{◌≡◌, refl}
 use mathlib.Core.List.{List, [], ◌++◌}
 use borrow.Author.Tests.{eq-eqb, ne_eqb}
-use lib.ListN.{length}
 use Rattle.rules.proofs.frame_length.check_frame_length.Goals as goal
 
 -- the rule, said of the view: another frame, and a single one

@@ -5,7 +5,6 @@ use Rattle.pack.specs.Value.{Lookup}
 use Rattle.pack.specs.Items.{bytes_of}
 use native.Mathlib.Omega.{arith}
 use mathlib.Core.Path.{refl, ◌∙◌, ap}
-use lib.ListN.{length}
 use Rattle.pack.specs.Notation.{◌≐◌}
 use Rattle.pack.specs.Meaning.{pack_of}
 use Rattle.rules.proofs.lookup_marks.mark.Goals as goal

@@ -3,7 +3,6 @@ use Rattle.rules.proofs.Sections.{at_tree}
 use Rattle.rules.specs.Search.{any_below}
 use native.Mathlib.Omega.{arith}
 use mathlib.Core.Path.{◌≡◌, refl, ◌∙◌, ap}
-use lib.ListN.{length}
 use Rattle.pack.specs.Meaning.{pack_of}
 use Rattle.rules.proofs.lookup_marks.mark_by_trees.Invariants.{has}
 use Rattle.rules.proofs.lookup_marks.mark_by_trees.Goals as goal

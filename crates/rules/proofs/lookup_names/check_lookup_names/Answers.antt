@@ -4,7 +4,6 @@ use Rattle.rules.proofs.Emits.{fits_turn, reporting_none, reporting_turn}
 use Rattle.pack.specs.Meaning.{pack_of}
 use native.Mathlib.Omega.{arith}
 use mathlib.Core.Path.{◌≡◌}
-use lib.ListN.{length}
 use Rattle.rules.proofs.lookup_names.check_lookup_names.Invariants.{of-lookup}
 use Rattle.rules.proofs.lookup_names.check_lookup_names.Goals as goal
 

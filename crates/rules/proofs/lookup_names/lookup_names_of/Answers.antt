@@ -13,7 +13,6 @@ use Prim.Native.Nat.{ℕ}
 use native.Mathlib.Omega.{arith}
 use mathlib.Core.Path.{◌≡◌, ap, ◌∙◌, sym}
 use mathlib.Core.List.{List, []}
-use lib.ListN.{length}
 use Rattle.rules.proofs.lookup_names.lookup_names_of.Invariants.{of_entry}
 use Rattle.rules.proofs.lookup_names.lookup_names_of.Goals as goal
 

@@ -1,7 +1,6 @@
 use Rattle.rules.specs.LookupNames.{same_name_as}
 use Rattle.rules.specs.Findings.{lookup_error}
 use Rattle.rules.proofs.Emits.{emitted_none}
-use Rattle.rules.specs.Model.{given}
 use Rattle.rules.specs.declared.Finding.{Finding}
 use Rattle.pack.specs.Notation.{optional}
 use mathlib.Core.Option.{Option}

@@ -9,7 +9,6 @@ use Prim.Native.Nat.{ℕ}
 use mathlib.Core.Path.{◌≡◌, sym, ◌∙◌, ap}
 use mathlib.Core.Bool.{Bool, not}
 use mathlib.Core.List.{List}
-use lib.ListN.{length}
 use Rattle.pack.specs.Ready.{LookupIs}
 use Rattle.pack.specs.Meaning.{pack_of}
 use Rattle.rules.specs.declared.Finding.{Finding}

@@ -2,11 +2,9 @@ use Rattle.pack.specs.Items.{bytes_of}
 use Rattle.pack.proofs.Positions.{lookup_place_next}
 use Rattle.rules.proofs.Sizes.{at_lookup, entries_few, lookups_few}
 use Rattle.rules.specs.SearchLaws.{any_turn, any_hit}
-use Rattle.rules.specs.LookupWiring.{referenced_by_lookup}
 use borrow.Author.Rules.{rules}
 use native.Mathlib.Omega.{arith}
 use mathlib.Core.Path.{◌≡◌, refl, sym, ◌∙◌}
-use mathlib.Core.Bool.{false}
 use lib.ListN.{length}
 use Rattle.pack.specs.Meaning.{pack_of}
 use Rattle.rules.proofs.lookup_uses.referenced_by_lookups.Invariants.{has}

@@ -2,11 +2,10 @@ use Rattle.pack.specs.Items.{bytes_of}
 use Rattle.pack.proofs.Positions.{pgn_place_next}
 use Rattle.rules.proofs.Sizes.{at_pgn, fields_few, pgns_few}
 use Rattle.rules.specs.SearchLaws.{any_turn, any_hit}
-use Rattle.rules.specs.LookupWiring.{referenced_by_pgn, referenced_by_tree}
+use Rattle.rules.specs.LookupWiring.{referenced_by_tree}
 use borrow.Author.Rules.{rules}
 use native.Mathlib.Omega.{arith}
 use mathlib.Core.Path.{◌≡◌, refl, sym, ◌∙◌}
-use mathlib.Core.Bool.{false}
 use lib.ListN.{length}
 use Rattle.pack.specs.Meaning.{pack_of}
 use Rattle.pack.specs.Value.{pgns_of}

@@ -2,11 +2,9 @@ use Rattle.pack.specs.Items.{bytes_of}
 use Rattle.rules.proofs.Sections.{at_tree}
 use Rattle.rules.specs.Search.{any_below}
 use Rattle.rules.specs.SearchLaws.{any_turn, any_hit}
-use Rattle.rules.specs.LookupWiring.{referenced_by_tree}
 use borrow.Author.Rules.{rules}
 use native.Mathlib.Omega.{arith}
 use mathlib.Core.Path.{◌≡◌, refl, sym, ◌∙◌, ap}
-use mathlib.Core.Bool.{false}
 use Rattle.pack.specs.Meaning.{pack_of}
 use Rattle.rules.proofs.lookup_uses.referenced_by_trees.Invariants.{has}
 use Rattle.rules.proofs.lookup_uses.referenced_by_trees.Goals as goal

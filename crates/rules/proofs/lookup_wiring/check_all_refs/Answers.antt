@@ -1,7 +1,6 @@
 use Rattle.rules.proofs.Sections.{at_tree}
 use native.Mathlib.Omega.{arith}
 use mathlib.Core.Path.{◌≡◌}
-use lib.ListN.{length}
 use Rattle.pack.specs.Meaning.{pack_of}
 use Rattle.rules.proofs.Emits.{fits_turn, reporting_none, reporting_turn}
 use Rattle.rules.proofs.lookup_wiring.check_all_refs.Invariants.{of_tree}

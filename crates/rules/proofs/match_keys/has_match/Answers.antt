@@ -10,7 +10,6 @@ use borrow.Author.Rules.{rules}
 use native.Mathlib.Omega.{arith}
 use Prim.Native.Nat.{ℕ}
 use mathlib.Core.Path.{◌≡◌, refl, sym, ◌∙◌, ap}
-use mathlib.Core.Bool.{false}
 use mathlib.Core.List.{List}
 use Rattle.pack.specs.Meaning.{pack_of, field_meaning}
 use Rattle.rules.proofs.match_keys.has_match.Invariants.{has}

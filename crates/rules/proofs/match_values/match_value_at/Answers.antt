@@ -1,5 +1,5 @@
 use Rattle.rules.specs.MatchValues.{resolved_at, match_value_at}
-use Rattle.rules.specs.Model.{resolve_match, given}
+use Rattle.rules.specs.Model.{resolve_match}
 use lib.Pow.{pow_pos}
 use native.Mathlib.Decide.{dec_lt}
 use Rattle.rules.proofs.Emits.{emitted_none}

@@ -10,7 +10,6 @@ use Rattle.pack.specs.declared.pgn.PgnView.{PgnView}
 use Prim.Native.Nat.{ℕ}
 use mathlib.Core.Path.{◌≡◌, ap, ◌∙◌, sym}
 use mathlib.Core.List.{List, [], ◌∷◌}
-use lib.ListN.{length}
 use Rattle.rules.proofs.min_length.min_length_at.Goals as goal
 
 chosen : (a b z y : Bool) (p q f h : Finding) → a ≡ false → b ≡ false → z ≡ y → f ≡ h

@@ -2,7 +2,6 @@ use Rattle.pack.proofs.Positions.{lookup_place_next}
 use Rattle.rules.proofs.Sizes.{at_lookup, entries_few, lookups_few}
 use native.Mathlib.Omega.{arith}
 use mathlib.Core.Path.{◌≡◌}
-use lib.ListN.{length}
 use Rattle.pack.specs.Meaning.{pack_of}
 use Rattle.rules.proofs.Emits.{fits_turn, reporting_none, reporting_turn}
 use Rattle.rules.proofs.nested_refs.check_all_nested_refs.Invariants.{of-lookup}

@@ -11,7 +11,7 @@ use Prim.Native.Nat.{ℕ}
 use mathlib.Core.Path.{◌≡◌, sym, ◌∙◌, ap}
 use mathlib.Core.Bool.{true, false}
 use mathlib.Core.List.{List, []}
-use lib.ListN.{length, get_or}
+use lib.ListN.{get_or}
 use Rattle.pack.specs.Notation.{concat_below, ◌==◌}
 use Rattle.pack.specs.Ready.{LookupIs}
 use Rattle.rules.specs.Emit.{Emitted, Fits}

@@ -11,7 +11,6 @@ use Prim.Native.Nat.{ℕ}
 use mathlib.Core.Path.{◌≡◌, refl, ◌∙◌, sym}
 use mathlib.Core.List.{List, [], ◌++◌}
 use borrow.Author.Tests.{not-true, not-false}
-use lib.ListN.{set}
 use Rattle.rules.proofs.repeating.check_set.Goals as goal
 
 module _ (t i part fields : ℕ) (outer : Option Repeating) where

@@ -8,7 +8,6 @@ use Prim.Native.Nat.{ℕ, ◌+◌, ◌-◌}
 use mathlib.Core.Path.{◌≡◌}
 use mathlib.Core.List.{[], ◌∷◌}
 use borrow.Author.Tests.{eq-eqb, ne_eqb}
-use lib.ListN.{set}
 use Rattle.rules.proofs.repeating.set_bounds.Goals as goal
 
 module _ (t i part fields : ℕ) (v : RepeatingView) (f : Finding) where

@@ -8,7 +8,6 @@ use Rattle.pack.specs.declared.pgn.RepeatingView.{RepeatingView}
 use Prim.Native.Nat.{ℕ, ◌+◌}
 use mathlib.Core.Path.{◌≡◌, ◌∙◌, sym}
 use mathlib.Core.List.{[], ◌∷◌}
-use lib.ListN.{set}
 use Rattle.rules.proofs.repeating.set_nesting.Goals as goal
 
 abbrev inside : Bool → RepeatingView → RepeatingView → Bool

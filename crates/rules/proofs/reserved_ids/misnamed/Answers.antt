@@ -1,4 +1,3 @@
-use Rattle.rules.specs.ReservedIds.{numbered}
 use Rattle.rules.proofs.reserved_ids.misnamed.Goals as goal
 
 pub returns-then-text_is : goal.returns-then-text_is

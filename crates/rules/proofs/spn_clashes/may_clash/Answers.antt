@@ -1,6 +1,5 @@
 use native.Mathlib.Omega.{arith}
 use mathlib.Core.Path.{◌≡◌, refl, sym, ◌∙◌}
-use mathlib.Core.Bool.{false}
 use lib.ListN.{length}
 use Rattle.pack.specs.Meaning.{pack_of}
 use Rattle.pack.proofs.Positions.{pgn_place_next}

@@ -2,12 +2,10 @@ use native.Mathlib.Omega.{arith}
 use borrow.Author.Tests.{not-true, not-false}
 use Prim.Native.Nat.{◌+◌}
 use mathlib.Core.Path.{◌≡◌, refl, sym, ◌∙◌}
-use mathlib.Core.Bool.{false}
 use Rattle.pack.specs.Items.{bytes_of}
 use Rattle.pack.specs.Meaning.{pack_of}
 use Rattle.pack.proofs.Positions.{pgn_place_next}
 use Rattle.rules.specs.SearchLaws.{any_turn, any_hit}
-use Rattle.rules.specs.SpnClashes.{other_in}
 use Rattle.rules.proofs.Sizes.{at_pgn, fields_few, pgns_few}
 use Rattle.rules.proofs.spn_clashes.other_among.Invariants.{has}
 use Rattle.rules.proofs.spn_clashes.other_among.Goals as goal

@@ -1,12 +1,11 @@
 use native.Mathlib.Omega.{arith}
 use mathlib.Core.Path.{◌≡◌, refl, sym, ◌∙◌}
-use mathlib.Core.Bool.{false}
 use lib.ListN.{length}
 use Rattle.pack.specs.Value.{pgn_at}
 use Rattle.pack.specs.Items.{bytes_of}
 use Rattle.pack.specs.Meaning.{pack_of}
 use Rattle.rules.specs.SearchLaws.{any_turn, any_hit}
-use Rattle.rules.specs.SpnClashes.{other_spn, other_in}
+use Rattle.rules.specs.SpnClashes.{other_in}
 use Rattle.rules.proofs.spn_clashes.other_in.Invariants.{other}
 use Rattle.rules.proofs.spn_clashes.other_in.Goals as goal
 

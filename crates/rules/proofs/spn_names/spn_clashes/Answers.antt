@@ -10,7 +10,6 @@ use mathlib.Core.Path.{◌≡◌, refl, sym, ◌∙◌, ap}
 use mathlib.Core.Bool.{Bool, true, false}
 use mathlib.Core.List.{List}
 use mathlib.Core.Option.{none}
-use lib.ListN.{length}
 use Rattle.pack.specs.Notation.{concat_below, optional}
 use Rattle.pack.specs.Meaning.{pack_of}
 use Rattle.rules.proofs.spn_names.spn_clashes.Invariants.{of-rank}

@@ -2,7 +2,6 @@ use Rattle.pack.proofs.Positions.{pgn_place_next}
 use Rattle.rules.proofs.Sizes.{at_pgn, fields_few, pgns_few}
 use native.Mathlib.Omega.{arith}
 use mathlib.Core.Path.{◌≡◌}
-use lib.ListN.{length}
 use Rattle.pack.specs.Meaning.{pack_of}
 use Rattle.rules.proofs.Emits.{fits_turn, reporting_none, reporting_turn}
 use Rattle.rules.proofs.spns.elsewhere.Invariants.{of_pgn}

@@ -10,7 +10,7 @@ use Rattle.rules.specs.SearchLaws.{every_turn, every_missed}
 use Rattle.rules.specs.TrailingZero.{starts_behind}
 use Prim.Native.Nat.{ℕ, ◌<◌}
 use native.Mathlib.Omega.{arith}
-use mathlib.Core.Bool.{Bool, true}
+use mathlib.Core.Bool.{Bool}
 use mathlib.Core.List.{List}
 use mathlib.Core.Option.{Option}
 use mathlib.Core.Path.{◌≡◌, refl, sym, ap, ◌∙◌}

@@ -1,6 +1,6 @@
 use Rattle.rules.specs.TrailingZero.{trailing_zero_target_at, trailing_zero_at}
 use Rattle.rules.specs.Texts.{DECIMAL}
-use Rattle.rules.specs.Model.{target, given}
+use Rattle.rules.specs.Model.{target}
 use Rattle.rules.proofs.Emits.{emitted_none}
 use Rattle.rules.specs.Findings.{pgn_error}
 use Rattle.rules.specs.declared.Finding.{Finding}

@@ -1,7 +1,6 @@
 use Rattle.rules.specs.TrailingZero.{fixed, unsigned_integer, trailing_zero_target_at}
 use Rattle.pack.proofs.Positions.{field_ft_law}
 use Rattle.pack.specs.declared.optional.OptNumber.{OptNumber}
-use Rattle.rules.specs.Model.{given}
 use Rattle.rules.specs.Findings.{report_if, pgn_error}
 use Rattle.rules.specs.declared.Finding.{Finding}
 use Rattle.pack.specs.declared.field.FieldView.{FieldView}

@@ -5,7 +5,6 @@ use Rattle.pack.specs.Meaning.{pack_of, field_meaning, type_meaning}
 use Rattle.pack.specs.Items.{bytes_of}
 use Rattle.rules.specs.Model.{fieldtype_of}
 use Rattle.rules.specs.TrailingZero.{unsigned_integer}
-use Rattle.rules.specs.Continues.{integer}
 use Rattle.rules.specs.Texts.{NUMBER, LOOKUP}
 use Rattle.rules.specs.Floats.{float_eq, ZERO, ONE}
 use mathlib.Core.Bool.{not, ◌&&◌, ◌||◌, Bool}

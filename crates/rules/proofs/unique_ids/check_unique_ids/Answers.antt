@@ -5,7 +5,6 @@ use Rattle.rules.proofs.Emits.{fits_turn, reporting_none, reporting_turn}
 use Rattle.pack.specs.Meaning.{pack_of}
 use native.Mathlib.Omega.{arith}
 use mathlib.Core.Path.{◌≡◌}
-use lib.ListN.{length}
 use Rattle.rules.proofs.unique_ids.check_unique_ids.Invariants.{of_pgn}
 use Rattle.rules.proofs.unique_ids.check_unique_ids.Goals as goal
 

@@ -1,7 +1,6 @@
 use Rattle.rules.specs.UniqueIds.{same_id_as}
 use Rattle.rules.specs.Search.{latest_below}
 use Rattle.rules.proofs.Emits.{emitted_none}
-use Rattle.rules.specs.Model.{given}
 use Rattle.rules.specs.Findings.{pgn_error}
 use Rattle.rules.specs.declared.Finding.{Finding}
 use Rattle.pack.specs.Meaning.{pack_of}

@@ -11,7 +11,6 @@ use Rattle.pack.specs.Notation.{◌==◌}
 use Prim.Native.Nat.{ℕ, ◌/◌, ◌%◌}
 use mathlib.Core.Path.{◌≡◌}
 use mathlib.Core.List.{List, [], ◌∷◌}
-use lib.ListN.{length}
 use Rattle.pack.proofs.cursor.Cursor.pgn.Goals as goal
 
 -- the record that the nine reads give, over variables: `cc` at the function's own context is too dear
