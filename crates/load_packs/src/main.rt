@@ -171,12 +171,19 @@ fn read_full(file: &mut File, buf: &mut [u8]) -> std::io::Result<usize>
     Ok(n)
 }
 
-fn report_file(rt: &HostRuntime, name: &str) -> std::io::Result<()> {
-    let mut file = fs::open(rt, name)?;
+fn report_file(name: &[u8], file: &mut File) -> std::io::Result<()> {
     let mut buf = io::buffer();
-    let n = read_full(&mut file, &mut buf)?;
-    report(name.as_bytes(), &buf[..n]);
+    let n = read_full(file, &mut buf)?;
+    report(name, &buf[..n]);
     Ok(())
+}
+
+// A file that can't be opened is named on standard error, and the next one follows.
+fn report_argument(rt: &HostRuntime, name: &str) -> std::io::Result<()> {
+    match fs::open(rt, name) {
+        Ok(mut file) => report_file(name.as_bytes(), &mut file),
+        Err(error) => eprintln!(rt; "{name}: {error}"),
+    }
 }
 
 // A byte more than a pack may have.
@@ -201,7 +208,7 @@ fn report_large(pack: &mut [u8], version: u8, largest: &[u8], larger: &[u8]) {
 
 fn main(rt: HostRuntime) -> std::io::Result<()> {
     for name in env::args(&rt)?.skip(1) {
-        report_file(&rt, name.as_str())?;
+        report_argument(&rt, name.as_str())?;
     }
     let mut pack = large_buffer();
     report_large(&mut pack, 1, b"largest", b"larger_by_one_byte");

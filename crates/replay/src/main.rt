@@ -7,7 +7,7 @@ mod cases;
 mod check;
 mod load;
 mod place;
-mod walk;
+mod walks;
 
 #[derive(Clone, Copy)]
 enum Call {
@@ -22,7 +22,7 @@ fn next_case(call: Call) {
         Call::Load => load::next_case(),
         Call::Check => check::next_case(),
         Call::Place => place::next_case(),
-        Call::Walk => walk::next_case(),
+        Call::Walk => walks::next_case(),
     }
 }
 

@@ -76,7 +76,8 @@ text_split : (s : List ℕ) (a n : ℕ) → (length (take n (drop a s)) ≡ 0 �
 text_split s a zero h = absurd (h refl)
 text_split s a (suc n) h = go (dec_lt a (length s))
   where
-    go : Dec (a < length s) → (a < length s) × (1 ≤ suc n) × (take (suc n) (drop a s) ≡ get_or (take (suc n) (drop a s)) 0 0 ∷ take (suc n - 1) (drop (a + 1) s))
+    go : Dec (a < length s) → (a < length s) × (1 ≤ suc n) × (take (suc n) (drop a s) ≡ get_or (take (suc n) (drop a s)) 0 0 ∷ take (suc n - 1)
+        (drop (a + 1) s))
     go (yes l) = let r : suc n - 1 ≡ n = omega arith in (l, omega arith, (rw (r, add-one a, drop-cons s a 0 l)))
     go (no l) = absurd (h (rw (drop_of_length-le s {i = a} (omega arith))))
 

@@ -80,7 +80,12 @@ module _ (t : ℕ) (pgns : List Pgn) where
   unfolding matchless
   lone_matchless number few =
       le-ltb 1 (matchless t pgns number)
-      (omega (arith, few, count_fewer (in_group t pgns number) (λ i. not (has_match (get_or pgns i no_pgn) (length (get_or pgns i no_pgn).fields))) (length pgns)))
+      (omega (
+        arith,
+        few,
+        count_fewer (in_group t pgns number) (λ i. not (has_match (get_or pgns i no_pgn) (length (get_or pgns i no_pgn).fields)))
+            (length pgns),
+      ))
 
   -- a number with fewer than two variants has neither finding
   pub one_variant : (number : ℕ) → variants number < 2 → group_findings t pgns (some number) ≡ []

@@ -106,7 +106,7 @@ fn continued_by(s: &[u8], work: &[u32], g: PgnRecord, id: Text) -> u32
 fn not_integers(s: &[u8], work: &[u32], low: FieldView, f: FieldView) -> bool
     requires { record {
       ready : Ready s.now work.now;
-      low-type : low.ft < length (pack_of s.now).fieldtypes;
+      low_type : low.ft < length (pack_of s.now).fieldtypes;
       type : f.ft < length (pack_of s.now).fieldtypes;
     } }
     ensures { result ≡
@@ -123,7 +123,7 @@ fn not_integers(s: &[u8], work: &[u32], low: FieldView, f: FieldView) -> bool
 
 // A sign or an offset.
 fn not_plain(s: &[u8], work: &[u32], low: FieldView) -> bool
-    requires { record { ready : Ready s.now work.now; low-type : low.ft < length (pack_of s.now).fieldtypes } }
+    requires { record { ready : Ready s.now work.now; low_type : low.ft < length (pack_of s.now).fieldtypes } }
     ensures { result ≡
         ((fieldtype_of (pack_of s.now).fieldtypes (field_meaning s.now low)).signed || not
         (float_eq low.scaling.offset ZERO)) }

@@ -84,12 +84,12 @@ module _ {L : Layout} {v : Sets} (a : SetsAre L v) where
       let start = (value_at v k).start.0 in
       let left = left_of (left_at w k) in
       let n : 3 - k + suc k ≡ 4 = omega (arith, low) in
-      let at-end = eq-eqb (suc o) (value_at v k).end.0 ends in
+      let at_end = eq-eqb (suc o) (value_at v k).end.0 ends in
       let stands : stand L behind ≡ again k (goto_with behind start k (some t.rest)) =
       sym (close_four a behind (omega arith))
       ∙ ap (λ (i : ℕ). close L i behind) (sym n)
       ∙ close_skip a behind (suc k) (3 - k) (λ j l m. elsewhere j (omega (arith, l)) (omega (arith, m, low)))
-      ∙ pass_begins L k (a.set k) behind (turn (suc o == (value_at v k).end.0) left) refl t.rest (ap (λ (b : Bool). turn b left) at-end ∙ t.begins) in
+      ∙ pass_begins L k (a.set k) behind (turn (suc o == (value_at v k).end.0) left) refl t.rest (ap (λ (b : Bool). turn b left) at_end ∙ t.begins) in
       sym (round_again L (memory_of w) (length L.fields) (stand L behind) k (goto_with behind start k (some t.rest)) (sym stands))
       ∙ ap (λ (q : Place). due q (memory_of w)) (sym (t.place start))
       ∙ ap (due (place_of start w')) (sym t.memory)

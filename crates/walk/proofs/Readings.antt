@@ -76,7 +76,8 @@ module _ {bad bad' : List ℕ} {k : ℕ} (same : SameBut (4 * k) bad bad') (j : 
   same_passes : (m reading : ℕ) → mark_passes m bad' j reading ≡ true → mark_passes m bad j reading ≡ true
   same_passes m reading e =
       let few = passes_few m bad' j reading e in
-      sym (ap (λ (b : Bool). (0 <ᵇ m) && (m <ᵇ 6) && not b) (any_same (λ i. get_or bad' (4 * j + i) 0 == reading) (λ i. get_or bad (4 * j + i) 0 == reading) (m - 1)
+      sym (ap (λ (b : Bool). (0 <ᵇ m) && (m <ᵇ 6) && not b) (any_same (λ i. get_or bad' (4 * j + i) 0 == reading) (λ i. get_or bad (4 * j + i) 0 == reading)
+      (m - 1)
       (λ i h. ap (λ (v : ℕ). v == reading) (same_reading i (omega (arith, few, h))))))
       ∙ e
 
@@ -132,7 +133,8 @@ module _ {P : Pack} {es : List Entry} {e at : ℕ} {bad bad' : List ℕ} {n : �
     still : (reading : ℕ) → among bad' at n reading ≡ true → among put at (n + 1) reading ≡ true
     still reading y =
         any_turn (λ j. get_or put (at + j) 0 == reading) n
-        ∙ ap (λ (b : Bool). b || (get_or put (at + n) 0 == reading)) (any_same (λ j. get_or put (at + j) 0 == reading) (λ j. get_or bad' (at + j) 0 == reading) n
+        ∙ ap (λ (b : Bool). b || (get_or put (at + n) 0 == reading)) (any_same (λ j. get_or put (at + j) 0 == reading)
+        (λ j. get_or bad' (at + j) 0 == reading) n
         (λ j l. ap (λ (x : ℕ). x == reading) (apart (at + j) (λ q. absurd (omega (arith, q, l))))) ∙ y)
 
     now_kept : at + 4 ≤ length bad' → among put at (n + 1) (entry_at es e).value ≡ true

@@ -133,12 +133,12 @@ module _ (s : List ℕ) (m t i : ℕ) where
     held_refused r e = rw (held_named, refused r e)
 
     -- f is the PGN at that place
-    module _ (at : PgnPlace) (e : n ≡ naming.Found at) (f : FoundPgn) (same-tree : f.tree ≡ at.tree) (same-pgn : f.pgn ≡ at.pgn) where
+    module _ (at : PgnPlace) (e : n ≡ naming.Found at) (f : FoundPgn) (same_tree : f.tree ≡ at.tree) (same_pgn : f.pgn ≡ at.pgn) where
       tree : f.tree ≡ t
-      tree = same-tree ∙ named.tree at e
+      tree = same_tree ∙ named.tree at e
 
       pgn : f.pgn ≡ i
-      pgn = same-pgn ∙ named.pgn at e
+      pgn = same_pgn ∙ named.pgn at e
 
       pub walk_answers : (readings w : List ℕ) (r : Walked) (w' : List ℕ)
           → Judges (length readings) (walk_of s f.tree f.pgn readings) w r w' → Answers s m t i readings w r w'

@@ -55,7 +55,7 @@ fn walk_on(
       sixteen : length passes.old ≡ 16;
       left : (k : ℕ) → left_of (left_at passes.old k) ≡ none;
       latest : (k : ℕ) → memory_of passes.old k ≡ 0;
-      no-stop-1 : stop_1 (layout (found_pgn s.now found)) ≡ false;
+      no_stop_1 : stop_1 (layout (found_pgn s.now found)) ≡ false;
       room : length readings.now ≤ length visits.old;
     } }
     ensures { Told (walk (pack_of s.now) (found_pgn s.now found) readings.now) visits.old

@@ -23,9 +23,21 @@ returns-then-pgn-eq126720 c = simp (lt-leb _ 65535 c.if-pgn-le65535.false, le-le
 pub returns-then-pgn-lt130816 : goal.returns-then-pgn-lt130816
 unfolding is_manufacturer_pgn
 returns-then-pgn-lt130816 c =
-    simp (le-leb 65280 _ c.if-pgn-lt65280.false, lt-leb _ 65535 c.if-pgn-le65535.false, ne_eqb _ 126720 c.if-pgn-eq126720.false, lt-leb 130816 _ c.if-pgn-lt130816.true)
+    simp (
+      le-leb 65280 _ c.if-pgn-lt65280.false,
+      lt-leb _ 65535 c.if-pgn-le65535.false,
+      ne_eqb _ 126720 c.if-pgn-eq126720.false,
+      lt-leb 130816 _
+          c.if-pgn-lt130816.true,
+    )
 
 pub returns : goal.returns
 unfolding is_manufacturer_pgn
 returns c =
-    simp (le-leb 65280 _ c.if-pgn-lt65280.false, lt-leb _ 65535 c.if-pgn-le65535.false, ne_eqb _ 126720 c.if-pgn-eq126720.false, le-leb 130816 _ c.if-pgn-lt130816.false)
+    simp (
+      le-leb 65280 _ c.if-pgn-lt65280.false,
+      lt-leb _ 65535 c.if-pgn-le65535.false,
+      ne_eqb _ 126720 c.if-pgn-eq126720.false,
+      le-leb 130816 _
+          c.if-pgn-lt130816.false,
+    )

@@ -19,9 +19,9 @@ unfolding parse_digits
 begin [] = refl
 begin (x ∷ xs) = refl
 
-decimal-grows : (v : ℕ) (xs : List ℕ) → v ≤ decimal v xs
-decimal-grows v [] = omega arith
-decimal-grows v (x ∷ xs) = omega (arith, decimal-grows (10 * v + (x - 48)) xs)
+decimal_grows : (v : ℕ) (xs : List ℕ) → v ≤ decimal v xs
+decimal_grows v [] = omega arith
+decimal_grows v (x ∷ xs) = omega (arith, decimal_grows (10 * v + (x - 48)) xs)
 
 low : (r : Bool) (v x : ℕ) (xs : List ℕ) → x < 48 → left r v (x ∷ xs) ≡ none
 low r v x xs h = rw (lt-leb 48 x h)
@@ -31,7 +31,7 @@ high r v x xs h = rw (lt-leb x 57 h, and_false (48 ≤ᵇ x))
 
 big : (r : Bool) (v x : ℕ) (xs : List ℕ) → 2 ^ 64 ≤ 10 * v + (x - 48) → left r v (x ∷ xs) ≡ none
 big r v x xs h =
-    let e = le-ltb (decimal (10 * v + (x - 48)) xs) (2 ^ 64) (omega (arith, decimal-grows (10 * v + (x - 48)) xs)) in
+    let e = le-ltb (decimal (10 * v + (x - 48)) xs) (2 ^ 64) (omega (arith, decimal_grows (10 * v + (x - 48)) xs)) in
     rw (e, and_false (all_digits (x ∷ xs)))
 
 turn : (r : Bool) (v x : ℕ) (xs : List ℕ) → 48 ≤ x → x ≤ 57 → 10 * v + (x - 48) < 2 ^ 64 → left r v (x ∷ xs) ≡ left true (10 * v + (x - 48)) xs
@@ -52,7 +52,8 @@ pub returns-then-c-gt57 : goal.returns-then-c-gt57
 returns-then-c-gt57 c =
     let b = c.args.b.now in
     sym (c.loop-i.invariant.rest
-    ∙ (rw (drop-cons b c.loop-i.i 0 c.loop-i-test.true) (high c.loop-i.given c.loop-i.value (get_or b c.loop-i.i 0) (drop (suc c.loop-i.i) b) c.if-c-gt57.true)))
+    ∙ (rw (drop-cons b c.loop-i.i 0 c.loop-i-test.true) (high c.loop-i.given c.loop-i.value (get_or b c.loop-i.i 0) (drop (suc c.loop-i.i) b)
+    c.if-c-gt57.true)))
 
 pub returns-then-digit-value : goal.returns-then-digit-value
 returns-then-digit-value c =
@@ -68,7 +69,8 @@ loop-i-preserved c =
       turns = omega (arith, c);
       rest = c.loop-i.invariant.rest
           ∙ (rw (add-one c.loop-i.i, drop-cons b c.loop-i.i 0 c.loop-i-test.true)
-          (turn c.loop-i.given c.loop-i.value (get_or b c.loop-i.i 0) (drop (suc c.loop-i.i) b) (omega (arith, c.if-c-lt48.false)) (omega (arith, c.if-c-gt57.false))
+          (turn c.loop-i.given c.loop-i.value (get_or b c.loop-i.i 0) (drop (suc c.loop-i.i) b) (omega (arith, c.if-c-lt48.false))
+          (omega (arith, c.if-c-gt57.false))
           (omega (arith, c.if-c-lt48.false, c.if-c-gt57.false, c.if-digit-value.false))));
     }
 

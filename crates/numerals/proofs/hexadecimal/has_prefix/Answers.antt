@@ -10,11 +10,11 @@ use Rattle.numerals.proofs.hexadecimal.has_prefix.Goals as goal
 no_zero : (z x : ℕ) → (z ≡ 48 → ⊥) → is_hex_prefix z x ≡ false
 no_zero z x n = rw (ne_eqb z 48 n)
 
-small-x : (z x : ℕ) → z ≡ 48 → x ≡ 120 → is_hex_prefix z x ≡ true
-small-x z x e h = rw (eq-eqb z 48 e, eq-eqb x 120 h)
+small_x : (z x : ℕ) → z ≡ 48 → x ≡ 120 → is_hex_prefix z x ≡ true
+small_x z x e h = rw (eq-eqb z 48 e, eq-eqb x 120 h)
 
-capital-x : (z x : ℕ) → z ≡ 48 → (x ≡ 120 → ⊥) → is_hex_prefix z x ≡ (x == 88)
-capital-x z x e n = rw (eq-eqb z 48 e, ne_eqb x 120 n)
+capital_x : (z x : ℕ) → z ≡ 48 → (x ≡ 120 → ⊥) → is_hex_prefix z x ≡ (x == 88)
+capital_x z x e n = rw (eq-eqb z 48 e, ne_eqb x 120 n)
 
 pub returns-then-b-ne48 : goal.returns-then-b-ne48
 returns-then-b-ne48 c =
@@ -24,9 +24,9 @@ returns-then-b-ne48 c =
 pub returns-then-b-eq120 : goal.returns-then-b-eq120
 returns-then-b-eq120 c =
     let b = c.args.b.now in
-    sym (small-x (get_or b 0 0) (get_or b 1 0) c.if-b-ne48.false c.if-b-eq120.true)
+    sym (small_x (get_or b 0 0) (get_or b 1 0) c.if-b-ne48.false c.if-b-eq120.true)
 
 pub returns : goal.returns
 returns c =
     let b = c.args.b.now in
-    sym (capital-x (get_or b 0 0) (get_or b 1 0) c.if-b-ne48.false c.if-b-eq120.false)
+    sym (capital_x (get_or b 0 0) (get_or b 1 0) c.if-b-ne48.false c.if-b-eq120.false)

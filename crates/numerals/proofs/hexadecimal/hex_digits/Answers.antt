@@ -15,8 +15,8 @@ use borrow.Author.Tests.{leb-true}
 use Rattle.numerals.proofs.hexadecimal.hex_digits.Invariants.{left}
 use Rattle.numerals.proofs.hexadecimal.hex_digits.Goals as goal
 
-below-16 : (x : ℕ) → is_hex_digit x ≡ true → hex_digit x < 16
-below-16 x = go (x ≤ᵇ 57) (x ≤ᵇ 70) (x ≤ᵇ 102) refl refl refl
+below_16 : (x : ℕ) → is_hex_digit x ≡ true → hex_digit x < 16
+below_16 x = go (x ≤ᵇ 57) (x ≤ᵇ 70) (x ≤ᵇ 102) refl refl refl
   where
     go : (d c s : Bool) → (x ≤ᵇ 57) ≡ d → (x ≤ᵇ 70) ≡ c → (x ≤ᵇ 102) ≡ s
         → (((48 ≤ᵇ x) && d) || ((65 ≤ᵇ x) && c) || ((97 ≤ᵇ x) && s)) ≡ true → (if d then x - 48 else if c then x - 55 else x - 87) < 16
@@ -32,23 +32,23 @@ module _ (d w : ℕ) where
   no_digit true b e h = absurd (omega (arith, b refl, e, h))
   no_digit false b e h = refl
 
-  a-digit : (t : Bool) → d ≡ (if t then w else 16) → (d ≡ 16 → ⊥) → t ≡ true
-  a-digit true e n = refl
-  a-digit false e n = absurd (n e)
+  a_digit : (t : Bool) → d ≡ (if t then w else 16) → (d ≡ 16 → ⊥) → t ≡ true
+  a_digit true e n = refl
+  a_digit false e n = absurd (n e)
 
-  its-value : (t : Bool) → d ≡ (if t then w else 16) → (d ≡ 16 → ⊥) → d ≡ w
-  its-value true e n = e
-  its-value false e n = absurd (n e)
+  its_value : (t : Bool) → d ≡ (if t then w else 16) → (d ≡ 16 → ⊥) → d ≡ w
+  its_value true e n = e
+  its_value false e n = absurd (n e)
 
 module _ (v x d : ℕ) (xs : List ℕ) (e : d ≡ (if is_hex_digit x then hex_digit x else 16)) where
   ended : d ≡ 16 → left v (x ∷ xs) ≡ none
-  ended h = rw (no_digit d (hex_digit x) (is_hex_digit x) (below-16 x) e h)
+  ended h = rw (no_digit d (hex_digit x) (is_hex_digit x) (below_16 x) e h)
 
   turn : (d ≡ 16 → ⊥) → left v (x ∷ xs) ≡ left (16 * v + d) xs
-  turn n = rw (a-digit d (hex_digit x) (is_hex_digit x) e n, its-value d (hex_digit x) (is_hex_digit x) e n)
+  turn n = rw (a_digit d (hex_digit x) (is_hex_digit x) e n, its_value d (hex_digit x) (is_hex_digit x) e n)
 
-  small-digit : (d ≡ 16 → ⊥) → d < 16
-  small-digit n = rw (its-value d (hex_digit x) (is_hex_digit x) e n) (below-16 x (a-digit d (hex_digit x) (is_hex_digit x) e n))
+  small_digit : (d ≡ 16 → ⊥) → d < 16
+  small_digit n = rw (its_value d (hex_digit x) (is_hex_digit x) e n) (below_16 x (a_digit d (hex_digit x) (is_hex_digit x) e n))
 
 -- k digits write a number below 16 ^ k, and 16 of them one of 64 bits
 one_more : (k v d : ℕ) → v < 16 ^ k → d < 16 → 16 * v + d < 16 ^ suc k
@@ -69,13 +69,15 @@ returns-then-digit-eq16 c =
 
 pub overflow_mul-value : goal.overflow_mul-value
 overflow_mul-value c =
-    let w = widened (c.loop-i.i - 2) c.loop-i.value 0 c.loop-i.invariant.small (omega arith) (omega (arith, c.loop-i-test.true, c.requires.few, c.loop-i.invariant.from)) in
+    let w = widened (c.loop-i.i - 2) c.loop-i.value 0 c.loop-i.invariant.small (omega arith)
+    (omega (arith, c.loop-i-test.true, c.requires.few, c.loop-i.invariant.from)) in
     omega (arith, w)
 
 pub overflow_add-value : goal.overflow_add-value
 overflow_add-value c =
     let b = c.args.b.now in
-    let digit = small-digit c.loop-i.value (get_or b c.loop-i.i 0) c.hex_digit-digit.result (drop (suc c.loop-i.i) b) c.hex_digit-digit.ensures c.if-digit-eq16.false in
+    let digit = small_digit c.loop-i.value (get_or b c.loop-i.i 0) c.hex_digit-digit.result (drop (suc c.loop-i.i) b) c.hex_digit-digit.ensures
+    c.if-digit-eq16.false in
     let w = widened (c.loop-i.i - 2) c.loop-i.value c.hex_digit-digit.result c.loop-i.invariant.small digit
     (omega (arith, c.loop-i-test.true, c.requires.few, c.loop-i.invariant.from)) in
     omega (arith, w)
@@ -83,7 +85,8 @@ overflow_add-value c =
 pub loop-i-preserved : goal.loop-i-preserved
 loop-i-preserved c =
     let b = c.args.b.now in
-    let digit = small-digit c.loop-i.value (get_or b c.loop-i.i 0) c.hex_digit-digit.result (drop (suc c.loop-i.i) b) c.hex_digit-digit.ensures c.if-digit-eq16.false in
+    let digit = small_digit c.loop-i.value (get_or b c.loop-i.i 0) c.hex_digit-digit.result (drop (suc c.loop-i.i) b) c.hex_digit-digit.ensures
+    c.if-digit-eq16.false in
     let next : c.loop-i.i + 1 - 2 ≡ suc (c.loop-i.i - 2) = omega (arith, c.loop-i.invariant.from) in
     record {
       from = omega (arith, c.loop-i.invariant.from);

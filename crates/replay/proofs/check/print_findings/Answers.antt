@@ -6,7 +6,7 @@ use mathlib.Core.Path.{refl, ◌∙◌}
 use Rattle.replay.proofs.check.print_findings.Goals as goal
 
 pub loop-at-init : goal.loop-at-init
-loop-at-init c = record { turns = omega arith; same-work = refl; same_text = refl }
+loop-at-init c = record { turns = omega arith; same_work = refl; same_text = refl }
 
 pub print_finding-requires : goal.print_finding-requires
 print_finding-requires c =
@@ -18,12 +18,12 @@ pub loop-at-preserved : goal.loop-at-preserved
 loop-at-preserved c =
     record {
       turns = omega (arith, c.loop-at-test.true);
-      same-work = c.print_finding.auto.work ∙ c.loop-at.invariant.same-work;
+      same_work = c.print_finding.auto.work ∙ c.loop-at.invariant.same_work;
       same_text = c.print_finding.auto.text ∙ c.loop-at.invariant.same_text;
     }
 
 pub shape_of-work : goal.shape_of-work
-shape_of-work c = c.loop-at.invariant.same-work
+shape_of-work c = c.loop-at.invariant.same_work
 
 pub shape_of-text : goal.shape_of-text
 shape_of-text c = c.loop-at.invariant.same_text

@@ -27,10 +27,10 @@ module _ (s : List ℕ) (t i k : ℕ) (p : Pgn) (f : FieldView) (is : field_mean
   unfolding bit_length_field_at
   needless h x F y = rw (← is, h, ← is, ← z, x, y)
 
-  with-target : f.links.length.given ≡ true → b ≡ true → (o : Option ℕ) → o ≡ target p (bytes_of s f.links.length.text)
+  with_target : f.links.length.given ≡ true → b ≡ true → (o : Option ℕ) → o ≡ target p (bytes_of s f.links.length.text)
       → bit_length_field_at t i p k (field_at p k).bit_length_field ≡ bit_length_target_at t i p k o
   unfolding bit_length_field_at
-  with-target h x o y = rw (← is, h, ← is, ← z, x, y)
+  with_target h x o y = rw (← is, h, ← is, ← z, x, y)
 
 pub put_if-requires : goal.put_if-requires
 put_if-requires c =
@@ -78,7 +78,7 @@ bit_length_target_at-requires c =
     let t = c.args.g.tree in
     let i = c.args.g.item in
     record {
-      fits = (rw (with-target s t i c.args.k (pgn_at (pack_of s) t i) c.args.f c.requires.means c.variable_binary-binary.result
+      fits = (rw (with_target s t i c.args.k (pgn_at (pack_of s) t i) c.args.f c.requires.means c.variable_binary-binary.result
           c.variable_binary-binary.ensures (not-false c.args.f.links.length.given c.if-not-f.false)
           (c.if-not-binary.false) (optional_number c.target-j.result) c.target-j.ensures)
           at c.requires.fits);
@@ -89,6 +89,6 @@ bit_length_target_at-requires c =
 pub returns : goal.returns
 returns c =
     let s = c.args.s.now in let t = c.args.g.tree in let i = c.args.g.item in
-    rw (with-target s t i c.args.k (pgn_at (pack_of s) t i) c.args.f c.requires.means c.variable_binary-binary.result
+    rw (with_target s t i c.args.k (pgn_at (pack_of s) t i) c.args.f c.requires.means c.variable_binary-binary.result
     c.variable_binary-binary.ensures (not-false c.args.f.links.length.given c.if-not-f.false) (c.if-not-binary.false)
     (optional_number c.target-j.result) c.target-j.ensures) c.bit_length_target_at.ensures

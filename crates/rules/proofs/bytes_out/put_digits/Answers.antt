@@ -19,8 +19,8 @@ sets_last w p x (y ∷ ys) =
     sets_last (set w p y) (suc p) x ys ∙ (rw e (ap (λ (v : List ℕ). sets v (suc p) ys) (set_comm w p (suc p + length ys) y x (λ z. omega (arith, z)))))
 
 -- the lowest digit put, before which there are k places
-lowest-put : (w : List ℕ) (at k v : ℕ) → sets w at (lowest_digits (suc k) v) ≡ sets (set w (at + k) (48 + v % 10)) at (lowest_digits k (v / 10))
-lowest-put w at k v =
+lowest_put : (w : List ℕ) (at k v : ℕ) → sets w at (lowest_digits (suc k) v) ≡ sets (set w (at + k) (48 + v % 10)) at (lowest_digits k (v / 10))
+lowest_put w at k v =
     sets_last w at (48 + v % 10) (lowest_digits k (v / 10))
     ∙ ap (λ (j : ℕ). sets (set w (at + j) (48 + v % 10)) at (lowest_digits k (v / 10))) (length_lowest k (v / 10))
 
@@ -33,7 +33,7 @@ turn w at places i v x h e =
     let k = places - 1 - i in
     let left : places - i ≡ suc k = omega arith in
     let less : places - (i + 1) ≡ k = omega arith in
-    rw (left, less, e) (lowest-put w at k v)
+    rw (left, less, e) (lowest_put w at k v)
 
 whole : (w : List ℕ) (at places i n v : ℕ) (w' : List ℕ) → n < 4294967296 → length (digits n) ≤ places → places ≤ i
     → sets w' at (lowest_digits (places - i) v) ≡ sets w at (lowest_digits places n)

@@ -4,7 +4,7 @@ use Prim.Native.Nat.{ℕ, ◌+◌, ◌≤◌}
 use mathlib.Core.Path.{◌≡◌, refl, sym, ◌∙◌}
 use mathlib.Core.Bool.{Bool, true, false}
 use Rattle.pack.specs.Notation.{if◌then◌else◌}
-use Rattle.rules.proofs.check.count_errors.Invariants.{error-at}
+use Rattle.rules.proofs.check.count_errors.Invariants.{error_at}
 use Rattle.rules.proofs.check.count_errors.Goals as goal
 
 more_by : (b : Bool) {r k i : ℕ} → r ≡ (if b then k + 1 else k) → k ≤ i → r ≤ i + 1
@@ -23,8 +23,8 @@ loop-i-preserved c =
     let findings = c.args.findings.now in
     record {
       turns = omega (arith, c.loop-i-test.true);
-      few = more_by (error-at findings c.loop-i.i) c.one_more-errors.ensures c.loop-i.invariant.few;
-      errors = c.one_more-errors.ensures ∙ rw c.loop-i.invariant.errors (sym (count_turn (error-at findings) c.loop-i.i));
+      few = more_by (error_at findings c.loop-i.i) c.one_more-errors.ensures c.loop-i.invariant.few;
+      errors = c.one_more-errors.ensures ∙ rw c.loop-i.invariant.errors (sym (count_turn (error_at findings) c.loop-i.i));
     }
 
 pub returns : goal.returns

@@ -8,15 +8,15 @@ use Rattle.pack.specs.Notation.{◌==◌}
 use Rattle.rules.proofs.check.count_errors.Given as goal
 
 -- finding i has severity 1
-abbrev pub error-at : List ℕ → ℕ → Bool
-error-at o i = get_or o (8 * i + 1) 0 == 1
+abbrev pub error_at : List ℕ → ℕ → Bool
+error_at o i = get_or o (8 * i + 1) 0 == 1
 
 abbrev pub invariant-loop-i : goal.invariant-loop-i
 invariant-loop-i l =
     record {
       turns : l.i ≤ l.n;
       few : l.errors ≤ l.i;
-      errors : l.errors ≡ count_below (error-at l.findings) l.i;
+      errors : l.errors ≡ count_below (error_at l.findings) l.i;
     }
 
 abbrev pub decreases-loop-i : goal.decreases-loop-i

@@ -29,7 +29,8 @@ deliver-requires c =
       ready = c.requires.ready;
       index = c.requires.index;
       counted = omega (arith, c.check_all-count.ensures.count);
-      short = (λ h. put_front (check (pack_of c.args.pack.now)) _ _ c.check_all-count.result c.check_all-count.ensures (omega (arith, h, c.check_all-count.auto.out)));
+      short = (λ h. put_front (check (pack_of c.args.pack.now)) _ _ c.check_all-count.result c.check_all-count.ensures
+          (omega (arith, h, c.check_all-count.auto.out)));
       room = c.if-findings-needed.false;
     }
 

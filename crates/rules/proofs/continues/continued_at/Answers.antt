@@ -65,7 +65,7 @@ pub not_integers-words-requires : goal.not_integers-words-requires
 not_integers-words-requires c =
     record {
       ready = c.requires.pgn.at.ready;
-      low-type = omega (
+      low_type = omega (
         arith,
         ap (λ (F : Field). F.ft) c.field_of-low.ensures,
         field_ft_law c.requires.pgn.at c.args.link.earlier (omega (arith, c.requires.pgn.is.fields, c.requires.field, c.requires.earlier)),
@@ -81,7 +81,7 @@ pub not_plain-scaled-requires : goal.not_plain-scaled-requires
 not_plain-scaled-requires c =
     record {
       ready = c.requires.pgn.at.ready;
-      low-type = omega (
+      low_type = omega (
         arith,
         ap (λ (F : Field). F.ft) c.field_of-low.ensures,
         field_ft_law c.requires.pgn.at c.args.link.earlier (omega (arith, c.requires.pgn.is.fields, c.requires.field, c.requires.earlier)),
@@ -102,7 +102,8 @@ placed_at-a-requires c =
           (report_if c.not_raw-dressed.result (pgn_error 43 7 t i k j)) (report_if c.not_plain-scaled.result (pgn_error 43 8 t i k j))
           (report_if c.too_wide-wide.result (pgn_error 43 9 t i k j))
           (rw (said s (pack_of s).fieldtypes t i k j (pgn_at (pack_of s) t i) (bytes_of s id) c.args.f c.field_of-low.result c.requires.means
-          c.field_of-low.ensures c.not_integers-words.result c.not_raw-dressed.result c.not_plain-scaled.result c.too_wide-wide.result c.not_integers-words.ensures
+          c.field_of-low.ensures c.not_integers-words.result c.not_raw-dressed.result c.not_plain-scaled.result c.too_wide-wide.result
+          c.not_integers-words.ensures
           c.not_raw-dressed.ensures c.not_plain-scaled.ensures c.too_wide-wide.ensures) at c.requires.fits);
       pgn = c.requires.pgn;
       field = c.requires.field;
@@ -124,7 +125,8 @@ put_if-b-requires c =
     (report_if c.not_raw-dressed.result (pgn_error 43 7 t i k j)) (report_if c.not_plain-scaled.result (pgn_error 43 8 t i k j))
     (report_if c.too_wide-wide.result (pgn_error 43 9 t i k j)) (rw (said s (pack_of s).fieldtypes t i k j (pgn_at (pack_of s) t i) (bytes_of s id)
     c.args.f c.field_of-low.result c.requires.means c.field_of-low.ensures c.not_integers-words.result c.not_raw-dressed.result c.not_plain-scaled.result
-    c.too_wide-wide.result c.not_integers-words.ensures c.not_raw-dressed.ensures c.not_plain-scaled.ensures c.too_wide-wide.ensures) at c.requires.fits)) c.placed_at-a.ensures)
+    c.too_wide-wide.result c.not_integers-words.ensures c.not_raw-dressed.ensures c.not_plain-scaled.ensures c.too_wide-wide.ensures) at c.requires.fits))
+    c.placed_at-a.ensures)
 
 pub put_if-c-requires : goal.put_if-c-requires
 put_if-c-requires c =
@@ -206,7 +208,8 @@ put_if-requires c =
     ++ (report_if c.not_raw-dressed.result (pgn_error 43 7 t i k j))
     ++ (report_if c.not_plain-scaled.result (pgn_error 43 8 t i k j))) (report_if c.too_wide-wide.result (pgn_error 43 9 t i k j))
     (rw (said s (pack_of s).fieldtypes t i k j (pgn_at (pack_of s) t i) (bytes_of s id) c.args.f c.field_of-low.result c.requires.means
-    c.field_of-low.ensures c.not_integers-words.result c.not_raw-dressed.result c.not_plain-scaled.result c.too_wide-wide.result c.not_integers-words.ensures c.not_raw-dressed.ensures
+    c.field_of-low.ensures c.not_integers-words.result c.not_raw-dressed.result c.not_plain-scaled.result c.too_wide-wide.result c.not_integers-words.ensures
+    c.not_raw-dressed.ensures
     c.not_plain-scaled.ensures c.too_wide-wide.ensures) at c.requires.fits)
     (emitted_append {ys = (report_if c.not_plain-scaled.result (pgn_error 43 8 t i k j))}
     (emitted_append {ys = (report_if c.not_raw-dressed.result (pgn_error 43 7 t i k j))}
@@ -229,7 +232,8 @@ returns c =
     let j = c.args.link.earlier in
     let id = c.args.link.id in
     rw (said s (pack_of s).fieldtypes t i k j (pgn_at (pack_of s) t i) (bytes_of s id) c.args.f c.field_of-low.result c.requires.means
-    c.field_of-low.ensures c.not_integers-words.result c.not_raw-dressed.result c.not_plain-scaled.result c.too_wide-wide.result c.not_integers-words.ensures c.not_raw-dressed.ensures
+    c.field_of-low.ensures c.not_integers-words.result c.not_raw-dressed.result c.not_plain-scaled.result c.too_wide-wide.result c.not_integers-words.ensures
+    c.not_raw-dressed.ensures
     c.not_plain-scaled.ensures c.too_wide-wide.ensures) (emitted_append {ys = (report_if c.too_wide-wide.result (pgn_error 43 9 t i k j))}
     (emitted_append {ys = (report_if c.not_plain-scaled.result (pgn_error 43 8 t i k j))}
     (emitted_append {ys = (report_if c.not_raw-dressed.result (pgn_error 43 7 t i k j))}

@@ -25,18 +25,18 @@ module _ (s : List ℕ) (fts : List FieldType) (t i k : ℕ) (p : Pgn) (f : Fiel
 
   module _ (h : f.authored.continues.given ≡ true) (b : Bool) (v : ℕ)
       (e : optional b v ≡ first_below (λ j. (field_at p j).id ≐ bytes_of s f.authored.continues.text) k) where
-    text-is : (field_at p k).continues ≡ some (bytes_of s f.authored.continues.text)
-    text-is = ap (λ (F : Field). F.continues) (sym is) ∙ (rw h)
+    text_is : (field_at p k).continues ≡ some (bytes_of s f.authored.continues.text)
+    text_is = ap (λ (F : Field). F.continues) (sym is) ∙ (rw h)
 
     absent : b ≡ false → (F : Finding) → F ≡ pgn_error 43 1 t i k 0 → continues_at fts t i p k (field_at p k).continues ≡ F ∷ []
     unfolding continues_at continued_found_at
-    absent x F y = rw (text-is, ← e, x, y)
+    absent x F y = rw (text_is, ← e, x, y)
 
     found : b ≡ true
         → continues_at fts t i p k (field_at p k).continues
         ≡ continued_at fts t i p k (field_at p k) (bytes_of s f.authored.continues.text) v (field_at p v)
     unfolding continues_at continued_found_at
-    found x = rw (text-is, ← e, x)
+    found x = rw (text_is, ← e, x)
 
     below : b ≡ true → v < k
     below x = (first_is (λ j. (field_at p j).id ≐ bytes_of s f.authored.continues.text) k v (sym e ∙ (rw x))).0

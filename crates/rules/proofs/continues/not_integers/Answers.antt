@@ -9,7 +9,7 @@ use Rattle.rules.proofs.continues.not_integers.Goals as goal
 
 pub type_of-v-requires : goal.type_of-v-requires
 type_of-v-requires c =
-    record { ready = c.requires.ready; type = c.requires.low-type }
+    record { ready = c.requires.ready; type = c.requires.low_type }
 
 pub returns-then-not-integer : goal.returns-then-not-integer
 returns-then-not-integer c =

@@ -11,18 +11,18 @@ use mathlib.Core.List.{List, ◌∷◌, ◌++◌}
 use Rattle.rules.proofs.digits.digits_before.Invariants.{Written}
 use Rattle.rules.proofs.digits.digits_before.Goals as goal
 
-drop-set : (b : List ℕ) (at x : ℕ) → at < length b → drop at (set b at x) ≡ x ∷ drop (suc at) b
-drop-set b at x h =
+drop_set : (b : List ℕ) (at x : ℕ) → at < length b → drop at (set b at x) ≡ x ∷ drop (suc at) b
+drop_set b at x h =
     let l : at < length (set b at x) = omega (arith, length-set b at x) in
     drop-cons (set b at x) at 0 l ∙ (rw (get_or-set_same b at x 0 h, drop-set-lt (suc at) b at x (omega arith)))
 
 -- the lowest digit put, where there are more and where it is the last
 more : (room v at x : ℕ) (b : List ℕ) → 10 ≤ v → at < length b → x ≡ 48 + v % 10
     → digits_within (suc room) v ++ drop (suc at) b ≡ digits_within room (v / 10) ++ drop at (set b at x)
-more room v at x b h l e = rw (le-ltb v 10 h, drop-set b at x l, e) (append_snoc (digits_within room (v / 10)) (48 + v % 10) (drop (suc at) b))
+more room v at x b h l e = rw (le-ltb v 10 h, drop_set b at x l, e) (append_snoc (digits_within room (v / 10)) (48 + v % 10) (drop (suc at) b))
 
 last : (room v at x : ℕ) (b : List ℕ) → v < 10 → at < length b → x ≡ 48 + v % 10 → digits_within (suc room) v ++ drop (suc at) b ≡ drop at (set b at x)
-last room v at x b h l e = rw (lt-ltb v 10 h, drop-set b at x l, e)
+last room v at x b h l e = rw (lt-ltb v 10 h, drop_set b at x l, e)
 
 begun : (n end : ℕ) (b : List ℕ) → n < 4294967296 → Written n end n end b b
 unfolding digits

@@ -52,7 +52,8 @@ dynamic_length_at-m-requires c =
           c.loop-k.invariant.reporting.emitted;
       means = c.field_of-f.ensures;
       root = (rw (← c.field_of-f.ensures) c.root_of-root.ensures);
-      have = found s t i c.loop-k.k c.field_of-f.result (bytes_of s c.root_of-root.result) c.loop-k.have _ c.field_of-f.ensures c.root_of-root.ensures c.loop-k.invariant.have
+      have = found s t i c.loop-k.k c.field_of-f.result (bytes_of s c.root_of-root.result) c.loop-k.have _ c.field_of-f.ensures c.root_of-root.ensures
+          c.loop-k.invariant.have
           c.have_length_source-have.ensures;
     }
 

@@ -39,14 +39,16 @@ put_if-b-requires c =
     let s = c.args.s.now in let t = c.args.g.tree in let i = c.args.g.item in
     fits_right (report_if c.and_not-misplaced.result c.pgn_error.result) _
     (fits_left _ _ (rw (viewed s (pack_of s).fieldtypes t i (pgn_at (pack_of s) t i) c.args.k _ c.args.f (bytes_of s c.args.root)
-    c.args.have c.requires.means c.requires.root c.requires.have _ _ _ _ _ _ _ _ c.text_is-is_length.ensures c.text_is-is_value.ensures c.and_not-misplaced.ensures
+    c.args.have c.requires.means c.requires.root c.requires.have _ _ _ _ _ _ _ _ c.text_is-is_length.ensures c.text_is-is_value.ensures
+    c.and_not-misplaced.ensures
     c.pgn_error.ensures c.and_not-overhead.ensures c.pgn_error-2.ensures refl refl) at c.requires.fits)) c.put_if-a.ensures
 
 pub put_if-requires : goal.put_if-requires
 put_if-requires c =
     let s = c.args.s.now in let t = c.args.g.tree in let i = c.args.g.item in
     fits_right _ _ (rw (viewed s (pack_of s).fieldtypes t i (pgn_at (pack_of s) t i) c.args.k _ c.args.f (bytes_of s c.args.root)
-    c.args.have c.requires.means c.requires.root c.requires.have _ _ _ _ _ _ _ _ c.text_is-is_length.ensures c.text_is-is_value.ensures c.and_not-misplaced.ensures
+    c.args.have c.requires.means c.requires.root c.requires.have _ _ _ _ _ _ _ _ c.text_is-is_length.ensures c.text_is-is_value.ensures
+    c.and_not-misplaced.ensures
     c.pgn_error.ensures c.and_not-overhead.ensures c.pgn_error-2.ensures c.and_not-sourceless.ensures c.pgn_error-3.ensures) at c.requires.fits)
     (emitted_append c.put_if-a.ensures c.put_if-b.ensures)
 

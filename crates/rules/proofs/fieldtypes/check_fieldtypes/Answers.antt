@@ -4,7 +4,7 @@ use Rattle.pack.specs.Meaning.{pack_of}
 use native.Mathlib.Omega.{arith}
 use mathlib.Core.Path.{◌≡◌}
 use lib.ListN.{length}
-use Rattle.rules.proofs.fieldtypes.check_fieldtypes.Invariants.{of-type}
+use Rattle.rules.proofs.fieldtypes.check_fieldtypes.Invariants.{of_type}
 use Rattle.rules.proofs.fieldtypes.check_fieldtypes.Goals as goal
 
 pub loop-i-init : goal.loop-i-init
@@ -14,7 +14,7 @@ pub fieldtype_at-m-requires : goal.fieldtype_at-m-requires
 unfolding check_fieldtypes
 fieldtype_at-m-requires c =
     record {
-      fits = fits_turn (of-type c.args.s.now) c.args.types c.loop-i.i c.loop-i-test.true
+      fits = fits_turn (of_type c.args.s.now) c.args.types c.loop-i.i c.loop-i-test.true
           (rw (← c.requires.types) at c.requires.fits) c.loop-i.invariant.emitted;
       ready = c.requires.ready;
       type = omega (arith, c);

@@ -8,12 +8,12 @@ use mathlib.Core.List.{List}
 use lib.ListN.{get_or}
 use Rattle.rules.proofs.fieldtypes.check_fieldtypes.Given as goal
 
-abbrev pub of-type : List ℕ → ℕ → List Finding
-of-type s i = fieldtype_at i (get_or (pack_of s).fieldtypes i no_field_type)
+abbrev pub of_type : List ℕ → ℕ → List Finding
+of_type s i = fieldtype_at i (get_or (pack_of s).fieldtypes i no_field_type)
 
 abbrev pub invariant-loop-i : goal.invariant-loop-i
 invariant-loop-i l =
-    Reporting l.initial.out l.n (of-type l.s) l.types l.i l.out l.m
+    Reporting l.initial.out l.n (of_type l.s) l.types l.i l.out l.m
 
 abbrev pub decreases-loop-i : goal.decreases-loop-i
 decreases-loop-i l = l.types - l.i

@@ -50,5 +50,6 @@ put_six_digits-requires c =
 
 pub returns : goal.returns
 returns c =
-    stored_append (stored_append (rw (text c.args.tree c.of_tree.result c.prefix-prefix.result c.of_tree.ensures c.prefix-prefix.ensures) at c.put_bytes-a.ensures)
+    stored_append (stored_append (rw (text c.args.tree c.of_tree.result c.prefix-prefix.result c.of_tree.ensures c.prefix-prefix.ensures) at
+    c.put_bytes-a.ensures)
     c.put_bytes-b.ensures) c.put_six_digits.ensures

@@ -32,7 +32,8 @@ loop-k-preserved c =
     record {
       turns = omega (arith, c);
       length = c.mark_reference.auto.marks ∙ c.loop-k.invariant.length;
-      marked = marked_turn (refers s t i) c.loop-k.k c.loop-k.invariant.marked (marked_as (λ n. ref_is (optional_reference s c.field_of-f.result.links.reference) n)
+      marked = marked_turn (refers s t i) c.loop-k.k c.loop-k.invariant.marked
+          (marked_as (λ n. ref_is (optional_reference s c.field_of-f.result.links.reference) n)
           (λ n. refers s t i n c.loop-k.k) (λ n. ap (λ (F : Field). ref_is F.reference n) c.field_of-f.ensures) c.mark_reference.ensures);
     }
 

@@ -4,21 +4,21 @@ use mathlib.Core.Path.{◌≡◌, refl, sym, ◌∙◌, ap}
 use mathlib.Core.Bool.{Bool, true, false, ◌||◌}
 use Rattle.rules.proofs.lookup_marks.mark_if.Goals as goal
 
-or-hit : (a b : Bool) → b ≡ true → true ≡ (a || b)
-or-hit true b e = refl
-or-hit false b e = sym e
+or_hit : (a b : Bool) → b ≡ true → true ≡ (a || b)
+or_hit true b e = refl
+or_hit false b e = sym e
 
-or-miss : (a b : Bool) → b ≡ false → a ≡ (a || b)
-or-miss true b e = refl
-or-miss false b e = sym e
+or_miss : (a b : Bool) → b ≡ false → a ≡ (a || b)
+or_miss true b e = refl
+or_miss false b e = sym e
 
 pub returns-then-hit : goal.returns-then-hit
 returns-then-hit c =
     ap (λ (x : Bool). set c.args.marks.now c.args.l x)
-    (or-hit (get_or c.args.marks.now c.args.l false) c.args.hit c.if-hit.true)
+    (or_hit (get_or c.args.marks.now c.args.l false) c.args.hit c.if-hit.true)
 
 pub returns-else-hit : goal.returns-else-hit
 returns-else-hit c =
     sym (set-get_or c.args.marks.now c.args.l false)
     ∙ ap (λ (x : Bool). set c.args.marks.now c.args.l x)
-    (or-miss (get_or c.args.marks.now c.args.l false) c.args.hit c.if-hit.false)
+    (or_miss (get_or c.args.marks.now c.args.l false) c.args.hit c.if-hit.false)

@@ -4,7 +4,7 @@ use Rattle.rules.proofs.Emits.{fits_turn, reporting_none, reporting_turn}
 use Rattle.pack.specs.Meaning.{pack_of}
 use native.Mathlib.Omega.{arith}
 use mathlib.Core.Path.{◌≡◌}
-use Rattle.rules.proofs.lookup_names.check_lookup_names.Invariants.{of-lookup}
+use Rattle.rules.proofs.lookup_names.check_lookup_names.Invariants.{of_lookup}
 use Rattle.rules.proofs.lookup_names.check_lookup_names.Goals as goal
 
 pub loop-l-init : goal.loop-l-init
@@ -18,7 +18,7 @@ lookup_of-view-requires c =
 pub lookup_names_of-m-requires : goal.lookup_names_of-m-requires
 lookup_names_of-m-requires c =
     record {
-      fits = fits_turn (of-lookup c.args.s.now) c.args.lookups.count c.loop-l.l c.loop-l-test.true
+      fits = fits_turn (of_lookup c.args.s.now) c.args.lookups.count c.loop-l.l c.loop-l-test.true
           (rw (← c.requires.lookups.count) at c.requires.fits) c.loop-l.invariant.reporting.emitted;
       lookup = record {
         at = (at_lookup c.requires.ready c.requires.lookups.count c.loop-l.invariant.place c.loop-l-test.true);
@@ -32,11 +32,19 @@ overflow_add-p c =
 
 pub overflow_cast-p : goal.overflow_cast-p
 overflow_cast-p c =
-    omega (arith, entries_few (at_lookup c.requires.ready c.requires.lookups.count c.loop-l.invariant.place c.loop-l-test.true), c.lookup_of-view.ensures.entries)
+    omega (
+      arith,
+      entries_few (at_lookup c.requires.ready c.requires.lookups.count c.loop-l.invariant.place c.loop-l-test.true),
+      c.lookup_of-view.ensures.entries,
+    )
 
 pub overflow_add-p-in-loop-l : goal.overflow_add-p-in-loop-l
 overflow_add-p-in-loop-l c =
-    omega (arith, entries_few (at_lookup c.requires.ready c.requires.lookups.count c.loop-l.invariant.place c.loop-l-test.true), c.lookup_of-view.ensures.entries)
+    omega (
+      arith,
+      entries_few (at_lookup c.requires.ready c.requires.lookups.count c.loop-l.invariant.place c.loop-l-test.true),
+      c.lookup_of-view.ensures.entries,
+    )
 
 pub overflow_add-l : goal.overflow_add-l
 overflow_add-l c =

@@ -25,11 +25,11 @@ said P m m' count e z a =
     (λ l h. ap (λ (b : Bool). report_if (not b) (lookup_warning 22 1 l 0 0)) (sym (marks_are (λ n. referenced P n) z a l h)))
     ∙ ap (concat_below (λ l. report_if (not (get_or m' l false)) (lookup_warning 22 1 l 0 0))) (sym e)
 
-fits-as : {n : ℕ} {xs ys : List Finding} → xs ≡ ys → Fits n xs → Fits n ys
-fits-as e f = rw (← e) f
+fits_as : {n : ℕ} {xs ys : List Finding} → xs ≡ ys → Fits n xs → Fits n ys
+fits_as e f = rw (← e) f
 
-emitted-as : {o o' : List ℕ} {n m : ℕ} {xs ys : List Finding} → xs ≡ ys → Emitted o n ys o' m → Emitted o n xs o' m
-emitted-as e f = rw e f
+emitted_as : {o o' : List ℕ} {n m : ℕ} {xs ys : List Finding} → xs ≡ ys → Emitted o n ys o' m → Emitted o n xs o' m
+emitted_as e f = rw e f
 
 pub mark_referenced-requires : goal.mark_referenced-requires
 mark_referenced-requires c =
@@ -38,12 +38,12 @@ mark_referenced-requires c =
 pub report_unmarked-requires : goal.report_unmarked-requires
 report_unmarked-requires c =
     record {
-      fits = fits-as (said (pack_of c.args.s.now) c.args.marks.now _ c.args.index.lookups.count
+      fits = fits_as (said (pack_of c.args.s.now) c.args.marks.now _ c.args.index.lookups.count
           c.requires.index.lookups.count c.requires.clear c.mark_referenced.ensures) c.requires.fits;
       marks = omega (arith, c.requires.marks, c.requires.index.lookups.count, c.mark_referenced.auto.marks);
     }
 
 pub returns : goal.returns
 returns c =
-    emitted-as (said (pack_of c.args.s.now) c.args.marks.now _ c.args.index.lookups.count c.requires.index.lookups.count
+    emitted_as (said (pack_of c.args.s.now) c.args.marks.now _ c.args.index.lookups.count c.requires.index.lookups.count
     c.requires.clear c.mark_referenced.ensures) c.report_unmarked.ensures

@@ -14,11 +14,11 @@ use Rattle.pack.specs.Meaning.{pack_of}
 use Rattle.rules.specs.declared.Finding.{Finding}
 use Rattle.rules.specs.Findings.{report_if, lookup_warning}
 use Rattle.rules.proofs.Emits.{fits_turn, reporting_none, reporting_turn}
-use Rattle.rules.proofs.lookup_uses.check_by_search.Invariants.{of-lookup}
+use Rattle.rules.proofs.lookup_uses.check_by_search.Invariants.{of_lookup}
 use Rattle.rules.proofs.lookup_uses.check_by_search.Goals as goal
 
 said : (s : List ℕ) (l : ℕ) (v : LookupView) → LookupIs s (lookup_at (pack_of s).lookups l) v → (b : Bool) → b ≡ referenced (pack_of s) (bytes_of s v.name)
-    → (F : Finding) → F ≡ lookup_warning 22 1 l 0 0 → of-lookup s l ≡ report_if (not b) F
+    → (F : Finding) → F ≡ lookup_warning 22 1 l 0 0 → of_lookup s l ≡ report_if (not b) F
 said s l v is b x F y =
     let e : b ≡ referenced (pack_of s) (lookup_at (pack_of s).lookups l).name = x ∙ ap (λ (L : Lookup). referenced (pack_of s) L.name) is.means in
     sym (λ j. report_if (not (e j)) (y j))
@@ -39,7 +39,7 @@ pub put_if-m-requires : goal.put_if-m-requires
 put_if-m-requires c =
     let s = c.args.s.now in
     rw (said s c.loop-l.l c.lookup_of-v.result c.lookup_of-v.ensures c.referenced-used.result c.referenced-used.ensures c.lookup_warning.result
-    c.lookup_warning.ensures) at (fits_turn (of-lookup s) c.args.index.lookups.count c.loop-l.l c.loop-l-test.true
+    c.lookup_warning.ensures) at (fits_turn (of_lookup s) c.args.index.lookups.count c.loop-l.l c.loop-l-test.true
     (rw (← c.requires.index.lookups.count) at c.requires.fits) c.loop-l.invariant.reporting.emitted)
 
 pub overflow_add-p : goal.overflow_add-p

@@ -50,7 +50,11 @@ loop-e-preserved c =
     let s = c.args.s.now in let name = c.args.name in
     let l = c.args.l.item in
     let h = said s l (bytes_of s name) c.loop-e.e c.entry_of-entry.result c.is_text.result c.entry_of-entry.ensures c.is_text.ensures in
-    record { turns = omega (arith, c); none_yet = any_turn (nests s l (bytes_of s name)) c.loop-e.e ∙ (rw (c.loop-e.invariant.none_yet, h ∙ c.if-is_text.false)) }
+    record {
+      turns = omega (arith, c);
+      none_yet = any_turn (nests s l (bytes_of s name)) c.loop-e.e
+          ∙ (rw (c.loop-e.invariant.none_yet, h ∙ c.if-is_text.false));
+    }
 
 pub returns : goal.returns
 returns c =

@@ -36,11 +36,19 @@ overflow_add-p c =
 
 pub overflow_cast-p : goal.overflow_cast-p
 overflow_cast-p c =
-    omega (arith, entries_few (at_lookup c.requires.ready c.requires.lookups.count c.loop-l.invariant.place c.loop-l-test.true), c.lookup_of-view.ensures.entries)
+    omega (
+      arith,
+      entries_few (at_lookup c.requires.ready c.requires.lookups.count c.loop-l.invariant.place c.loop-l-test.true),
+      c.lookup_of-view.ensures.entries,
+    )
 
 pub overflow_add-p-in-loop-l : goal.overflow_add-p-in-loop-l
 overflow_add-p-in-loop-l c =
-    omega (arith, entries_few (at_lookup c.requires.ready c.requires.lookups.count c.loop-l.invariant.place c.loop-l-test.true), c.lookup_of-view.ensures.entries)
+    omega (
+      arith,
+      entries_few (at_lookup c.requires.ready c.requires.lookups.count c.loop-l.invariant.place c.loop-l-test.true),
+      c.lookup_of-view.ensures.entries,
+    )
 
 pub overflow_add-l : goal.overflow_add-l
 overflow_add-l c =

@@ -46,7 +46,11 @@ loop-k-preserved c =
     let t = c.args.g.tree in
     let i = c.args.g.item in
     let h = said s t i (bytes_of s name) c.loop-k.k c.field_of-f.result c.ref_is.result c.field_of-f.ensures c.ref_is.ensures in
-    record { turns = omega (arith, c); none_yet = any_turn (refers s t i (bytes_of s name)) c.loop-k.k ∙ (rw (c.loop-k.invariant.none_yet, h ∙ c.if-ref_is.false)) }
+    record {
+      turns = omega (arith, c);
+      none_yet = any_turn (refers s t i (bytes_of s name)) c.loop-k.k
+          ∙ (rw (c.loop-k.invariant.none_yet, h ∙ c.if-ref_is.false));
+    }
 
 pub returns : goal.returns
 unfolding referenced_by_pgn

@@ -7,10 +7,10 @@ use lib.ListN.{get_or}
 use Rattle.rules.specs.declared.Finding.{Finding}
 use Rattle.rules.specs.Findings.{report_if, lookup_warning}
 use Rattle.rules.proofs.Emits.{fits_turn, reporting_none, reporting_turn}
-use Rattle.rules.proofs.lookup_uses.report_unmarked.Invariants.{of-mark}
+use Rattle.rules.proofs.lookup_uses.report_unmarked.Invariants.{of_mark}
 use Rattle.rules.proofs.lookup_uses.report_unmarked.Goals as goal
 
-said : (marks : List Bool) (l : ℕ) (F : Finding) → F ≡ lookup_warning 22 1 l 0 0 → of-mark marks l ≡ report_if (not (get_or marks l false)) F
+said : (marks : List Bool) (l : ℕ) (F : Finding) → F ≡ lookup_warning 22 1 l 0 0 → of_mark marks l ≡ report_if (not (get_or marks l false)) F
 said marks l F y = ap (λ (G : Finding). report_if (not (get_or marks l false)) G) (sym y)
 
 pub loop-l-init : goal.loop-l-init
@@ -24,7 +24,7 @@ pub put_if-m-requires : goal.put_if-m-requires
 put_if-m-requires c =
     let marks = c.args.marks.now in
     rw (said marks c.loop-l.l c.lookup_warning.result c.lookup_warning.ensures) at
-    (fits_turn (of-mark marks) c.args.count c.loop-l.l c.loop-l-test.true c.requires.fits c.loop-l.invariant.emitted)
+    (fits_turn (of_mark marks) c.args.count c.loop-l.l c.loop-l-test.true c.requires.fits c.loop-l.invariant.emitted)
 
 pub loop-l-preserved : goal.loop-l-preserved
 loop-l-preserved c =

@@ -8,12 +8,12 @@ use Rattle.rules.specs.Findings.{report_if, lookup_warning}
 use Rattle.rules.proofs.lookup_uses.report_unmarked.Given as goal
 
 -- the finding of lookup l
-abbrev pub of-mark : List Bool → ℕ → List Finding
-of-mark marks l = report_if (not (get_or marks l false)) (lookup_warning 22 1 l 0 0)
+abbrev pub of_mark : List Bool → ℕ → List Finding
+of_mark marks l = report_if (not (get_or marks l false)) (lookup_warning 22 1 l 0 0)
 
 abbrev pub invariant-loop-l : goal.invariant-loop-l
 invariant-loop-l l =
-    Reporting l.initial.out l.n (of-mark l.marks) l.count l.l l.out l.m
+    Reporting l.initial.out l.n (of_mark l.marks) l.count l.l l.out l.m
 
 abbrev pub decreases-loop-l : goal.decreases-loop-l
 decreases-loop-l l = l.count - l.l

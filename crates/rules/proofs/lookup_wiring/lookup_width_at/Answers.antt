@@ -83,7 +83,8 @@ returns-then-width-l c =
     let l = c.args.l.item in
     rw (other s c.args.g.tree c.args.g.item c.args.k l c.value_bits-width.result c.args.f (lookup_at (pack_of s).lookups l)
     c.args.l.view c.requires.lookup.is c.value_bits-width.ensures c.unreachable-lost.result c.shares_bits-shared.result c.and_not.result
-    c.unreachable-lost.ensures c.shares_bits-shared.ensures c.and_not.ensures c.if-and_not.false c.if-width-l.true c.pgn_error-then-width-l.result c.pgn_error-then-width-l.ensures)
+    c.unreachable-lost.ensures c.shares_bits-shared.ensures c.and_not.ensures c.if-and_not.false c.if-width-l.true c.pgn_error-then-width-l.result
+    c.pgn_error-then-width-l.ensures)
     c.put_if.ensures
 
 pub put_if-requires-2 : goal.put_if-requires-2

@@ -29,7 +29,8 @@ returns-then-same_text c =
     rw (← ap (λ (L : Lookup). L.name) c.lookup_of-v.ensures.means, ← c.same_text.ensures) c.if-same_text.true in
     record {
       found = sym
-          (rw c.requires.lookups.count at (first_hit (named s b) c.args.lookups.count c.loop-index.index c.loop-index-test.true c.loop-index.invariant.none_yet e));
+          (rw c.requires.lookups.count at (first_hit (named s b) c.args.lookups.count c.loop-index.index c.loop-index-test.true
+          c.loop-index.invariant.none_yet e));
       at = λ _. at_lookup c.requires.ready c.requires.lookups.count c.loop-index.invariant.place c.loop-index-test.true;
     }
 
@@ -39,7 +40,12 @@ overflow_add-place c =
 
 pub overflow_add-place-in-loop-index : goal.overflow_add-place-in-loop-index
 overflow_add-place-in-loop-index c =
-    omega (arith, c.lookup_of-v.ensures.entries, lookup_room (at_lookup c.requires.ready c.requires.lookups.count c.loop-index.invariant.place c.loop-index-test.true))
+    omega (
+      arith,
+      c.lookup_of-v.ensures.entries,
+      lookup_room (at_lookup c.requires.ready c.requires.lookups.count c.loop-index.invariant.place
+          c.loop-index-test.true),
+    )
 
 pub loop-index-preserved : goal.loop-index-preserved
 loop-index-preserved c =

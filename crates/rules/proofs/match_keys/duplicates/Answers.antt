@@ -11,9 +11,9 @@ use Rattle.pack.specs.Ready.{pgn_in}
 use Rattle.rules.proofs.match_keys.duplicates.Goals as goal
 
 module _ (p q : Pgn) (m n : ℕ) (e : m ≡ length p.fields) (f : n ≡ length q.fields) where
-  first-none : has_match p m ≡ false → false ≡ duplicates p q
+  first_none : has_match p m ≡ false → false ≡ duplicates p q
   unfolding duplicates
-  first-none h = rw (rw e at h)
+  first_none h = rw (rw e at h)
 
   second_none : has_match p m ≡ true → has_match q n ≡ false → false ≡ duplicates p q
   unfolding duplicates
@@ -29,7 +29,7 @@ module _ (p q : Pgn) (m n : ℕ) (e : m ≡ length p.fields) (f : n ≡ length q
 pub returns-then-not-has_match : goal.returns-then-not-has_match
 returns-then-not-has_match c =
     let s = c.args.s.now in let g = c.args.g in let h = c.args.h in
-    first-none (pgn_in s g) (pgn_in s h) g.view.fields h.view.fields c.requires.pgn.is.fields c.requires.other.is.fields
+    first_none (pgn_in s g) (pgn_in s h) g.view.fields h.view.fields c.requires.pgn.is.fields c.requires.other.is.fields
     (sym c.has_match.ensures ∙ c.if-not-has_match.true)
 
 pub returns-then-not-has_match-2 : goal.returns-then-not-has_match-2

@@ -23,8 +23,8 @@ skipped : (s : List ℕ) (p : Pgn) (k n : ℕ) (f : FieldView) → k < n → fie
     → pieces_from p k (n - k) ≡ pieces_from p (k + 1) (n - (k + 1))
 skipped s p k n f h e g = pieces_next p k n h ∙ (rw (matched s p k f e, g))
 
-given-text : (b : Bool) (m : Bytes) → b ≡ true → optional b m ≡ some m
-given-text b m e = rw e
+given_text : (b : Bool) (m : Bytes) → b ≡ true → optional b m ≡ some m
+given_text b m e = rw e
 
 pub loop-k-init : goal.loop-k-init
 loop-k-init c = record { turns = c.requires.from; rest = refl }
@@ -44,7 +44,7 @@ returns-then-f c =
       came = c.loop-k.invariant.rest
           ∙ piece_begun s g c.loop-k.k c.args.g.view.fields c.field_of-f.result.authored.matched.text c.begun.result
           c.loop-k-test.true c.requires.pgn.is.fields (matched s g c.loop-k.k c.field_of-f.result c.field_of-f.ensures
-          ∙ given-text c.field_of-f.result.authored.matched.given (bytes_of s c.field_of-f.result.authored.matched.text) c.if-f.true)
+          ∙ given_text c.field_of-f.result.authored.matched.given (bytes_of s c.field_of-f.result.authored.matched.text) c.if-f.true)
           c.begun.ensures;
       field = omega (arith, c.begun.ensures.field, c.loop-k-test.true);
       head = c.begun.ensures.head;

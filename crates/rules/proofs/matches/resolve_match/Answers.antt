@@ -13,14 +13,14 @@ use borrow.Author.Tests.{not-true, not-false}
 use Rattle.rules.proofs.matches.resolve_match.Goals as goal
 
 module _ (ls : List Lookup) (r : Option Reference) (m : Bytes) (g : Bool) (v : ℕ) (e : optional g v ≡ parse_u64 m) where
-  by-decimal : g ≡ true → resolve_text ls r (some m) ≡ optional g v
+  by_decimal : g ≡ true → resolve_text ls r (some m) ≡ optional g v
   unfolding resolve_text
-  by-decimal h = rw (← e, h)
+  by_decimal h = rw (← e, h)
 
   module _ (n : g ≡ false) (g' : Bool) (v' : ℕ) (e' : optional g' v' ≡ parse_hex m) where
-    by-hexadecimal : g' ≡ true → resolve_text ls r (some m) ≡ optional g' v'
+    by_hexadecimal : g' ≡ true → resolve_text ls r (some m) ≡ optional g' v'
     unfolding resolve_text
-    by-hexadecimal h = rw (← e, n, ← e', h)
+    by_hexadecimal h = rw (← e, n, ← e', h)
 
     by_name : g' ≡ false → resolve_text ls r (some m) ≡ resolve_name ls m r
     unfolding resolve_text
@@ -36,7 +36,7 @@ unfolding resolve_match
 returns-then-decimal c =
     let s = c.args.s.now in
     rw (not-false c.args.f.authored.matched.given c.if-not-f.false)
-    (sym (by-decimal (pack_of s).lookups (optional_reference s c.args.f.links.reference) (bytes_of s c.args.f.authored.matched.text)
+    (sym (by_decimal (pack_of s).lookups (optional_reference s c.args.f.links.reference) (bytes_of s c.args.f.authored.matched.text)
     c.parse_u64-decimal.result.given c.parse_u64-decimal.result.value
     (c.parse_u64-decimal.ensures ∙ ap parse_u64 c.part.ensures) c.if-decimal.true))
 
@@ -45,9 +45,10 @@ unfolding resolve_match
 returns-then-hexadecimal c =
     let s = c.args.s.now in
     rw (not-false c.args.f.authored.matched.given c.if-not-f.false)
-    (sym (by-hexadecimal (pack_of s).lookups (optional_reference s c.args.f.links.reference) (bytes_of s c.args.f.authored.matched.text)
+    (sym (by_hexadecimal (pack_of s).lookups (optional_reference s c.args.f.links.reference) (bytes_of s c.args.f.authored.matched.text)
     c.parse_u64-decimal.result.given c.parse_u64-decimal.result.value (c.parse_u64-decimal.ensures ∙ ap parse_u64 c.part.ensures) c.if-decimal.false
-    c.parse_hex-hexadecimal.result.given c.parse_hex-hexadecimal.result.value (c.parse_hex-hexadecimal.ensures ∙ ap parse_hex c.part-2.ensures) c.if-hexadecimal.true))
+    c.parse_hex-hexadecimal.result.given c.parse_hex-hexadecimal.result.value (c.parse_hex-hexadecimal.ensures ∙ ap parse_hex c.part-2.ensures)
+    c.if-hexadecimal.true))
 
 pub returns : goal.returns
 unfolding resolve_match
@@ -57,4 +58,5 @@ returns c =
     (c.resolve_name.ensures
     ∙ sym (by_name (pack_of s).lookups (optional_reference s c.args.f.links.reference) (bytes_of s c.args.f.authored.matched.text)
     c.parse_u64-decimal.result.given c.parse_u64-decimal.result.value (c.parse_u64-decimal.ensures ∙ ap parse_u64 c.part.ensures) c.if-decimal.false
-    c.parse_hex-hexadecimal.result.given c.parse_hex-hexadecimal.result.value (c.parse_hex-hexadecimal.ensures ∙ ap parse_hex c.part-2.ensures) c.if-hexadecimal.false))
+    c.parse_hex-hexadecimal.result.given c.parse_hex-hexadecimal.result.value (c.parse_hex-hexadecimal.ensures ∙ ap parse_hex c.part-2.ensures)
+    c.if-hexadecimal.false))

@@ -55,7 +55,8 @@ returns-then-not-has_entries c =
     let s = c.args.s.now in
     let e = known (pack_of s).lookups (bytes_of s c.args.m) (record { kind = c.args.r.kind; name = bytes_of s c.args.r.name })
     c.find_lookup-found.result.index c.lookup_of-l.result.kind c.find_lookup-found.result.given c.has_entries.result
-    c.find_lookup-found.ensures.found (not-false c.find_lookup-found.result.given c.if-not-found.false) (ap (λ (L : Lookup). L.kind) c.lookup_of-l.ensures.means)
+    c.find_lookup-found.ensures.found (not-false c.find_lookup-found.result.given c.if-not-found.false)
+    (ap (λ (L : Lookup). L.kind) c.lookup_of-l.ensures.means)
     c.has_entries.ensures in
     rw (not-false c.args.r.given c.if-not-r.false, e, c.if-not-has_entries.true)
 

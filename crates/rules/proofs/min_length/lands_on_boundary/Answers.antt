@@ -41,7 +41,8 @@ pub returns-then-bits-boundary : goal.returns-then-bits-boundary
 unfolding lands_on_boundary
 returns-then-bits-boundary c =
     let s = c.args.s.now in let t = c.args.g.tree in let i = c.args.g.item in
-    sym (hit s t i c.args.least c.loop-k.bits c.loop-k.k c.field_of-f.result c.field_of-f.ensures c.loop-k.invariant.sum (length (pgn_at (pack_of s) t i).fields)
+    sym (hit s t i c.args.least c.loop-k.bits c.loop-k.k c.field_of-f.result c.field_of-f.ensures c.loop-k.invariant.sum
+    (length (pgn_at (pack_of s) t i).fields)
     (omega (arith, c.requires.is.fields)) c.if-bits-boundary.true)
 
 pub overflow_add-k : goal.overflow_add-k
@@ -55,9 +56,11 @@ loop-k-preserved c =
     let i = c.args.g.item in
     record {
       turns = omega (arith, c);
-      sum = grown s t i least c.loop-k.bits c.loop-k.k c.field_of-f.result c.field_of-f.ensures c.loop-k.invariant.sum ∙ sym (sum_turn (width s t i) c.loop-k.k);
+      sum = grown s t i least c.loop-k.bits c.loop-k.k c.field_of-f.result c.field_of-f.ensures c.loop-k.invariant.sum ∙ sym
+          (sum_turn (width s t i) c.loop-k.k);
       small = omega (arith, c.struct_known-1.given);
-      none_yet = missed s t i least c.loop-k.bits c.loop-k.k c.field_of-f.result c.field_of-f.ensures c.loop-k.invariant.sum c.loop-k.invariant.none_yet c.if-bits-boundary.false;
+      none_yet = missed s t i least c.loop-k.bits c.loop-k.k c.field_of-f.result c.field_of-f.ensures c.loop-k.invariant.sum c.loop-k.invariant.none_yet
+          c.if-bits-boundary.false;
     }
 
 pub returns : goal.returns

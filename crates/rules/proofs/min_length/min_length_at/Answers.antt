@@ -18,26 +18,26 @@ chosen a b z y p q f h e d w x = rw (e, d, w, x)
 
 -- the rule, said of the view: a variable PGN, a minimum out of range, one to look up
 module _ (s : List ℕ) (t i least : ℕ) (G : Pgn) (g : PgnView) (is : PgnIs s G g) (f : Finding) where
-  is-variable : G.variable ≡ g.flags.variable
-  is-variable = sym (ap (λ (P : Pgn). P.variable) is.means)
+  is_variable : G.variable ≡ g.flags.variable
+  is_variable = sym (ap (λ (P : Pgn). P.variable) is.means)
 
   full : G.length ≡ g.length
   full = sym (ap (λ (P : Pgn). P.length) is.means)
 
   variable : g.flags.variable ≡ true → f ≡ pgn_error 16 1 t i 0 0 → min_length_at t i G (some least) ≡ f ∷ []
   unfolding min_length_at
-  variable e x = rw (is-variable, e, x)
+  variable e x = rw (is_variable, e, x)
 
   unfit : g.flags.variable ≡ false → ((least == 0) || (g.length ≤ᵇ least)) ≡ true → f ≡ pgn_error 16 2 t i 0 0 → min_length_at t i G (some least) ≡ f ∷ []
   unfolding min_length_at
-  unfit e d x = rw (is-variable, e, full, d, x)
+  unfit e d x = rw (is_variable, e, full, d, x)
 
   fit : g.flags.variable ≡ false → ((least == 0) || (g.length ≤ᵇ least)) ≡ false → (z : Bool) → z ≡ lands_on_boundary G least → f ≡ pgn_error 16 3 t i 0 0
       → min_length_at t i G (some least) ≡ report_if (not z) f
   unfolding min_length_at
   fit e d z q x =
       let l : ((least == 0) || (G.length ≤ᵇ least)) ≡ false = rw full d in
-      chosen G.variable ((least == 0) || (G.length ≤ᵇ least)) z (lands_on_boundary G least) _ _ f _ (is-variable ∙ e) l q x
+      chosen G.variable ((least == 0) || (G.length ≤ᵇ least)) z (lands_on_boundary G least) _ _ f _ (is_variable ∙ e) l q x
 
 pub put-requires : goal.put-requires
 put-requires c =

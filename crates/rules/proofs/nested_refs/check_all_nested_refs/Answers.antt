@@ -4,7 +4,7 @@ use native.Mathlib.Omega.{arith}
 use mathlib.Core.Path.{◌≡◌}
 use Rattle.pack.specs.Meaning.{pack_of}
 use Rattle.rules.proofs.Emits.{fits_turn, reporting_none, reporting_turn}
-use Rattle.rules.proofs.nested_refs.check_all_nested_refs.Invariants.{of-lookup}
+use Rattle.rules.proofs.nested_refs.check_all_nested_refs.Invariants.{of_lookup}
 use Rattle.rules.proofs.nested_refs.check_all_nested_refs.Goals as goal
 
 pub loop-l-init : goal.loop-l-init
@@ -18,7 +18,7 @@ lookup_of-view-requires c =
 pub check_nested_refs-m-requires : goal.check_nested_refs-m-requires
 check_nested_refs-m-requires c =
     record {
-      fits = fits_turn (of-lookup c.args.s.now) c.args.index.lookups.count c.loop-l.l c.loop-l-test.true
+      fits = fits_turn (of_lookup c.args.s.now) c.args.index.lookups.count c.loop-l.l c.loop-l-test.true
           (rw (← c.requires.index.lookups.count) at c.requires.fits) c.loop-l.invariant.reporting.emitted;
       lookup = record {
         at = (at_lookup c.requires.ready c.requires.index.lookups.count c.loop-l.invariant.place c.loop-l-test.true);
@@ -33,13 +33,19 @@ overflow_add-p c =
 
 pub overflow_cast-p : goal.overflow_cast-p
 overflow_cast-p c =
-    omega
-    (arith, entries_few (at_lookup c.requires.ready c.requires.index.lookups.count c.loop-l.invariant.place c.loop-l-test.true), c.lookup_of-view.ensures.entries)
+    omega (
+      arith,
+      entries_few (at_lookup c.requires.ready c.requires.index.lookups.count c.loop-l.invariant.place c.loop-l-test.true),
+      c.lookup_of-view.ensures.entries,
+    )
 
 pub overflow_add-p-in-loop-l : goal.overflow_add-p-in-loop-l
 overflow_add-p-in-loop-l c =
-    omega
-    (arith, entries_few (at_lookup c.requires.ready c.requires.index.lookups.count c.loop-l.invariant.place c.loop-l-test.true), c.lookup_of-view.ensures.entries)
+    omega (
+      arith,
+      entries_few (at_lookup c.requires.ready c.requires.index.lookups.count c.loop-l.invariant.place c.loop-l-test.true),
+      c.lookup_of-view.ensures.entries,
+    )
 
 pub overflow_add-l : goal.overflow_add-l
 overflow_add-l c =

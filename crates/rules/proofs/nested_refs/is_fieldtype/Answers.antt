@@ -32,13 +32,18 @@ returns-then-same_text c =
     let s = c.args.s.now in let name = c.args.name in
     let h = said s (bytes_of s name) c.loop-j.j c.type_of-v.result c.same_text.result c.type_of-v.ensures c.same_text.ensures in
     sym
-    (any_hit (named s (bytes_of s name)) (length (pack_of s).fieldtypes) c.loop-j.j (omega (arith, c.requires.types, c.loop-j-test.true)) (h ∙ c.if-same_text.true))
+    (any_hit (named s (bytes_of s name)) (length (pack_of s).fieldtypes) c.loop-j.j (omega (arith, c.requires.types, c.loop-j-test.true))
+    (h ∙ c.if-same_text.true))
 
 pub loop-j-preserved : goal.loop-j-preserved
 loop-j-preserved c =
     let s = c.args.s.now in let name = c.args.name in
     let h = said s (bytes_of s name) c.loop-j.j c.type_of-v.result c.same_text.result c.type_of-v.ensures c.same_text.ensures in
-    record { turns = omega (arith, c); none_yet = any_turn (named s (bytes_of s name)) c.loop-j.j ∙ (rw (c.loop-j.invariant.none_yet, h ∙ c.if-same_text.false)) }
+    record {
+      turns = omega (arith, c);
+      none_yet = any_turn (named s (bytes_of s name)) c.loop-j.j
+          ∙ (rw (c.loop-j.invariant.none_yet, h ∙ c.if-same_text.false));
+    }
 
 pub returns : goal.returns
 unfolding is_fieldtype

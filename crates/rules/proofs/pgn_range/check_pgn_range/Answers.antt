@@ -26,13 +26,13 @@ module _ (s : List ℕ) (t i : ℕ) (G : Pgn) (g : PgnView) (is : PgnIs s G g) w
   unfolding check_pgn_range
   pseudo h = rw (number, le-leb _ _ h)
 
-  in-quick : g.pgn < 262144 → t ≡ 2 → check_pgn_range t i G ≡ quick_range t i G
+  in_quick : g.pgn < 262144 → t ≡ 2 → check_pgn_range t i G ≡ quick_range t i G
   unfolding check_pgn_range
-  in-quick h e = rw (number, lt-leb _ _ h, eq-eqb _ _ e)
+  in_quick h e = rw (number, lt-leb _ _ h, eq-eqb _ _ e)
 
-  in-range : g.pgn < 262144 → (t ≡ 2 → ⊥) → check_pgn_range t i G ≡ found_range t i G (find_range (ranges_of t) g.pgn)
+  in_range : g.pgn < 262144 → (t ≡ 2 → ⊥) → check_pgn_range t i G ≡ found_range t i G (find_range (ranges_of t) g.pgn)
   unfolding check_pgn_range
-  in-range h e = rw (number, lt-leb _ _ h, ne_eqb _ _ e)
+  in_range h e = rw (number, lt-leb _ _ h, ne_eqb _ _ e)
 
 pub returns-then-g-ge-ACTISENSE_BEM : goal.returns-then-g-ge-ACTISENSE_BEM
 returns-then-g-ge-ACTISENSE_BEM c =
@@ -43,7 +43,7 @@ pub quick_range-requires : goal.quick_range-requires
 quick_range-requires c =
     let t = c.args.g.tree in
     record {
-      fits = rw (in-quick c.args.s.now t c.args.g.item _ c.args.g.view c.requires.is c.if-g-ge-ACTISENSE_BEM.false
+      fits = rw (in_quick c.args.s.now t c.args.g.item _ c.args.g.view c.requires.is c.if-g-ge-ACTISENSE_BEM.false
           (sym (tree_of t c.requires.trees) ∙ ap tree_number (sym c.of_tree-protocol.ensures ∙ c.in-Quick.is))) at c.requires.fits;
       is = c.requires.is;
     }
@@ -51,14 +51,14 @@ quick_range-requires c =
 pub returns-in-Quick : goal.returns-in-Quick
 returns-in-Quick c =
     let t = c.args.g.tree in
-    rw (in-quick c.args.s.now t c.args.g.item _ c.args.g.view c.requires.is c.if-g-ge-ACTISENSE_BEM.false
+    rw (in_quick c.args.s.now t c.args.g.item _ c.args.g.view c.requires.is c.if-g-ge-ACTISENSE_BEM.false
     (sym (tree_of t c.requires.trees) ∙ ap tree_number (sym c.of_tree-protocol.ensures ∙ c.in-Quick.is))) c.quick_range.ensures
 
 pub found_range-requires : goal.found_range-requires
 found_range-requires c =
     let t = c.args.g.tree in
     record {
-      fits = rw (in-range c.args.s.now t c.args.g.item _ c.args.g.view c.requires.is c.if-g-ge-ACTISENSE_BEM.false
+      fits = rw (in_range c.args.s.now t c.args.g.item _ c.args.g.view c.requires.is c.if-g-ge-ACTISENSE_BEM.false
           (λ e. c.in_default.not-Quick (c.of_tree-protocol.ensures ∙ ap protocol_of e))) at c.requires.fits;
       is = c.requires.is;
       found = (rw (c.of_tree-protocol.ensures, tree_of t c.requires.trees) at c.find_range-found.ensures);
@@ -66,5 +66,5 @@ found_range-requires c =
 
 pub returns : goal.returns
 returns c =
-    rw (in-range c.args.s.now c.args.g.tree c.args.g.item _ c.args.g.view c.requires.is c.if-g-ge-ACTISENSE_BEM.false
+    rw (in_range c.args.s.now c.args.g.tree c.args.g.item _ c.args.g.view c.requires.is c.if-g-ge-ACTISENSE_BEM.false
     (λ e. c.in_default.not-Quick (c.of_tree-protocol.ensures ∙ ap protocol_of e))) c.found_range.ensures

@@ -64,7 +64,8 @@ put_if-requires c =
 pub returns-then-found : goal.returns-then-found
 returns-then-found c =
     rw (inside c.args.s.now c.args.g.tree c.args.g.item _ c.args.g.view c.requires.is c.args.found
-    c.requires.found c.if-found.true c.if-g-found.false _ _ _ _ c.pdu1_unended-unended.ensures c.pgn_error-then-found.ensures c.disagrees-other.ensures c.pgn_error-then-found-2.ensures)
+    c.requires.found c.if-found.true c.if-g-found.false _ _ _ _ c.pdu1_unended-unended.ensures c.pgn_error-then-found.ensures c.disagrees-other.ensures
+    c.pgn_error-then-found-2.ensures)
     (emitted_append c.put_if-m.ensures c.put_if.ensures)
 
 pub put-requires-2 : goal.put-requires-2

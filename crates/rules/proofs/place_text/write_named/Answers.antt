@@ -19,7 +19,8 @@ returns-then-text-needed c =
     let text = c.args.text.now in let pack = c.args.pack.now in
     let x = empty_part c.put_loc-needed.new.out text c.put_loc-needed.auto.out in
     let a = too_short (place_text (pack_of pack) c.args.place c.args.tree c.args.item) c.find_loc-found.result.given
-    (loc_text pack c.find_loc-found.result.loc) c.find_loc-found.ensures text (not-false c.find_loc-found.result.given c.if-not-found.false) c.put_loc-needed.result
+    (loc_text pack c.find_loc-found.result.loc) c.find_loc-found.ensures text (not-false c.find_loc-found.result.given c.if-not-found.false)
+    c.put_loc-needed.result
     c.put_loc-needed.ensures.count (rw x at c.if-text-needed.true) in
     record { answer = a.answer; text = x ∙ a.text }
 
@@ -28,6 +29,7 @@ returns c =
     let text = c.args.text.now in let pack = c.args.pack.now in
     let x = empty_part c.put_loc-needed.new.out text c.put_loc-needed.auto.out in
     let a = all_written (place_text (pack_of pack) c.args.place c.args.tree c.args.item) c.find_loc-found.result.given
-    (loc_text pack c.find_loc-found.result.loc) c.find_loc-found.ensures text (not-false c.find_loc-found.result.given c.if-not-found.false) c.put_loc-needed.result
+    (loc_text pack c.find_loc-found.result.loc) c.find_loc-found.ensures text (not-false c.find_loc-found.result.given c.if-not-found.false)
+    c.put_loc-needed.result
     c.put_loc-needed.ensures.count (rw x at c.if-text-needed.false) c.put_loc.new.out c.put_loc.result (rw x at c.put_loc.ensures) in
     record { answer = a.answer; text = a.text }

@@ -15,9 +15,9 @@ use Rattle.pack.specs.Ready.{PgnIs}
 use Rattle.pack.specs.Meaning.{pack_of}
 use Rattle.rules.proofs.places.pgn_loc.Goals as goal
 
-text-is : (s : List ℕ) (t : ℕ) (G : Pgn) (v : PgnView) → PgnIs s G v → pgn_text t v.pgn (bytes_of s v.id) ≡ pgn_loc t G
+text_is : (s : List ℕ) (t : ℕ) (G : Pgn) (v : PgnView) → PgnIs s G v → pgn_text t v.pgn (bytes_of s v.id) ≡ pgn_loc t G
 unfolding pgn_text pgn_loc
-text-is s t G v is = ap (λ (H : Pgn). pgn_loc t H) is.means
+text_is s t G v is = ap (λ (H : Pgn). pgn_loc t H) is.means
 
 pub returns-then-tree-ge-COUNT : goal.returns-then-tree-ge-COUNT
 returns-then-tree-ge-COUNT c =
@@ -27,7 +27,8 @@ pub returns-then-section-item : goal.returns-then-section-item
 returns-then-section-item c =
     let s = c.args.s.now in let tree = c.args.tree in
     let a =
-    at_tree (pack_of s) c.args.index c.requires.index tree c.if-tree-ge-COUNT.false c.of_tree.result c.section-section.result c.of_tree.ensures c.section-section.ensures in
+    at_tree (pack_of s) c.args.index c.requires.index tree c.if-tree-ge-COUNT.false c.of_tree.result c.section-section.result c.of_tree.ensures
+    c.section-section.ensures in
     rw (
       c.absent-then-section-item.ensures,
       lt-ltb tree 3 c.if-tree-ge-COUNT.false,
@@ -44,6 +45,7 @@ pub returns : goal.returns
 returns c =
     let s = c.args.s.now in let tree = c.args.tree in let item = c.args.item in
     let a =
-    at_tree (pack_of s) c.args.index c.requires.index tree c.if-tree-ge-COUNT.false c.of_tree.result c.section-section.result c.of_tree.ensures c.section-section.ensures in
+    at_tree (pack_of s) c.args.index c.requires.index tree c.if-tree-ge-COUNT.false c.of_tree.result c.section-section.result c.of_tree.ensures
+    c.section-section.ensures in
     rw (lt-ltb tree 3 c.if-tree-ge-COUNT.false, lt-ltb item (length (pgns_of (pack_of s) tree)) (omega (arith, a.count, c.if-section-item.false)))
-    (ap some (text-is s tree (pgn_at (pack_of s) tree item) c.pgn_of-g.result c.pgn_of-g.ensures))
+    (ap some (text_is s tree (pgn_at (pack_of s) tree item) c.pgn_of-g.result c.pgn_of-g.ensures))

@@ -39,8 +39,8 @@ pair s v name bits = pair_is (optional_reference s v.links.reference) name && (v
 abbrev reserved : List ℕ → List FieldType → FieldView → ℕ → Bool
 reserved s fts v bits = (root_of fts (field_meaning s v) ≐ RESERVED) && (v.scaling.bits == bits)
 
-at-third : (a x y z : Bool) → a ≡ true → x ≡ true → y ≡ true → (a && (x && (y && z))) ≡ z
-at-third a x y z e d f = rw (e, d, f)
+at_third : (a x y z : Bool) → a ≡ true → x ≡ true → y ≡ true → (a && (x && (y && z))) ≡ z
+at_third a x y z e d f = rw (e, d, f)
 
 abbrev coded : Pgn → Bool
 coded P = pair_is (field_at P 0).reference MANUFACTURER_CODE && ((field_at P 0).res_bits == 11)
@@ -72,7 +72,7 @@ module _ (s : List ℕ) (fts : List FieldType) (P : Pgn) where
   third : (u v w : FieldView) → 3 ≤ length P.fields → field_meaning s u ≡ field_at P 0 → field_meaning s v ≡ field_at P 1 → field_meaning s w ≡ field_at P 2
       → pair s u MANUFACTURER_CODE 11 ≡ true → reserved s fts v 2 ≡ true → company_fields fts P ≡ pair s w INDUSTRY_CODE 3
   third u v w h a b c x y =
-      parted ∙ at-third (3 ≤ᵇ length P.fields) (coded P) (spared fts P) (grouped P) (le-leb 3 (length P.fields) h) (rw (← a) x) (rw (← b) y) ∙ (rw (← c))
+      parted ∙ at_third (3 ≤ᵇ length P.fields) (coded P) (spared fts P) (grouped P) (le-leb 3 (length P.fields) h) (rw (← a) x) (rw (← b) y) ∙ (rw (← c))
 
 pub returns-then-fields-lt3 : goal.returns-then-fields-lt3
 returns-then-fields-lt3 c =
@@ -118,5 +118,6 @@ returns c =
     let s = c.args.s.now in
     c.is_pair-2.ensures
     ∙ sym (third s (pack_of s).fieldtypes (pgn_at (pack_of s) c.args.g.tree c.args.g.item) c.field_of-code.result c.field_of-reserved.result
-    c.field_of-industry.result (omega (arith, c.requires.is.fields, c.if-fields-lt3.false)) c.field_of-code.ensures c.field_of-reserved.ensures c.field_of-industry.ensures
+    c.field_of-industry.result (omega (arith, c.requires.is.fields, c.if-fields-lt3.false)) c.field_of-code.ensures c.field_of-reserved.ensures
+    c.field_of-industry.ensures
     (sym c.is_pair.ensures ∙ c.if-not-is_pair.false) (sym c.is_reserved.ensures ∙ c.if-not-is_reserved.false))

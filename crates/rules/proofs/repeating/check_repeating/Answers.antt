@@ -13,7 +13,7 @@ use native.Mathlib.Omega.{arith}
 use mathlib.Core.List.{List}
 use mathlib.Core.Path.{◌≡◌, ap, ◌∙◌}
 use lib.ListN.{length, get_or}
-use Rattle.rules.proofs.repeating.check_repeating.Invariants.{of-place}
+use Rattle.rules.proofs.repeating.check_repeating.Invariants.{of_place}
 use Rattle.rules.proofs.repeating.check_repeating.Goals as goal
 
 module _ (s : List ℕ) (p : Pgn) (v : PgnView) (is : PgnIs s p v) (k : ℕ) (h : k < v.places) (set : OptRepeating)
@@ -22,7 +22,7 @@ module _ (s : List ℕ) (p : Pgn) (v : PgnView) (is : PgnIs s p v) (k : ℕ) (h 
   means = ap optional_repeating e ∙ set_is is k h
 
   told : (t i : ℕ) (outer : OptRepeating) → optional_repeating outer ≡ set_before p k
-      → check_set t i (k + 1) v.fields (optional_repeating outer) (optional_repeating set) ≡ of-place t i p k
+      → check_set t i (k + 1) v.fields (optional_repeating outer) (optional_repeating set) ≡ of_place t i p k
   told t i outer x = λ j. check_set t i (k + 1) (is.fields j) (x j) (means j)
 
   -- it may enclose the next
@@ -47,7 +47,7 @@ check_set-m-requires c =
     let t = c.args.g.tree in let i = c.args.g.item in let v = c.args.g.view in
     let p = pgn_at (pack_of c.args.s.now) t i in
     rw (told _ p v c.requires.is c.loop-k.k h _ c.set_at-set.ensures t i c.loop-k.outer c.loop-k.invariant.outer)
-    (fits_turn (of-place t i p) v.places c.loop-k.k h (rw (← places_are c.requires.is) at c.requires.fits) c.loop-k.invariant.reports.emitted)
+    (fits_turn (of_place t i p) v.places c.loop-k.k h (rw (← places_are c.requires.is) at c.requires.fits) c.loop-k.invariant.reports.emitted)
 
 pub overflow_add-k-in-loop-k : goal.overflow_add-k-in-loop-k
 overflow_add-k-in-loop-k c =

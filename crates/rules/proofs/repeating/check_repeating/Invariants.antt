@@ -10,14 +10,14 @@ use lib.ListN.{length}
 use Rattle.rules.proofs.repeating.check_repeating.Given as goal
 
 -- what is found at place k
-abbrev pub of-place : ℕ → ℕ → Pgn → ℕ → List Finding
-of-place t i p k = check_set t i (k + 1) (length p.fields) (set_before p k) (set_place p k)
+abbrev pub of_place : ℕ → ℕ → Pgn → ℕ → List Finding
+of_place t i p k = check_set t i (k + 1) (length p.fields) (set_before p k) (set_place p k)
 
 abbrev pub invariant-loop-k : goal.invariant-loop-k
 invariant-loop-k l =
     record {
       outer : optional_repeating l.outer ≡ set_before (pgn_at (pack_of l.s) l.g.tree l.g.item) l.k;
-      reports : Reporting l.initial.out l.n (of-place l.g.tree l.g.item (pgn_at (pack_of l.s) l.g.tree l.g.item)) l.places l.k l.out l.m;
+      reports : Reporting l.initial.out l.n (of_place l.g.tree l.g.item (pgn_at (pack_of l.s) l.g.tree l.g.item)) l.places l.k l.out l.m;
     }
 
 abbrev pub decreases-loop-k : goal.decreases-loop-k

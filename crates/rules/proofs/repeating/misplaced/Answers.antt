@@ -7,8 +7,8 @@ use native.Mathlib.Decide.{dec_lt}
 use Prim.Native.Nat.{ℕ, ◌<◌}
 use Rattle.rules.proofs.repeating.misplaced.Goals as goal
 
-not-before : (a b : ℕ) → not (a <ᵇ b) ≡ (b ≤ᵇ a)
-not-before a b = go (dec_lt a b)
+not_before : (a b : ℕ) → not (a <ᵇ b) ≡ (b ≤ᵇ a)
+not_before a b = go (dec_lt a b)
   where
     go : Dec (a < b) → not (a <ᵇ b) ≡ (b ≤ᵇ a)
     go (yes l) = rw (lt-ltb a b l, lt-leb b a l)
@@ -19,4 +19,4 @@ returns-then-counter-eq0 c = rw (eq-eqb _ _ c.if-counter-eq0.true)
 
 pub returns : goal.returns
 returns c =
-    rw (ne_eqb _ _ c.if-counter-eq0.false, c.precedes.ensures) (not-before c.args.counter.0 c.args.start.0)
+    rw (ne_eqb _ _ c.if-counter-eq0.false, c.precedes.ensures) (not_before c.args.counter.0 c.args.start.0)

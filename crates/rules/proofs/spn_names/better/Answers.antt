@@ -41,45 +41,45 @@ abbrev has : List ℕ → ℕ → ℕ → Bool
 has s spn i = given (spn_field (get_or (pack_of s).pgns_j1939 i no_pgn) spn)
 
 module _ (s w : List ℕ) (spn j : ℕ) (best : Namer) (a : NamesAmong s w spn j best) (g : PgnView) (is : PgnIs s (pgn_at (pack_of s) 1 j) g) where
-  g-number : g.pgn ≡ number_of s j
-  g-number = ap (λ (G : Pgn). G.pgn) is.means
+  g_number : g.pgn ≡ number_of s j
+  g_number = ap (λ (G : Pgn). G.pgn) is.means
 
   as_before : least_below (number_of s) (has s spn) (j + 1) ≡ least_below (number_of s) (has s spn) j → NamesAmong s w spn (j + 1) best
   as_before e = record { least = a.least ∙ sym e; at = a.at; field = a.field; number = a.number }
 
-  first-stays : (best.given && (best.number ≤ᵇ g.pgn)) ≡ true → NamesAmong s w spn (j + 1) best
-  first-stays e =
+  first_stays : (best.given && (best.number ≤ᵇ g.pgn)) ≡ true → NamesAmong s w spn (j + 1) best
+  first_stays e =
       let u = and_left best.given (best.number ≤ᵇ g.pgn) e in
       let v = leb-true best.number g.pgn (and_right best.given (best.number ≤ᵇ g.pgn) e) in
       let o : least_below (number_of s) (has s spn) j ≡ some best.pgn = sym a.least ∙ ap (λ (b : Bool). optional b best.pgn) u in
-      let l : number_of s best.pgn ≤ number_of s j = omega (arith, v, a.number u, g-number) in
+      let l : number_of s best.pgn ≤ number_of s j = omega (arith, v, a.number u, g_number) in
       as_before (least_turn (number_of s) (has s spn) j ∙ stays (number_of s) j best.pgn (least_below (number_of s) (has s spn) j) (has s spn j) o l)
 
-  stays-unmet : (f : Bool) (x : ℕ) → optional f x ≡ spn_field (pgn_at (pack_of s) 1 j) spn → f ≡ false → NamesAmong s w spn (j + 1) best
-  stays-unmet f x h e =
+  stays_unmet : (f : Bool) (x : ℕ) → optional f x ≡ spn_field (pgn_at (pack_of s) 1 j) spn → f ≡ false → NamesAmong s w spn (j + 1) best
+  stays_unmet f x h e =
       let u : has s spn j ≡ false = ap given (sym h) ∙ given_is f x ∙ e in
       as_before (least_turn (number_of s) (has s spn) j ∙ unmet (number_of s) j (least_below (number_of s) (has s spn) j) (has s spn j) u)
 
-  is-better : (p : ℕ) → PgnAt s w 1 j p → (best.given && (best.number ≤ᵇ g.pgn)) ≡ false → (f : Bool) (x : ℕ)
+  is_better : (p : ℕ) → PgnAt s w 1 j p → (best.given && (best.number ≤ᵇ g.pgn)) ≡ false → (f : Bool) (x : ℕ)
       → optional f x ≡ spn_field (pgn_at (pack_of s) 1 j) spn → f ≡ true
       → NamesAmong s w spn (j + 1) (record { given = true; pgn = j; place = p; number = g.pgn; field = x })
-  is-better p q e f x h t =
+  is_better p q e f x h t =
       let u : has s spn j ≡ true = ap given (sym h) ∙ given_is f x ∙ t in
       let l : best.given ≡ true → number_of s j < number_of s best.pgn = λ y.
       (let z : (best.number ≤ᵇ g.pgn) ≡ false = ap (λ (b : Bool). b && (best.number ≤ᵇ g.pgn)) (sym y) ∙ e in
-      omega (arith, leb-false best.number g.pgn z, a.number y, g-number)) in
+      omega (arith, leb-false best.number g.pgn z, a.number y, g_number)) in
       let turn = taken (number_of s) j best.pgn best.given (has s spn j) u l in
       let old = ap (λ (o : Option ℕ). if has s spn j then some (lower_key (number_of s) o j) else o) a.least in
       record {
         least = sym (least_turn (number_of s) (has s spn) j ∙ sym old ∙ turn);
         at = λ y. q;
         field = λ y. sym h ∙ ap (λ (b : Bool). optional b x) t;
-        number = λ y. g-number;
+        number = λ y. g_number;
       }
 
 pub returns-then-comes_after : goal.returns-then-comes_after
 returns-then-comes_after c =
-    first-stays c.args.s.now c.args.work.now c.args.spn c.args.j c.args.best c.requires.names c.args.g
+    first_stays c.args.s.now c.args.work.now c.args.spn c.args.j c.args.best c.requires.names c.args.g
     c.requires.is (sym c.comes_after.ensures ∙ c.if-comes_after.true)
 
 pub spn_field-f-requires : goal.spn_field-f-requires
@@ -88,11 +88,11 @@ spn_field-f-requires c =
 
 pub returns-then-f : goal.returns-then-f
 returns-then-f c =
-    is-better c.args.s.now c.args.work.now c.args.spn c.args.j c.args.best c.requires.names c.args.g
+    is_better c.args.s.now c.args.work.now c.args.spn c.args.j c.args.best c.requires.names c.args.g
     c.requires.is c.args.p c.requires.at (sym c.comes_after.ensures ∙ c.if-comes_after.false) c.spn_field-f.result.given
     c.spn_field-f.result.value c.spn_field-f.ensures c.if-f.true
 
 pub returns : goal.returns
 returns c =
-    stays-unmet c.args.s.now c.args.work.now c.args.spn c.args.j c.args.best c.requires.names c.args.g
+    stays_unmet c.args.s.now c.args.work.now c.args.spn c.args.j c.args.best c.requires.names c.args.g
     c.requires.is c.spn_field-f.result.given c.spn_field-f.result.value c.spn_field-f.ensures c.if-f.false

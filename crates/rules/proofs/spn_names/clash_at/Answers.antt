@@ -67,13 +67,15 @@ put-requires-2 c =
     let s = c.args.s.now in
     fits_right (c.pgn_error-2.result ∷ []) (c.pgn_error-3.result ∷ [])
     (rw (two (pack_of s).pgns_j1939 c.args.earlier c.args.spn c.args.other.pgn c.args.namer.pgn
-    (placed s _ _ c.pgn_of-a.result c.pgn_of-b.result c.pgn_of-a.ensures c.pgn_of-b.ensures c.same_place.result false c.same_place.ensures c.if-same_place.false)
+    (placed s _ _ c.pgn_of-a.result c.pgn_of-b.result c.pgn_of-a.ensures c.pgn_of-b.ensures c.same_place.result false c.same_place.ensures
+    c.if-same_place.false)
     c.pgn_error-2.result c.pgn_error-3.result c.pgn_error-2.ensures c.pgn_error-3.ensures) at c.requires.fits) c.put-m.ensures
 
 pub returns : goal.returns
 returns c =
     let s = c.args.s.now in
     rw (two (pack_of s).pgns_j1939 c.args.earlier c.args.spn c.args.other.pgn c.args.namer.pgn
-    (placed s _ _ c.pgn_of-a.result c.pgn_of-b.result c.pgn_of-a.ensures c.pgn_of-b.ensures c.same_place.result false c.same_place.ensures c.if-same_place.false)
+    (placed s _ _ c.pgn_of-a.result c.pgn_of-b.result c.pgn_of-a.ensures c.pgn_of-b.ensures c.same_place.result false c.same_place.ensures
+    c.if-same_place.false)
     c.pgn_error-2.result c.pgn_error-3.result c.pgn_error-2.ensures c.pgn_error-3.ensures)
     (emitted_append {xs = c.pgn_error-2.result ∷ []} {ys = c.pgn_error-3.result ∷ []} c.put-m.ensures c.put-2.ensures)

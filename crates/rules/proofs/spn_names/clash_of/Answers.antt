@@ -72,5 +72,6 @@ returns c =
     (sym c.earlier_spn-earlier.ensures ∙ ap (λ (b : Bool). optional b c.earlier_spn-earlier.result.value) e) in
     let m : c.spn_pgn-namer.result.given ≡ true = given_both s work spn c.spn_pgn-namer.result c.spn_pgn-namer.ensures ∙ c.requires.named in
     rw (paired (pack_of s).pgns_j1939 spn c.earlier_spn-earlier.result.given c.earlier_spn-earlier.result.value c.spn_pgn-other.result.pgn
-    c.spn_pgn-namer.result.pgn c.earlier_spn-earlier.ensures e (pgn_is s work c.earlier_spn-earlier.result.value c.spn_pgn-other.result c.spn_pgn-other.ensures n)
+    c.spn_pgn-namer.result.pgn c.earlier_spn-earlier.ensures e (pgn_is s work c.earlier_spn-earlier.result.value c.spn_pgn-other.result
+    c.spn_pgn-other.ensures n)
     (pgn_is s work spn c.spn_pgn-namer.result c.spn_pgn-namer.ensures m)) c.clash_at.ensures

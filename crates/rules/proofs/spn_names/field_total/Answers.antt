@@ -14,9 +14,9 @@ use Rattle.rules.proofs.spn_names.field_total.Invariants.{fields_in}
 use Rattle.rules.proofs.spn_names.field_total.Goals as goal
 
 -- fields are records
-total-few : (pgns : List Pgn) (i : ℕ) → sum_below (fields_in pgns) i ≤ pgn_records_below pgns i
-total-few pgns zero = omega arith
-total-few pgns (suc i) = omega (arith, total-few pgns i)
+total_few : (pgns : List Pgn) (i : ℕ) → sum_below (fields_in pgns) i ≤ pgn_records_below pgns i
+total_few pgns zero = omega arith
+total_few pgns (suc i) = omega (arith, total_few pgns i)
 
 pub loop-i-init : goal.loop-i-init
 loop-i-init c = record { turns = omega arith; place = omega (arith, c.requires.pgns.place); total = refl }
@@ -34,7 +34,7 @@ overflow_add-total c =
       c.pgn_of-g.ensures.fields,
       c.loop-i.invariant.place,
       c.loop-i.invariant.total,
-      total-few (pack_of c.args.s.now).pgns_j1939 c.loop-i.i,
+      total_few (pack_of c.args.s.now).pgns_j1939 c.loop-i.i,
     )
 
 pub overflow_add-p : goal.overflow_add-p

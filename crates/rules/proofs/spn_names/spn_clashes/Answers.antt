@@ -12,15 +12,15 @@ use mathlib.Core.List.{List}
 use mathlib.Core.Option.{none}
 use Rattle.pack.specs.Notation.{concat_below, optional}
 use Rattle.pack.specs.Meaning.{pack_of}
-use Rattle.rules.proofs.spn_names.spn_clashes.Invariants.{of-rank}
+use Rattle.rules.proofs.spn_names.spn_clashes.Invariants.{of_rank}
 use Rattle.rules.proofs.spn_names.spn_clashes.Goals as goal
 
 -- after the last SPN nothing follows
-ended : (s : List ℕ) (r n : ℕ) → r ≤ n → ranked (least_spn (pack_of s).pgns_j1939) r ≡ none → concat_below (of-rank s) n ≡ concat_below (of-rank s) r
+ended : (s : List ℕ) (r n : ℕ) → r ≤ n → ranked (least_spn (pack_of s).pgns_j1939) r ≡ none → concat_below (of_rank s) n ≡ concat_below (of_rank s) r
 ended s r n h e =
     let q : n ≡ r + (n - r) = omega arith in
-    ap (concat_below (of-rank s)) q
-    ∙ concat_ends (of-rank s) r (n - r) (λ k. ap (clash_of (pack_of s).pgns_j1939) (ranked_ends (least_spn (pack_of s).pgns_j1939) r k e))
+    ap (concat_below (of_rank s)) q
+    ∙ concat_ends (of_rank s) r (n - r) (λ k. ap (clash_of (pack_of s).pgns_j1939) (ranked_ends (least_spn (pack_of s).pgns_j1939) r k e))
 
 -- the SPN of a rank, as the code found it
 rank_is : (s : List ℕ) (r b : ℕ) (g d : Bool) (v : ℕ) → ranked (least_spn (pack_of s).pgns_j1939) r ≡ least_spn (pack_of s).pgns_j1939 b
@@ -46,9 +46,11 @@ pub returns-then-not-spn : goal.returns-then-not-spn
 unfolding check_spn_names
 returns-then-not-spn c =
     let s = c.args.s.now in
-    let e = rank_is s c.loop-rank.rank c.loop-rank.b c.least_spn-spn.result.given false c.least_spn-spn.result.value c.loop-rank.invariant.ranked c.least_spn-spn.ensures
+    let e = rank_is s c.loop-rank.rank c.loop-rank.b c.least_spn-spn.result.given false c.least_spn-spn.result.value c.loop-rank.invariant.ranked
+    c.least_spn-spn.ensures
     (not-true c.least_spn-spn.result.given c.if-not-spn.true) in
-    rw (← c.field_total-total.ensures, ended s c.loop-rank.rank c.field_total-total.result c.loop-rank.invariant.reporting.turns e) c.loop-rank.invariant.reporting.emitted
+    rw (← c.field_total-total.ensures, ended s c.loop-rank.rank c.field_total-total.result c.loop-rank.invariant.reporting.turns e)
+    c.loop-rank.invariant.reporting.emitted
 
 pub clash_of-m-requires : goal.clash_of-m-requires
 unfolding check_spn_names
@@ -56,9 +58,11 @@ clash_of-m-requires c =
     let s = c.args.s.now in
     let g = not-false c.least_spn-spn.result.given c.if-not-spn.false in
     let e =
-    rank_is s c.loop-rank.rank c.loop-rank.b c.least_spn-spn.result.given true c.least_spn-spn.result.value c.loop-rank.invariant.ranked c.least_spn-spn.ensures g in
+    rank_is s c.loop-rank.rank c.loop-rank.b c.least_spn-spn.result.given true c.least_spn-spn.result.value c.loop-rank.invariant.ranked
+    c.least_spn-spn.ensures g in
     record {
-      fits = rw e at (fits_turn (of-rank s) c.field_total-total.result c.loop-rank.rank c.loop-rank-test.true (rw (← c.field_total-total.ensures) at c.requires.fits)
+      fits = rw e at (fits_turn (of_rank s) c.field_total-total.result c.loop-rank.rank c.loop-rank-test.true
+          (rw (← c.field_total-total.ensures) at c.requires.fits)
           c.loop-rank.invariant.reporting.emitted);
       ready = c.requires.ready;
       pgns = c.requires.pgns;
@@ -77,7 +81,8 @@ loop-rank-smaller c =
 pub loop-rank-preserved : goal.loop-rank-preserved
 loop-rank-preserved c =
     let s = c.args.s.now in
-    let e = rank_is s c.loop-rank.rank c.loop-rank.b c.least_spn-spn.result.given true c.least_spn-spn.result.value c.loop-rank.invariant.ranked c.least_spn-spn.ensures
+    let e = rank_is s c.loop-rank.rank c.loop-rank.b c.least_spn-spn.result.given true c.least_spn-spn.result.value c.loop-rank.invariant.ranked
+    c.least_spn-spn.ensures
     (not-false c.least_spn-spn.result.given c.if-not-spn.false) in
     record {
       reporting = reporting_turn c.loop-rank.invariant.reporting (omega (arith, c.loop-rank-test.true)) (rw e c.clash_of-m.ensures);

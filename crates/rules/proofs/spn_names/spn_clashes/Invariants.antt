@@ -9,13 +9,13 @@ use Rattle.rules.specs.declared.Finding.{Finding}
 use Rattle.rules.proofs.spn_names.spn_clashes.Given as goal
 
 -- the findings of an SPN by its rank
-abbrev pub of-rank : List ℕ → ℕ → List Finding
-of-rank s r = clash_of (pack_of s).pgns_j1939 (ranked (least_spn (pack_of s).pgns_j1939) r)
+abbrev pub of_rank : List ℕ → ℕ → List Finding
+of_rank s r = clash_of (pack_of s).pgns_j1939 (ranked (least_spn (pack_of s).pgns_j1939) r)
 
 abbrev pub invariant-loop-rank : goal.invariant-loop-rank
 invariant-loop-rank l =
     record {
-      reporting : Reporting l.initial.out l.n (of-rank l.s) l.total l.rank l.out l.m;
+      reporting : Reporting l.initial.out l.n (of_rank l.s) l.total l.rank l.out l.m;
       ranked : ranked (least_spn (pack_of l.s).pgns_j1939) l.rank ≡ least_spn (pack_of l.s).pgns_j1939 l.b;
     }
 

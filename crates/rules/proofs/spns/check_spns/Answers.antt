@@ -13,18 +13,18 @@ use Rattle.rules.proofs.Emits.{emitted_append, fits_left, fits_right}
 use Rattle.rules.proofs.spns.check_spns.Goals as goal
 
 -- the three parts
-abbrev elsewhere-in : Pack → ℕ → List Finding
-elsewhere-in P t = concat_below (λ i. spns_elsewhere t i (pgn_at P t i)) (length (pgns_of P t))
+abbrev elsewhere_in : Pack → ℕ → List Finding
+elsewhere_in P t = concat_below (λ i. spns_elsewhere t i (pgn_at P t i)) (length (pgns_of P t))
 
-abbrev scalings-in : Pack → List Finding
-scalings-in P = concat_below (λ i. check_scalings (pgns_of P 1) i (pgn_at P 1 i)) (length (pgns_of P 1))
+abbrev scalings_in : Pack → List Finding
+scalings_in P = concat_below (λ i. check_scalings (pgns_of P 1) i (pgn_at P 1 i)) (length (pgns_of P 1))
 
 pub elsewhere-nmea2000-requires : goal.elsewhere-nmea2000-requires
 unfolding check_spns
 elsewhere-nmea2000-requires c =
     let P = pack_of c.args.s.now in
     record {
-      fits = fits_left (elsewhere-in P 0) (elsewhere-in P 2) (fits_left (elsewhere-in P 0 ++ elsewhere-in P 2) (scalings-in P) c.requires.fits);
+      fits = fits_left (elsewhere_in P 0) (elsewhere_in P 2) (fits_left (elsewhere_in P 0 ++ elsewhere_in P 2) (scalings_in P) c.requires.fits);
       ready = c.requires.ready;
       trees = omega (arith, c);
       pgns = at_tree P _ c.requires.index 0 (omega (arith, c)) _ _ refl c.section.ensures;
@@ -35,7 +35,7 @@ unfolding check_spns
 elsewhere-quick-requires c =
     let P = pack_of c.args.s.now in
     record {
-      fits = fits_right (elsewhere-in P 0) (elsewhere-in P 2) (fits_left (elsewhere-in P 0 ++ elsewhere-in P 2) (scalings-in P) c.requires.fits)
+      fits = fits_right (elsewhere_in P 0) (elsewhere_in P 2) (fits_left (elsewhere_in P 0 ++ elsewhere_in P 2) (scalings_in P) c.requires.fits)
           c.elsewhere-nmea2000.ensures;
       ready = c.requires.ready;
       trees = omega (arith, c);
@@ -47,8 +47,8 @@ unfolding check_spns
 scalings-requires c =
     let P = pack_of c.args.s.now in
     record {
-      fits = fits_right (elsewhere-in P 0 ++ elsewhere-in P 2) (scalings-in P) c.requires.fits
-          (emitted_append {xs = elsewhere-in P 0} {ys = elsewhere-in P 2} c.elsewhere-nmea2000.ensures c.elsewhere-quick.ensures);
+      fits = fits_right (elsewhere_in P 0 ++ elsewhere_in P 2) (scalings_in P) c.requires.fits
+          (emitted_append {xs = elsewhere_in P 0} {ys = elsewhere_in P 2} c.elsewhere-nmea2000.ensures c.elsewhere-quick.ensures);
       ready = c.requires.ready;
       pgns = at_tree P _ c.requires.index 1 (omega (arith, c)) _ _ refl c.section-3.ensures;
     }
@@ -57,5 +57,5 @@ pub returns : goal.returns
 unfolding check_spns
 returns c =
     let P = pack_of c.args.s.now in
-    emitted_append {xs = elsewhere-in P 0 ++ elsewhere-in P 2} {ys = scalings-in P}
-    (emitted_append {xs = elsewhere-in P 0} {ys = elsewhere-in P 2} c.elsewhere-nmea2000.ensures c.elsewhere-quick.ensures) c.scalings.ensures
+    emitted_append {xs = elsewhere_in P 0 ++ elsewhere_in P 2} {ys = scalings_in P}
+    (emitted_append {xs = elsewhere_in P 0} {ys = elsewhere_in P 2} c.elsewhere-nmea2000.ensures c.elsewhere-quick.ensures) c.scalings.ensures

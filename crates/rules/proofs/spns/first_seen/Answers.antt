@@ -83,7 +83,11 @@ loop-field-preserved c =
     let P = pack_of s in
     let e = told P s spn c.search.pgn c.loop-field.field c.field_of-f.result c.is_number.result false c.field_of-f.ensures
     c.is_number.ensures c.if-is_number.false in
-    record { turns = omega (arith, c.loop-field-test.true); none_yet = first_turn (carries P spn c.search.pgn) c.loop-field.field ∙ (rw (c.loop-field.invariant.none_yet, e)) }
+    record {
+      turns = omega (arith, c.loop-field-test.true);
+      none_yet = first_turn (carries P spn c.search.pgn) c.loop-field.field
+          ∙ (rw (c.loop-field.invariant.none_yet, e));
+    }
 
 pub overflow_add-place : goal.overflow_add-place
 overflow_add-place c =
@@ -129,6 +133,7 @@ returns c =
     let P = pack_of s in
     let hit = told P s spn c.search.pgn c.loop-field.field c.field_of-f.result c.is_number.result true c.field_of-f.ensures
     c.is_number.ensures c.if-is_number.true in
-    let e = found P spn c.search.pgn c.loop-field.field c.pgn_of-g.result.fields c.pgn_of-g.ensures.fields c.loop-field-test.true c.loop-field.invariant.none_yet hit in
+    let e = found P spn c.search.pgn c.loop-field.field c.pgn_of-g.result.fields c.pgn_of-g.ensures.fields c.loop-field-test.true
+    c.loop-field.invariant.none_yet hit in
     let a = here c.requires.ready c.requires.item c.search.invariant.turns c.search.invariant.place in
     record { seen = seen_first P spn c.search.pgn c.loop-field.field a.pgn c.search.invariant.none_yet e; field = e; at = a }

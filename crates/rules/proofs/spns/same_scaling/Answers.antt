@@ -24,14 +24,14 @@ abbrev scaling : ScalingView → Scaling
 scaling v = record { width = v.bits; resolution = of_bits binary64 v.resolution; offset = of_bits binary64 v.offset; unit = v.unit }
 
 -- of the views' patterns
-of-views : (s : List ℕ) (v w : ScalingView) (a b : Scaling) → a ≡ scaling v → b ≡ scaling w → (r : Bool) → r ≡ compared s a b
+of_views : (s : List ℕ) (v w : ScalingView) (a b : Scaling) → a ≡ scaling v → b ≡ scaling w → (r : Bool) → r ≡ compared s a b
     → r
     ≡ ((v.bits == w.bits)
     && float_eq v.resolution w.resolution
     && float_eq v.offset w.offset
     && same_unit (optional_bytes s v.unit) (optional_bytes s w.unit))
 unfolding float_eq
-of-views s v w a b p q r e = e ∙ (λ j. compared s (p j) (q j))
+of_views s v w a b p q r e = e ∙ (λ j. compared s (p j) (q j))
 
 -- the four ends of the comparison
 module _ (s : List ℕ) (a b : Scaling) where
@@ -39,36 +39,36 @@ module _ (s : List ℕ) (a b : Scaling) where
   other_width w = rw (ne_eqb _ _ w)
 
   module _ (w : a.width ≡ b.width) where
-    other-resolution : eq a.resolution b.resolution ≡ false → false ≡ compared s a b
-    other-resolution r = rw (eq-eqb _ _ w, r)
+    other_resolution : eq a.resolution b.resolution ≡ false → false ≡ compared s a b
+    other_resolution r = rw (eq-eqb _ _ w, r)
 
     other_offset : eq a.resolution b.resolution ≡ true → eq a.offset b.offset ≡ false → false ≡ compared s a b
     other_offset r o = rw (eq-eqb _ _ w, r, o)
 
-    by-unit : eq a.resolution b.resolution ≡ true → eq a.offset b.offset ≡ true
+    by_unit : eq a.resolution b.resolution ≡ true → eq a.offset b.offset ≡ true
         → (u : Bool) → u ≡ same_unit (optional_bytes s a.unit) (optional_bytes s b.unit) → u ≡ compared s a b
-    by-unit r o u e = rw (eq-eqb _ _ w, r, o) e
+    by_unit r o u e = rw (eq-eqb _ _ w, r, o) e
 
 pub returns-then-a-b-3 : goal.returns-then-a-b-3
 returns-then-a-b-3 c =
     let s = c.args.s.now in
-    of-views s c.args.v c.args.w c.scaling_of-a.result c.scaling_of-b.result c.scaling_of-a.ensures c.scaling_of-b.ensures _
-    (by-unit s c.scaling_of-a.result c.scaling_of-b.result c.if-a-b.true c.if-a-b-2.true c.if-a-b-3.true _ c.same_unit.ensures)
+    of_views s c.args.v c.args.w c.scaling_of-a.result c.scaling_of-b.result c.scaling_of-a.ensures c.scaling_of-b.ensures _
+    (by_unit s c.scaling_of-a.result c.scaling_of-b.result c.if-a-b.true c.if-a-b-2.true c.if-a-b-3.true _ c.same_unit.ensures)
 
 pub returns-then-a-b-2 : goal.returns-then-a-b-2
 returns-then-a-b-2 c =
     let s = c.args.s.now in
-    of-views s c.args.v c.args.w c.scaling_of-a.result c.scaling_of-b.result c.scaling_of-a.ensures c.scaling_of-b.ensures _
+    of_views s c.args.v c.args.w c.scaling_of-a.result c.scaling_of-b.result c.scaling_of-a.ensures c.scaling_of-b.ensures _
     (other_offset s c.scaling_of-a.result c.scaling_of-b.result c.if-a-b.true c.if-a-b-2.true c.if-a-b-3.false)
 
 pub returns-then-a-b : goal.returns-then-a-b
 returns-then-a-b c =
     let s = c.args.s.now in
-    of-views s c.args.v c.args.w c.scaling_of-a.result c.scaling_of-b.result c.scaling_of-a.ensures c.scaling_of-b.ensures _
-    (other-resolution s c.scaling_of-a.result c.scaling_of-b.result c.if-a-b.true c.if-a-b-2.false)
+    of_views s c.args.v c.args.w c.scaling_of-a.result c.scaling_of-b.result c.scaling_of-a.ensures c.scaling_of-b.ensures _
+    (other_resolution s c.scaling_of-a.result c.scaling_of-b.result c.if-a-b.true c.if-a-b-2.false)
 
 pub returns : goal.returns
 returns c =
     let s = c.args.s.now in
-    of-views s c.args.v c.args.w c.scaling_of-a.result c.scaling_of-b.result c.scaling_of-a.ensures c.scaling_of-b.ensures _
+    of_views s c.args.v c.args.w c.scaling_of-a.result c.scaling_of-b.result c.scaling_of-a.ensures c.scaling_of-b.ensures _
     (other_width s c.scaling_of-a.result c.scaling_of-b.result c.if-a-b.false)

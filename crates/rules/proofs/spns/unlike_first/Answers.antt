@@ -32,9 +32,9 @@ module _
   unfolding unlike_first unlike_field
   another e a d F q = rw (seen, field, ← at, e, d, q)
 
-  field-of-it : h < length (pgn_at P 1 j).fields
+  field_of_it : h < length (pgn_at P 1 j).fields
   unfolding spn_field
-  field-of-it = (first_is (λ x. is_number (field_at (pgn_at P 1 j) x).spn spn) (length (pgn_at P 1 j).fields) h field).0
+  field_of_it = (first_is (λ x. is_number (field_at (pgn_at P 1 j) x).spn spn) (length (pgn_at P 1 j).fields) h field).0
 
 -- views compared as the code does
 abbrev compared : List ℕ → ScalingView → ScalingView → Bool
@@ -73,7 +73,7 @@ pub field_of-g-requires : goal.field_of-g-requires
 field_of-g-requires c =
     record {
       at = c.first_seen-seen.ensures.at;
-      field = field-of-it (pack_of c.args.s.now) c.args.i c.args.k c.args.f.authored.spn.value
+      field = field_of_it (pack_of c.args.s.now) c.args.i c.args.k c.args.f.authored.spn.value
           c.first_seen-seen.result.pgn c.first_seen-seen.result.field c.first_seen-seen.ensures.seen c.first_seen-seen.ensures.field
           c.is_at.result c.is_at.ensures;
     }

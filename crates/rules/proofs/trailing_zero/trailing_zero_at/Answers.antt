@@ -27,10 +27,10 @@ module _ (s : List ℕ) (fts : List FieldType) (t i k : ℕ) (p : Pgn) (f : Fiel
     unfolding trailing_zero_at
     other x F y = rw (← is, h, ← is, ← z, x, y)
 
-    with-target : b ≡ true → (o : Option ℕ) → o ≡ target p (bytes_of s f.links.trailing.text)
+    with_target : b ≡ true → (o : Option ℕ) → o ≡ target p (bytes_of s f.links.trailing.text)
         → trailing_zero_at fts t i p k (field_at p k).trailing_zero ≡ trailing_zero_target_at fts t i p k o
     unfolding trailing_zero_at
-    with-target x o y = rw (← is, h, ← is, ← z, x, y)
+    with_target x o y = rw (← is, h, ← is, ← z, x, y)
 
 pub returns-then-not-f : goal.returns-then-not-f
 returns-then-not-f c =
@@ -60,7 +60,7 @@ pub trailing_zero_target_at-requires : goal.trailing_zero_target_at-requires
 trailing_zero_target_at-requires c =
     let s = c.args.s.now in let t = c.args.g.tree in let i = c.args.g.item in
     record {
-      fits = (rw (with-target s (pack_of s).fieldtypes t i c.args.k (pgn_at (pack_of s) t i) c.args.f c.requires.means
+      fits = (rw (with_target s (pack_of s).fieldtypes t i c.args.k (pgn_at (pack_of s) t i) c.args.f c.requires.means
           (not-false c.args.f.links.trailing.given c.if-not-f.false) c.text_is.result c.text_is.ensures
           (c.if-not-text_is.false) (optional_number c.target-j.result) c.target-j.ensures) at
           c.requires.fits);
@@ -71,6 +71,6 @@ trailing_zero_target_at-requires c =
 pub returns : goal.returns
 returns c =
     let s = c.args.s.now in let t = c.args.g.tree in let i = c.args.g.item in
-    rw (with-target s (pack_of s).fieldtypes t i c.args.k (pgn_at (pack_of s) t i) c.args.f c.requires.means
+    rw (with_target s (pack_of s).fieldtypes t i c.args.k (pgn_at (pack_of s) t i) c.args.f c.requires.means
     (not-false c.args.f.links.trailing.given c.if-not-f.false) c.text_is.result c.text_is.ensures (c.if-not-text_is.false)
     (optional_number c.target-j.result) c.target-j.ensures) c.trailing_zero_target_at.ensures

@@ -279,7 +279,7 @@ check_trailing_zero_is_digit-r44-requires c =
 
 pub check_min_length-requires : goal.check_min_length-requires
 check_min_length-requires c =
-    let check-field-type-overrides-call =
+    let check_field_type_overrides_call =
     c.check_field_type_overrides-r14 in
     let s = c.args.s.now in let t = c.args.g.tree in let i = c.args.g.item in
     record {
@@ -297,7 +297,7 @@ check_min_length-requires c =
           c.check_field_count-r11.ensures.count,
           c.check_reserved_ids-r12.ensures.count,
           c.check_match_values-r13.ensures.count,
-          check-field-type-overrides-call.ensures.count,
+          check_field_type_overrides_call.ensures.count,
           c.check_bit_length_field-r15.ensures.count,
           c.check_trailing_zero_is_digit-r44.ensures.count,
         );

@@ -38,7 +38,8 @@ check_variants-r20-requires c =
           ++ (check_variants t (pgns_of (pack_of s) t))) (check_unique_ids t (pgns_of (pack_of s) t)) c.requires.fits) c.check_pgns-pgns.ensures;
       ready = c.requires.ready;
       trees = c.requires.trees;
-      pgns = (at_tree (pack_of s) index c.requires.index t c.requires.trees c.of_tree-protocol.result c.section-tree.result c.of_tree-protocol.ensures c.section-tree.ensures);
+      pgns = (at_tree (pack_of s) index c.requires.index t c.requires.trees c.of_tree-protocol.result c.section-tree.result c.of_tree-protocol.ensures
+          c.section-tree.ensures);
     }
 
 pub check_unique_ids-requires : goal.check_unique_ids-requires
@@ -51,7 +52,8 @@ check_unique_ids-requires c =
           (emitted_append c.check_pgns-pgns.ensures c.check_variants-r20.ensures);
       ready = c.requires.ready;
       trees = c.requires.trees;
-      pgns = (at_tree (pack_of s) index c.requires.index t c.requires.trees c.of_tree-protocol.result c.section-tree.result c.of_tree-protocol.ensures c.section-tree.ensures);
+      pgns = (at_tree (pack_of s) index c.requires.index t c.requires.trees c.of_tree-protocol.result c.section-tree.result c.of_tree-protocol.ensures
+          c.section-tree.ensures);
     }
 
 pub shape_of-out : goal.shape_of-out

@@ -33,7 +33,8 @@ overflow_add-p-in-loop-j c =
 pub loop-j-preserved : goal.loop-j-preserved
 loop-j-preserved c =
     let s = c.args.s.now in let t = c.args.t in let id = c.args.id in
-    let e : has s t (bytes_of s id) c.loop-j.j ≡ c.same_text-hit.result = rw (← ap (λ (x : Pgn). x.id) c.pgn_of-g.ensures.means) (sym c.same_text-hit.ensures) in
+    let e : has s t (bytes_of s id) c.loop-j.j ≡ c.same_text-hit.result = rw (← ap (λ (x : Pgn). x.id) c.pgn_of-g.ensures.means)
+    (sym c.same_text-hit.ensures) in
     record {
       turns = omega (arith, c);
       place = omega (arith, pgn_place_next (pack_of s) t c.loop-j.j, c.pgn_of-g.ensures.fields, c.loop-j.invariant.place);

@@ -14,13 +14,13 @@ abbrev pub least : List ℕ → ℕ → ℕ → Option ℕ
 least s t = least_group t (pgns_of (pack_of s) t)
 
 -- the findings of the group of a rank
-abbrev pub of-rank : List ℕ → ℕ → ℕ → List Finding
-of-rank s t r = group_findings t (pgns_of (pack_of s) t) (ranked (least s t) r)
+abbrev pub of_rank : List ℕ → ℕ → ℕ → List Finding
+of_rank s t r = group_findings t (pgns_of (pack_of s) t) (ranked (least s t) r)
 
 abbrev pub invariant-loop-r : goal.invariant-loop-r
 invariant-loop-r l =
     record {
-      reporting : Reporting l.initial.out l.n (of-rank l.s l.t) l.count l.r l.out l.m;
+      reporting : Reporting l.initial.out l.n (of_rank l.s l.t) l.count l.r l.out l.m;
       ranked : ranked (least l.s l.t) l.r ≡ least l.s l.t l.b;
     }
 

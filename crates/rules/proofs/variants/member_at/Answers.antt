@@ -33,7 +33,8 @@ module _ (t : ℕ) (pgns : List Pgn) (number i : ℕ) where
   unmatched n e h =
       latest_none (λ j. in_group t pgns number j && duplicates (get_or pgns j no_pgn) (get_or pgns i no_pgn)) i
       (λ j. never (in_group t pgns number j) (has_match (get_or pgns j no_pgn) (length (get_or pgns j no_pgn).fields))
-      (has_match (get_or pgns i no_pgn) (length (get_or pgns i no_pgn).fields)) (match_key (get_or pgns j no_pgn) ≐ match_key (get_or pgns i no_pgn)) (rw e at h))
+      (has_match (get_or pgns i no_pgn) (length (get_or pgns i no_pgn).fields)) (match_key (get_or pgns j no_pgn) ≐ match_key (get_or pgns i no_pgn))
+      (rw e at h))
 
   module _ (h : in_group t pgns number i ≡ true) (b : Bool) (v : ℕ)
       (e : optional b v ≡ latest_below (λ j. in_group t pgns number j && duplicates (get_or pgns j no_pgn) (get_or pgns i no_pgn)) i) where

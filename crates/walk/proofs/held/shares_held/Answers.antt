@@ -20,7 +20,8 @@ loop-k-preserved c =
     record {
       turns = omega (arith, c.loop-k-test.true);
       apart =
-          λ L a. below_next (λ (j : ℕ). any_below (λ i. clash L i j) j ≡ false) (c.loop-k.invariant.apart L a) (sym (c.clashes.ensures L a) ∙ c.if-clashes.false);
+          λ L a. below_next (λ (j : ℕ). any_below (λ i. clash L i j) j ≡ false) (c.loop-k.invariant.apart L a)
+          (sym (c.clashes.ensures L a) ∙ c.if-clashes.false);
     }
 
 pub returns : goal.returns

@@ -49,7 +49,8 @@ shape_of-bad-then-n-gt4 c =
 
 pub returns-then-n-gt4 : goal.returns-then-n-gt4
 returns-then-n-gt4 c =
-    collected_many (turned c.args.s.now c.entry_of-entry.result c.names_missing-hit.result c.loop-e.invariant.collected c.loop-e.invariant.few c.entry_of-entry.ensures
+    collected_many (turned c.args.s.now c.entry_of-entry.result c.names_missing-hit.result c.loop-e.invariant.collected c.loop-e.invariant.few
+    c.entry_of-entry.ensures
     c.names_missing-hit.ensures c.keep-n.ensures.count c.keep-n.ensures.values) c.args.l.entries (omega arith)
 
 pub overflow_add-e : goal.overflow_add-e
@@ -62,7 +63,8 @@ loop-e-preserved c =
       turns = omega (arith, c.loop-e-test.true);
       few = omega (arith, c.if-n-gt4.false);
       same = c.keep-n.auto.bad ∙ c.loop-e.invariant.same;
-      collected = turned c.args.s.now c.entry_of-entry.result c.names_missing-hit.result c.loop-e.invariant.collected c.loop-e.invariant.few c.entry_of-entry.ensures
+      collected = turned c.args.s.now c.entry_of-entry.result c.names_missing-hit.result c.loop-e.invariant.collected c.loop-e.invariant.few
+          c.entry_of-entry.ensures
           c.names_missing-hit.ensures c.keep-n.ensures.count c.keep-n.ensures.values;
     }
 

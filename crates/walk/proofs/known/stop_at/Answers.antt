@@ -11,7 +11,12 @@ returns-then-lets_pass c =
 
 pub remember-requires : goal.remember-requires
 remember-requires c =
-    record { pgn = c.requires.pgn; remembered = c.requires.remembered; named = c.judge-judged.ensures.named c.if-judged-ne0.false; only = c.judge-judged.ensures.only c.if-judged-ne0.false }
+    record {
+      pgn = c.requires.pgn;
+      remembered = c.requires.remembered;
+      named = c.judge-judged.ensures.named c.if-judged-ne0.false;
+      only = c.judge-judged.ensures.only c.if-judged-ne0.false;
+    }
 
 pub returns : goal.returns
 returns c =

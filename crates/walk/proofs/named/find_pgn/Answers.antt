@@ -18,7 +18,8 @@ pub returns-then-section-pgn : goal.returns-then-section-pgn
 returns-then-section-pgn c =
     let s = c.args.s.now in let tree = c.args.tree in let pgn = c.args.pgn in
     let a =
-    at_tree (pack_of s) c.args.index c.requires.index tree c.if-tree-ge-COUNT.false c.of_tree.result c.section-section.result c.of_tree.ensures c.section-section.ensures in
+    at_tree (pack_of s) c.args.index c.requires.index tree c.if-tree-ge-COUNT.false c.of_tree.result c.section-section.result c.of_tree.ensures
+    c.section-section.ensures in
     let outside = le-ltb pgn (length (pgns_of (pack_of s) tree)) (omega (arith, a.count, c.if-section-pgn.true)) in
     named_refused s c.args.work.now tree pgn _ Absent (rw (lt-ltb tree 3 c.if-tree-ge-COUNT.false, outside))
 
@@ -32,7 +33,8 @@ pub returns : goal.returns
 returns c =
     let s = c.args.s.now in let tree = c.args.tree in let pgn = c.args.pgn in
     let a =
-    at_tree (pack_of s) c.args.index c.requires.index tree c.if-tree-ge-COUNT.false c.of_tree.result c.section-section.result c.of_tree.ensures c.section-section.ensures in
+    at_tree (pack_of s) c.args.index c.requires.index tree c.if-tree-ge-COUNT.false c.of_tree.result c.section-section.result c.of_tree.ensures
+    c.section-section.ensures in
     let inside = lt-ltb pgn (length (pgns_of (pack_of s) tree)) (omega (arith, a.count, c.if-section-pgn.false)) in
     named_found s c.args.work.now tree pgn _ _ (rw (lt-ltb tree 3 c.if-tree-ge-COUNT.false, inside)) refl refl
     (record { index = c.requires.index; place = c.pgn_position-place.ensures })

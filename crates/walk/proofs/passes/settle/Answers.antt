@@ -30,7 +30,8 @@ returns-in-Settled c =
     let w = c.loop-rounds.passes in
     let w' = c.settle_once.new.passes in
     λ L a l. rounds_settled L (memory_of w) (stand L (place_of c.loop-rounds.here.0 w)) c.settle_once.result w'
-    (c.settle_once.ensures.round L a (c.loop-rounds.invariant.rest L a l).first) _ c.loop-rounds.rounds (omega (arith, c.loop-rounds-test.true)) (c.loop-rounds.invariant.rest L a l).goes
+    (c.settle_once.ensures.round L a (c.loop-rounds.invariant.rest L a l).first) _ c.loop-rounds.rounds (omega (arith, c.loop-rounds-test.true))
+    (c.loop-rounds.invariant.rest L a l).goes
     c.in-Settled.answer c.in-Settled.is
 
 -- src/passes.rt:346:9
@@ -53,7 +54,8 @@ loop-rounds-preserved c =
       rest = λ L a l. record {
         first = rw c.in-Over.is at (c.settle_once.ensures.end L a (c.loop-rounds.invariant.rest L a l).first);
         goes = rounds_over L (memory_of w) (stand L (place_of c.loop-rounds.here.0 w)) c.settle_once.result w'
-            (c.settle_once.ensures.round L a (c.loop-rounds.invariant.rest L a l).first) _ c.loop-rounds.rounds (omega (arith, c.loop-rounds-test.true)) (c.loop-rounds.invariant.rest L a l).goes
+            (c.settle_once.ensures.round L a (c.loop-rounds.invariant.rest L a l).first) _ c.loop-rounds.rounds (omega (arith, c.loop-rounds-test.true))
+            (c.loop-rounds.invariant.rest L a l).goes
             c.in-Over.next c.in-Over.is;
       };
     }

@@ -72,4 +72,8 @@ shape_of-passes c =
 pub returns : goal.returns
 returns c =
     let e : c.loop-k.k ≡ 0 = omega (arith, c.loop-k-test.false) in
-    record { stands = λ L a l. c.closed.ensures.stands L a ∙ (rw e at (c.loop-k.invariant.rest L a l)); few = c.closed.ensures.few; memory = c.loop-k.invariant.memory }
+    record {
+      stands = λ L a l. c.closed.ensures.stands L a ∙ (rw e at (c.loop-k.invariant.rest L a l));
+      few = c.closed.ensures.few;
+      memory = c.loop-k.invariant.memory;
+    }

@@ -44,7 +44,11 @@ overflow_add-m c =
 -- src/runs.rt:213:13
 pub pass_on-requires : goal.pass_on-requires
 pass_on-requires c =
-    record { first = omega (arith, c.later_order-here.ensures, c.loop-stretch.invariant.first); set = c.requires.sound.set; sixteen = c.loop-stretch.invariant.sixteen }
+    record {
+      first = omega (arith, c.later_order-here.ensures, c.loop-stretch.invariant.first);
+      set = c.requires.sound.set;
+      sixteen = c.loop-stretch.invariant.sixteen;
+    }
 
 -- src/runs.rt:214:13
 pub shape_of-passes-then-not-pass_on : goal.shape_of-passes-then-not-pass_on
@@ -69,7 +73,8 @@ returns-then-not-pass_on c =
       within = λ v x. omega (arith, c.later_order-here.ensures, c.leap-made.ensures.within, x.within);
       runs = λ v x. rw (c.pass_on.ensures.kept (c.if-not-pass_on.true), c.leap-made.ensures.out)
           (runs_leap o c.loop-stretch.passes (c.loop-stretch.invariant.runs v x) c.loop-stretch.invariant.first c.leap-made.result c.leap-made.ensures.read
-          (λ j l. x.plain (o + j) (omega (arith, inside.from)) (omega (arith, l, c.leap-made.ensures.within))) c.leap-made.ensures.passing c.later_order-here.result.0
+          (λ j l. x.plain (o + j) (omega (arith, inside.from)) (omega (arith, l, c.leap-made.ensures.within))) c.leap-made.ensures.passing
+          c.later_order-here.result.0
           c.later_order-here.ensures);
     }
 
@@ -116,9 +121,11 @@ loop-stretch-preserved c =
       sixteen = c.pass_on.auto.passes ∙ c.loop-stretch.invariant.sixteen;
       same = c.write_visit.auto.visits ∙ c.leap-made.auto.visits ∙ c.loop-stretch.invariant.same;
       runs = λ v x. rw (c.write_visit.ensures, c.index_of.ensures, c.leap-made.ensures.out)
-          (runs_turn here c.loop-stretch.passes (runs_leap o c.loop-stretch.passes (c.loop-stretch.invariant.runs v x) c.loop-stretch.invariant.first c.leap-made.result c.leap-made.ensures.read
+          (runs_turn here c.loop-stretch.passes (runs_leap o c.loop-stretch.passes (c.loop-stretch.invariant.runs v x) c.loop-stretch.invariant.first
+          c.leap-made.result c.leap-made.ensures.read
           (λ j l. x.plain (o + j) (omega (arith, inside.from)) (omega (arith, l, c.leap-made.ensures.within))) c.leap-made.ensures.passing here
-          c.later_order-here.ensures) (omega (arith, c.later_order-here.ensures, c.loop-stretch.invariant.first)) on.read on.passing c.args.stretch.ending.start.0 w'
+          c.later_order-here.ensures) (omega (arith, c.later_order-here.ensures, c.loop-stretch.invariant.first)) on.read on.passing
+          c.args.stretch.ending.start.0 w'
           (λ L a r. pass_onward a here c.args.stretch.ending
           (subst (λ (i : ℕ). EndsBehind v i c.args.stretch.ending) (sym on.at) (x.ending on.ending)) c.loop-stretch.passes w' on.turns r));
     }

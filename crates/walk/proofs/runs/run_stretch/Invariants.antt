@@ -15,7 +15,8 @@ invariant-loop-stretch l =
       read : l.m ≤ length l.readings;
       sixteen : length l.passes ≡ 16;
       same : length l.visits ≡ length l.initial.visits;
-      runs : (v : Sets) → Straight v l.stretch → RunsTo v l.marks l.bad l.readings l.initial.visits l.n l.stretch.from.0 l.initial.passes l.visits l.m l.here.0 l.passes;
+      runs : (v : Sets) → Straight v l.stretch → RunsTo v l.marks l.bad l.readings l.initial.visits l.n l.stretch.from.0 l.initial.passes l.visits l.m
+          l.here.0 l.passes;
     }
 
 abbrev pub decreases-loop-stretch : goal.decreases-loop-stretch

@@ -25,7 +25,8 @@ loop-k-preserved c =
       turns = omega (arith, c.loop-k-test.true);
       fit = λ L a. below_next (λ (j : ℕ). misplaced L j ≡ false) (c.loop-k.invariant.fit L a) (sym (c.misplaced.ensures L a) ∙ c.if-misplaced.false);
       apart =
-          λ L a. below_next (λ (j : ℕ). any_below (λ i. clash L i j) j ≡ false) (c.loop-k.invariant.apart L a) (sym (c.clashes.ensures L a) ∙ c.if-clashes.false);
+          λ L a. below_next (λ (j : ℕ). any_below (λ i. clash L i j) j ≡ false) (c.loop-k.invariant.apart L a)
+          (sym (c.clashes.ensures L a) ∙ c.if-clashes.false);
     }
 
 pub returns : goal.returns

@@ -43,7 +43,11 @@ loop-e-preserved c =
     let s = c.args.s.now in let l = c.args.l in let reading = c.args.reading in
     let h =
     said s l reading c.loop-e.e c.entry_of-entry.result c.entry_names_missing.result c.entry_of-entry.ensures c.entry_names_missing.ensures in
-    record { turns = omega (arith, c); none_yet = any_turn (hits s l reading) c.loop-e.e ∙ (rw (c.loop-e.invariant.none_yet, h ∙ c.if-entry_names_missing.false)) }
+    record {
+      turns = omega (arith, c);
+      none_yet = any_turn (hits s l reading) c.loop-e.e
+          ∙ (rw (c.loop-e.invariant.none_yet, h ∙ c.if-entry_names_missing.false));
+    }
 
 pub returns : goal.returns
 unfolding entries_name_missing

@@ -26,9 +26,9 @@ nobody s w r h =
       none = λ e. h;
     }
 
-no-reference : (P : Pack) (R : Reference) (g : Bool) → g ≡ false → (reading : ℕ) → reference_names_missing P (optional g R) reading ≡ false
+no_reference : (P : Pack) (R : Reference) (g : Bool) → g ≡ false → (reading : ℕ) → reference_names_missing P (optional g R) reading ≡ false
 unfolding reference_names_missing
-no-reference P R g h reading = rw h
+no_reference P R g h reading = rw h
 
 module _ (P : Pack) (R : Reference) (g : Bool) (h : g ≡ true) (b : Bool) (l : ℕ) (e : optional b l ≡ find_lookup P.lookups R.name) where
   unknown : b ≡ false → (reading : ℕ) → reference_names_missing P (optional g R) reading ≡ false
@@ -52,7 +52,7 @@ pub returns-then-not-r : goal.returns-then-not-r
 returns-then-not-r c =
     let s = c.args.s.now in
     nobody s c.args.work.now (optional_reference s c.args.r)
-    (no-reference (pack_of s) (record { kind = c.args.r.kind; name = bytes_of s c.args.r.name }) c.args.r.given
+    (no_reference (pack_of s) (record { kind = c.args.r.kind; name = bytes_of s c.args.r.name }) c.args.r.given
     (not-true c.args.r.given c.if-not-r.true))
 
 pub returns-then-not-found : goal.returns-then-not-found

@@ -45,6 +45,7 @@ returns c =
       only = λ z. record {
         only = λ other. by_reading_only (pack_of s) (pgn_at (pack_of s) c.args.found.tree c.args.found.pgn)
             (placed (layout (pgn_at (pack_of s) c.args.found.tree c.args.found.pgn)) (suc k)) k other (field_meaning s c.field_of-f.result)
-            c.field_of-f.ensures c.field_stop-by_field.result c.if-by_field-ne0.false c.field_stop-by_field.ensures c.need_stop-stop.result z c.need_stop-stop.ensures;
+            c.field_of-f.ensures c.field_stop-by_field.result c.if-by_field-ne0.false c.field_stop-by_field.ensures c.need_stop-stop.result z
+            c.need_stop-stop.ensures;
       };
     }

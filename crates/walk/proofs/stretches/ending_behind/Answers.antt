@@ -43,7 +43,8 @@ pub returns-then-same_order : goal.returns-then-same_order
 returns-then-same_order c =
     let sets = c.args.sets in
     λ h. let b = c.ending_of.ensures h in
-    ends_behind sets c.args.o.0 (c.loop-k.k - 1) (omega (arith, c.loop-k.invariant.few, c.loop-k-test.true)) c.next_order-next.result.0 c.next_order-next.ensures
+    ends_behind sets c.args.o.0 (c.loop-k.k - 1) (omega (arith, c.loop-k.invariant.few, c.loop-k-test.true)) c.next_order-next.result.0
+    c.next_order-next.ensures
     (sym c.same_order.ensures ∙ c.if-same_order.true) (λ j l m. c.loop-k.invariant.elsewhere j (omega (arith, l)) m)
     (any_missed (λ i. counts (opt_order (value_at sets i).counter) (c.args.o.0 - 1)) 4 (sym c.is_counted.ensures ∙ c.if-is_counted.false)) c.ending_of.result
     b.set b.first b.within b.start

@@ -28,6 +28,6 @@ walk_on-requires c =
       sixteen = refl;
       left = zeros_left 16;
       latest = zeros_latest 16;
-      no-stop-1 = sym (c.stop_1.ensures (layout p) c.requires.pgn.sets) ∙ c.if-stop_1.false;
+      no_stop_1 = sym (c.stop_1.ensures (layout p) c.requires.pgn.sets) ∙ c.if-stop_1.false;
       room = c.requires.room;
     }

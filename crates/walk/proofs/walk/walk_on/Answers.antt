@@ -21,13 +21,13 @@ loop-found-init c =
     record {
       turns = omega (arith, c);
       ahead = omega (arith, c.first_order-here.ensures);
-      same-visits = refl;
-      going = start_going (pack_of s) p c.args.readings.now c.args.visits.now c.requires.no-stop-1
+      same_visits = refl;
+      going = start_going (pack_of s) p c.args.readings.now c.args.visits.now c.requires.no_stop_1
           (settled (layout p) (by_place (layout p)) (place_of c.first_order-here.result.0 w) (memory_of w))
           (begins_at (layout p) w c.requires.left c.requires.latest c.first_order-here.result.0 c.first_order-here.ensures);
       sixteen = c.requires.sixteen;
-      same-marks = refl;
-      same-bad = refl;
+      same_marks = refl;
+      same_bad = refl;
       remembered = c.requires.remembered;
     }
 
@@ -39,7 +39,7 @@ run_on-ran-requires c =
     let p = found_pgn c.args.s.now c.args.found in
     let w = c.loop-found.passes in
     let w' = c.settle-settling.new.passes in
-    let within = going_within (layout p) c.requires.no-stop-1 _ _ _ _ _ _
+    let within = going_within (layout p) c.requires.no_stop_1 _ _ _ _ _ _
     (settled (layout p) (by_place (layout p)) (place_of c.loop-found.here.0 w) (memory_of w)) c.loop-found.invariant.going in
     let e = c.settle-settling.ensures (layout p) c.requires.pgn.sets c.loop-found.invariant.ahead in
     record {
@@ -48,16 +48,16 @@ run_on-ran-requires c =
       small = omega (arith, c.requires.pgn.sets.fields, fields_few c.requires.pgn.place);
       sixteen = c.settle-settling.auto.passes ∙ c.loop-found.invariant.sixteen;
       read = c.loop-found.invariant.turns;
-      room = omega (arith, c.loop-found.invariant.same-visits, c.requires.room);
+      room = omega (arith, c.loop-found.invariant.same_visits, c.requires.room);
     }
 
 pub shape_of-marks-then-readings-made : goal.shape_of-marks-then-readings-made
 shape_of-marks-then-readings-made c =
-    c.loop-found.invariant.same-marks
+    c.loop-found.invariant.same_marks
 
 pub shape_of-bad-then-readings-made : goal.shape_of-bad-then-readings-made
 shape_of-bad-then-readings-made c =
-    c.loop-found.invariant.same-bad
+    c.loop-found.invariant.same_bad
 
 pub shape_of-passes-then-readings-made : goal.shape_of-passes-then-readings-made
 shape_of-passes-then-readings-made c =
@@ -65,17 +65,17 @@ shape_of-passes-then-readings-made c =
 
 pub shape_of-visits-then-readings-made : goal.shape_of-visits-then-readings-made
 shape_of-visits-then-readings-made c =
-    c.run_on-ran.auto.visits ∙ c.loop-found.invariant.same-visits
+    c.run_on-ran.auto.visits ∙ c.loop-found.invariant.same_visits
 
 pub returns-then-readings-made : goal.returns-then-readings-made
 returns-then-readings-made c =
     let s = c.args.s.now in let readings = c.args.readings.now in
     let p = found_pgn s c.args.found in
     let w' = c.run_on-ran.new.passes in
-    let g = going_turn (layout p) c.requires.no-stop-1 (stop_at (pack_of s) p) (walk (pack_of s) p readings) readings c.args.visits.now
+    let g = going_turn (layout p) c.requires.no_stop_1 (stop_at (pack_of s) p) (walk (pack_of s) p readings) readings c.args.visits.now
     (c.settle-settling.ensures (layout p) c.requires.pgn.sets c.loop-found.invariant.ahead) c.loop-found.invariant.going
     (c.run_on-ran.ensures.ran (layout p) c.requires.pgn.sets (stop_at (pack_of s) p) c.loop-found.invariant.remembered.never) in
-    going_used (layout p) c.requires.no-stop-1 _ _ _ _ _ _ (settled_of c.run_on-ran.result.settling w') g c.if-readings-made.true
+    going_used (layout p) c.requires.no_stop_1 _ _ _ _ _ _ (settled_of c.run_on-ran.result.settling w') g c.if-readings-made.true
     (omega (arith, c.run_on-ran.ensures.read, c.requires.room)) c.used-end.result (c.used-end.ensures w')
 
 pub offset_bounds-readings-made : goal.offset_bounds-readings-made
@@ -90,23 +90,23 @@ pub step-requires : goal.step-requires
 step-requires c =
     let s = c.args.s.now in let readings = c.args.readings.now in
     let p = found_pgn s c.args.found in
-    let g = going_turn (layout p) c.requires.no-stop-1 (stop_at (pack_of s) p) (walk (pack_of s) p readings) readings c.args.visits.now
+    let g = going_turn (layout p) c.requires.no_stop_1 (stop_at (pack_of s) p) (walk (pack_of s) p readings) readings c.args.visits.now
     (c.settle-settling.ensures (layout p) c.requires.pgn.sets c.loop-found.invariant.ahead) c.loop-found.invariant.going
     (c.run_on-ran.ensures.ran (layout p) c.requires.pgn.sets (stop_at (pack_of s) p) c.loop-found.invariant.remembered.never) in
     record {
       pgn = c.requires.pgn;
       remembered = c.loop-found.invariant.remembered;
       sixteen = c.run_on-ran.auto.passes ∙ c.settle-settling.auto.passes ∙ c.loop-found.invariant.sixteen;
-      within = going_within (layout p) c.requires.no-stop-1 _ _ _ _ _ _ (settled_of c.run_on-ran.result.settling c.run_on-ran.new.passes) g;
+      within = going_within (layout p) c.requires.no_stop_1 _ _ _ _ _ _ (settled_of c.run_on-ran.result.settling c.run_on-ran.new.passes) g;
     }
 
 pub shape_of-marks-in-Ended : goal.shape_of-marks-in-Ended
 shape_of-marks-in-Ended c =
-    c.step.auto.marks ∙ c.loop-found.invariant.same-marks
+    c.step.auto.marks ∙ c.loop-found.invariant.same_marks
 
 pub shape_of-bad-in-Ended : goal.shape_of-bad-in-Ended
 shape_of-bad-in-Ended c =
-    c.step.auto.bad ∙ c.loop-found.invariant.same-bad
+    c.step.auto.bad ∙ c.loop-found.invariant.same_bad
 
 pub shape_of-passes-in-Ended : goal.shape_of-passes-in-Ended
 shape_of-passes-in-Ended c =
@@ -114,23 +114,24 @@ shape_of-passes-in-Ended c =
 
 pub shape_of-visits-in-Ended : goal.shape_of-visits-in-Ended
 shape_of-visits-in-Ended c =
-    c.run_on-ran.auto.visits ∙ c.loop-found.invariant.same-visits
+    c.run_on-ran.auto.visits ∙ c.loop-found.invariant.same_visits
 
 pub returns-in-Ended : goal.returns-in-Ended
 returns-in-Ended c =
     let s = c.args.s.now in let readings = c.args.readings.now in
     let p = found_pgn s c.args.found in
     let w' = c.step.new.passes in
-    let g = going_turn (layout p) c.requires.no-stop-1 (stop_at (pack_of s) p) (walk (pack_of s) p readings) readings c.args.visits.now
+    let g = going_turn (layout p) c.requires.no_stop_1 (stop_at (pack_of s) p) (walk (pack_of s) p readings) readings c.args.visits.now
     (c.settle-settling.ensures (layout p) c.requires.pgn.sets c.loop-found.invariant.ahead) c.loop-found.invariant.going
     (c.run_on-ran.ensures.ran (layout p) c.requires.pgn.sets (stop_at (pack_of s) p) c.loop-found.invariant.remembered.never) in
-    going_ended (layout p) c.requires.no-stop-1 _ _ _ _ _ _ (settled_of c.run_on-ran.result.settling c.run_on-ran.new.passes) g (omega (arith, c.if-readings-made.false))
+    going_ended (layout p) c.requires.no_stop_1 _ _ _ _ _ _ (settled_of c.run_on-ran.result.settling c.run_on-ran.new.passes) g
+    (omega (arith, c.if-readings-made.false))
     (step_of (layout p) c.step.result w') c.step.ensures.step c.in-Ended.end
     (ap (λ (x : Stepping). step_of (layout p) x w') c.in-Ended.is) (omega (arith, c.run_on-ran.ensures.read, c.requires.room))
 
 pub write_visit-requires : goal.write_visit-requires
 write_visit-requires c =
-    omega (arith, c.if-readings-made.false, c.run_on-ran.auto.visits, c.loop-found.invariant.same-visits, c.requires.room)
+    omega (arith, c.if-readings-made.false, c.run_on-ran.auto.visits, c.loop-found.invariant.same_visits, c.requires.room)
 
 pub overflow_add-n : goal.overflow_add-n
 overflow_add-n c =
@@ -146,19 +147,19 @@ loop-found-preserved c =
     let p = found_pgn s c.args.found in
     let w' = c.step.new.passes in
     let next = c.in-Visited.next in
-    let g = going_turn (layout p) c.requires.no-stop-1 (stop_at (pack_of s) p) (walk (pack_of s) p readings) readings c.args.visits.now
+    let g = going_turn (layout p) c.requires.no_stop_1 (stop_at (pack_of s) p) (walk (pack_of s) p readings) readings c.args.visits.now
     (c.settle-settling.ensures (layout p) c.requires.pgn.sets c.loop-found.invariant.ahead) c.loop-found.invariant.going
     (c.run_on-ran.ensures.ran (layout p) c.requires.pgn.sets (stop_at (pack_of s) p) c.loop-found.invariant.remembered.never) in
     record {
       turns = omega (arith, c.if-readings-made.false);
       ahead = subst (λ (x : Stepping). 1 ≤ next_of x) c.in-Visited.is c.step.ensures.ahead;
-      same-visits = c.write_visit.auto.visits ∙ c.run_on-ran.auto.visits ∙ c.loop-found.invariant.same-visits;
-      going = rw c.write_visit.ensures (going_on (layout p) c.requires.no-stop-1 _ _ _ _ _ _
+      same_visits = c.write_visit.auto.visits ∙ c.run_on-ran.auto.visits ∙ c.loop-found.invariant.same_visits;
+      going = rw c.write_visit.ensures (going_on (layout p) c.requires.no_stop_1 _ _ _ _ _ _
           (settled_of c.run_on-ran.result.settling c.run_on-ran.new.passes) g (omega (arith, c.if-readings-made.false)) (step_of (layout p) c.step.result w')
           c.step.ensures.step c.in-Visited.field.0 (settled (layout p) (by_place (layout p)) (place_of next.0 w') (memory_of w'))
           (ap (λ (x : Stepping). step_of (layout p) x w') c.in-Visited.is));
       sixteen = c.step.auto.passes ∙ c.run_on-ran.auto.passes ∙ c.settle-settling.auto.passes ∙ c.loop-found.invariant.sixteen;
-      same-marks = c.step.auto.marks ∙ c.loop-found.invariant.same-marks;
-      same-bad = c.step.auto.bad ∙ c.loop-found.invariant.same-bad;
+      same_marks = c.step.auto.marks ∙ c.loop-found.invariant.same_marks;
+      same_bad = c.step.auto.bad ∙ c.loop-found.invariant.same_bad;
       remembered = c.step.ensures.remembered;
     }

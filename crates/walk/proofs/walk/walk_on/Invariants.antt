@@ -17,12 +17,13 @@ invariant-loop-found l =
     record {
       turns : l.n ≤ length l.readings;
       ahead : 1 ≤ l.here.0;
-      same-visits : length l.visits ≡ length l.initial.visits;
-      going : Going (layout (found_pgn l.s l.found)) (stop_at (pack_of l.s) (found_pgn l.s l.found)) (walk (pack_of l.s) (found_pgn l.s l.found) l.readings) l.readings l.initial.visits
+      same_visits : length l.visits ≡ length l.initial.visits;
+      going : Going (layout (found_pgn l.s l.found)) (stop_at (pack_of l.s) (found_pgn l.s l.found)) (walk (pack_of l.s) (found_pgn l.s l.found) l.readings)
+          l.readings l.initial.visits
           l.visits l.n (settled (layout (found_pgn l.s l.found)) (by_place (layout (found_pgn l.s l.found))) (place_of l.here.0 l.passes) (memory_of l.passes));
       sixteen : length l.passes ≡ 16;
-      same-marks : length l.marks ≡ length l.initial.marks;
-      same-bad : length l.bad ≡ length l.initial.bad;
+      same_marks : length l.marks ≡ length l.initial.marks;
+      same_bad : length l.bad ≡ length l.initial.bad;
       remembered : Remembered (pack_of l.s) (found_pgn l.s l.found) l.marks l.bad;
     }
 

@@ -26,7 +26,8 @@ joined types total s c n ft fl sc au li ff e1 e2 e3 e4 e5 e6 e7 = rw (e7, e6, e5
 pub returns : goal.returns
 returns c =
     record {
-      is = joined _ _ _ _ _ _ _ _ _ _ _ c.names-names.ensures c.index-ft.ensures c.code-flags.ensures c.scaling-scaling.ensures.is c.authored-authored.ensures c.links-links.ensures
+      is = joined _ _ _ _ _ _ _ _ _ _ _ c.names-names.ensures c.index-ft.ensures c.code-flags.ensures c.scaling-scaling.ensures.is c.authored-authored.ensures
+          c.links-links.ensures
           c.field_flags-f.ensures;
       bound = c.scaling-scaling.ensures.bound;
     }

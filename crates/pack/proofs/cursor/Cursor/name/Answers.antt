@@ -15,7 +15,13 @@ returns-then-not-before c =
 pub returns-then-text_precedes : goal.returns-then-text_precedes
 unfolding read_name
 returns-then-text_precedes c =
-    simp (← c.text-t.ensures, eq-eqb _ _ c.if-c-ne0.false, not-false c.args.before.given c.if-not-before.false, ← c.text_precedes.ensures, c.if-text_precedes.true)
+    simp (
+      ← c.text-t.ensures,
+      eq-eqb _ _ c.if-c-ne0.false,
+      not-false c.args.before.given c.if-not-before.false,
+      ← c.text_precedes.ensures,
+      c.if-text_precedes.true,
+    )
 
 pub returns : goal.returns
 unfolding read_name

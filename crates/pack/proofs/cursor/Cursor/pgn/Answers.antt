@@ -38,5 +38,6 @@ joined s c n i k f l m a b d z e1 e2 e3 e4 e5 e6 e7 e8 e9 e10 = rw (e10, e9, e8,
 
 pub returns : goal.returns
 returns c =
-    joined _ _ _ _ _ _ _ _ _ _ _ _ c.number-pgn.ensures c.text-id.ensures c.code-kind.ensures c.code-flags.ensures c.number-length.ensures c.opt_bytes-minimum.ensures
+    joined _ _ _ _ _ _ _ _ _ _ _ _ c.number-pgn.ensures c.text-id.ensures c.code-kind.ensures c.code-flags.ensures c.number-length.ensures
+    c.opt_bytes-minimum.ensures
     c.opt_repeating-first.ensures c.opt_repeating-second.ensures c.number-fields.ensures c.absent_set-none.ensures

@@ -1,6 +1,6 @@
 use lib.Seq.{length-take-le}
 use mathlib.Core.Path.{sym}
-use Rattle.replay.proofs.walk.rest_of_case.Goals as goal
+use Rattle.replay.proofs.walks.rest_of_case.Goals as goal
 
 pub slice_bounds-with_readings-end-2 : goal.slice_bounds-with_readings-end-2
 slice_bounds-with_readings-end-2 c =
