@@ -64,17 +64,23 @@ fn has_prefix(b: &[u8]) -> bool
     b[1] == 88
 }
 
+// The length of the prefix and one digit.
+const SHORTEST: usize = 3;
+
+// The length of the prefix and 16 digits.
+const LONGEST: usize = 18;
+
 // "0x or 0X and 1 to 16 hexadecimal digits"
 pub fn parse_hex(b: &[u8]) -> OptWide
     ensures { optional result.given result.value ≡ parse_hex b.now }
 {
-    if b.len() < 3 {
+    if b.len() < SHORTEST {
         return OptWide {
             given: false,
             value: 0,
         };
     }
-    if 18 < b.len() {
+    if LONGEST < b.len() {
         return OptWide {
             given: false,
             value: 0,

@@ -22,7 +22,7 @@ use Rattle.rules.specs.Continues.{holds_order, place_number, set_of, continued_a
 use Rattle.rules.specs.TrailingZero.{starts_behind, fixed, trailing_zero_target_at, trailing_zero_at}
 use Rattle.rules.specs.Texts.{DECIMAL}
 use Rattle.rules.specs.Clean.{Clean, clean_in_turn, clean_below, clean_if}
-use Rattle.walk.specs.Layout.{set_or_empty, layout, start, sets_hold}
+use Rattle.walk.specs.Layout.{set_or_empty, layout, sets_hold}
 use Rattle.walk.specs.Stops.{is_missing, name_of, lookup_missing, unfit, match_unfit, names_missing, entries_name_missing, lookup_names_missing}
 use Rattle.walk.specs.Stops.{reference_names_missing, lacks}
 use Rattle.walk.specs.ByPlace.{placed}

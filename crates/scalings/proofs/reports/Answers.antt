@@ -1,7 +1,6 @@
 use Rattle.scalings.specs.Report.{finding_is}
 use Rattle.rules.specs.SearchLaws.{any_turn, any_hit}
 use borrow.Author.Rules.{rules}
-use mathlib.Core.Bool.{false}
 use mathlib.Core.Path.{◌≡◌, refl, sym, ◌∙◌}
 use native.Mathlib.Omega.{arith}
 use Rattle.scalings.proofs.reports.Goals as goal

@@ -37,11 +37,11 @@ prefixed [] l h e = absurd (omega arith)
 prefixed (z ∷ []) l h e = absurd (omega arith)
 prefixed (z ∷ x ∷ ds) l h e = rw (e, le-leb 1 (length ds) (omega arith), le-leb (length ds) 16 (omega arith))
 
-pub returns-then-b-lt3 : goal.returns-then-b-lt3
-returns-then-b-lt3 c = sym (short c.args.b.now (omega (arith, c.if-b-lt3.true)))
+pub returns-then-b-lt-SHORTEST : goal.returns-then-b-lt-SHORTEST
+returns-then-b-lt-SHORTEST c = sym (short c.args.b.now (omega (arith, c.if-b-lt-SHORTEST.true)))
 
-pub returns-then-b-gt18 : goal.returns-then-b-gt18
-returns-then-b-gt18 c = sym (long c.args.b.now (omega (arith, c.if-b-gt18.true)))
+pub returns-then-b-gt-LONGEST : goal.returns-then-b-gt-LONGEST
+returns-then-b-gt-LONGEST c = sym (long c.args.b.now (omega (arith, c.if-b-gt-LONGEST.true)))
 
 pub returns-then-not-has_prefix : goal.returns-then-not-has_prefix
 returns-then-not-has_prefix c =
@@ -50,5 +50,5 @@ returns-then-not-has_prefix c =
 pub returns : goal.returns
 returns c =
     c.hex_digits.ensures
-    ∙ sym (prefixed c.args.b.now (omega (arith, c.if-b-lt3.false)) (omega (arith, c.if-b-gt18.false))
+    ∙ sym (prefixed c.args.b.now (omega (arith, c.if-b-lt-SHORTEST.false)) (omega (arith, c.if-b-gt-LONGEST.false))
     (sym c.has_prefix.ensures ∙ c.if-not-has_prefix.false))

@@ -3,7 +3,6 @@ use Rattle.rules.specs.SearchLaws.{any_turn, any_hit}
 use Rattle.pack.specs.Notation.{◌==◌}
 use borrow.Author.Tests.{eq-eqb, ne_eqb}
 use lib.ListN.{get_or}
-use mathlib.Core.Bool.{false}
 use mathlib.Core.Path.{◌≡◌, refl, sym, ap, ◌∙◌}
 use Prim.Native.Nat.{ℕ, ◌+◌, ◌*◌}
 use native.Mathlib.Omega.{arith}

@@ -1,4 +1,4 @@
-use borrow.Author.Tests.{not-true, not-false, lt-ltb}
+use borrow.Author.Tests.{lt-ltb}
 use native.Mathlib.Omega.{arith}
 use Rattle.walk.proofs.known.keep.Goals as goal
 

@@ -3,7 +3,6 @@ use Rattle.rules.specs.SearchLaws.{any_hit, any_turn}
 use Rattle.walk.specs.ByPlace.{counts}
 use Rattle.pack.specs.Meaning.{opt_order}
 use mathlib.Core.Path.{◌≡◌, refl, sym, ◌∙◌}
-use mathlib.Core.Bool.{false}
 use Prim.Native.Nat.{◌-◌}
 use native.Mathlib.Omega.{arith}
 use Rattle.walk.proofs.passes.is_counted.Goals as goal

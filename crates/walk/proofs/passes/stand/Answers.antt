@@ -1,6 +1,5 @@
 use Rattle.walk.proofs.PassLaws.{close_four, close_below}
 use Rattle.walk.specs.State.{place_of}
-use Rattle.walk.specs.Passes.{close}
 use Prim.Native.Nat.{◌-◌}
 use native.Mathlib.Omega.{arith}
 use mathlib.Core.Path.{◌≡◌, refl, ◌∙◌}

@@ -2,7 +2,6 @@ use Rattle.walk.proofs.Tests.{or_i}
 use Rattle.walk.specs.Layout.{clash}
 use Rattle.rules.specs.SearchLaws.{any_hit, any_turn}
 use Rattle.rules.specs.Search.{any_below}
-use mathlib.Core.Bool.{false}
 use mathlib.Core.Path.{◌≡◌, refl, sym, ap, ◌∙◌}
 use native.Mathlib.Omega.{arith}
 use Rattle.walk.proofs.sets.clashes.Goals as goal

@@ -1,6 +1,4 @@
 use Rattle.walk.proofs.SetValues.{not_nested, nested_next, nested_further, nested_none}
-use Rattle.walk.specs.SetsOf.{value_at}
-use borrow.Author.Tests.{not-true, not-false}
 use mathlib.Core.Path.{refl, sym, ◌∙◌}
 use native.Mathlib.Omega.{arith}
 use Rattle.walk.proofs.sets.nested_in.Goals as goal

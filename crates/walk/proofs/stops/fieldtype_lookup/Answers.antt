@@ -10,7 +10,7 @@ use borrow.Author.Tests.{not-true, not-false, eq-eqb, ne_eqb}
 use Prim.Native.Nat.{ℕ}
 use mathlib.Core.Path.{◌≡◌, sym, ◌∙◌, ap}
 use mathlib.Core.List.{List}
-use mathlib.Core.Option.{Option, none}
+use mathlib.Core.Option.{Option}
 use Rattle.pack.specs.Notation.{optional, ◌==◌}
 use Rattle.pack.specs.Ready.{LookupIs}
 use Rattle.walk.proofs.stops.fieldtype_lookup.Goals as goal

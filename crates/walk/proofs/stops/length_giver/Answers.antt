@@ -9,7 +9,7 @@ use borrow.Author.Rules.{rules}
 use native.Mathlib.Omega.{arith}
 use Prim.Native.Nat.{ℕ, suc, ◌+◌}
 use mathlib.Core.Path.{◌≡◌, refl, sym, ◌∙◌, ap}
-use mathlib.Core.Bool.{Bool, false, ◌&&◌, false≢true}
+use mathlib.Core.Bool.{Bool, ◌&&◌, false≢true}
 use mathlib.Core.List.{List}
 use Rattle.pack.specs.Meaning.{pack_of}
 use Rattle.pack.specs.Value.{pgn_at, field_at}
