@@ -11,7 +11,7 @@ use harness::{calls, library};
 use std::path::Path;
 use std::process::Command;
 
-const SOURCE: &str = include_str!("../../crates/exports/src/lib.rt");
+const SOURCE: &str = include_str!("../../crates/exports_c/src/lib.rt");
 const HEADER: &str = include_str!("../../include/sarwymp.h");
 const WRAPPER: &str = include_str!("../src/library.rs");
 
@@ -79,7 +79,7 @@ fn plain(declaration: &str) -> String {
 
 /// The declarations that the source's exported functions want.
 fn wanted(source: &str, language: &Language) -> Vec<String> {
-    let exported = source.split("#[no_mangle]").skip(1);
+    let exported = source.split("#[unsafe(no_mangle)]").skip(1);
     let one = |function: &str| {
         let declared = function.trim_start().strip_prefix("pub extern \"C\" fn ").expect("an exported function");
         let (name, rest) = declared.split_once('(').expect("parameters");
@@ -187,7 +187,7 @@ fn a_missing_function_is_seen() {
         assert!(!header_agrees(SOURCE, &header), "{name}");
         let wrapper = without(WRAPPER, &format!("fn sarwymp_{name}("), "-> u32;");
         assert!(!wrapper_agrees(SOURCE, &wrapper), "{name}");
-        let source = without(SOURCE, &format!("#[no_mangle]\npub extern \"C\" fn sarwymp_{name}("), "-> u32");
+        let source = without(SOURCE, &format!("#[unsafe(no_mangle)]\npub extern \"C\" fn sarwymp_{name}("), "-> u32");
         assert!(!header_agrees(&source, HEADER) && !wrapper_agrees(&source, WRAPPER), "{name}");
     }
 }
