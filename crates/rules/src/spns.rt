@@ -80,7 +80,8 @@ fn same_scaling(s: &[u8], v: ScalingView, w: ScalingView) -> bool
     let a = scaling_of(v);
     let b = scaling_of(w);
     if a.width == b.width {
-        if a.resolution == b.resolution {
+        let close = a.resolution == b.resolution;
+        if close {
             if a.offset == b.offset {
                 return same_unit(s, a.unit, b.unit);
             }

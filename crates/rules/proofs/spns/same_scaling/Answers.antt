@@ -49,23 +49,23 @@ module _ (s : List ℕ) (a b : Scaling) where
         → (u : Bool) → u ≡ same_unit (optional_bytes s a.unit) (optional_bytes s b.unit) → u ≡ compared s a b
     by_unit r o u e = rw (eq-eqb _ _ w, r, o) e
 
-pub returns-then-a-b-3 : goal.returns-then-a-b-3
-returns-then-a-b-3 c =
-    let s = c.args.s.now in
-    of_views s c.args.v c.args.w c.scaling_of-a.result c.scaling_of-b.result c.scaling_of-a.ensures c.scaling_of-b.ensures _
-    (by_unit s c.scaling_of-a.result c.scaling_of-b.result c.if-a-b.true c.if-a-b-2.true c.if-a-b-3.true _ c.same_unit.ensures)
-
 pub returns-then-a-b-2 : goal.returns-then-a-b-2
 returns-then-a-b-2 c =
     let s = c.args.s.now in
     of_views s c.args.v c.args.w c.scaling_of-a.result c.scaling_of-b.result c.scaling_of-a.ensures c.scaling_of-b.ensures _
-    (other_offset s c.scaling_of-a.result c.scaling_of-b.result c.if-a-b.true c.if-a-b-2.true c.if-a-b-3.false)
+    (by_unit s c.scaling_of-a.result c.scaling_of-b.result c.if-a-b.true c.if-close.true c.if-a-b-2.true _ c.same_unit.ensures)
+
+pub returns-then-close : goal.returns-then-close
+returns-then-close c =
+    let s = c.args.s.now in
+    of_views s c.args.v c.args.w c.scaling_of-a.result c.scaling_of-b.result c.scaling_of-a.ensures c.scaling_of-b.ensures _
+    (other_offset s c.scaling_of-a.result c.scaling_of-b.result c.if-a-b.true c.if-close.true c.if-a-b-2.false)
 
 pub returns-then-a-b : goal.returns-then-a-b
 returns-then-a-b c =
     let s = c.args.s.now in
     of_views s c.args.v c.args.w c.scaling_of-a.result c.scaling_of-b.result c.scaling_of-a.ensures c.scaling_of-b.ensures _
-    (other_resolution s c.scaling_of-a.result c.scaling_of-b.result c.if-a-b.true c.if-a-b-2.false)
+    (other_resolution s c.scaling_of-a.result c.scaling_of-b.result c.if-a-b.true c.if-close.false)
 
 pub returns : goal.returns
 returns c =
