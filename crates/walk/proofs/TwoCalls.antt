@@ -66,8 +66,8 @@ module _ (s : List ℕ) (t i : ℕ) (readings w : List ℕ) (k m n : ℕ) (c : C
   p = pgn_at P t i
 
   -- where being held is enough for `held_widest`, of the PGN that is walked
-  pub demand_3_by : (is_held_lem : Pack → Pgn → Bool) → (is_held_lem P p ≡ true → held_widest P p ≡ true) → Demand3 is_held_lem s t i readings m w w' c r
-  demand_3_by is_held_lem enough h there is =
+  pub demand_3_by : (is_held : Pack → Pgn → Bool) → (is_held P p ≡ true → held_widest P p ≡ true) → Demand3 is_held s t i readings m w w' c r
+  demand_3_by is_held enough h there is =
       let a = clean_means s k n (rw ec at h) in
       let tree = ltb-true _ _ (and_l (ltb t 3) (ltb i (length (pgns_of P t))) there) in
       let pgn = ltb-true _ _ (and_r (ltb t 3) (ltb i (length (pgns_of P t))) there) in

@@ -34,6 +34,6 @@ pub data Kept (A : Answer) (n m : ℕ) (w w' : List ℕ) (r : Walked) : Type 0 w
 -- `held`, which the call answers, and for `held_widest`. That one claim covers the other readings of 01's sentence on countFields
 -- (HeldReadings), since each implies `held_widest` of the PGNs of a pack (proofs/HeldWidest.antt): `demand_3_readings` (proofs/TwoCalls.antt).
 abbrev pub Demand3 : (Pack → Pgn → Bool) → (s : List ℕ) (t i : ℕ) (readings : List ℕ) (m : ℕ) (w w' : List ℕ) → Checked → Walked → Type 0
-Demand3 is_held_lem s t i readings m w w' c r =
-    clean c ≡ true → in_pack (pack_of s) t i ≡ true → is_held_lem (pack_of s) (pgn_at (pack_of s) t i) ≡ true
+Demand3 is_held s t i readings m w w' c r =
+    clean c ≡ true → in_pack (pack_of s) t i ≡ true → is_held (pack_of s) (pgn_at (pack_of s) t i) ≡ true
     → Kept (walk_of s t i readings) (length readings) m w w' r
