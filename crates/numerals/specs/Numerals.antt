@@ -1,8 +1,8 @@
 -- The number that a text writes: in decimal, and in hexadecimal after 0x.
-use Rattle.std.specs.Prelude.{ℕ, ◌+◌, ◌-◌, ◌*◌, ◌^◌, Bool, true, ◌&&◌, ◌||◌, [], ◌∷◌, length}
+use Rattle.std.specs.Prelude.{ℕ, ◌+◌, ◌-◌, ◌*◌, ◌^◌, Bool, true, ◌&&◌, ◌||◌, [], ◌∷◌, length, ◌==◌, if◌then◌else◌}
 use Rattle.std.proofs.Math.Option.{Option, none}
 use Rattle.pack.specs.Value.{Bytes}
-use Rattle.pack.specs.Notation.{◌<ᵇ◌, ◌≤ᵇ◌, ◌==◌, if◌then◌else◌, optional}
+use Rattle.pack.specs.Notation.{◌<ᵇ◌, ◌≤ᵇ◌, optional}
 
 -- "first parses a u64: digits, one leading + allowed"
 abbrev pub is_digit : ℕ → Bool
@@ -30,7 +30,7 @@ abbrev pub is_hex_digit : ℕ → Bool
 is_hex_digit b = is_digit b || ((65 ≤ᵇ b) && (b ≤ᵇ 70)) || ((97 ≤ᵇ b) && (b ≤ᵇ 102))
 
 abbrev pub hex_digit : ℕ → ℕ
-hex_digit b = if b ≤ᵇ 57 then b - 48 else if b ≤ᵇ 70 then b - 55 else b - 87
+hex_digit b = if b ≤ᵇ 57 then b - 48 else (if b ≤ᵇ 70 then b - 55 else b - 87)
 
 abbrev pub all_hex_digits : Bytes → Bool
 all_hex_digits [] = true

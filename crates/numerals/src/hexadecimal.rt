@@ -1,6 +1,6 @@
 // Numbers in hexadecimal, after 0x.
-ghost use Rattle.std.specs.Prelude.{◌≡◌, ◌≤◌, length, get_or, drop};
-ghost use Rattle.pack.specs.Notation.{if◌then◌else◌, optional};
+ghost use Rattle.std.specs.Prelude.{◌≡◌, ◌≤◌, length, get_or, drop, if◌then◌else◌};
+ghost use Rattle.pack.specs.Notation.{optional};
 ghost use Rattle.numerals.specs.Numerals.{is_hex_digit, hex_digit, all_hex_digits, hexadecimal, is_hex_prefix, parse_hex};
 
 use crate::OptWide;

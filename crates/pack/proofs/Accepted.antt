@@ -1,4 +1,5 @@
 -- What an accepting `load` gives the layers above: a ready work list, the index of the pack's value, and bounds.
+use Rattle.std.specs.Prelude.{if◌then◌else◌}
 use Prim.Native.Nat.{ℕ, zero, suc, ◌<◌}
 use native.Mathlib.Omega.{arith}
 use mathlib.Core.Path.{◌≡◌, refl, ◌∙◌, sym}
@@ -6,7 +7,7 @@ use mathlib.Core.List.{List}
 use mathlib.Core.Bool.{Bool, true, false}
 use lib.ListN.{length, drop}
 use lib.Seq.{take-append_seam}
-use Rattle.pack.specs.Notation.{◌≤ᵇ◌, if◌then◌else◌}
+use Rattle.pack.specs.Notation.{◌≤ᵇ◌}
 use Rattle.pack.specs.Value.{pgns_of}
 use Rattle.pack.specs.Format.{type_list, offsets}
 use Rattle.pack.specs.Load.{Verdict, refused, accepted, verdict, load_index, loaded, work_after}

@@ -1,10 +1,11 @@
 -- Bounds for the layers above: an accepted pack has no more records than bytes, and every offset is within it.
+use Rattle.std.specs.Prelude.{◌==◌}
 use Prim.Native.Nat.{ℕ, zero, suc, ◌+◌, ◌≤◌}
 use native.Mathlib.Omega.{arith}
 use mathlib.Core.Path.{◌≡◌}
 use mathlib.Core.List.{List, [], ◌∷◌, ◌++◌}
 use lib.ListN.{length, get_or, length-append}
-use Rattle.pack.specs.Notation.{◌==◌, ◌<ᵇ◌, concat_below}
+use Rattle.pack.specs.Notation.{◌<ᵇ◌, concat_below}
 use Rattle.pack.specs.Items.{fresh, finish}
 use Rattle.pack.specs.Records.{read_lookup, read_pgn}
 use Rattle.pack.specs.Format.{types, type_offsets, entries, entry_offsets, LookupState, lookup_next, lookups, lookup_records, lookup_offsets, FieldState}

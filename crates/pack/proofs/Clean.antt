@@ -1,4 +1,5 @@
 -- In an accepted pack every record begins at a cursor that is not refused.
+use Rattle.std.specs.Prelude.{◌==◌}
 use Prim.Native.Nat.{ℕ, zero, suc, ◌+◌, ◌-◌, ◌≤◌, ◌<◌}
 use native.Mathlib.Omega.{arith}
 use mathlib.Core.Path.{◌≡◌, refl}
@@ -6,7 +7,7 @@ use mathlib.Core.List.{List}
 use mathlib.Core.Bool.{Bool, true, false}
 use borrow.Author.Tests.{eqb-true, ltb-false}
 use lib.ListN.{length}
-use Rattle.pack.specs.Notation.{◌==◌, ◌<ᵇ◌}
+use Rattle.pack.specs.Notation.{◌<ᵇ◌}
 use Rattle.pack.specs.Items.{fresh}
 use Rattle.pack.specs.Records.{read_lookup, read_pgn}
 use Rattle.pack.specs.Format.{types, entries, lookup_next, lookups, no_text, fields, pgn_next, pgns, type_list, lookup_list, tree_start}

@@ -1,11 +1,12 @@
 -- A record that was read within its pack reads the same by itself: what stands before it can only refuse it.
+use Rattle.std.specs.Prelude.{◌==◌}
 use Prim.Native.Nat.{ℕ, suc, ◌+◌, ◌≤◌, ◌<◌}
 use native.Mathlib.Omega.{arith}
 use mathlib.Core.Path.{◌≡◌, refl, ◌∙◌, sym}
 use mathlib.Core.List.{List}
 use mathlib.Core.Bool.{Bool, true, false}
 use borrow.Author.Tests.{eq-eqb, lt-ltb, le-leb, ltb-true, leb-true}
-use Rattle.pack.specs.Notation.{◌==◌, ◌<ᵇ◌, ◌≤ᵇ◌}
+use Rattle.pack.specs.Notation.{◌<ᵇ◌, ◌≤ᵇ◌}
 use Rattle.pack.specs.Items.{◌≺◌, bytes_of, largest32, read_number, judged, read_code, read_index, read_sum, read_text, read_name}
 use Rattle.pack.specs.Records.{read_lookup, read_names, read_scaling, read_authored, read_field}
 use Rattle.pack.specs.Format.{no_text}

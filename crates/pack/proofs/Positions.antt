@@ -1,4 +1,5 @@
 -- What the layers above go by: the record at a record's work position means that record of the pack's value.
+use Rattle.std.specs.Prelude.{◌==◌}
 use Prim.Native.Nat.{ℕ, zero, suc, ◌+◌, ◌-◌, ◌≤◌, ◌<◌}
 use native.Mathlib.Omega.{arith}
 use native.Mathlib.Numerals.{add-one}
@@ -6,7 +7,7 @@ use mathlib.Core.Path.{◌≡◌, refl, ap, ◌∙◌, sym}
 use mathlib.Core.List.{List}
 use lib.ListN.{length, get_or, take, length-append, length-take, get_or-append}
 use lib.Seq.{get_or-append-add, get_or-take}
-use Rattle.pack.specs.Notation.{◌==◌, concat_below}
+use Rattle.pack.specs.Notation.{concat_below}
 use Rattle.pack.specs.Value.{Lookup, Field, Pgn, Pack, no_field_type, no_entry, pgn_at, field_at, lookup_at}
 use Rattle.pack.specs.Items.{fresh, bytes_of, read_number, read_text, read_name, read_index, read_code}
 use Rattle.pack.specs.Records.{read_type, read_entry, read_lookup, read_names, read_scaling, read_authored, read_pgn, read_field}

@@ -1,4 +1,5 @@
 -- Laws of readers: a refused cursor stays, reading stays within the bytes and never goes back, and it refuses by 1 to 8.
+use Rattle.std.specs.Prelude.{◌==◌, if◌then◌else◌}
 use Prim.Native.Nat.{ℕ, zero, suc, ◌+◌, ◌-◌, ◌*◌, ◌≤◌, ◌<◌}
 use native.Mathlib.Omega.{arith}
 use native.Mathlib.Decide.{ℕ_discrete}
@@ -7,7 +8,7 @@ use mathlib.Core.List.{List}
 use mathlib.Core.Bool.{Bool, true, false}
 use borrow.Author.Tests.{ne_eqb, eqb-false, ltb-true, leb-true}
 use lib.ListN.{length}
-use Rattle.pack.specs.Notation.{◌==◌, ◌<ᵇ◌, ◌≤ᵇ◌, if◌then◌else◌}
+use Rattle.pack.specs.Notation.{◌<ᵇ◌, ◌≤ᵇ◌}
 use Rattle.pack.specs.Items.{◌≺◌, bytes_of, refuse, moved, last_byte_at, shortest, capped, groups, largest32, largest64, read_wide}
 use Rattle.pack.specs.Items.{read_number, judged, read_version}
 use Rattle.pack.specs.Items.{read_code, read_index, read_sum, read_bytes, read_text, read_name, read_float, read_mark, read_opt_text}

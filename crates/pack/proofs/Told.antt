@@ -1,10 +1,11 @@
 -- What `load` answers, in 01's numbers; and what a call that goes on after it tells.
+use Rattle.std.specs.Prelude.{◌==◌}
 use Prim.Native.Nat.{ℕ}
 use mathlib.Core.Path.{◌≡◌, refl, sym, ap, ◌∙◌}
 use mathlib.Core.Bool.{Bool, true, false}
 use mathlib.Core.List.{List}
 use lib.ListN.{length}
-use Rattle.pack.specs.Notation.{◌<ᵇ◌, ◌≤ᵇ◌, ◌==◌}
+use Rattle.pack.specs.Notation.{◌<ᵇ◌, ◌≤ᵇ◌}
 use Rattle.pack.specs.Format.{pack_end, offsets}
 use Rattle.pack.specs.Load.{Answer, refusal_answer, after, load_answer, most_bytes, verdict, load_index, loaded, load_tells, work_after, Loads}
 use Rattle.pack.specs.Load.{refusal_number}

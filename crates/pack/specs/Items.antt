@@ -1,8 +1,9 @@
 -- The items of a pack and the cursor that reads them, as document 01's "The pack" and "Refused for the input" have them.
 -- A reader answers the item and the next cursor. A refused cursor stands at the offending item: each further read answers an empty item and
 -- the same cursor, so "the first offending item decides".
-use Rattle.std.specs.Prelude.{ℕ, zero, suc, ◌+◌, ◌-◌, ◌*◌, ◌%◌, ◌^◌, List, [], ◌∷◌, Bool, true, false, not, ◌&&◌, length, get_or, drop, take}
-use Rattle.pack.specs.Notation.{◌<ᵇ◌, ◌≤ᵇ◌, ◌==◌, if◌then◌else◌}
+use Rattle.std.specs.Prelude.{ℕ, zero, suc, ◌+◌, ◌-◌, ◌*◌, ◌%◌, ◌^◌, List, [], ◌∷◌}
+use Rattle.std.specs.Prelude.{Bool, true, false, not, ◌&&◌, length, get_or, drop, take, ◌==◌, if◌then◌else◌}
+use Rattle.pack.specs.Notation.{◌<ᵇ◌, ◌≤ᵇ◌}
 use Rattle.pack.specs.declared.text.Text.{Text}
 use Rattle.pack.specs.declared.text.OptText.{OptText}
 use Rattle.pack.specs.declared.number.Value.{Value}
@@ -127,7 +128,7 @@ abbrev pub ◌≺◌ : List ℕ → List ℕ → Bool
 [] ≺ [] = false
 [] ≺ (b ∷ bs) = true
 (a ∷ as') ≺ [] = false
-(a ∷ as') ≺ (b ∷ bs) = if a <ᵇ b then true else if b <ᵇ a then false else as' ≺ bs
+(a ∷ as') ≺ (b ∷ bs) = if a <ᵇ b then true else (if b <ᵇ a then false else as' ≺ bs)
 
 -- 5: "a lookup's name not above the previous one (byte order)"; the first has no previous one
 unfoldable pub read_name : OptText → List ℕ → Cursor → TextItem

@@ -1,6 +1,6 @@
 -- What `load` answers, and what it leaves in the work buffer.
-use Rattle.std.specs.Prelude.{ℕ, ◌≡◌, List, [], ◌∷◌, ◌++◌, length, drop}
-use Rattle.pack.specs.Notation.{◌<ᵇ◌, ◌≤ᵇ◌, ◌==◌, if◌then◌else◌}
+use Rattle.std.specs.Prelude.{ℕ, ◌≡◌, List, [], ◌∷◌, ◌++◌, length, drop, ◌==◌, if◌then◌else◌}
+use Rattle.pack.specs.Notation.{◌<ᵇ◌, ◌≤ᵇ◌}
 use Rattle.pack.specs.Format.{type_list, lookup_list, tree_list, type_part, before, offsets, pack_end}
 use Rattle.pack.specs.declared.load.Section.{Section}
 use Rattle.pack.specs.declared.load.Index.{Index}
@@ -84,9 +84,9 @@ unfoldable pub verdict : List ℕ → Verdict
 verdict s =
     if most_bytes <ᵇ length s
     then refused TooLong
-    else if (pack_end s).refused == 0
+    else (if (pack_end s).refused == 0
     then accepted
-    else refused (Input (pack_end s).refused (pack_end s).at)
+    else refused (Input (pack_end s).refused (pack_end s).at))
 
 -- the counts, and the work positions at which field types, lookups and the three trees begin
 unfoldable pub load_index : List ℕ → Index
@@ -113,9 +113,9 @@ unfoldable pub load_tells : List ℕ → (m : ℕ) → Answer
 load_tells s m =
     if most_bytes <ᵇ length s
     then refuses 9 0
-    else if (pack_end s).refused == 0
+    else (if (pack_end s).refused == 0
     then (if length (offsets s) ≤ᵇ m then gives (index_values (load_index s)) else refuses 21 (length (offsets s)))
-    else refuses (pack_end s).refused (pack_end s).at
+    else refuses (pack_end s).refused (pack_end s).at)
 
 -- w with its first numbers replaced
 abbrev pub over : List ℕ → List ℕ → List ℕ

@@ -1,24 +1,15 @@
--- Notation that the definitions share, so that they read like the paper: tests on numbers, `if`, and lists made by index.
-use Rattle.std.specs.Prelude.{ℕ, zero, suc, Bool, true, false, ◌&&◌, List, [], ◌∷◌, ◌++◌, ltb, leb, eqb}
+-- Notation that the definitions share, so that they read like the paper: tests on numbers and bytes, and lists made by index.
+use Rattle.std.specs.Prelude.{ℕ, zero, suc, Bool, true, false, ◌&&◌, List, [], ◌∷◌, ◌++◌, ltb, leb, ◌==◌}
 use Rattle.std.proofs.Math.Option.{Option, none, some}
 
 infix 50 ◌<ᵇ◌
 infix 50 ◌≤ᵇ◌
-infix 50 ◌==◌
 infix 50 ◌≐◌
-infixr 10 if◌then◌else◌
 abbrev pub ◌<ᵇ◌ : ℕ → ℕ → Bool
 a <ᵇ b = ltb a b
 
 abbrev pub ◌≤ᵇ◌ : ℕ → ℕ → Bool
 a ≤ᵇ b = leb a b
-
-abbrev pub ◌==◌ : ℕ → ℕ → Bool
-a == b = eqb a b
-
-abbrev pub if◌then◌else◌ {ℓ} : {A : Type ℓ} → Bool → A → A → A
-if true then a else b = a
-if false then a else b = b
 
 -- the same bytes
 abbrev pub ◌≐◌ : List ℕ → List ℕ → Bool

@@ -1,7 +1,6 @@
 -- What the steps of `load` promise each other: the cursor that they reach, and the offsets that they stored on the way.
-use Rattle.std.specs.Prelude.{ℕ, ◌+◌, ◌≤◌, ◌<◌, ◌≡◌, List, length}
+use Rattle.std.specs.Prelude.{ℕ, ◌+◌, ◌≤◌, ◌<◌, ◌≡◌, List, length, ◌==◌, if◌then◌else◌}
 use Rattle.std.proofs.lemmas.List.Edits.{sets}
-use Rattle.pack.specs.Notation.{◌==◌, if◌then◌else◌}
 use Rattle.pack.specs.Items.{read_number}
 use Rattle.pack.specs.Format.{LookupState, lookup_next, lookup_records, pgns, pgn_offsets, pack_end, offsets}
 use Rattle.pack.specs.Load.{load_index}

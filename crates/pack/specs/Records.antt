@@ -1,6 +1,5 @@
 -- The five kinds of record, item by item in document 01's order, as views: numbers, float patterns, and texts as parts of the pack.
-use Rattle.std.specs.Prelude.{ℕ, ◌/◌, ◌%◌, List, [], ◌∷◌, true, false}
-use Rattle.pack.specs.Notation.{◌==◌, if◌then◌else◌}
+use Rattle.std.specs.Prelude.{ℕ, ◌/◌, ◌%◌, List, [], ◌∷◌, true, false, ◌==◌, if◌then◌else◌}
 use Rattle.pack.specs.Items.{largest64, read_wide, read_number, read_code, read_index, read_sum, read_mark, read_text, read_name, read_float}
 use Rattle.pack.specs.Items.{read_opt_text, read_opt_number, read_opt_float}
 use Rattle.pack.specs.Items.{read_opt_bytes, read_opt_sum}

@@ -1,6 +1,5 @@
 -- The three trees by number and by name: "trees 0 NMEA 2000, 1 J1939, 2 Quick".
-use Rattle.std.specs.Prelude.{ℕ, [], ◌∷◌}
-use Rattle.pack.specs.Notation.{◌==◌, if◌then◌else◌}
+use Rattle.std.specs.Prelude.{ℕ, [], ◌∷◌, ◌==◌, if◌then◌else◌}
 use Rattle.pack.specs.declared.load.Index.{Index}
 use Rattle.pack.specs.declared.load.Section.{Section}
 use Rattle.pack.specs.declared.protocol.Protocol.{Protocol}
@@ -13,7 +12,7 @@ tree_number J1939 = 1
 tree_number Quick = 2
 
 abbrev pub protocol_of : ℕ → Protocol
-protocol_of t = if t == 0 then Nmea2000 else if t == 1 then J1939 else Quick
+protocol_of t = if t == 0 then Nmea2000 else (if t == 1 then J1939 else Quick)
 
 -- the Rust's `check_prefix`: "", "j1939/", "quick/"
 abbrev pub prefix_of : Protocol → Prefix

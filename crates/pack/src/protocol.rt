@@ -1,6 +1,6 @@
 // The three trees, and a field's index and order.
-ghost use Rattle.std.specs.Prelude.{◌≡◌, ◌&&◌, ◌+◌, ◌<◌};
-ghost use Rattle.pack.specs.Notation.{◌<ᵇ◌, ◌≤ᵇ◌, ◌==◌};
+ghost use Rattle.std.specs.Prelude.{◌≡◌, ◌&&◌, ◌+◌, ◌<◌, ◌==◌};
+ghost use Rattle.pack.specs.Notation.{◌<ᵇ◌, ◌≤ᵇ◌};
 ghost use Rattle.pack.specs.Trees.{tree_number, protocol_of, prefix_of, section_of};
 
 use crate::load::{Index, Section};

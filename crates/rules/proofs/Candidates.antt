@@ -1,5 +1,6 @@
 -- The earlier SPN of a name, by candidates: SPNs that a field carries under the name, whether or not it is the field that names them.
 -- ---- the largest
+use Rattle.std.specs.Prelude.{if◌then◌else◌}
 use Prim.Native.Nat.{ℕ, zero, suc, ◌≤◌, ◌<◌}
 use native.Mathlib.Decide.{ℕ_discrete}
 use native.Mathlib.Omega.{arith}
@@ -9,7 +10,7 @@ use mathlib.Core.Option.{Option, none, some, none-ne-some, some-injective}
 use mathlib.Core.Path.{◌≡◌, refl, sym, ap, ◌∙◌}
 use lib.ListN.{length, get_or}
 use borrow.Author.Tests.{ltb-true, ltb-false, lt-ltb, le-ltb, eqb-true, eq-eqb}
-use Rattle.pack.specs.Notation.{◌<ᵇ◌, ◌≐◌, if◌then◌else◌, optional}
+use Rattle.pack.specs.Notation.{◌<ᵇ◌, ◌≐◌, optional}
 use Rattle.pack.specs.Value.{Bytes, Pgn, no_pgn, field_at}
 use Rattle.rules.specs.Model.{given}
 use Rattle.rules.specs.Search.{larger, max_below, lower_key, least_below}

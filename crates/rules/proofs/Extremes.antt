@@ -1,12 +1,13 @@
 -- The largest, the smallest and the least by a key: an answer is met with at an index, and a hit gives one.
 -- f gives e at an index below n
+use Rattle.std.specs.Prelude.{if◌then◌else◌}
 use Prim.Native.Nat.{ℕ, zero, suc, ◌<◌}
 use native.Mathlib.Decide.{ℕ_discrete}
 use native.Mathlib.Omega.{arith}
 use mathlib.Core.Bool.{Bool, true, false, ◌&&◌, false≢true}
 use mathlib.Core.Option.{Option, none, some, none-ne-some, some-injective}
 use mathlib.Core.Path.{◌≡◌, refl, sym, ap, ◌∙◌}
-use Rattle.pack.specs.Notation.{◌<ᵇ◌, if◌then◌else◌, optional}
+use Rattle.pack.specs.Notation.{◌<ᵇ◌, optional}
 use Rattle.rules.specs.Model.{given}
 use Rattle.rules.specs.Search.{first_below, larger, smaller, max_below, min_below, lower_key, least_below}
 use Rattle.rules.specs.SearchLaws.{first_misses}

@@ -1,9 +1,9 @@
 -- R20's groups, said of the views, and tests that come after them.
+use Rattle.std.specs.Prelude.{◌==◌}
 use Prim.Native.Nat.{ℕ}
 use mathlib.Core.Path.{◌≡◌, sym, ap}
 use mathlib.Core.Bool.{Bool, true, false, not, ◌&&◌}
 use mathlib.Core.List.{List}
-use Rattle.pack.specs.Notation.{◌==◌}
 use Rattle.pack.specs.Value.{Pgn, pgns_of, pgn_at}
 use Rattle.pack.specs.Meaning.{pack_of}
 use Rattle.pack.specs.Ready.{PgnIs}

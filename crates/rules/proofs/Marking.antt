@@ -1,4 +1,5 @@
 -- Marks at lookups: nothing marked, one turn after the other, and what the marks are in the end.
+use Rattle.std.specs.Prelude.{◌==◌}
 use Prim.Native.Nat.{ℕ, zero, suc, ◌+◌, ◌≤◌, ◌<◌}
 use native.Mathlib.Decide.{ℕ_discrete}
 use native.Mathlib.Omega.{arith}
@@ -8,7 +9,7 @@ use mathlib.Core.List.{List, ◌++◌}
 use lib.ListN.{length, get_or, set, replicate, length-replicate}
 use borrow.Author.Tests.{eq-eqb, ne_eqb}
 use lib.Seq.{get_or-set_same, get_or-set_other}
-use Rattle.pack.specs.Notation.{◌==◌, concat_below}
+use Rattle.pack.specs.Notation.{concat_below}
 use Rattle.pack.specs.Value.{Bytes, Lookup, Pack, no_entry, lookup_at}
 use Rattle.pack.specs.Ready.{LookupIs}
 use Rattle.pack.specs.declared.lookup.LookupView.{LookupView}

@@ -1,4 +1,5 @@
 -- The stream of a key of matches: what a step takes off it, and the keys that two streams compare.
+use Rattle.std.specs.Prelude.{if◌then◌else◌}
 use Prim.Native.Nat.{ℕ, zero, suc, ◌+◌, ◌-◌, ◌≤◌, ◌<◌}
 use native.Mathlib.Decide.{dec_lt}
 use native.Mathlib.Numerals.{add-one}
@@ -10,7 +11,7 @@ use mathlib.Core.Option.{Option, none, some}
 use borrow.Author.Tests.{eq-eqb, ne_eqb}
 use lib.ListN.{length, get_or, take, drop, drop_of_length-le}
 use lib.Seq.{drop-cons}
-use Rattle.pack.specs.Notation.{◌≐◌, if◌then◌else◌, concat_below}
+use Rattle.pack.specs.Notation.{◌≐◌, concat_below}
 use Rattle.pack.specs.Value.{Bytes, Pgn, field_at}
 use Rattle.pack.specs.Items.{bytes_of}
 use Rattle.pack.specs.declared.text.Text.{Text}

@@ -1,4 +1,5 @@
 -- Numbers in rising order, as `ranked` gives them: every one has a rank, each has one only, and there are no more ranks than things that give one.
+use Rattle.std.specs.Prelude.{if◌then◌else◌}
 use Prim.Native.Nat.{ℕ, zero, suc, ◌+◌, ◌≤◌, ◌<◌}
 use native.Mathlib.Decide.{ℕ_discrete}
 use native.Mathlib.Omega.{arith}
@@ -7,7 +8,7 @@ use mathlib.Core.List.{List, []}
 use mathlib.Core.Option.{Option, none, some, none-ne-some, some-injective}
 use mathlib.Core.Path.{◌≡◌, refl, sym, ap, ◌∙◌}
 use borrow.Author.Tests.{ltb-true, ltb-false, lt-ltb, le-ltb, leb-true, le-leb}
-use Rattle.pack.specs.Notation.{◌<ᵇ◌, ◌≤ᵇ◌, if◌then◌else◌, concat_below, optional}
+use Rattle.pack.specs.Notation.{◌<ᵇ◌, ◌≤ᵇ◌, concat_below, optional}
 use Rattle.rules.specs.Search.{sum_below, smaller, min_below, next_rank, ranked}
 use Rattle.rules.specs.SearchLaws.{ranked_turn, below_suc, concat_ends}
 use Rattle.rules.proofs.Extremes.{min_is, optional_is}

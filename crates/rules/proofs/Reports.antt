@@ -1,4 +1,5 @@
 -- The findings in their buffer: eight numbers each from its start, and how many of them are errors.
+use Rattle.std.specs.Prelude.{◌==◌, if◌then◌else◌}
 use Prim.Native.Nat.{ℕ, zero, suc, ◌+◌, ◌*◌, ◌≤◌, ◌<◌}
 use native.Mathlib.Omega.{arith}
 use mathlib.Core.Path.{◌≡◌, refl, sym, ap, ◌∙◌}
@@ -7,7 +8,7 @@ use mathlib.Core.List.{List, [], ◌∷◌, ◌++◌}
 use lib.ListN.{length, get_or, take, drop, length-append}
 use lib.Seq.{sets, length-sets, take-append_seam}
 use borrow.Author.Tests.{le-leb, lt-leb}
-use Rattle.pack.specs.Notation.{◌≤ᵇ◌, ◌==◌, if◌then◌else◌}
+use Rattle.pack.specs.Notation.{◌≤ᵇ◌}
 use Rattle.pack.specs.Load.{Answer, loaded, over, work_after}
 use Rattle.pack.specs.Meaning.{pack_of}
 use Rattle.pack.specs.declared.load.Index.{Index}

@@ -1,11 +1,12 @@
 -- Every finding of a rule's list bears the rule's number, so that `check`'s findings of a rule are those of its own definition.
+use Rattle.std.specs.Prelude.{◌==◌, if◌then◌else◌}
 use Prim.Native.Nat.{ℕ, zero, suc}
 use mathlib.Core.Bool.{Bool, true, false, not}
 use mathlib.Core.List.{List, [], ◌∷◌, ◌++◌, append-nil}
 use mathlib.Core.Option.{Option, none, some}
 use mathlib.Core.Path.{◌≡◌, refl, ap, ◌∙◌}
 use lib.ListN.{length}
-use Rattle.pack.specs.Notation.{◌==◌, if◌then◌else◌, concat_below}
+use Rattle.pack.specs.Notation.{concat_below}
 use Rattle.pack.specs.Value.{Bytes, FieldType, Lookup, Reference, Repeating, Field, Pgn, Pack, pgns_of, pgn_at, lookup_at}
 use Rattle.rules.specs.declared.Finding.{Finding}
 use Rattle.rules.specs.Findings.{report_if, lookup_warning, only}

@@ -1,4 +1,5 @@
 -- Sizes of an accepted pack's lists, for the counters of loops.
+use Rattle.std.specs.Prelude.{if◌then◌else◌}
 use Prim.Native.Nat.{ℕ, zero, suc, ◌+◌, ◌≤◌, ◌<◌}
 use native.Mathlib.Omega.{arith}
 use mathlib.Core.Bool.{Bool, true, false}
@@ -6,7 +7,6 @@ use mathlib.Core.List.{List}
 use lib.ListN.{length}
 use lib.Seq.{take-length}
 use mathlib.Core.Path.{◌≡◌}
-use Rattle.pack.specs.Notation.{if◌then◌else◌}
 use Rattle.pack.specs.Value.{Pgn, Pack, pgns_of, pgn_at, lookup_at}
 use Rattle.pack.specs.Format.{offsets}
 use Rattle.pack.specs.Meaning.{pack_of}

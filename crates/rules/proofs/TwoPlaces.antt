@@ -1,11 +1,12 @@
 -- Version 1 has two places for sets (`two_sets`, pack/proofs/Sets). Of two places the rules are what they are over set 1 and set 2 by name.
+use Rattle.std.specs.Prelude.{◌==◌, if◌then◌else◌}
 use Prim.Native.Nat.{ℕ, ◌+◌}
 use mathlib.Core.Bool.{Bool, true, false, not, ◌&&◌, ◌||◌}
 use mathlib.Core.List.{[], ◌∷◌, ◌++◌}
 use mathlib.Core.Option.{Option, none}
 use mathlib.Core.Path.{◌≡◌, refl}
 use lib.ListN.{length}
-use Rattle.pack.specs.Notation.{◌==◌, if◌then◌else◌, optional}
+use Rattle.pack.specs.Notation.{optional}
 use Rattle.pack.specs.Value.{Repeating, Pgn, field_at}
 use Rattle.rules.specs.Search.{or_else, any_below}
 use Rattle.rules.specs.Repeating.{check_set, check_repeating}
@@ -20,11 +21,11 @@ module _ (p : Pgn) (a b : Option Repeating) (two : p.sets ≡ a ∷ b ∷ []) wh
   repeating_of_two t i = rw two
 
   -- R43: of two places it is "if holds_order set 2 then 2 else if holds_order set 1 then 1 else 0"
-  pub set_of_two : (k : ℕ) → set_of p k ≡ (if holds_order b (k + 1) then 2 else if holds_order a (k + 1) then 1 else 0)
+  pub set_of_two : (k : ℕ) → set_of p k ≡ (if holds_order b (k + 1) then 2 else (if holds_order a (k + 1) then 1 else 0))
   unfolding set_of
   set_of_two k = rw two (go (holds_order b (k + 1)) (holds_order a (k + 1)))
     where
-      go : (y x : Bool) → place_number (or_else (optional y 1) (or_else (optional x 0) none)) ≡ (if y then 2 else if x then 1 else 0)
+      go : (y x : Bool) → place_number (or_else (optional y 1) (or_else (optional x 0) none)) ≡ (if y then 2 else (if x then 1 else 0))
       go true x = refl
       go false true = refl
       go false false = refl

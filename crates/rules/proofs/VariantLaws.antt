@@ -1,4 +1,5 @@
 -- R20: that the Rust leaves groups of one out changes nothing, and no group is left out here.
+use Rattle.std.specs.Prelude.{if◌then◌else◌}
 use Prim.Native.Nat.{ℕ, zero, suc, ◌+◌, ◌≤◌, ◌<◌}
 use native.Mathlib.Omega.{arith}
 use mathlib.Core.Bool.{Bool, true, false, ◌&&◌, not}
@@ -7,7 +8,7 @@ use mathlib.Core.Option.{Option, none, some}
 use mathlib.Core.Path.{◌≡◌, refl, sym, ap, ◌∙◌}
 use lib.ListN.{length, get_or}
 use borrow.Author.Tests.{ltb-true, le-ltb}
-use Rattle.pack.specs.Notation.{◌<ᵇ◌, ◌≤ᵇ◌, if◌then◌else◌, concat_below, optional}
+use Rattle.pack.specs.Notation.{◌<ᵇ◌, ◌≤ᵇ◌, concat_below, optional}
 use Rattle.pack.specs.Value.{Pgn, no_pgn}
 use Rattle.rules.specs.declared.Finding.{Finding}
 use Rattle.rules.specs.Search.{latest_below, count_below, ranked}

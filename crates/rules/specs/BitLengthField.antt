@@ -1,7 +1,7 @@
 -- R15, `check_bit_length_field`: a variable-length BINARY field takes its length from an earlier integer field.
-use Rattle.std.specs.Prelude.{ℕ, Bool, ◌&&◌, ◌||◌, not, List, [], ◌∷◌, length}
+use Rattle.std.specs.Prelude.{ℕ, Bool, ◌&&◌, ◌||◌, not, List, [], ◌∷◌, length, ◌==◌, if◌then◌else◌}
 use Rattle.std.proofs.Math.Option.{Option, none, some}
-use Rattle.pack.specs.Notation.{◌≤ᵇ◌, ◌==◌, ◌≐◌, if◌then◌else◌, concat_below}
+use Rattle.pack.specs.Notation.{◌≤ᵇ◌, ◌≐◌, concat_below}
 use Rattle.pack.specs.Value.{Bytes, Field, Pgn, field_at}
 use Rattle.rules.specs.declared.Finding.{Finding}
 use Rattle.rules.specs.Findings.{pgn_error, report_if}

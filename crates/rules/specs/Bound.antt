@@ -1,8 +1,8 @@
 -- How many findings a rule can have: so many for each record that it looks at.
-use Rattle.std.specs.Prelude.{ℕ, zero, suc, ◌+◌, ◌*◌, ◌≤◌, Bool, true, false, not, List, [], ◌∷◌, ◌++◌, ◌≡◌, length, get_or}
+use Rattle.std.specs.Prelude.{ℕ, zero, suc, ◌+◌, ◌*◌, ◌≤◌, Bool, true, false, not, List, [], ◌∷◌, ◌++◌, ◌≡◌, length, get_or, ◌==◌, if◌then◌else◌}
 use Rattle.std.proofs.Common.{arith, length-append}
 use Rattle.std.proofs.Math.Option.{Option, none, some}
-use Rattle.pack.specs.Notation.{◌==◌, if◌then◌else◌, concat_below}
+use Rattle.pack.specs.Notation.{concat_below}
 use Rattle.pack.specs.Value.{Bytes, FieldType, Lookup, Entry, Reference, Repeating, Field, Pgn, Pack, pgns_of, no_pgn, no_lookup, field_at, set_place}
 use Rattle.pack.specs.Value.{lookup_at, entry_at}
 use Rattle.rules.specs.declared.Finding.{Finding}

@@ -1,6 +1,6 @@
 -- What the call `check` answers, and what it leaves in the findings buffer.
-use Rattle.std.specs.Prelude.{ℕ, ◌*◌, ◌≡◌, List, [], ◌∷◌, ◌++◌, length}
-use Rattle.pack.specs.Notation.{◌≤ᵇ◌, if◌then◌else◌}
+use Rattle.std.specs.Prelude.{ℕ, ◌*◌, ◌≡◌, List, [], ◌∷◌, ◌++◌, length, if◌then◌else◌}
+use Rattle.pack.specs.Notation.{◌≤ᵇ◌}
 use Rattle.pack.specs.Load.{Answer, refuses, gives, after, refusal_answer, loaded, load_tells, over, work_after}
 use Rattle.pack.specs.Meaning.{pack_of}
 use Rattle.pack.specs.declared.load.Loaded.{Loaded}

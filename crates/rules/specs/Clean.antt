@@ -1,9 +1,9 @@
 -- A report without one error: neither has any of its parts.
-use Rattle.std.specs.Prelude.{ℕ, zero, suc, ◌+◌, ◌<◌, Bool, true, false, not, ◌&&◌, List, [], ◌∷◌, ◌++◌, ◌≡◌, refl, length}
+use Rattle.std.specs.Prelude.{ℕ, zero, suc, ◌+◌, ◌<◌, Bool, true, false, not, ◌&&◌, List, [], ◌∷◌, ◌++◌, ◌≡◌, refl, length, ◌==◌, if◌then◌else◌}
 use Rattle.std.proofs.Common.{arith}
 use Rattle.std.proofs.Math.Decide.{ℕ_discrete}
 use Rattle.std.proofs.lemmas.Bool.{false≢true}
-use Rattle.pack.specs.Notation.{◌==◌, if◌then◌else◌, concat_below}
+use Rattle.pack.specs.Notation.{concat_below}
 use Rattle.pack.specs.Value.{Pack, pgns_of, pgn_at, lookup_at}
 use Rattle.rules.specs.declared.Finding.{Finding}
 use Rattle.rules.specs.Check.{check, check_tree, check_tree_continues, check_pgn}

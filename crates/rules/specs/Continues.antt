@@ -1,7 +1,7 @@
 -- R43, `check_continues`: a `continues:` field adds high bits to an earlier, plain integer field of the same record, at a fixed distance from it.
-use Rattle.std.specs.Prelude.{ℕ, ◌+◌, Bool, false, ◌&&◌, ◌||◌, not, List, [], ◌∷◌, ◌++◌, length}
+use Rattle.std.specs.Prelude.{ℕ, ◌+◌, Bool, false, ◌&&◌, ◌||◌, not, List, [], ◌∷◌, ◌++◌, length, ◌==◌, if◌then◌else◌}
 use Rattle.std.proofs.Math.Option.{Option, none, some}
-use Rattle.pack.specs.Notation.{◌<ᵇ◌, ◌≤ᵇ◌, ◌==◌, ◌≐◌, if◌then◌else◌, concat_below}
+use Rattle.pack.specs.Notation.{◌<ᵇ◌, ◌≤ᵇ◌, ◌≐◌, concat_below}
 use Rattle.pack.specs.Value.{Bytes, FieldType, Repeating, Field, Pgn, field_at, set_place}
 use Rattle.rules.specs.declared.Finding.{Finding}
 use Rattle.rules.specs.Findings.{pgn_error, report_if}
@@ -54,8 +54,8 @@ continued_by p id = count_below (λ k. is_text (field_at p k).continues id) (len
 unfoldable pub continued_at : List FieldType → (t i : ℕ) → Pgn → (k : ℕ) → Field → Bytes → (j : ℕ) → Field → List Finding
 continued_at fts t i p k f id j low =
     (if not (set_of p j == set_of p k) then pgn_error 43 2 t i k j ∷ []
-    else if not (given low.continuation) then pgn_error 43 3 t i k j ∷ []
-    else report_if (1 <ᵇ continued_by p id) (pgn_error 43 4 t i k j))
+    else (if not (given low.continuation) then pgn_error 43 3 t i k j ∷ []
+    else report_if (1 <ᵇ continued_by p id) (pgn_error 43 4 t i k j)))
     ++ report_if (given low.continues) (pgn_error 43 5 t i k j)
     ++ report_if (not (integer fts low) || not (root_of fts f ≐ NUMBER)) (pgn_error 43 6 t i k j)
     ++ report_if (not_raw f) (pgn_error 43 7 t i k j)

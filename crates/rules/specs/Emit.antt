@@ -1,7 +1,7 @@
 -- Findings put into a buffer one after the other, eight numbers each, where they fit.
-use Rattle.std.specs.Prelude.{ℕ, ◌+◌, ◌*◌, ◌≤◌, ◌≡◌, List, [], ◌∷◌, length}
+use Rattle.std.specs.Prelude.{ℕ, ◌+◌, ◌*◌, ◌≤◌, ◌≡◌, List, [], ◌∷◌, length, if◌then◌else◌}
 use Rattle.std.proofs.lemmas.List.Edits.{sets}
-use Rattle.pack.specs.Notation.{◌≤ᵇ◌, if◌then◌else◌, concat_below}
+use Rattle.pack.specs.Notation.{◌≤ᵇ◌, concat_below}
 use Rattle.rules.specs.declared.Finding.{Finding}
 
 -- "Eight numbers: rule, severity, cause, place, tree, item, part, other."

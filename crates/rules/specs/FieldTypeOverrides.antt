@@ -1,6 +1,6 @@
 -- R14, `check_field_type_overrides`: a field does not author the width or the resolution that its field type fixes.
-use Rattle.std.specs.Prelude.{ℕ, ◌&&◌, not, List, ◌++◌, length}
-use Rattle.pack.specs.Notation.{◌==◌, concat_below}
+use Rattle.std.specs.Prelude.{ℕ, ◌&&◌, not, List, ◌++◌, length, ◌==◌}
+use Rattle.pack.specs.Notation.{concat_below}
 use Rattle.pack.specs.Value.{FieldType, Field, Pgn, field_at}
 use Rattle.rules.specs.declared.Finding.{Finding}
 use Rattle.rules.specs.Findings.{pgn_error, report_if}

@@ -1,6 +1,5 @@
 -- A finding's eight numbers. "Tree is 0 for places 0 and 2. Item is the index in its list, for place 3 the PGN number."
-use Rattle.std.specs.Prelude.{ℕ, ◌+◌, Bool, true, ◌&&◌, not, List, [], ◌∷◌}
-use Rattle.pack.specs.Notation.{◌==◌, if◌then◌else◌}
+use Rattle.std.specs.Prelude.{ℕ, ◌+◌, Bool, true, ◌&&◌, not, List, [], ◌∷◌, ◌==◌, if◌then◌else◌}
 use Rattle.rules.specs.declared.Finding.{Finding}
 
 -- "severity (1 error, 0 warning)", "place (0 field types, 1 PGN, 2 lookup, 3 PGN group)"

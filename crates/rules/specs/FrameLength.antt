@@ -1,6 +1,6 @@
 -- R04, `check_frame_length`: fixed single-frame PGNs are exactly 8 bytes (ISO Request 59904 excepted); a variable one's fixed part must fit.
-use Rattle.std.specs.Prelude.{ℕ, ◌&&◌, not, List, [], ◌++◌}
-use Rattle.pack.specs.Notation.{◌<ᵇ◌, ◌==◌, if◌then◌else◌}
+use Rattle.std.specs.Prelude.{ℕ, ◌&&◌, not, List, [], ◌++◌, ◌==◌, if◌then◌else◌}
+use Rattle.pack.specs.Notation.{◌<ᵇ◌}
 use Rattle.pack.specs.Value.{Pgn}
 use Rattle.rules.specs.declared.Finding.{Finding}
 use Rattle.rules.specs.Findings.{pgn_error, report_if}

@@ -1,7 +1,7 @@
 -- R24, `check_lookup_names`: a lookup gives each name to one code (under the same first value, for a triplet).
-use Rattle.std.specs.Prelude.{ℕ, Bool, ◌&&◌, ◌||◌, not, List, [], ◌∷◌, ◌++◌, length}
+use Rattle.std.specs.Prelude.{ℕ, Bool, ◌&&◌, ◌||◌, not, List, [], ◌∷◌, ◌++◌, length, ◌==◌, if◌then◌else◌}
 use Rattle.std.proofs.Math.Option.{Option, none, some}
-use Rattle.pack.specs.Notation.{◌==◌, ◌≐◌, if◌then◌else◌, concat_below}
+use Rattle.pack.specs.Notation.{◌≐◌, concat_below}
 use Rattle.pack.specs.Value.{Entry, Lookup, Pack, lookup_at, entry_at}
 use Rattle.rules.specs.declared.Finding.{Finding}
 use Rattle.rules.specs.Findings.{lookup_error}

@@ -1,7 +1,7 @@
 -- R08 and R22, `check_lookup_wiring`: every reference resolves with the right kind and bit width; every lookup is referenced somewhere.
-use Rattle.std.specs.Prelude.{ℕ, ◌^◌, Bool, false, ◌&&◌, ◌||◌, not, List, [], ◌∷◌, ◌++◌, length, get_or}
+use Rattle.std.specs.Prelude.{ℕ, ◌^◌, Bool, false, ◌&&◌, ◌||◌, not, List, [], ◌∷◌, ◌++◌, length, get_or, ◌==◌, if◌then◌else◌}
 use Rattle.std.proofs.Math.Option.{Option, none, some}
-use Rattle.pack.specs.Notation.{◌<ᵇ◌, ◌≤ᵇ◌, ◌==◌, ◌≐◌, if◌then◌else◌, concat_below}
+use Rattle.pack.specs.Notation.{◌<ᵇ◌, ◌≤ᵇ◌, ◌≐◌, concat_below}
 use Rattle.pack.specs.Value.{Bytes, FieldType, Entry, Lookup, Reference, Field, Pgn, Pack, pgns_of, no_field_type, pgn_at, field_at, lookup_at, entry_at}
 use Rattle.rules.specs.declared.Finding.{Finding}
 use Rattle.rules.specs.Findings.{pgn_error, pgn_warning, lookup_error, lookup_warning, report_if}
@@ -22,8 +22,8 @@ lookup_width_at t i k f l lookup =
     let mismatch = not (value_bits f == lookup.bits) in
     let allowed = f.allow_lookup_width_mismatch in
     if unreachable lookup (value_bits f) && not ((lookup.kind == 2) && allowed) then pgn_error 8 3 t i k l ∷ []
-    else if mismatch && not allowed then pgn_error 8 4 t i k l ∷ []
-    else report_if (not mismatch && allowed) (pgn_warning 8 5 t i k l)
+    else (if mismatch && not allowed then pgn_error 8 4 t i k l ∷ []
+    else report_if (not mismatch && allowed) (pgn_warning 8 5 t i k l))
 
 -- 1 unknown lookup, 2 a reference of another kind
 unfoldable pub lookup_found_at : List Lookup → (t i k : ℕ) → Field → Reference → Option ℕ → List Finding

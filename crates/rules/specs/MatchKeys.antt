@@ -1,7 +1,6 @@
 -- The key of a PGN's matches as a stream of bytes. A key that is not empty is read with a `,` before it, so that all its pieces are alike.
-use Rattle.std.specs.Prelude.{ℕ, zero, suc, ◌+◌, ◌-◌, Bool, true, ◌≡◌, List, [], ◌∷◌, ◌++◌, length, drop}
+use Rattle.std.specs.Prelude.{ℕ, zero, suc, ◌+◌, ◌-◌, Bool, true, ◌≡◌, List, [], ◌∷◌, ◌++◌, length, drop, if◌then◌else◌}
 use Rattle.std.proofs.Math.Option.{Option, none, some}
-use Rattle.pack.specs.Notation.{if◌then◌else◌}
 use Rattle.pack.specs.Value.{Bytes, Pgn, field_at}
 use Rattle.pack.specs.Items.{bytes_of}
 use Rattle.pack.specs.declared.text.Text.{Text}

@@ -1,7 +1,7 @@
 -- R13, `check_match_values`: a match resolves to a number that fits the field's width.
-use Rattle.std.specs.Prelude.{ℕ, ◌-◌, ◌^◌, ◌&&◌, List, [], ◌∷◌, length}
+use Rattle.std.specs.Prelude.{ℕ, ◌-◌, ◌^◌, ◌&&◌, List, [], ◌∷◌, length, if◌then◌else◌}
 use Rattle.std.proofs.Math.Option.{Option, none, some}
-use Rattle.pack.specs.Notation.{◌<ᵇ◌, if◌then◌else◌, concat_below}
+use Rattle.pack.specs.Notation.{◌<ᵇ◌, concat_below}
 use Rattle.pack.specs.Value.{Lookup, Pgn, field_at}
 use Rattle.rules.specs.declared.Finding.{Finding}
 use Rattle.rules.specs.Findings.{pgn_error, report_if}

@@ -1,7 +1,7 @@
 -- R16, `check_min_length`: an authored minLength names a shorter payload that ends between two fields.
-use Rattle.std.specs.Prelude.{ℕ, suc, ◌*◌, Bool, ◌||◌, not, List, [], ◌∷◌, length}
+use Rattle.std.specs.Prelude.{ℕ, suc, ◌*◌, Bool, ◌||◌, not, List, [], ◌∷◌, length, ◌==◌, if◌then◌else◌}
 use Rattle.std.proofs.Math.Option.{Option, none, some}
-use Rattle.pack.specs.Notation.{◌≤ᵇ◌, ◌==◌, if◌then◌else◌}
+use Rattle.pack.specs.Notation.{◌≤ᵇ◌}
 use Rattle.pack.specs.Value.{Pgn, field_at}
 use Rattle.rules.specs.declared.Finding.{Finding}
 use Rattle.rules.specs.Findings.{pgn_error, report_if}
@@ -16,8 +16,8 @@ unfoldable pub min_length_at : (t i : ℕ) → Pgn → Option ℕ → List Findi
 min_length_at t i p none = []
 min_length_at t i p (some least) =
     if p.variable then pgn_error 16 1 t i 0 0 ∷ []
-    else if (least == 0) || (p.length ≤ᵇ least) then pgn_error 16 2 t i 0 0 ∷ []
-    else report_if (not (lands_on_boundary p least)) (pgn_error 16 3 t i 0 0)
+    else (if (least == 0) || (p.length ≤ᵇ least) then pgn_error 16 2 t i 0 0 ∷ []
+    else report_if (not (lands_on_boundary p least)) (pgn_error 16 3 t i 0 0))
 
 unfoldable pub check_min_length : (t i : ℕ) → Pgn → List Finding
 check_min_length t i p = min_length_at t i p p.min_length

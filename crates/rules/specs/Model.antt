@@ -1,7 +1,7 @@
 -- What the rules read of a pack: the Rust's `model.rs`.
-use Rattle.std.specs.Prelude.{ℕ, ◌+◌, Bool, true, false, ◌||◌, List, [], length, get_or}
+use Rattle.std.specs.Prelude.{ℕ, ◌+◌, Bool, true, false, ◌||◌, List, [], length, get_or, ◌==◌, if◌then◌else◌}
 use Rattle.std.proofs.Math.Option.{Option, none, some}
-use Rattle.pack.specs.Notation.{◌==◌, ◌≐◌, if◌then◌else◌}
+use Rattle.pack.specs.Notation.{◌≐◌}
 use Rattle.pack.specs.Value.{Bytes, FieldType, Entry, Lookup, Reference, Field, Pgn, no_field_type, field_at, lookup_at, entry_at}
 use Rattle.numerals.specs.Numerals.{parse_u64, parse_hex}
 use Rattle.rules.specs.Search.{or_else, first_below}

@@ -1,9 +1,9 @@
 -- "J1939-21 defines PDU1: bits 8 to 15 of the number below 240." Within a range of R02's tables that is the step of 256.
-use Rattle.std.specs.Prelude.{ℕ, ◌+◌, ◌*◌, ◌/◌, ◌%◌, ◌≤◌, ◌<◌, Bool, true, false, ◌&&◌, List, [], ◌∷◌, ◌≡◌, refl}
+use Rattle.std.specs.Prelude.{ℕ, ◌+◌, ◌*◌, ◌/◌, ◌%◌, ◌≤◌, ◌<◌, Bool, true, false, ◌&&◌, List, [], ◌∷◌, ◌≡◌, refl, ◌==◌, if◌then◌else◌}
 use Rattle.std.proofs.Common.{mod-lt, div-add-mod', arith, ltb-true, leb-true, eqb-true, lt-ltb, le-ltb}
 use Rattle.std.proofs.lemmas.Bool.{false≢true}
 use Rattle.std.proofs.Math.Option.{some, none-ne-some, some-injective}
-use Rattle.pack.specs.Notation.{◌<ᵇ◌, ◌≤ᵇ◌, ◌==◌, if◌then◌else◌}
+use Rattle.pack.specs.Notation.{◌<ᵇ◌, ◌≤ᵇ◌}
 use Rattle.rules.specs.PgnRange.{Range, PGN_RANGES, J1939_PGN_RANGES, ranges_of, find_range}
 
 unfoldable pub pdu1 : ℕ → Bool

@@ -1,7 +1,7 @@
 -- R02, `check_pgn_range`: the number in a valid range; PDU1 PGNs end in 0x00; the packet type agrees with the range.
-use Rattle.std.specs.Prelude.{ℕ, ◌%◌, ◌&&◌, ◌||◌, not, List, [], ◌∷◌, ◌++◌}
+use Rattle.std.specs.Prelude.{ℕ, ◌%◌, ◌&&◌, ◌||◌, not, List, [], ◌∷◌, ◌++◌, ◌==◌, if◌then◌else◌}
 use Rattle.std.proofs.Math.Option.{Option, none, some}
-use Rattle.pack.specs.Notation.{◌<ᵇ◌, ◌≤ᵇ◌, ◌==◌, if◌then◌else◌}
+use Rattle.pack.specs.Notation.{◌<ᵇ◌, ◌≤ᵇ◌}
 use Rattle.pack.specs.Value.{Pgn}
 use Rattle.rules.specs.declared.Finding.{Finding}
 use Rattle.rules.specs.Findings.{pgn_error, report_if}
@@ -85,5 +85,5 @@ found_range t i p (some r) =
 unfoldable pub check_pgn_range : (t i : ℕ) → Pgn → List Finding
 check_pgn_range t i p =
     if ACTISENSE_BEM ≤ᵇ p.pgn then []
-    else if t == 2 then quick_range t i p
-    else found_range t i p (find_range (ranges_of t) p.pgn)
+    else (if t == 2 then quick_range t i p
+    else found_range t i p (find_range (ranges_of t) p.pgn))

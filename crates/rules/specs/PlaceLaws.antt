@@ -1,10 +1,10 @@
 -- Two PGNs of a tree have one place text exactly if they have one number and one id: what `dedup` compares in R24.
-use Rattle.std.specs.Prelude.{ℕ, zero, suc, ◌+◌, ◌-◌, ◌*◌, ◌/◌, ◌%◌, ◌^◌, ◌<◌, Bool, true, false, ◌&&◌, ◌≡◌, refl, length, replicate}
+use Rattle.std.specs.Prelude.{ℕ, zero, suc, ◌+◌, ◌-◌, ◌*◌, ◌/◌, ◌%◌, ◌^◌, ◌<◌, Bool, true, false, ◌&&◌, ◌≡◌, refl, length, replicate, ◌==◌, if◌then◌else◌}
 use Rattle.std.proofs.Common.{mod-lt, mod-eq_of_lt, div-add-mod', div-lt_iff_lt-mul, pow-suc, arith, sym, ap, ◌∙◌}
 use Rattle.std.proofs.Common.{ltb-true, leb-true, le-leb, eqb-true, eq-eqb, ne_eqb}
 use Rattle.std.proofs.lemmas.Bool.{false≢true}
 use mathlib.Core.List.{[], ◌∷◌, ◌++◌, append_assoc, append_cancel_left, append_cancel_right, tail-eq_of_cons-eq}
-use Rattle.pack.specs.Notation.{◌<ᵇ◌, ◌≤ᵇ◌, ◌==◌, ◌≐◌, if◌then◌else◌}
+use Rattle.pack.specs.Notation.{◌<ᵇ◌, ◌≤ᵇ◌, ◌≐◌}
 use Rattle.pack.specs.Value.{Bytes, Pgn}
 use Rattle.rules.specs.Digits.{digits_within, digits, six_digits}
 use Rattle.numerals.specs.Numerals.{is_digit, all_digits, decimal}

@@ -1,7 +1,7 @@
 -- The text of a finding's place, and whether it is in the pack.
-use Rattle.std.specs.Prelude.{ℕ, zero, suc, Bool, ◌&&◌, [], ◌++◌, length}
+use Rattle.std.specs.Prelude.{ℕ, zero, suc, Bool, ◌&&◌, [], ◌++◌, length, ◌==◌, if◌then◌else◌}
 use Rattle.std.proofs.Math.Option.{Option, none}
-use Rattle.pack.specs.Notation.{◌<ᵇ◌, ◌==◌, if◌then◌else◌, optional}
+use Rattle.pack.specs.Notation.{◌<ᵇ◌, optional}
 use Rattle.pack.specs.Value.{Bytes, Pgn, Pack, pgns_of, pgn_at, lookup_at}
 use Rattle.rules.specs.Digits.{six_digits}
 use Rattle.rules.specs.Search.{any_below}
@@ -31,7 +31,7 @@ has_number P t number = any_below (λ i. (pgn_at P t i).pgn == number) (length (
 unfoldable pub place_text : Pack → (place tree item : ℕ) → Option Bytes
 place_text P place t item =
     if place == 0 then optional ((t == 0) && (item <ᵇ length P.fieldtypes)) (bytes "fieldtypes.yaml")
-    else if place == 1 then optional ((t <ᵇ 3) && (item <ᵇ length (pgns_of P t))) (pgn_loc t (pgn_at P t item))
-    else if place == 2 then optional ((t == 0) && (item <ᵇ length P.lookups)) (lookup_loc (lookup_at P.lookups item).name)
-    else if place == 3 then optional ((t <ᵇ 3) && has_number P t item) (group_loc t item)
-    else none
+    else (if place == 1 then optional ((t <ᵇ 3) && (item <ᵇ length (pgns_of P t))) (pgn_loc t (pgn_at P t item))
+    else (if place == 2 then optional ((t == 0) && (item <ᵇ length P.lookups)) (lookup_loc (lookup_at P.lookups item).name)
+    else (if place == 3 then optional ((t <ᵇ 3) && has_number P t item) (group_loc t item)
+    else none)))

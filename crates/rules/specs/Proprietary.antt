@@ -1,7 +1,7 @@
 -- R07, `check_proprietary`: manufacturer-proprietary PGNs open with Manufacturer Code / Reserved / Industry Code, or declare MissingCompanyFields.
-use Rattle.std.specs.Prelude.{ℕ, Bool, false, ◌&&◌, ◌||◌, not, List, [], length}
+use Rattle.std.specs.Prelude.{ℕ, Bool, false, ◌&&◌, ◌||◌, not, List, [], length, ◌==◌, if◌then◌else◌}
 use Rattle.std.proofs.Math.Option.{Option, none, some}
-use Rattle.pack.specs.Notation.{◌≤ᵇ◌, ◌==◌, ◌≐◌, if◌then◌else◌}
+use Rattle.pack.specs.Notation.{◌≤ᵇ◌, ◌≐◌}
 use Rattle.pack.specs.Value.{Bytes, FieldType, Reference, Pgn, field_at}
 use Rattle.rules.specs.declared.Finding.{Finding}
 use Rattle.rules.specs.Findings.{pgn_error, report_if}
@@ -30,5 +30,5 @@ company_fields fts p =
 unfoldable pub check_proprietary : List FieldType → (t i : ℕ) → Pgn → List Finding
 check_proprietary fts t i p =
     if not (is_manufacturer_pgn p.pgn) || p.fallback then []
-    else if p.missing_company_fields then []
-    else report_if (not (company_fields fts p)) (pgn_error 7 1 t i 0 0)
+    else (if p.missing_company_fields then []
+    else report_if (not (company_fields fts p)) (pgn_error 7 1 t i 0 0))

@@ -1,7 +1,7 @@
 -- R05, `check_repeating`: repeating sets are self-consistent, and a nested set lies wholly inside the one that encloses it.
-use Rattle.std.specs.Prelude.{ℕ, zero, suc, ◌+◌, ◌-◌, Bool, true, ◌&&◌, ◌||◌, List, [], ◌∷◌, ◌++◌, length}
+use Rattle.std.specs.Prelude.{ℕ, zero, suc, ◌+◌, ◌-◌, Bool, true, ◌&&◌, ◌||◌, List, [], ◌∷◌, ◌++◌, length, ◌==◌, if◌then◌else◌}
 use Rattle.std.proofs.Math.Option.{Option, none, some}
-use Rattle.pack.specs.Notation.{◌<ᵇ◌, ◌≤ᵇ◌, ◌==◌, if◌then◌else◌, concat_below}
+use Rattle.pack.specs.Notation.{◌<ᵇ◌, ◌≤ᵇ◌, concat_below}
 use Rattle.pack.specs.Value.{Repeating, Pgn, set_place}
 use Rattle.rules.specs.declared.Finding.{Finding}
 use Rattle.rules.specs.Findings.{pgn_error, report_if}

@@ -1,7 +1,7 @@
 -- Searches among the indexes below n. Each goes by recursion on n, so that a loop that counts up makes one step of it a turn.
-use Rattle.std.specs.Prelude.{ℕ, zero, suc, ◌+◌, Bool, true, false, ◌&&◌, ◌||◌}
+use Rattle.std.specs.Prelude.{ℕ, zero, suc, ◌+◌, Bool, true, false, ◌&&◌, ◌||◌, if◌then◌else◌}
 use Rattle.std.proofs.Math.Option.{Option, none, some}
-use Rattle.pack.specs.Notation.{◌<ᵇ◌, if◌then◌else◌, optional}
+use Rattle.pack.specs.Notation.{◌<ᵇ◌, optional}
 
 abbrev pub or_else : {A : Type 0} → Option A → Option A → Option A
 or_else none y = y

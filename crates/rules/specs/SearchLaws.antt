@@ -1,10 +1,10 @@
 -- Searches among the indexes below n: a loop's turn at k + 1, what leaving early says, and what an answer says.
-use Rattle.std.specs.Prelude.{ℕ, zero, suc, ◌+◌, ◌<◌, Bool, true, false, ◌&&◌, ◌||◌, List, [], ◌++◌, ◌≡◌, refl}
+use Rattle.std.specs.Prelude.{ℕ, zero, suc, ◌+◌, ◌<◌, Bool, true, false, ◌&&◌, ◌||◌, List, [], ◌++◌, ◌≡◌, refl, if◌then◌else◌}
 use Rattle.std.proofs.Math.Decide.{ℕ_discrete}
 use Rattle.std.proofs.Common.{add-one, arith, append-nil, sym, ap, ◌∙◌}
 use Rattle.std.proofs.lemmas.Bool.{false≢true}
 use Rattle.std.proofs.Math.Option.{Option, none, some, none-ne-some, some-injective}
-use Rattle.pack.specs.Notation.{if◌then◌else◌, concat_below, optional}
+use Rattle.pack.specs.Notation.{concat_below, optional}
 use Rattle.rules.specs.Search.{or_else, any_below, every_below, first_below, latest_below, count_below, sum_below, larger, smaller, max_below}
 use Rattle.rules.specs.Search.{min_below, lower_key, least_below, next_rank, ranked}
 

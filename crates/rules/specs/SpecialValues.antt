@@ -1,7 +1,7 @@
 -- R09, `check_special_values`: specialValues within 0 to 3, and below 2^bits.
-use Rattle.std.specs.Prelude.{ℕ, ◌-◌, ◌^◌, min, ◌||◌, List, [], length}
+use Rattle.std.specs.Prelude.{ℕ, ◌-◌, ◌^◌, min, ◌||◌, List, [], length, ◌==◌, if◌then◌else◌}
 use Rattle.std.proofs.Math.Option.{Option, none, some}
-use Rattle.pack.specs.Notation.{◌<ᵇ◌, ◌==◌, if◌then◌else◌, concat_below}
+use Rattle.pack.specs.Notation.{◌<ᵇ◌, concat_below}
 use Rattle.pack.specs.Value.{Pgn, field_at}
 use Rattle.rules.specs.declared.Finding.{Finding}
 use Rattle.rules.specs.Findings.{pgn_error, report_if}

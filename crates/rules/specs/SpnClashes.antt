@@ -1,7 +1,7 @@
 -- For the code of R24 cause 2: whether two fields of the J1939 tree have one name and carry different SPNs. Where no two have, nothing is reported.
-use Rattle.std.specs.Prelude.{ℕ, ◌+◌, Bool, false, not, ◌&&◌, List, length, get_or}
+use Rattle.std.specs.Prelude.{ℕ, ◌+◌, Bool, false, not, ◌&&◌, List, length, get_or, ◌==◌}
 use Rattle.std.proofs.Math.Option.{Option, none, some}
-use Rattle.pack.specs.Notation.{◌==◌, ◌≐◌}
+use Rattle.pack.specs.Notation.{◌≐◌}
 use Rattle.pack.specs.Value.{Bytes, Pgn, no_pgn, field_at}
 use Rattle.rules.specs.Search.{any_below}
 

@@ -1,7 +1,7 @@
 -- R42, `check_spns`: spn only on J1939 fields, within 19 bits, and decoded alike by every field that carries the same SPN.
-use Rattle.std.specs.Prelude.{ℕ, Bool, true, false, ◌&&◌, not, List, [], ◌∷◌, ◌++◌, length, get_or}
+use Rattle.std.specs.Prelude.{ℕ, Bool, true, false, ◌&&◌, not, List, [], ◌∷◌, ◌++◌, length, get_or, ◌==◌, if◌then◌else◌}
 use Rattle.std.proofs.Math.Option.{Option, none, some}
-use Rattle.pack.specs.Notation.{◌<ᵇ◌, ◌==◌, ◌≐◌, if◌then◌else◌, concat_below}
+use Rattle.pack.specs.Notation.{◌<ᵇ◌, ◌≐◌, concat_below}
 use Rattle.pack.specs.Value.{Bytes, Field, Pgn, Pack, pgns_of, no_pgn, pgn_at, field_at}
 use Rattle.rules.specs.declared.Finding.{Finding}
 use Rattle.rules.specs.Findings.{pgn_error, report_if}

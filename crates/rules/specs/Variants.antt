@@ -1,7 +1,7 @@
 -- R20, `check_variants`: variants of one PGN number are told apart by their matches, and at most one has none.
-use Rattle.std.specs.Prelude.{ℕ, Bool, ◌&&◌, not, List, [], ◌∷◌, ◌++◌, length, get_or}
+use Rattle.std.specs.Prelude.{ℕ, Bool, ◌&&◌, not, List, [], ◌∷◌, ◌++◌, length, get_or, ◌==◌, if◌then◌else◌}
 use Rattle.std.proofs.Math.Option.{Option, none, some}
-use Rattle.pack.specs.Notation.{◌<ᵇ◌, ◌≤ᵇ◌, ◌==◌, ◌≐◌, if◌then◌else◌, concat_below, optional}
+use Rattle.pack.specs.Notation.{◌<ᵇ◌, ◌≤ᵇ◌, ◌≐◌, concat_below, optional}
 use Rattle.pack.specs.Value.{Bytes, Pgn, no_pgn, field_at}
 use Rattle.rules.specs.declared.Finding.{Finding}
 use Rattle.rules.specs.Digits.{digits}

@@ -1,6 +1,5 @@
 // R15
-ghost use Rattle.std.specs.Prelude.{◌≡◌, not, ◌||◌, ◌<◌, length};
-ghost use Rattle.pack.specs.Notation.{◌==◌};
+ghost use Rattle.std.specs.Prelude.{◌≡◌, not, ◌||◌, ◌<◌, length, ◌==◌};
 ghost use Rattle.pack.specs.Meaning.{optional_number, field_meaning};
 ghost use Rattle.pack.specs.Ready.{PgnAt, PgnRecordIs, pgn_in};
 ghost use Rattle.pack.specs.Value.{field_at};

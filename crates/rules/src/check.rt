@@ -1,6 +1,5 @@
 // The call `check`.
-ghost use Rattle.std.specs.Prelude.{◌≡◌, ◌+◌, ◌*◌, ◌≤◌, length, get_or, take};
-ghost use Rattle.pack.specs.Notation.{◌==◌, if◌then◌else◌};
+ghost use Rattle.std.specs.Prelude.{◌≡◌, ◌+◌, ◌*◌, ◌≤◌, length, get_or, take, ◌==◌, if◌then◌else◌};
 ghost use Rattle.pack.specs.Load.{over};
 ghost use Rattle.pack.specs.Meaning.{pack_of};
 ghost use Rattle.pack.specs.Ready.{Ready, IndexIs};

@@ -1,6 +1,6 @@
 // R43
-ghost use Rattle.std.specs.Prelude.{◌≡◌, not, ◌||◌, [], ◌∷◌, ◌<◌, length};
-ghost use Rattle.pack.specs.Notation.{◌==◌, ◌<ᵇ◌, ◌≐◌, if◌then◌else◌};
+ghost use Rattle.std.specs.Prelude.{◌≡◌, not, ◌||◌, [], ◌∷◌, ◌<◌, length, ◌==◌, if◌then◌else◌};
+ghost use Rattle.pack.specs.Notation.{◌<ᵇ◌, ◌≐◌};
 ghost use Rattle.pack.specs.Items.{bytes_of};
 ghost use Rattle.pack.specs.Meaning.{optional_float, optional_repeating, field_meaning, pack_of};
 ghost use Rattle.pack.specs.Ready.{Ready, PgnIs, PgnRecordIs, pgn_in};
@@ -169,18 +169,18 @@ fn placed_at(
     requires { record {
       fits : Fits n
           (if not (set_of (pgn_in s.now g) link.earlier == set_of (pgn_in s.now g) link.field) then pgn_error 43 2 g.tree
-          g.item link.field link.earlier ∷ [] else if not continued then pgn_error 43 3 g.tree g.item link.field
+          g.item link.field link.earlier ∷ [] else (if not continued then pgn_error 43 3 g.tree g.item link.field
           link.earlier ∷ [] else report_if (1 <ᵇ continued_by (pgn_in s.now g) (bytes_of s.now link.id))
-          (pgn_error 43 4 g.tree g.item link.field link.earlier));
+          (pgn_error 43 4 g.tree g.item link.field link.earlier)));
       pgn : PgnRecordIs s.now work.now g;
       field : link.field < g.view.fields;
       earlier : link.earlier < link.field;
     } }
     ensures { Emitted out.old n
         (if not (set_of (pgn_in s.now g) link.earlier == set_of (pgn_in s.now g) link.field) then pgn_error 43 2
-        g.tree g.item link.field link.earlier ∷ [] else if not continued then pgn_error 43 3 g.tree g.item link.field
+        g.tree g.item link.field link.earlier ∷ [] else (if not continued then pgn_error 43 3 g.tree g.item link.field
         link.earlier ∷ [] else report_if (1 <ᵇ continued_by (pgn_in s.now g) (bytes_of s.now link.id))
-        (pgn_error 43 4 g.tree g.item link.field link.earlier)) out.new result }
+        (pgn_error 43 4 g.tree g.item link.field link.earlier))) out.new result }
 {
     if set_of(s, g, link.earlier) != set_of(s, g, link.field) {
         return put(out, n, link_error(2, g, link));

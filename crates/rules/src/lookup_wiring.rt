@@ -1,7 +1,7 @@
 // R08 and R22
-ghost use Rattle.std.specs.Prelude.{◌≡◌, ◌&&◌, ◌<◌, length};
+ghost use Rattle.std.specs.Prelude.{◌≡◌, ◌&&◌, ◌<◌, length, ◌==◌};
 ghost use Rattle.std.proofs.Math.Option.{some};
-ghost use Rattle.pack.specs.Notation.{◌==◌, concat_below};
+ghost use Rattle.pack.specs.Notation.{concat_below};
 ghost use Rattle.pack.specs.Value.{pgns_of, pgn_at};
 ghost use Rattle.pack.specs.Items.{bytes_of};
 ghost use Rattle.pack.specs.Meaning.{optional_reference, field_meaning, pack_of};

@@ -1,6 +1,6 @@
 // The number that a match stands for: the Rust's `resolve_match`, with hexadecimal (document 02).
-ghost use Rattle.std.specs.Prelude.{◌≡◌, ◌||◌, length};
-ghost use Rattle.pack.specs.Notation.{◌==◌, if◌then◌else◌, optional};
+ghost use Rattle.std.specs.Prelude.{◌≡◌, ◌||◌, length, ◌==◌, if◌then◌else◌};
+ghost use Rattle.pack.specs.Notation.{optional};
 ghost use Rattle.pack.specs.Items.{bytes_of};
 ghost use Rattle.pack.specs.Meaning.{optional_reference, field_meaning, pack_of};
 ghost use Rattle.pack.specs.Ready.{Ready, LookupAt, LookupsAre};

@@ -1,6 +1,6 @@
 // R16
-ghost use Rattle.std.specs.Prelude.{◌≡◌, ◌||◌, length};
-ghost use Rattle.pack.specs.Notation.{◌≤ᵇ◌, ◌==◌};
+ghost use Rattle.std.specs.Prelude.{◌≡◌, ◌||◌, length, ◌==◌};
+ghost use Rattle.pack.specs.Notation.{◌≤ᵇ◌};
 ghost use Rattle.std.proofs.Math.Option.{some};
 ghost use Rattle.rules.specs.Emit.{Emitted, Fits};
 ghost use Rattle.rules.specs.MinLength.{lands_on_boundary, min_length_at, check_min_length};

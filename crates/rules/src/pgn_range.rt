@@ -1,6 +1,6 @@
 // R02
-ghost use Rattle.std.specs.Prelude.{◌≡◌, not, ◌&&◌, ◌||◌, ◌∷◌, ◌+◌, ◌%◌, ◌<◌, length, drop};
-ghost use Rattle.pack.specs.Notation.{◌==◌, if◌then◌else◌, optional};
+ghost use Rattle.std.specs.Prelude.{◌≡◌, not, ◌&&◌, ◌||◌, ◌∷◌, ◌+◌, ◌%◌, ◌<◌, length, drop, ◌==◌, if◌then◌else◌};
+ghost use Rattle.pack.specs.Notation.{optional};
 ghost use Rattle.pack.specs.Ready.{PgnIs, pgn_in};
 ghost use Rattle.pack.specs.Trees.{tree_number};
 ghost use Rattle.rules.specs.Emit.{Emitted, Fits};

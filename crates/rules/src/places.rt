@@ -1,6 +1,6 @@
 // The record that a finding's place names, found in the pack.
-ghost use Rattle.std.specs.Prelude.{◌≡◌, false, ◌&&◌, ◌<◌, length};
-ghost use Rattle.pack.specs.Notation.{◌==◌, ◌<ᵇ◌, optional};
+ghost use Rattle.std.specs.Prelude.{◌≡◌, false, ◌&&◌, ◌<◌, length, ◌==◌};
+ghost use Rattle.pack.specs.Notation.{◌<ᵇ◌, optional};
 ghost use Rattle.pack.specs.Value.{pgns_of, pgn_at, lookup_at};
 ghost use Rattle.pack.specs.Meaning.{pack_of};
 ghost use Rattle.pack.specs.Ready.{Ready, LookupAt, PgnAt, place_of_tree, place_of_lookup, IndexIs, LookupsAre, TreeIs};

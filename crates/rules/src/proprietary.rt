@@ -1,6 +1,6 @@
 // R07
-ghost use Rattle.std.specs.Prelude.{◌≡◌, not, ◌&&◌, ◌||◌, ◌<◌, length};
-ghost use Rattle.pack.specs.Notation.{◌==◌, ◌≐◌};
+ghost use Rattle.std.specs.Prelude.{◌≡◌, not, ◌&&◌, ◌||◌, ◌<◌, length, ◌==◌};
+ghost use Rattle.pack.specs.Notation.{◌≐◌};
 ghost use Rattle.pack.specs.Meaning.{optional_reference, field_meaning, pack_of};
 ghost use Rattle.pack.specs.Ready.{Ready, PgnRecordIs, pgn_in};
 ghost use Rattle.rules.specs.Emit.{Emitted, Fits};

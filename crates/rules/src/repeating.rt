@@ -1,6 +1,6 @@
 // R05
-ghost use Rattle.std.specs.Prelude.{◌≡◌, not, ◌&&◌, ◌||◌, ◌+◌};
-ghost use Rattle.pack.specs.Notation.{◌<ᵇ◌, ◌≤ᵇ◌, ◌==◌};
+ghost use Rattle.std.specs.Prelude.{◌≡◌, not, ◌&&◌, ◌||◌, ◌+◌, ◌==◌};
+ghost use Rattle.pack.specs.Notation.{◌<ᵇ◌, ◌≤ᵇ◌};
 ghost use Rattle.pack.specs.Meaning.{opt_order, repeating_meaning, optional_repeating};
 ghost use Rattle.pack.specs.Ready.{PgnIs, pgn_in};
 ghost use Rattle.rules.specs.Emit.{Emitted, Fits};

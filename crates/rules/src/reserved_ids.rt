@@ -1,6 +1,6 @@
 // R12
-ghost use Rattle.std.specs.Prelude.{◌≡◌, false, not, drop};
-ghost use Rattle.pack.specs.Notation.{◌≐◌, if◌then◌else◌};
+ghost use Rattle.std.specs.Prelude.{◌≡◌, false, not, drop, if◌then◌else◌};
+ghost use Rattle.pack.specs.Notation.{◌≐◌};
 ghost use Rattle.pack.specs.Items.{bytes_of};
 ghost use Rattle.pack.specs.Meaning.{field_meaning};
 ghost use Rattle.pack.specs.Value.{field_at};
@@ -60,8 +60,8 @@ fn numbered(want: &[u8], id: &[u8]) -> bool
 fn misnamed(s: &[u8], f: FieldView) -> bool
     ensures { result ≡
         (if bytes_of s.now f.names.name ≐ bytes "Reserved" then not
-        (numbered (bytes "reserved") (bytes_of s.now f.names.id)) else if bytes_of s.now f.names.name ≐ bytes
-        "Spare" then not (numbered (bytes "spare") (bytes_of s.now f.names.id)) else false) }
+        (numbered (bytes "reserved") (bytes_of s.now f.names.id)) else (if bytes_of s.now f.names.name ≐ bytes
+        "Spare" then not (numbered (bytes "spare") (bytes_of s.now f.names.id)) else false)) }
 {
     let name = f.names.name;
     let id = f.names.id;

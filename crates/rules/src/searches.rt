@@ -1,6 +1,6 @@
 // Answers of searches that go on to the end.
-ghost use Rattle.std.specs.Prelude.{◌≡◌, ◌+◌, ◌<◌};
-ghost use Rattle.pack.specs.Notation.{if◌then◌else◌, optional};
+ghost use Rattle.std.specs.Prelude.{◌≡◌, ◌+◌, ◌<◌, if◌then◌else◌};
+ghost use Rattle.pack.specs.Notation.{optional};
 ghost use Rattle.pack.specs.Meaning.{optional_number};
 ghost use Rattle.rules.specs.Search.{or_else, larger, smaller};
 

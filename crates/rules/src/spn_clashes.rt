@@ -1,6 +1,5 @@
 // For R24 cause 2: whether two fields have one name and different SPNs
-ghost use Rattle.std.specs.Prelude.{◌≡◌, not, ◌&&◌, ◌+◌, ◌<◌, length};
-ghost use Rattle.pack.specs.Notation.{◌==◌};
+ghost use Rattle.std.specs.Prelude.{◌≡◌, not, ◌&&◌, ◌+◌, ◌<◌, length, ◌==◌};
 ghost use Rattle.pack.specs.Items.{bytes_of};
 ghost use Rattle.pack.specs.Meaning.{optional_number, pack_of};
 ghost use Rattle.pack.specs.Ready.{Ready, PgnAt, place_of_tree, TreeIs};

@@ -1,9 +1,9 @@
 // R42
-ghost use Rattle.std.specs.Prelude.{◌≡◌, true, ◌&&◌, ◌<◌, length};
+ghost use Rattle.std.specs.Prelude.{◌≡◌, true, ◌&&◌, ◌<◌, length, ◌==◌};
 ghost use Rattle.std.proofs.Math.Option.{some};
 ghost use Rattle.std.specs.Float.Ieee.{of_bits};
 ghost use Rattle.std.specs.Float.{binary64};
-ghost use Rattle.pack.specs.Notation.{◌==◌, concat_below};
+ghost use Rattle.pack.specs.Notation.{concat_below};
 ghost use Rattle.pack.specs.Value.{pgns_of, pgn_at, field_at};
 ghost use Rattle.pack.specs.Meaning.{optional_bytes, field_meaning, pack_of};
 ghost use Rattle.pack.specs.Ready.{Ready, PgnAt, PgnIs, place_of_tree, IndexIs, PgnRecordIs, TreeIs, pgn_in};

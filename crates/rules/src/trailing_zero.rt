@@ -1,6 +1,5 @@
 // R44
-ghost use Rattle.std.specs.Prelude.{◌≡◌, ◌||◌, ◌≤◌, ◌<◌, length};
-ghost use Rattle.pack.specs.Notation.{◌==◌};
+ghost use Rattle.std.specs.Prelude.{◌≡◌, ◌||◌, ◌≤◌, ◌<◌, length, ◌==◌};
 ghost use Rattle.pack.specs.Meaning.{optional_number, optional_repeating, field_meaning, pack_of};
 ghost use Rattle.pack.specs.Ready.{Ready, PgnAt, PgnIs, PgnRecordIs, pgn_in};
 ghost use Rattle.pack.specs.Value.{field_at, set_place};

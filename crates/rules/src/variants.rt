@@ -1,6 +1,6 @@
 // R20
-ghost use Rattle.std.specs.Prelude.{◌≡◌, true, not, ◌&&◌, ◌≤◌, ◌<◌, length};
-ghost use Rattle.pack.specs.Notation.{◌==◌, ◌≤ᵇ◌};
+ghost use Rattle.std.specs.Prelude.{◌≡◌, true, not, ◌&&◌, ◌≤◌, ◌<◌, length, ◌==◌};
+ghost use Rattle.pack.specs.Notation.{◌≤ᵇ◌};
 ghost use Rattle.pack.specs.Value.{pgns_of, pgn_at};
 ghost use Rattle.pack.specs.Meaning.{optional_number, pack_of};
 ghost use Rattle.pack.specs.Ready.{Ready, place_of_tree, PgnRecordIs, TreeIs, pgn_in};

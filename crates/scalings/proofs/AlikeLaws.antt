@@ -1,10 +1,10 @@
 -- What it is to be alike: R42 tests just that; it is symmetric and transitive. It is not reflexive: a field with a NaN is not like itself.
+use Rattle.std.specs.Prelude.{◌==◌}
 use mathlib.Core.Bool.{Bool, true, ◌&&◌, false≢true}
 use mathlib.Core.Option.{Option, none, some}
 use mathlib.Core.Path.{◌≡◌, refl, sym, ap, ◌∙◌}
 use lib.Ieee.{of_bits, binary64}
 use borrow.Author.Tests.{eqb-true, eq-eqb}
-use Rattle.pack.specs.Notation.{◌==◌}
 use Rattle.pack.specs.Value.{Bytes, Field}
 use Rattle.rules.specs.Floats.{float_eq}
 use Rattle.rules.specs.PlaceLaws.{same_eq, same_refl}

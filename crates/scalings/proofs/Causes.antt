@@ -1,10 +1,11 @@
 -- A cause in a list of findings, and in its parts.
+use Rattle.std.specs.Prelude.{◌==◌}
 use Prim.Native.Nat.{ℕ, zero, suc, ◌<◌}
 use native.Mathlib.Omega.{arith}
 use mathlib.Core.Bool.{Bool, true, false, ◌&&◌, ◌||◌, false≢true}
 use mathlib.Core.List.{List, [], ◌∷◌, ◌++◌}
 use mathlib.Core.Path.{◌≡◌, refl, sym, ap, ◌∙◌}
-use Rattle.pack.specs.Notation.{◌==◌, concat_below}
+use Rattle.pack.specs.Notation.{concat_below}
 use Rattle.rules.specs.declared.Finding.{Finding}
 use Rattle.rules.specs.Findings.{only}
 use Rattle.rules.specs.SearchLaws.{below_suc}

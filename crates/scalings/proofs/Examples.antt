@@ -1,5 +1,6 @@
 -- "A lone NaN field stays silent; two with one SPN do not" of every pack; the edges as computed packs, each with the theorem at it; and for
 -- three wrong readings a pack of which the theorem would be false.
+use Rattle.std.specs.Prelude.{if◌then◌else◌}
 use Prim.Native.Nat.{ℕ}
 use native.Mathlib.Omega.{arith}
 use mathlib.Core.Bool.{Bool, true, false, ◌&&◌, beq, false≢true}
@@ -7,7 +8,6 @@ use mathlib.Core.List.{List, [], ◌∷◌, map}
 use mathlib.Core.Option.{Option, none, some}
 use mathlib.Core.Path.{◌≡◌, refl, sym, ◌∙◌}
 use lib.Ieee.{binary64, of_bits, nan, eq}
-use Rattle.pack.specs.Notation.{if◌then◌else◌}
 use Rattle.pack.specs.Value.{Bytes, Field, Pgn, Pack, pgn_at, field_at}
 use Rattle.rules.specs.Check.{check}
 use Rattle.rules.specs.Computed.{computed}

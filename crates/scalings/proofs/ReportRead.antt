@@ -1,4 +1,5 @@
 -- The findings read back from their buffer: a report has a cause exactly if `check` finds it.
+use Rattle.std.specs.Prelude.{◌==◌}
 use Prim.Native.Nat.{ℕ, zero, suc, ◌+◌, ◌*◌, ◌≤◌}
 use native.Mathlib.Omega.{arith}
 use mathlib.Core.Bool.{Bool, true, false, ◌&&◌, ◌||◌, false≢true}
@@ -6,7 +7,7 @@ use mathlib.Core.List.{List, [], ◌∷◌, ◌++◌}
 use mathlib.Core.Path.{◌≡◌, refl, sym, ap, ◌∙◌}
 use lib.ListN.{length, get_or, drop}
 use borrow.Author.Tests.{leb-true, eq-eqb, not-true, not-false}
-use Rattle.pack.specs.Notation.{◌≤ᵇ◌, ◌==◌}
+use Rattle.pack.specs.Notation.{◌≤ᵇ◌}
 use Rattle.pack.specs.Load.{Answer, refusal_number, loaded}
 use Rattle.pack.specs.Meaning.{pack_of}
 use Rattle.pack.specs.Value.{Pack}

@@ -1,4 +1,5 @@
 -- What a silent R42 says: its proof over the definitions.
+use Rattle.std.specs.Prelude.{◌==◌}
 use Prim.Native.Nat.{ℕ, ◌≤◌, ◌<◌}
 use mathlib.Core.Bool.{Bool, true, false, ◌&&◌, not, false≢true}
 use mathlib.Core.List.{List, ◌++◌}
@@ -7,7 +8,7 @@ use mathlib.Core.Option.{Option, none, some}
 use mathlib.Core.Path.{◌≡◌, refl, sym, ap, ◌∙◌}
 use lib.ListN.{length}
 use borrow.Author.Tests.{eqb-true, eq-eqb, le-ltb, ltb-false, not-true}
-use Rattle.pack.specs.Notation.{◌<ᵇ◌, ◌==◌, concat_below}
+use Rattle.pack.specs.Notation.{◌<ᵇ◌, concat_below}
 use Rattle.pack.specs.Value.{Field, Pgn, Pack, pgns_of, pgn_at, field_at}
 use Rattle.rules.specs.declared.Finding.{Finding}
 use Rattle.rules.specs.Check.{check}

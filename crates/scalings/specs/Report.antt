@@ -1,6 +1,5 @@
 -- What the reader of a report may conclude: the findings as the call `check` leaves them in the findings buffer, eight numbers each.
-use Rattle.std.specs.Prelude.{ℕ, ◌+◌, ◌*◌, ◌≤◌, Bool, true, false, ◌&&◌, not, List, ◌↔◌, ◌≡◌, get_or}
-use Rattle.pack.specs.Notation.{◌==◌}
+use Rattle.std.specs.Prelude.{ℕ, ◌+◌, ◌*◌, ◌≤◌, Bool, true, false, ◌&&◌, not, List, ◌↔◌, ◌≡◌, get_or, ◌==◌}
 use Rattle.pack.specs.Value.{Pack}
 use Rattle.rules.specs.Search.{any_below}
 use Rattle.rules.specs.declared.check.Checked.{Checked}

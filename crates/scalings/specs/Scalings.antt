@@ -1,8 +1,7 @@
 -- Ticket 6, "What a silent R42 says": "Show that R42 has no cause 3 exactly when every two different J1939 fields that R42 does not skip,
 -- with one SPN of at most 524,287, have equal width, resolution, offset and unit as R42 takes them, floats compared as floats."
-use Rattle.std.specs.Prelude.{ℕ, ◌≤◌, ◌<◌, Bool, true, false, ◌&&◌, ◌||◌, List, [], ◌∷◌, ◌↔◌, ◌≡◌, length}
+use Rattle.std.specs.Prelude.{ℕ, ◌≤◌, ◌<◌, Bool, true, false, ◌&&◌, ◌||◌, List, [], ◌∷◌, ◌↔◌, ◌≡◌, length, ◌==◌}
 use Rattle.std.proofs.Math.Option.{some}
-use Rattle.pack.specs.Notation.{◌==◌}
 use Rattle.pack.specs.Value.{Field, Pack, pgns_of, pgn_at, field_at}
 use Rattle.rules.specs.declared.Finding.{Finding}
 use Rattle.rules.specs.Check.{check}

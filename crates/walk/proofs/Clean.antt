@@ -1,8 +1,8 @@
 -- An error in one arm of a rule's test: where the report is clean, the test went the other way.
+use Rattle.std.specs.Prelude.{if◌then◌else◌}
 use mathlib.Core.Path.{◌≡◌, refl}
 use mathlib.Core.Bool.{Bool, true, false, false≢true}
 use mathlib.Core.List.{List, [], ◌∷◌}
-use Rattle.pack.specs.Notation.{if◌then◌else◌}
 use Rattle.rules.specs.declared.Finding.{Finding}
 use Rattle.rules.specs.Clean.{Clean}
 

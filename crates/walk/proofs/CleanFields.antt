@@ -1,4 +1,5 @@
 -- What it says of a field that R08, R13, R15, R43 and R44 report no error of it: none of the stops 3 to 7 and 9 comes of it by the place.
+use Rattle.std.specs.Prelude.{◌==◌, if◌then◌else◌}
 use Prim.Native.Nat.{ℕ, zero, suc, ◌+◌, ◌≤◌, ◌<◌}
 use native.Mathlib.Omega.{arith}
 use native.Mathlib.Decide.{ℕ_discrete}
@@ -9,7 +10,7 @@ use mathlib.Core.Option.{Option, none, some}
 use lib.ListN.{length}
 use lib.Dec.{leb, eqb}
 use borrow.Author.Tests.{ltb-true, leb-true, leb-false, eqb-true, not-false, lt-ltb, le-leb}
-use Rattle.pack.specs.Notation.{if◌then◌else◌, ◌==◌, ◌≐◌}
+use Rattle.pack.specs.Notation.{◌≐◌}
 use Rattle.pack.specs.Value.{Bytes, Entry, Reference, Field, Repeating, Pgn, Pack, field_at, set_place, lookup_at, entry_at}
 use Rattle.rules.specs.SearchLaws.{first_is, latest_is}
 use Rattle.rules.specs.Search.{any_below, first_below}

@@ -1,4 +1,5 @@
 -- What it says of a PGN's sets that R05 reports no error.
+use Rattle.std.specs.Prelude.{◌==◌, if◌then◌else◌}
 use Prim.Native.Nat.{ℕ, zero, suc, ◌+◌, ◌-◌, ◌≤◌, ◌<◌}
 use native.Mathlib.Omega.{arith}
 use mathlib.Core.Path.{◌≡◌, refl}
@@ -8,7 +9,6 @@ use mathlib.Core.Option.{Option, none, some}
 use lib.ListN.{length}
 use lib.Dec.{ltb, leb, eqb}
 use borrow.Author.Tests.{ltb-true, ltb-false, leb-true, leb-false, eqb-false, lt-ltb, le-leb, ne_eqb}
-use Rattle.pack.specs.Notation.{if◌then◌else◌, ◌==◌}
 use Rattle.pack.specs.Value.{Repeating, Pgn, set_place}
 use Rattle.rules.specs.Repeating.{set_bounds, set_count_field, set_nesting, check_set, set_before, check_repeating}
 use Rattle.rules.specs.Clean.{Clean, clean_below, clean_in_turn, clean_if}

@@ -1,4 +1,5 @@
 -- The latest readings of the countFields after a visit, set by set.
+use Rattle.std.specs.Prelude.{if◌then◌else◌}
 use Prim.Native.Nat.{ℕ, ◌+◌, ◌*◌, ◌≤◌, ◌<◌}
 use native.Mathlib.Omega.{arith}
 use native.Mathlib.Decide.{ℕ_discrete, dec_lt}
@@ -7,7 +8,6 @@ use mathlib.Core.Bool.{Bool, true, false}
 use mathlib.Core.List.{List}
 use lib.ListN.{length, set, get_or-eq_default}
 use Rattle.pack.specs.Meaning.{opt_order}
-use Rattle.pack.specs.Notation.{if◌then◌else◌}
 use Rattle.walk.specs.ByPlace.{by_place, counts}
 use Rattle.walk.specs.Layout.{Layout, no_set}
 use Rattle.walk.specs.SetsOf.{SetsAre, value_at}

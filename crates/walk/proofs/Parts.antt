@@ -1,4 +1,5 @@
 -- The stops 3 to 9 as code asks for them, part by part.
+use Rattle.std.specs.Prelude.{if◌then◌else◌}
 use Prim.Native.Nat.{ℕ, zero, suc, ◌+◌, ◌-◌, ◌^◌, ◌<◌}
 use native.Mathlib.Omega.{arith}
 use native.Mathlib.Numerals.{add-one}
@@ -10,7 +11,7 @@ use lib.ListN.{length}
 use lib.Dec.{ltb}
 use lib.Pow.{pow_pos}
 use borrow.Author.Tests.{ltb-true, ltb-false, lt-ltb, le-ltb, le-leb, lt-leb}
-use Rattle.pack.specs.Notation.{if◌then◌else◌, optional, ◌<ᵇ◌, ◌≤ᵇ◌, ◌≐◌}
+use Rattle.pack.specs.Notation.{optional, ◌<ᵇ◌, ◌≤ᵇ◌, ◌≐◌}
 use Rattle.pack.specs.Value.{Bytes, Reference, Field, Pgn, Pack, field_at, lookup_at}
 use Rattle.pack.specs.Meaning.{pack_of}
 use Rattle.rules.specs.Search.{or_else, any_below}
@@ -30,7 +31,7 @@ use Rattle.walk.proofs.Tests.{and_l, and_r, and_i}
 
 -- ---- the whole
 
-joined : (a b : Bool) (x : Option ℕ) → (if a then some 3 else if b then some 4 else x) ≡ or_else (if a then some 3 else if b then some 4 else none) x
+joined : (a b : Bool) (x : Option ℕ) → (if a then some 3 else (if b then some 4 else x)) ≡ or_else (if a then some 3 else (if b then some 4 else none)) x
 joined true b x = refl
 joined false true x = refl
 joined false false x = refl

@@ -1,4 +1,5 @@
 -- The definitions of the passes, said of the values and numbers that the code of the walk keeps.
+use Rattle.std.specs.Prelude.{◌==◌}
 use Prim.Native.Nat.{ℕ, zero, suc, ◌+◌, ◌-◌, ◌≤◌, ◌<◌}
 use native.Mathlib.Omega.{arith}
 use native.Mathlib.Numerals.{add-one}
@@ -9,7 +10,7 @@ use mathlib.Core.List.{List}
 use mathlib.Core.Option.{Option, none, some}
 use lib.ListN.{length, get_or-eq_default}
 use borrow.Author.Tests.{ne_eqb, lt-ltb, le-ltb}
-use Rattle.pack.specs.Notation.{optional, ◌==◌}
+use Rattle.pack.specs.Notation.{optional}
 use Rattle.walk.specs.Layout.{Layout, no_set, set_at, end}
 use Rattle.walk.specs.Passes.{Rest, endless, more, Place, present, goto, goto_with, arrives, Stand, again, arrived, ready, beyond, look, Turn}
 use Rattle.walk.specs.Passes.{goes_on, leaves, begins, turn, close, stand}

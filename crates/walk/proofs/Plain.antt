@@ -1,4 +1,5 @@
 -- Runs: visits within a stretch, from a set's pass into the next, and how they follow one another.
+use Rattle.std.specs.Prelude.{◌==◌}
 use Prim.Native.Nat.{ℕ, zero, suc, pred, ◌+◌, ◌*◌, ◌-◌, ◌≤◌, ◌<◌}
 use native.Mathlib.Omega.{arith}
 use native.Mathlib.Numerals.{add-one}
@@ -11,7 +12,6 @@ use lib.ListN.{length, get_or, set, length-set, get_or-eq_default}
 use lib.Seq.{set-get_or}
 use borrow.Author.Tests.{eq-eqb, eqb-true, ne_eqb}
 use Rattle.pack.specs.Meaning.{opt_order}
-use Rattle.pack.specs.Notation.{◌==◌}
 use Rattle.rules.specs.SearchLaws.{below_suc}
 use Rattle.walk.specs.SetsOf.{SetsAre, value_at}
 use Rattle.walk.specs.Layout.{Layout, no_set}

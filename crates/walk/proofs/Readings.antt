@@ -1,4 +1,5 @@
 -- What is remembered of the fields: the mark of each, and the readings at which it stops.
+use Rattle.std.specs.Prelude.{◌==◌, if◌then◌else◌}
 use Prim.Native.Nat.{ℕ, zero, suc, ◌+◌, ◌*◌, ◌-◌, ◌<◌, ◌≤◌}
 use native.Mathlib.Decide.{ℕ_discrete}
 use native.Mathlib.Omega.{arith}
@@ -10,7 +11,7 @@ use lib.Dec.{ltb}
 use lib.ListN.{length, get_or, set, replicate, length-set, get_or-eq_default}
 use lib.Seq.{set_out, get_or-set_same, get_or-set_other}
 use borrow.Author.Tests.{ltb-true, ltb-false, leb-true, eqb-true, not-true, lt-ltb, le-ltb, eq-eqb}
-use Rattle.pack.specs.Notation.{if◌then◌else◌, ◌<ᵇ◌, ◌≤ᵇ◌, ◌==◌}
+use Rattle.pack.specs.Notation.{◌<ᵇ◌, ◌≤ᵇ◌}
 use Rattle.pack.specs.Meaning.{pack_of}
 use Rattle.pack.specs.Value.{Entry, Pgn, Pack, field_at, lookup_at, entry_at}
 use Rattle.rules.specs.Model.{lookup_ref}
@@ -206,7 +207,7 @@ module _ {s w : List ℕ} {p : Pgn} {k : ℕ} {v : FieldtypeLookup} (N : Named s
 
     -- so the mark by the number of values is right
     pub none_passed : {bad bad' : List ℕ} {n : ℕ} (e m : ℕ) → Collected (pack_of s) entries e (4 * k) bad bad' n → e ≡ length entries
-        → m ≡ (if n == 0 then 1 else if 4 * k + 4 ≤ᵇ length bad' then n + 1 else 6)
+        → m ≡ (if n == 0 then 1 else (if 4 * k + 4 ≤ᵇ length bad' then n + 1 else 6))
         → (reading : ℕ) → mark_passes m bad' k reading ≡ true → stops reading ≡ none
     none_passed {bad} {bad'} {n} e m c whole is reading h =
         go (n == 0) (4 * k + 4 ≤ᵇ length bad') refl refl (sym (ap (λ (x : ℕ). mark_passes x bad' k reading) is) ∙ h)
@@ -214,7 +215,7 @@ module _ {s w : List ℕ} {p : Pgn} {k : ℕ} {v : FieldtypeLookup} (N : Named s
         all : n < 5 → (0 < n → 4 * k + 4 ≤ length bad') → among bad' (4 * k) n reading ≡ false → stops reading ≡ none
         all few room missed = none_else bad' (4 * k) n (λ i l. c.kept few room i (omega (arith, l, whole))) reading missed
 
-        go : (a b : Bool) → (n == 0) ≡ a → (4 * k + 4 ≤ᵇ length bad') ≡ b → mark_passes (if a then 1 else if b then n + 1 else 6) bad' k reading ≡ true
+        go : (a b : Bool) → (n == 0) ≡ a → (4 * k + 4 ≤ᵇ length bad') ≡ b → mark_passes (if a then 1 else (if b then n + 1 else 6)) bad' k reading ≡ true
             → stops reading ≡ none
         go true b x y z =
             let q = eqb-true n 0 x in

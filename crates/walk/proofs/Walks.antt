@@ -1,4 +1,5 @@
 -- The walk's loop: what it has made of the walk by now, one step, and its ends.
+use Rattle.std.specs.Prelude.{if◌then◌else◌}
 use Rattle.walk.specs.declared.walk.End.{End as Ending}
 use Prim.Native.Nat.{ℕ, zero, suc, pred, ◌+◌, ◌-◌, ◌≤◌, ◌<◌}
 use native.Mathlib.Omega.{arith}
@@ -10,7 +11,6 @@ use mathlib.Core.Option.{Option, none, some}
 use lib.ListN.{length, get_or, set, drop, drop_of_length-le, length-append}
 use lib.Seq.{drop-cons}
 use Rattle.pack.specs.Load.{over}
-use Rattle.pack.specs.Notation.{if◌then◌else◌}
 use Rattle.pack.specs.Placing.{Stored}
 use Rattle.pack.specs.Value.{Pgn, Pack}
 use Rattle.pack.proofs.Stores.{stored_none, stored_one, sets_over}

@@ -1,7 +1,7 @@
 -- The walk as code can keep it: by the place alone, and for each set the latest reading of its countField. It is the same walk (`agree`).
-use Rattle.std.specs.Prelude.{ℕ, suc, Bool, false, ◌&&◌}
+use Rattle.std.specs.Prelude.{ℕ, suc, Bool, false, ◌&&◌, ◌==◌, if◌then◌else◌}
 use Rattle.std.proofs.Math.Option.{Option, none, some}
-use Rattle.pack.specs.Notation.{if◌then◌else◌, ◌<ᵇ◌, ◌==◌}
+use Rattle.pack.specs.Notation.{◌<ᵇ◌}
 use Rattle.walk.specs.Layout.{Layout, set_at, sets_hold}
 use Rattle.walk.specs.Walk.{Memory}
 

@@ -1,6 +1,5 @@
 -- DEMAND 3, over two calls on the same pack bytes: check, without one error, then walk, of a held PGN of that pack over any readings.
-use Rattle.std.specs.Prelude.{ℕ, ◌≤◌, ◌<◌, ◌≡◌, Bool, true, false, List, length}
-use Rattle.pack.specs.Notation.{◌==◌}
+use Rattle.std.specs.Prelude.{ℕ, ◌≤◌, ◌<◌, ◌≡◌, Bool, true, false, List, length, ◌==◌}
 use Rattle.pack.specs.Load.{over}
 use Rattle.pack.specs.Meaning.{pack_of}
 use Rattle.pack.specs.Value.{Pgn, Pack, pgn_at}

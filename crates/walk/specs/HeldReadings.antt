@@ -1,8 +1,8 @@
 -- Other readings than `held`'s of "a countField lies in no nonempty set, or in set 1 for a nested set 2". Demand 3 is claimed under the
 -- widest; every other one here, and `held`, implies it of the PGNs of a pack (proofs/HeldWidest.antt).
-use Rattle.std.specs.Prelude.{ℕ, Bool, true, not, ◌&&◌, ◌||◌, length}
+use Rattle.std.specs.Prelude.{ℕ, Bool, true, not, ◌&&◌, ◌||◌, length, ◌==◌}
 use Rattle.std.proofs.Math.Option.{Option, none, some}
-use Rattle.pack.specs.Notation.{◌<ᵇ◌, ◌≤ᵇ◌, ◌==◌}
+use Rattle.pack.specs.Notation.{◌<ᵇ◌, ◌≤ᵇ◌}
 use Rattle.pack.specs.Value.{Pgn, Pack}
 use Rattle.rules.specs.Search.{any_below, every_below}
 use Rattle.walk.specs.Layout.{Layout, set_at, nonempty, holds, nested_in}

@@ -1,8 +1,8 @@
 -- What the walk sees of a PGN: its fields, and its repeating sets one after the other.
 -- "A field's index runs from 0 and its order from 1; sets and countField use orders": the field of index t has the order suc t.
-use Rattle.std.specs.Prelude.{ℕ, zero, suc, ◌+◌, Bool, false, not, ◌&&◌, ◌||◌, List, length, get_or}
+use Rattle.std.specs.Prelude.{ℕ, zero, suc, ◌+◌, Bool, false, not, ◌&&◌, ◌||◌, List, length, get_or, ◌==◌}
 use Rattle.std.proofs.Math.Option.{Option, none, some}
-use Rattle.pack.specs.Notation.{◌<ᵇ◌, ◌≤ᵇ◌, ◌==◌, tab}
+use Rattle.pack.specs.Notation.{◌<ᵇ◌, ◌≤ᵇ◌, tab}
 use Rattle.pack.specs.Value.{Field, Repeating, Pgn, set_place}
 use Rattle.rules.specs.Search.{any_below, every_below}
 

@@ -1,7 +1,6 @@
 -- The PGN that a call names: the call is refused, or the PGN is found.
-use Rattle.std.specs.Prelude.{ℕ, ◌≡◌, Bool, true, List, length}
+use Rattle.std.specs.Prelude.{ℕ, ◌≡◌, Bool, true, List, length, if◌then◌else◌}
 use Rattle.std.proofs.Math.Option.{Option, none, some}
-use Rattle.pack.specs.Notation.{if◌then◌else◌}
 use Rattle.pack.specs.Load.{loaded}
 use Rattle.pack.specs.Meaning.{pack_of}
 use Rattle.pack.specs.Ready.{PgnAt, IndexIs}

@@ -1,7 +1,7 @@
 -- Where a walk stands between two visits, by the passes of the sets (document 01, "The walk"): which pass ends, which set is arrived at.
-use Rattle.std.specs.Prelude.{ℕ, zero, suc, Bool, true, false, not, ◌&&◌, length}
+use Rattle.std.specs.Prelude.{ℕ, zero, suc, Bool, true, false, not, ◌&&◌, length, ◌==◌, if◌then◌else◌}
 use Rattle.std.proofs.Math.Option.{Option, none, some}
-use Rattle.pack.specs.Notation.{if◌then◌else◌, ◌<ᵇ◌, ◌==◌}
+use Rattle.pack.specs.Notation.{◌<ᵇ◌}
 use Rattle.pack.specs.Value.{Field}
 use Rattle.walk.specs.Layout.{Layout, start, end, nonempty}
 

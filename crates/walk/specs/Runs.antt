@@ -1,8 +1,7 @@
 -- What a run of visits goes by: orders of which each leads to the next, the passes that are left, and the visits that are written.
-use Rattle.std.specs.Prelude.{ℕ, zero, suc, ◌+◌, ◌-◌, ◌≤◌, ◌<◌, ◌≡◌, Bool, true, false, ◌||◌, List, length, get_or, set}
+use Rattle.std.specs.Prelude.{ℕ, zero, suc, ◌+◌, ◌-◌, ◌≤◌, ◌<◌, ◌≡◌, Bool, true, false, ◌||◌, List, length, get_or, set, ◌==◌}
 use Rattle.std.proofs.Math.Option.{none, some}
 use Rattle.pack.specs.Meaning.{opt_order}
-use Rattle.pack.specs.Notation.{◌==◌}
 use Rattle.walk.specs.ByPlace.{placed, counts}
 use Rattle.walk.specs.Layout.{Layout}
 use Rattle.walk.specs.Passes.{Rest, turn, begins, goto_with}

@@ -1,7 +1,7 @@
 -- What the values of the repeating sets are: a set's, and those of a layout.
-use Rattle.std.specs.Prelude.{ℕ, suc, ◌+◌, ◌≤◌, ◌≡◌, Bool, false, not, ◌&&◌, ◌||◌, length, get_or}
+use Rattle.std.specs.Prelude.{ℕ, suc, ◌+◌, ◌≤◌, ◌≡◌, Bool, false, not, ◌&&◌, ◌||◌, length, get_or, ◌==◌}
 use Rattle.pack.specs.Meaning.{opt_order}
-use Rattle.pack.specs.Notation.{◌<ᵇ◌, ◌≤ᵇ◌, ◌==◌}
+use Rattle.pack.specs.Notation.{◌<ᵇ◌, ◌≤ᵇ◌}
 use Rattle.pack.specs.Value.{Repeating}
 use Rattle.walk.specs.Layout.{Layout, set_at}
 use Rattle.walk.specs.declared.sets.Set.{Set}

@@ -1,7 +1,7 @@
 -- What the numbers and values mean that the code of the walk keeps: of each set what is left, and its countField's latest reading. No history.
-use Rattle.std.specs.Prelude.{ℕ, ◌+◌, ◌*◌, List, get_or, set}
+use Rattle.std.specs.Prelude.{ℕ, ◌+◌, ◌*◌, List, get_or, set, ◌==◌, if◌then◌else◌}
 use Rattle.std.proofs.Math.Option.{Option}
-use Rattle.pack.specs.Notation.{if◌then◌else◌, optional, ◌==◌}
+use Rattle.pack.specs.Notation.{optional}
 use Rattle.walk.specs.Layout.{Layout}
 use Rattle.walk.specs.Passes.{Rest, endless, more, Place, Stand, again, arrived, ready, beyond, Turn, goes_on, leaves, begins, stand}
 use Rattle.walk.specs.Walk.{Arrival, not_current, over, enter, Settled, past, halted, due, settle}
@@ -65,7 +65,7 @@ arrival_of arriving.Over = over
 arrival_of (arriving.Enter x) = enter (rest_of x)
 
 abbrev pub settled_of : Settling → List ℕ → Settled (ℕ → ℕ)
-settled_of v w = if v.due then due (place_of v.order.0 w) (memory_of w) else if v.halted then halted else past
+settled_of v w = if v.due then due (place_of v.order.0 w) (memory_of w) else (if v.halted then halted else past)
 
 -- one round of `settle`, with n more to come
 abbrev pub round_of : Layout → ℕ → Round → List ℕ → Settled (ℕ → ℕ)

@@ -1,8 +1,8 @@
 -- The stops 3 to 9 in the parts that code asks for: by the field alone, by its reading, by what is current. Together they are `stop_at`
 -- (proofs/Parts.antt). Below them what code keeps of a field, so as not to ask again.
-use Rattle.std.specs.Prelude.{ℕ, zero, suc, ◌+◌, ◌*◌, ◌-◌, ◌<◌, ◌≤◌, ◌≡◌, Bool, true, false, not, ◌&&◌, List, length, get_or}
+use Rattle.std.specs.Prelude.{ℕ, zero, suc, ◌+◌, ◌*◌, ◌-◌, ◌<◌, ◌≤◌, ◌≡◌, Bool, true, false, not, ◌&&◌, List, length, get_or, ◌==◌, if◌then◌else◌}
 use Rattle.std.proofs.Math.Option.{Option, none, some}
-use Rattle.pack.specs.Notation.{if◌then◌else◌, ◌<ᵇ◌, ◌==◌}
+use Rattle.pack.specs.Notation.{◌<ᵇ◌}
 use Rattle.pack.specs.Value.{Entry, Reference, Field, Pgn, Pack, field_at, lookup_at, entry_at}
 use Rattle.pack.specs.Meaning.{pack_of}
 use Rattle.pack.specs.Ready.{LookupAt}
@@ -22,7 +22,7 @@ stop_number (suc n) = some (suc n)
 
 -- 3 and 4
 unfoldable pub field_stop : Pack → Field → Option ℕ
-field_stop P f = if lookup_missing P f then some 3 else if match_unfit P f then some 4 else none
+field_stop P f = if lookup_missing P f then some 3 else (if match_unfit P f then some 4 else none)
 
 -- 5: the fieldtype lookup that a reference names is v, whose entries decide; where there is none no reading stops
 pub record Named (s w : List ℕ) (r : Option Reference) (v : FieldtypeLookup) : Type 0 where
@@ -43,10 +43,10 @@ unfoldable pub need_stop : Pack → Pgn → (ℕ → Bool) → ℕ → Option �
 need_stop P p current i =
     let f = field_at p i in
     if lacks p current f.bit_length_field then some 6
-    else if lacks p current f.continues then some 7
-    else if lacks_length P p current i then some 8
-    else if lacks p current f.trailing_zero then some 9
-    else none
+    else (if lacks p current f.continues then some 7
+    else (if lacks_length P p current i then some 8
+    else (if lacks p current f.trailing_zero then some 9
+    else none)))
 
 -- field k stops by its reading alone, if at all
 pub record OnlyByReading (P : Pack) (p : Pgn) (k : ℕ) : Type 0 where

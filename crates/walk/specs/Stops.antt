@@ -1,7 +1,7 @@
 -- The stops 3 to 9 at a due field of the PGN p of the pack P (document 01, "The walk"). `current` says which fields are current.
-use Rattle.std.specs.Prelude.{ℕ, ◌-◌, ◌^◌, Bool, true, false, not, ◌&&◌, ◌||◌, List, length}
+use Rattle.std.specs.Prelude.{ℕ, ◌-◌, ◌^◌, Bool, true, false, not, ◌&&◌, ◌||◌, List, length, ◌==◌, if◌then◌else◌}
 use Rattle.std.proofs.Math.Option.{Option, none, some}
-use Rattle.pack.specs.Notation.{if◌then◌else◌, ◌<ᵇ◌, ◌==◌, ◌≐◌}
+use Rattle.pack.specs.Notation.{◌<ᵇ◌, ◌≐◌}
 use Rattle.pack.specs.Value.{Bytes, Entry, Reference, Field, Pgn, Pack, field_at, lookup_at, entry_at}
 use Rattle.rules.specs.Search.{any_below}
 use Rattle.rules.specs.Model.{given, root_of, lookup_ref, find_lookup, target, fieldtypes, resolve_match}
@@ -68,10 +68,10 @@ unfoldable pub stop_at : Pack → Pgn → (ℕ → Bool) → (i reading : ℕ) �
 stop_at P p current i reading =
     let f = field_at p i in
     if lookup_missing P f then some 3
-    else if match_unfit P f then some 4
-    else if reference_names_missing P (lookup_ref f) reading then some 5
-    else if lacks p current f.bit_length_field then some 6
-    else if lacks p current f.continues then some 7
-    else if lacks_length P p current i then some 8
-    else if lacks p current f.trailing_zero then some 9
-    else none
+    else (if match_unfit P f then some 4
+    else (if reference_names_missing P (lookup_ref f) reading then some 5
+    else (if lacks p current f.bit_length_field then some 6
+    else (if lacks p current f.continues then some 7
+    else (if lacks_length P p current i then some 8
+    else (if lacks p current f.trailing_zero then some 9
+    else none))))))

@@ -1,6 +1,6 @@
 -- The visits of a walk so far, and which fields are current by them (document 01, "The walk").
-use Rattle.std.specs.Prelude.{ℕ, suc, Bool, false, not, ◌&&◌, ◌||◌, List, [], ◌∷◌, length}
-use Rattle.pack.specs.Notation.{if◌then◌else◌, ◌≤ᵇ◌, ◌==◌}
+use Rattle.std.specs.Prelude.{ℕ, suc, Bool, false, not, ◌&&◌, ◌||◌, List, [], ◌∷◌, length, ◌==◌, if◌then◌else◌}
+use Rattle.pack.specs.Notation.{◌≤ᵇ◌}
 use Rattle.walk.specs.Layout.{Layout, holds}
 use Rattle.walk.specs.Passes.{Place, present}
 use Rattle.rules.specs.Search.{every_below}

@@ -1,6 +1,6 @@
 -- What the calls `walk` and `held` answer, and what they leave in the visit buffer.
-use Rattle.std.specs.Prelude.{ℕ, ◌≡◌, Bool, ◌&&◌, List, [], ◌∷◌, length}
-use Rattle.pack.specs.Notation.{◌<ᵇ◌, ◌≤ᵇ◌, if◌then◌else◌}
+use Rattle.std.specs.Prelude.{ℕ, ◌≡◌, Bool, ◌&&◌, List, [], ◌∷◌, length, if◌then◌else◌}
+use Rattle.pack.specs.Notation.{◌<ᵇ◌, ◌≤ᵇ◌}
 use Rattle.pack.specs.Load.{Answer as Numbers, refuses, gives, after, refusal_answer, loaded, load_tells, over, work_after}
 use Rattle.pack.specs.Meaning.{pack_of}
 use Rattle.pack.specs.Value.{Pack, pgns_of, pgn_at}

@@ -1,9 +1,9 @@
 // The stops by what is known of the fields: one is read at its first visit, where it names a fieldtype lookup at its second too, and then no
 // more. By the law of position only stop 5 goes by more than the field; at most four readings are kept for it, of the first fields. A field that
 // stops at more, or has no room for them, is read at each visit.
-ghost use Rattle.std.specs.Prelude.{◌≡◌, true, ◌&&◌, suc, ◌+◌, ◌*◌, ◌<◌, ◌≤◌, length, get_or, set};
+ghost use Rattle.std.specs.Prelude.{◌≡◌, true, ◌&&◌, suc, ◌+◌, ◌*◌, ◌<◌, ◌≤◌, length, get_or, set, ◌==◌, if◌then◌else◌};
 ghost use Rattle.pack.specs.Meaning.{pack_of};
-ghost use Rattle.pack.specs.Notation.{if◌then◌else◌, ◌<ᵇ◌, ◌≤ᵇ◌, ◌==◌};
+ghost use Rattle.pack.specs.Notation.{◌<ᵇ◌, ◌≤ᵇ◌};
 ghost use Rattle.pack.specs.Ready.{LookupAt, IndexIs};
 ghost use Rattle.pack.specs.Value.{field_at, lookup_at};
 ghost use Rattle.rules.specs.Model.{lookup_ref};
@@ -160,7 +160,7 @@ fn collect(
 // The mark of field k, of which n readings were collected, with room for so many in all.
 fn mark_of(n: usize, k: u32, room: usize) -> u8
     requires { n ≤ 5 }
-    ensures { result ≡ (if n == 0 then 1 else if 4 * k + 4 ≤ᵇ room then n + 1 else 6) }
+    ensures { result ≡ (if n == 0 then 1 else (if 4 * k + 4 ≤ᵇ room then n + 1 else 6)) }
 {
     if n == 0 {
         return FREE;

@@ -1,8 +1,7 @@
 // The passes of the sets: which pass ends, which set is arrived at, which field is due. What is left of each set, and the latest reading of its
 // countField, are numbers in a lent array, four a set (specs/State): a value as large, copied at each step, would cost more than the step.
-ghost use Rattle.std.specs.Prelude.{◌≡◌, true, not, ◌&&◌, ℕ, suc, ◌+◌, ◌*◌, ◌-◌, ◌≤◌, ◌<◌, List, length, set};
+ghost use Rattle.std.specs.Prelude.{◌≡◌, true, not, ◌&&◌, ℕ, suc, ◌+◌, ◌*◌, ◌-◌, ◌≤◌, ◌<◌, List, length, set, ◌==◌, if◌then◌else◌};
 ghost use Rattle.std.proofs.Math.Option.{none, some};
-ghost use Rattle.pack.specs.Notation.{◌==◌, if◌then◌else◌};
 ghost use Rattle.rules.specs.Search.{any_below};
 ghost use Rattle.pack.specs.Meaning.{opt_order};
 ghost use Rattle.walk.specs.ByPlace.{by_place, counts};

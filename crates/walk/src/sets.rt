@@ -1,7 +1,7 @@
 // The repeating sets of a PGN as values: "sets and countField use orders".
-ghost use Rattle.std.specs.Prelude.{◌≡◌, true, ◌&&◌, ◌||◌, suc, ◌+◌, ◌<◌};
+ghost use Rattle.std.specs.Prelude.{◌≡◌, true, ◌&&◌, ◌||◌, suc, ◌+◌, ◌<◌, ◌==◌};
 ghost use Rattle.pack.specs.Meaning.{optional_repeating, pack_of};
-ghost use Rattle.pack.specs.Notation.{◌<ᵇ◌, ◌==◌};
+ghost use Rattle.pack.specs.Notation.{◌<ᵇ◌};
 ghost use Rattle.pack.specs.Ready.{PgnAt, PgnIs};
 ghost use Rattle.pack.specs.Value.{pgn_at, set_place};
 ghost use Rattle.walk.specs.ByPlace.{placed};

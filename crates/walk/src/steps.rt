@@ -1,8 +1,7 @@
 // One step of the walk, and several steps in a run.
-ghost use Rattle.std.specs.Prelude.{◌≡◌, true, ℕ, suc, ◌≤◌, ◌<◌, List, length};
+ghost use Rattle.std.specs.Prelude.{◌≡◌, true, ℕ, suc, ◌≤◌, ◌<◌, List, length, if◌then◌else◌};
 ghost use Rattle.std.proofs.Math.Option.{none};
 ghost use Rattle.pack.specs.Meaning.{pack_of};
-ghost use Rattle.pack.specs.Notation.{if◌then◌else◌};
 ghost use Rattle.walk.specs.ByPlace.{placed};
 ghost use Rattle.walk.specs.Layout.{Layout, layout};
 ghost use Rattle.walk.specs.Naming.{IsFound, found_pgn};

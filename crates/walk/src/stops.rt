@@ -1,7 +1,6 @@
 // The stops 3 to 9 at a due field: "At a field, in this order".
-ghost use Rattle.std.specs.Prelude.{◌≡◌, true, ◌&&◌, suc, ◌<◌, length};
+ghost use Rattle.std.specs.Prelude.{◌≡◌, true, ◌&&◌, suc, ◌<◌, length, ◌==◌};
 ghost use Rattle.std.proofs.Math.Option.{none};
-ghost use Rattle.pack.specs.Notation.{◌==◌};
 ghost use Rattle.pack.specs.Meaning.{optional_bytes, optional_reference, entry_meaning, field_meaning, pack_of};
 ghost use Rattle.pack.specs.Ready.{Ready, LookupAt, IndexIs};
 ghost use Rattle.pack.specs.Value.{field_at, lookup_at};

@@ -1,5 +1,5 @@
+use Rattle.std.specs.Prelude.{◌==◌}
 use Rattle.numerals.specs.Numerals.{is_hex_prefix}
-use Rattle.pack.specs.Notation.{◌==◌}
 use Prim.Native.Nat.{ℕ}
 use mathlib.Core.Bool.{true, false}
 use mathlib.Core.Path.{◌≡◌, sym}

@@ -1,5 +1,5 @@
+use Rattle.std.specs.Prelude.{if◌then◌else◌}
 use Rattle.numerals.specs.Numerals.{is_hex_digit, hex_digit}
-use Rattle.pack.specs.Notation.{if◌then◌else◌}
 use Prim.Native.Nat.{ℕ, ◌-◌, ◌≤◌, ◌<◌}
 use native.Mathlib.Omega.{arith}
 use mathlib.Core.Path.{◌≡◌, sym}

@@ -1,5 +1,6 @@
+use Rattle.std.specs.Prelude.{if◌then◌else◌}
 use Rattle.numerals.specs.Numerals.{is_hex_digit, hex_digit}
-use Rattle.pack.specs.Notation.{◌≤ᵇ◌, if◌then◌else◌}
+use Rattle.pack.specs.Notation.{◌≤ᵇ◌}
 use lib.Seq.{drop-cons}
 use lib.ListN.{drop_of_length-le, get_or, drop}
 use native.Mathlib.Nat.{pow-suc, pow-le-pow_right}
@@ -19,7 +20,7 @@ below_16 : (x : ℕ) → is_hex_digit x ≡ true → hex_digit x < 16
 below_16 x = go (x ≤ᵇ 57) (x ≤ᵇ 70) (x ≤ᵇ 102) refl refl refl
   where
     go : (d c s : Bool) → (x ≤ᵇ 57) ≡ d → (x ≤ᵇ 70) ≡ c → (x ≤ᵇ 102) ≡ s
-        → (((48 ≤ᵇ x) && d) || ((65 ≤ᵇ x) && c) || ((97 ≤ᵇ x) && s)) ≡ true → (if d then x - 48 else if c then x - 55 else x - 87) < 16
+        → (((48 ≤ᵇ x) && d) || ((65 ≤ᵇ x) && c) || ((97 ≤ᵇ x) && s)) ≡ true → (if d then x - 48 else (if c then x - 55 else x - 87)) < 16
     go true c s e f g h = omega (arith, leb-true x 57 e)
     go false true s e f g h = omega (arith, leb-true x 70 f)
     go false false true e f g h = omega (arith, leb-true x 102 g)

@@ -1,9 +1,10 @@
+use Rattle.std.specs.Prelude.{◌==◌}
 use Prim.Native.Nat.{ℕ}
 use native.Mathlib.Omega.{arith}
 use mathlib.Core.Bool.{Bool, true, false, not}
 use mathlib.Core.Path.{◌≡◌, sym, ◌∙◌}
 use borrow.Author.Tests.{eq-eqb, ne_eqb, ltb-true, ltb-false}
-use Rattle.pack.specs.Notation.{◌<ᵇ◌, ◌==◌}
+use Rattle.pack.specs.Notation.{◌<ᵇ◌}
 use Rattle.pack.proofs.protocol.same_order.Goals as goal
 
 other : (a b : ℕ) → (a <ᵇ b) ≡ true → false ≡ (a == b)

@@ -1,3 +1,4 @@
+use Rattle.std.specs.Prelude.{◌==◌}
 use Rattle.rules.specs.BitLengthField.{not_bit_count, bit_length_target_at}
 use Rattle.rules.specs.Floats.{float_eq, ONE}
 use Rattle.pack.specs.declared.optional.OptNumber.{OptNumber}
@@ -7,7 +8,7 @@ use Rattle.rules.specs.declared.Finding.{Finding}
 use Rattle.pack.specs.declared.field.FieldView.{FieldView}
 use Rattle.pack.specs.Meaning.{optional_number, field_meaning, pack_of}
 use Rattle.pack.specs.Value.{Pgn, pgn_at, field_at}
-use Rattle.pack.specs.Notation.{◌==◌, optional}
+use Rattle.pack.specs.Notation.{optional}
 use mathlib.Core.Bool.{not, ◌||◌, Bool, true, false}
 use Prim.Native.Nat.{ℕ, ◌≤◌, ◌<◌}
 use native.Mathlib.Omega.{arith}

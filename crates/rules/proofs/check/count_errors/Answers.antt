@@ -1,9 +1,9 @@
+use Rattle.std.specs.Prelude.{if◌then◌else◌}
 use Rattle.rules.specs.SearchLaws.{count_turn}
 use native.Mathlib.Omega.{arith}
 use Prim.Native.Nat.{ℕ, ◌+◌, ◌≤◌}
 use mathlib.Core.Path.{◌≡◌, refl, sym, ◌∙◌}
 use mathlib.Core.Bool.{Bool, true, false}
-use Rattle.pack.specs.Notation.{if◌then◌else◌}
 use Rattle.rules.proofs.check.count_errors.Invariants.{error_at}
 use Rattle.rules.proofs.check.count_errors.Goals as goal
 

@@ -1,10 +1,10 @@
+use Rattle.std.specs.Prelude.{◌==◌}
 use Rattle.rules.specs.Search.{count_below}
 use Prim.Native.Nat.{ℕ, ◌+◌, ◌-◌, ◌*◌, ◌≤◌}
 use mathlib.Core.Path.{◌≡◌}
 use mathlib.Core.Bool.{Bool}
 use mathlib.Core.List.{List}
 use lib.ListN.{get_or}
-use Rattle.pack.specs.Notation.{◌==◌}
 use Rattle.rules.proofs.check.count_errors.Given as goal
 
 -- finding i has severity 1

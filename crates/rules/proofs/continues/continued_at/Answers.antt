@@ -1,3 +1,4 @@
+use Rattle.std.specs.Prelude.{◌==◌, if◌then◌else◌}
 use Rattle.rules.proofs.Types.{given_is}
 use Rattle.rules.specs.Continues.{set_of, integer, not_raw, continued_by, continued_at}
 use Rattle.rules.specs.Model.{fieldtype_of, root_of, value_bits}
@@ -12,7 +13,7 @@ use Rattle.pack.specs.declared.field.FieldView.{FieldView}
 use Rattle.pack.specs.Meaning.{field_meaning, pack_of}
 use Rattle.pack.specs.Items.{bytes_of}
 use Rattle.pack.specs.Value.{Bytes, FieldType, Field, Pgn, pgn_at, field_at}
-use Rattle.pack.specs.Notation.{◌==◌, ◌<ᵇ◌, ◌≐◌, if◌then◌else◌}
+use Rattle.pack.specs.Notation.{◌<ᵇ◌, ◌≐◌}
 use mathlib.Core.Bool.{not, ◌||◌, Bool}
 use Prim.Native.Nat.{ℕ}
 use native.Mathlib.Omega.{arith}
@@ -22,8 +23,8 @@ use Rattle.rules.proofs.continues.continued_at.Goals as goal
 
 abbrev placed : ℕ → ℕ → Pgn → ℕ → Bytes → ℕ → Bool → List Finding
 placed t i p k id j b =
-    if not (set_of p j == set_of p k) then pgn_error 43 2 t i k j ∷ [] else if not b then pgn_error 43 3 t i k j ∷ [] else report_if (1 <ᵇ continued_by p id)
-    (pgn_error 43 4 t i k j)
+    if not (set_of p j == set_of p k) then pgn_error 43 2 t i k j ∷ [] else (if not b then pgn_error 43 3 t i k j ∷ [] else report_if (1 <ᵇ continued_by p id)
+    (pgn_error 43 4 t i k j))
 
 -- said of the views
 said : (s : List ℕ) (fts : List FieldType) (t i k j : ℕ) (p : Pgn) (id : Bytes) (f low : FieldView) → field_meaning s f ≡ field_at p k

@@ -1,3 +1,4 @@
+use Rattle.std.specs.Prelude.{◌==◌}
 use Rattle.rules.proofs.Emits.{emitted_append, fits_left, fits_right}
 use Rattle.rules.specs.FieldTypeOverrides.{overrides_at}
 use Rattle.rules.specs.Model.{given, fieldtype_of}
@@ -6,7 +7,7 @@ use Rattle.rules.specs.Findings.{report_if, pgn_error}
 use Rattle.rules.specs.declared.Finding.{Finding}
 use mathlib.Core.Bool.{not, ◌&&◌, Bool, true, false}
 use Rattle.pack.specs.Value.{Field, FieldType, no_field_type}
-use Rattle.pack.specs.Notation.{◌==◌, optional}
+use Rattle.pack.specs.Notation.{optional}
 use Rattle.pack.specs.Meaning.{field_meaning, type_meaning, pack_of}
 use Rattle.pack.specs.declared.field_type.FieldTypeView.{FieldTypeView}
 use Rattle.pack.specs.declared.field.FieldView.{FieldView}

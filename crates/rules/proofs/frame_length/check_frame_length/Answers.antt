@@ -1,7 +1,8 @@
+use Rattle.std.specs.Prelude.{◌==◌}
 use Rattle.rules.specs.declared.Finding.{Finding}
 use Rattle.pack.specs.declared.pgn.PgnView.{PgnView}
 use Rattle.pack.specs.Ready.{PgnIs}
-use Rattle.pack.specs.Notation.{◌==◌, ◌<ᵇ◌}
+use Rattle.pack.specs.Notation.{◌<ᵇ◌}
 use mathlib.Core.Bool.{not, ◌&&◌, Bool}
 use Rattle.rules.proofs.Emits.{emitted_none, emitted_append, fits_left, fits_right}
 use Rattle.rules.specs.FrameLength.{check_frame_length}

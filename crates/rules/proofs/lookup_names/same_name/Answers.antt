@@ -1,4 +1,4 @@
-use Rattle.pack.specs.Notation.{◌==◌}
+use Rattle.std.specs.Prelude.{◌==◌}
 use mathlib.Core.Bool.{not, ◌&&◌, ◌||◌, Bool, true, false}
 use Rattle.rules.specs.LookupNames.{same_name}
 use mathlib.Core.Path.{◌≡◌, refl}

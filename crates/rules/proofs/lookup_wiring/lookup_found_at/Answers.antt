@@ -1,3 +1,4 @@
+use Rattle.std.specs.Prelude.{◌==◌}
 use Rattle.pack.specs.declared.lookup.LookupView.{LookupView}
 use Rattle.pack.specs.declared.field.FieldView.{FieldView}
 use Rattle.pack.specs.Value.{Lookup, lookup_at}
@@ -8,7 +9,6 @@ use mathlib.Core.Path.{◌≡◌, sym}
 use mathlib.Core.Bool.{not}
 use mathlib.Core.List.{List, ◌++◌}
 use mathlib.Core.Option.{some}
-use Rattle.pack.specs.Notation.{◌==◌}
 use Rattle.pack.specs.Ready.{LookupIs}
 use Rattle.pack.specs.Meaning.{pack_of, field_meaning}
 use Rattle.rules.specs.declared.Finding.{Finding}

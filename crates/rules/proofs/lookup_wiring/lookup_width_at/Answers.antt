@@ -1,3 +1,4 @@
+use Rattle.std.specs.Prelude.{◌==◌, if◌then◌else◌}
 use borrow.Author.Tests.{eq-eqb, ne_eqb}
 use Rattle.pack.specs.declared.lookup.LookupView.{LookupView}
 use Rattle.pack.specs.declared.field.FieldView.{FieldView}
@@ -8,7 +9,6 @@ use Prim.Native.Nat.{ℕ}
 use mathlib.Core.Path.{◌≡◌, refl, sym, ◌∙◌, ap}
 use mathlib.Core.Bool.{Bool, true, false, not, ◌&&◌}
 use mathlib.Core.List.{List, [], ◌∷◌}
-use Rattle.pack.specs.Notation.{if◌then◌else◌, ◌==◌}
 use Rattle.pack.specs.Ready.{LookupIs}
 use Rattle.pack.specs.Meaning.{pack_of, field_meaning}
 use Rattle.rules.specs.declared.Finding.{Finding}
@@ -17,7 +17,7 @@ use Rattle.rules.proofs.lookup_wiring.lookup_width_at.Goals as goal
 
 -- the causes by their tests
 abbrev chosen : (lost equal allowed : Bool) → (A B C : Finding) → List Finding
-chosen lost equal allowed A B C = if lost then A ∷ [] else if not equal && not allowed then B ∷ [] else report_if (not (not equal) && allowed) C
+chosen lost equal allowed A B C = if lost then A ∷ [] else (if not equal && not allowed then B ∷ [] else report_if (not (not equal) && allowed) C)
 
 module _ (s : List ℕ) (t i k l width : ℕ) (f : FieldView) (L : Lookup) (v : LookupView) (is : LookupIs s L v) (w : width ≡ value_bits (field_meaning s f))
     (lost shared bad : Bool) (x : lost ≡ unreachable L width) (y : shared ≡ ((v.kind == 2) && f.flags.mismatch)) (z : bad ≡ (lost && not shared)) where

@@ -1,8 +1,9 @@
+use Rattle.std.specs.Prelude.{◌==◌, if◌then◌else◌}
 use Rattle.rules.specs.Model.{find_lookup, fieldtypes, pairs, value_named, resolve_in, resolve_name}
 use Rattle.pack.specs.Meaning.{pack_of}
 use Rattle.pack.specs.Items.{bytes_of}
 use Rattle.pack.specs.Value.{Bytes, Entry, Lookup, Reference, lookup_at}
-use Rattle.pack.specs.Notation.{◌==◌, if◌then◌else◌, optional}
+use Rattle.pack.specs.Notation.{optional}
 use mathlib.Core.Option.{none, some}
 use mathlib.Core.Bool.{◌||◌, Bool, true, false}
 use Prim.Native.Nat.{ℕ}

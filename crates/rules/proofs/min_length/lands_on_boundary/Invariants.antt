@@ -1,6 +1,6 @@
+use Rattle.std.specs.Prelude.{◌==◌}
 use Rattle.rules.specs.Search.{any_below, sum_below}
 use Rattle.pack.specs.Value.{pgn_at, field_at}
-use Rattle.pack.specs.Notation.{◌==◌}
 use Rattle.pack.specs.Meaning.{pack_of}
 use Prim.Native.Nat.{ℕ, suc, ◌-◌, ◌*◌, ◌≤◌}
 use mathlib.Core.Path.{◌≡◌}

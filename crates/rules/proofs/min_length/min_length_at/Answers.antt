@@ -1,3 +1,4 @@
+use Rattle.std.specs.Prelude.{◌==◌, if◌then◌else◌}
 use Rattle.rules.specs.MinLength.{lands_on_boundary, min_length_at}
 use Rattle.rules.specs.Findings.{report_if, pgn_error}
 use Rattle.rules.specs.declared.Finding.{Finding}
@@ -5,7 +6,7 @@ use mathlib.Core.Option.{some}
 use mathlib.Core.Bool.{not, ◌||◌, Bool, true, false}
 use Rattle.pack.specs.Value.{Pgn}
 use Rattle.pack.specs.Ready.{PgnIs}
-use Rattle.pack.specs.Notation.{◌==◌, ◌≤ᵇ◌, if◌then◌else◌}
+use Rattle.pack.specs.Notation.{◌≤ᵇ◌}
 use Rattle.pack.specs.declared.pgn.PgnView.{PgnView}
 use Prim.Native.Nat.{ℕ}
 use mathlib.Core.Path.{◌≡◌, ap, ◌∙◌, sym}
@@ -13,7 +14,7 @@ use mathlib.Core.List.{List, [], ◌∷◌}
 use Rattle.rules.proofs.min_length.min_length_at.Goals as goal
 
 chosen : (a b z y : Bool) (p q f h : Finding) → a ≡ false → b ≡ false → z ≡ y → f ≡ h
-    → (if a then p ∷ [] else if b then q ∷ [] else report_if (not y) h) ≡ report_if (not z) f
+    → (if a then p ∷ [] else (if b then q ∷ [] else report_if (not y) h)) ≡ report_if (not z) f
 chosen a b z y p q f h e d w x = rw (e, d, w, x)
 
 -- the rule, said of the view: a variable PGN, a minimum out of range, one to look up

@@ -1,3 +1,4 @@
+use Rattle.std.specs.Prelude.{◌==◌}
 use borrow.Author.Tests.{eq-eqb, ne_eqb}
 use Rattle.pack.specs.declared.lookup.LookupView.{LookupView}
 use Rattle.pack.specs.declared.entry.EntryView.{EntryView}
@@ -12,7 +13,7 @@ use mathlib.Core.Path.{◌≡◌, sym, ◌∙◌, ap}
 use mathlib.Core.Bool.{true, false}
 use mathlib.Core.List.{List, []}
 use lib.ListN.{get_or}
-use Rattle.pack.specs.Notation.{concat_below, ◌==◌}
+use Rattle.pack.specs.Notation.{concat_below}
 use Rattle.pack.specs.Ready.{LookupIs}
 use Rattle.rules.specs.Emit.{Emitted, Fits}
 use Rattle.rules.proofs.Emits.{emitted_none, fits_turn, reporting_none, reporting_turn}

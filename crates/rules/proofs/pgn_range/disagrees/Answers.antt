@@ -1,5 +1,5 @@
+use Rattle.std.specs.Prelude.{◌==◌}
 use mathlib.Core.Bool.{◌||◌, Bool, true, false}
-use Rattle.pack.specs.Notation.{◌==◌}
 use mathlib.Core.Path.{◌≡◌, refl}
 use borrow.Author.Tests.{eq-eqb, ne_eqb}
 use Rattle.rules.proofs.pgn_range.disagrees.Goals as goal

@@ -1,3 +1,4 @@
+use Rattle.std.specs.Prelude.{◌==◌, if◌then◌else◌}
 use Rattle.rules.proofs.Emits.{emitted_append, fits_left, fits_right}
 use Rattle.rules.specs.PgnRange.{Range, range, ranges_of, find_range, found_range}
 use Rattle.rules.specs.Pdu1.{pdu1, pdu1_step}
@@ -5,7 +6,7 @@ use Rattle.rules.specs.Findings.{report_if, pgn_error}
 use Rattle.rules.specs.declared.pgn_range.OptRange.{OptRange}
 use Rattle.rules.specs.declared.Finding.{Finding}
 use mathlib.Core.Bool.{not, ◌&&◌, ◌||◌, Bool, true, false}
-use Rattle.pack.specs.Notation.{◌==◌, if◌then◌else◌, optional}
+use Rattle.pack.specs.Notation.{optional}
 use Rattle.pack.specs.Value.{Pgn}
 use Rattle.pack.specs.Ready.{PgnIs}
 use Rattle.pack.specs.declared.pgn.PgnView.{PgnView}

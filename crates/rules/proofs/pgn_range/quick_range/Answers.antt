@@ -1,9 +1,10 @@
+use Rattle.std.specs.Prelude.{◌==◌}
 use Rattle.rules.proofs.Emits.{emitted_append, fits_left, fits_right}
 use Rattle.rules.specs.PgnRange.{quick_range}
 use Rattle.rules.specs.Findings.{report_if, pgn_error}
 use Rattle.rules.specs.declared.Finding.{Finding}
 use mathlib.Core.Bool.{not}
-use Rattle.pack.specs.Notation.{◌<ᵇ◌, ◌==◌}
+use Rattle.pack.specs.Notation.{◌<ᵇ◌}
 use Rattle.pack.specs.Value.{Pgn}
 use Rattle.pack.specs.Ready.{PgnIs}
 use Rattle.pack.specs.declared.pgn.PgnView.{PgnView}

@@ -1,7 +1,7 @@
+use Rattle.std.specs.Prelude.{if◌then◌else◌}
 use Rattle.rules.specs.declared.pgn_range.Range.{Range as Row}
 use Rattle.rules.specs.PgnRange.{Range, range}
 use Rattle.rules.specs.Pdu1.{pdu1}
-use Rattle.pack.specs.Notation.{if◌then◌else◌}
 use mathlib.Core.List.{map, List, [], ◌∷◌}
 use Prim.Native.Nat.{ℕ, zero, suc, ◌+◌, ◌<◌}
 use native.Mathlib.Omega.{arith}

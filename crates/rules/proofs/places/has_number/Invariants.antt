@@ -1,3 +1,4 @@
+use Rattle.std.specs.Prelude.{◌==◌}
 use Rattle.pack.specs.Value.{pgn_at}
 use Rattle.pack.specs.Ready.{place_of_pgn}
 use Rattle.rules.specs.Search.{any_below}
@@ -5,7 +6,6 @@ use Prim.Native.Nat.{ℕ, ◌-◌, ◌≤◌}
 use mathlib.Core.Path.{◌≡◌}
 use mathlib.Core.Bool.{Bool, false}
 use mathlib.Core.List.{List}
-use Rattle.pack.specs.Notation.{◌==◌}
 use Rattle.pack.specs.Meaning.{pack_of}
 use Rattle.rules.proofs.places.has_number.Given as goal
 

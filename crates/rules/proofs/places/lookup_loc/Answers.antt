@@ -1,3 +1,4 @@
+use Rattle.std.specs.Prelude.{◌==◌}
 use mathlib.Core.Bool.{false≢true, Bool, true, false, ◌&&◌}
 use borrow.Author.Tests.{ltb-true}
 use Rattle.pack.specs.Value.{Bytes}
@@ -7,7 +8,7 @@ use Prim.Native.Nat.{ℕ, ◌<◌}
 use mathlib.Core.Path.{◌≡◌, sym, ◌∙◌, ap}
 use mathlib.Core.Option.{some}
 use lib.ListN.{length}
-use Rattle.pack.specs.Notation.{◌==◌, ◌<ᵇ◌}
+use Rattle.pack.specs.Notation.{◌<ᵇ◌}
 use Rattle.pack.specs.Meaning.{pack_of}
 use Rattle.rules.proofs.places.lookup_loc.Goals as goal
 

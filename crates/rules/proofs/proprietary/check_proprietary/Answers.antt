@@ -1,3 +1,4 @@
+use Rattle.std.specs.Prelude.{if◌then◌else◌}
 use Rattle.rules.proofs.Emits.{emitted_none}
 use Rattle.rules.specs.Proprietary.{is_manufacturer_pgn, company_fields, check_proprietary}
 use Rattle.rules.specs.Findings.{report_if, pgn_error}
@@ -5,7 +6,6 @@ use Rattle.rules.specs.declared.Finding.{Finding}
 use mathlib.Core.Bool.{not, ◌||◌, Bool, true, false}
 use Rattle.pack.specs.Value.{FieldType, Pgn}
 use Rattle.pack.specs.Ready.{PgnIs}
-use Rattle.pack.specs.Notation.{if◌then◌else◌}
 use Rattle.pack.specs.Meaning.{pack_of}
 use Rattle.pack.specs.declared.pgn.PgnView.{PgnView}
 use Prim.Native.Nat.{ℕ}
@@ -14,7 +14,7 @@ use mathlib.Core.List.{List, []}
 use Rattle.rules.proofs.proprietary.check_proprietary.Goals as goal
 
 chosen : (a b z y : Bool) (f h : Finding) → a ≡ false → b ≡ false → z ≡ y → f ≡ h
-    → (if a then [] else if b then [] else report_if (not y) h) ≡ report_if (not z) f
+    → (if a then [] else (if b then [] else report_if (not y) h)) ≡ report_if (not z) f
 chosen a b z y f h e d w x = rw (e, d, w, x)
 
 -- the rule, said of the view: an exempt PGN, one that declares MissingCompanyFields, another

@@ -1,10 +1,11 @@
+use Rattle.std.specs.Prelude.{◌==◌}
 use Rattle.rules.specs.Texts.{MANUFACTURER_CODE, RESERVED, INDUSTRY_CODE}
 use Rattle.rules.specs.Proprietary.{pair_is, company_fields}
 use Rattle.rules.specs.Model.{root_of}
 use mathlib.Core.Bool.{◌&&◌, Bool, true, false}
 use Rattle.pack.proofs.Positions.{field_ft_law}
 use Rattle.pack.specs.Value.{FieldType, Field, Pgn, pgn_at, field_at}
-use Rattle.pack.specs.Notation.{◌==◌, ◌≐◌, ◌≤ᵇ◌}
+use Rattle.pack.specs.Notation.{◌≐◌, ◌≤ᵇ◌}
 use Rattle.pack.specs.Meaning.{field_meaning, optional_reference, pack_of}
 use Rattle.pack.specs.declared.field.FieldView.{FieldView}
 use Prim.Native.Nat.{ℕ, ◌≤◌, ◌<◌}

@@ -1,10 +1,11 @@
+use Rattle.std.specs.Prelude.{◌==◌, if◌then◌else◌}
 use Rattle.rules.specs.declared.Finding.{Finding}
 use Rattle.rules.proofs.Emits.{emitted_none, emitted_append, fits_left, fits_right}
 use Rattle.rules.specs.Repeating.{set_bounds, set_count_field, set_nesting, check_set}
 use mathlib.Core.Option.{Option}
 use mathlib.Core.Bool.{not, ◌&&◌, false≢true, Bool, true, false}
 use Rattle.pack.specs.Value.{Repeating}
-use Rattle.pack.specs.Notation.{◌==◌, if◌then◌else◌, optional}
+use Rattle.pack.specs.Notation.{optional}
 use Rattle.pack.specs.Meaning.{opt_order, repeating_meaning, optional_repeating}
 use Rattle.pack.specs.declared.pgn.RepeatingView.{RepeatingView}
 use Prim.Native.Nat.{ℕ}

@@ -1,9 +1,10 @@
+use Rattle.std.specs.Prelude.{◌==◌}
 use Rattle.rules.proofs.Emits.{emitted_none}
 use Rattle.rules.specs.Repeating.{set_count_field}
 use Rattle.rules.specs.Findings.{report_if, pgn_error}
 use Rattle.rules.specs.declared.Finding.{Finding}
 use mathlib.Core.Bool.{◌||◌, Bool, true, false}
-use Rattle.pack.specs.Notation.{◌==◌, ◌≤ᵇ◌}
+use Rattle.pack.specs.Notation.{◌≤ᵇ◌}
 use Rattle.pack.specs.Meaning.{opt_order}
 use Rattle.pack.specs.declared.protocol.OptOrder.{OptOrder}
 use Prim.Native.Nat.{ℕ}

@@ -1,8 +1,9 @@
+use Rattle.std.specs.Prelude.{◌==◌}
 use Prim.Native.Nat.{ℕ}
 use mathlib.Core.Path.{◌≡◌, refl, sym, ◌∙◌, ap}
 use mathlib.Core.Bool.{Bool, true, false, not, ◌&&◌}
 use mathlib.Core.Option.{Option, none, some}
-use Rattle.pack.specs.Notation.{◌==◌, ◌≐◌, optional}
+use Rattle.pack.specs.Notation.{◌≐◌, optional}
 use Rattle.pack.specs.Value.{Bytes, Field, pgn_at, field_at}
 use Rattle.pack.specs.Items.{bytes_of}
 use Rattle.pack.specs.Meaning.{pack_of}

@@ -1,3 +1,4 @@
+use Rattle.std.specs.Prelude.{if◌then◌else◌}
 use borrow.Author.Tests.{lt-ltb, le-ltb, leb-true, leb-false}
 use Rattle.pack.specs.declared.pgn.PgnView.{PgnView}
 use Rattle.pack.specs.Value.{Pgn, no_pgn, pgn_at}
@@ -16,7 +17,7 @@ use mathlib.Core.Bool.{Bool, true, false, ◌&&◌}
 use mathlib.Core.List.{List}
 use mathlib.Core.Option.{Option, some}
 use lib.ListN.{get_or}
-use Rattle.pack.specs.Notation.{if◌then◌else◌, optional, ◌≤ᵇ◌}
+use Rattle.pack.specs.Notation.{optional, ◌≤ᵇ◌}
 use Rattle.pack.specs.Ready.{PgnAt, PgnIs}
 use Rattle.pack.specs.Meaning.{pack_of}
 use Rattle.rules.proofs.spn_names.better.Goals as goal

@@ -1,3 +1,4 @@
+use Rattle.std.specs.Prelude.{◌==◌}
 use Rattle.pack.specs.declared.pgn.PgnView.{PgnView}
 use Rattle.pack.specs.Items.{bytes_of}
 use Rattle.pack.specs.Meaning.{pgn_meaning}
@@ -9,7 +10,7 @@ use Prim.Native.Nat.{ℕ, ◌<◌}
 use mathlib.Core.Path.{◌≡◌, sym, ◌∙◌, ap}
 use mathlib.Core.Bool.{Bool, ◌&&◌}
 use mathlib.Core.List.{List, []}
-use Rattle.pack.specs.Notation.{◌==◌, ◌≐◌}
+use Rattle.pack.specs.Notation.{◌≐◌}
 use Rattle.rules.proofs.spn_names.same_place.Goals as goal
 
 placed : (s : List ℕ) (a b : PgnView) → a.pgn < 10000000000 → b.pgn < 10000000000

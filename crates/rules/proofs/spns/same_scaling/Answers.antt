@@ -1,9 +1,9 @@
+use Rattle.std.specs.Prelude.{◌==◌}
 use Rattle.rules.specs.Spns.{same_unit}
 use Rattle.rules.specs.Floats.{float_eq}
 use Rattle.rules.specs.declared.spns.Scaling.{Scaling}
 use Rattle.pack.specs.declared.field.ScalingView.{ScalingView}
 use Rattle.pack.specs.Meaning.{optional_bytes}
-use Rattle.pack.specs.Notation.{◌==◌}
 use borrow.Author.Tests.{eq-eqb, ne_eqb}
 use mathlib.Core.List.{List}
 use mathlib.Core.Bool.{Bool, true, false, ◌&&◌}

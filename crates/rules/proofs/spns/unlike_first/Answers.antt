@@ -1,7 +1,8 @@
+use Rattle.std.specs.Prelude.{◌==◌}
 use Rattle.rules.proofs.Emits.{emitted_none}
 use Rattle.rules.specs.Findings.{report_if, pgn_error}
 use Rattle.rules.specs.declared.Finding.{Finding}
-use Rattle.pack.specs.Notation.{optional, ◌==◌}
+use Rattle.pack.specs.Notation.{optional}
 use lib.ListN.{length}
 use mathlib.Core.Option.{some}
 use mathlib.Core.List.{List, []}

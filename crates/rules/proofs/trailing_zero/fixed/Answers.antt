@@ -1,9 +1,9 @@
+use Rattle.std.specs.Prelude.{◌==◌}
 use native.Mathlib.Omega.{arith}
 use Prim.Native.Nat.{ℕ, ◌+◌}
 use mathlib.Core.Bool.{Bool, not, ◌&&◌, ◌||◌}
 use mathlib.Core.Path.{◌≡◌, refl}
 use lib.ListN.{length}
-use Rattle.pack.specs.Notation.{◌==◌}
 use Rattle.pack.specs.Value.{Pgn, pgn_at, field_at, set_place}
 use Rattle.pack.specs.Meaning.{pack_of}
 use Rattle.rules.proofs.Sizes.{fields_few}

@@ -1,3 +1,4 @@
+use Rattle.std.specs.Prelude.{◌==◌}
 use Rattle.rules.proofs.Types.{integer_is}
 use Rattle.pack.specs.declared.field_type.FieldTypeView.{FieldTypeView}
 use Rattle.pack.specs.declared.field.FieldView.{FieldView}
@@ -8,7 +9,7 @@ use Rattle.rules.specs.TrailingZero.{unsigned_integer}
 use Rattle.rules.specs.Texts.{NUMBER, LOOKUP}
 use Rattle.rules.specs.Floats.{float_eq, ZERO, ONE}
 use mathlib.Core.Bool.{not, ◌&&◌, ◌||◌, Bool}
-use Rattle.pack.specs.Notation.{◌==◌, ◌≤ᵇ◌, ◌≐◌}
+use Rattle.pack.specs.Notation.{◌≤ᵇ◌, ◌≐◌}
 use Rattle.pack.specs.Value.{FieldType}
 use Prim.Native.Nat.{ℕ}
 use mathlib.Core.Path.{◌≡◌, refl}

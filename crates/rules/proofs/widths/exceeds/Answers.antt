@@ -1,4 +1,5 @@
-use Rattle.pack.specs.Notation.{◌==◌, ◌≤ᵇ◌}
+use Rattle.std.specs.Prelude.{◌==◌}
+use Rattle.pack.specs.Notation.{◌≤ᵇ◌}
 use mathlib.Core.Bool.{not}
 use lib.Pow.{pow_pos}
 use native.Mathlib.Nat.{le-div_iff_mul-le, div-lt_iff_lt-mul}

@@ -1,9 +1,10 @@
+use Rattle.std.specs.Prelude.{if◌then◌else◌}
 use Rattle.walk.specs.Stops.{names_missing}
 use Rattle.walk.specs.StopParts.{Collected}
 use Rattle.walk.proofs.Readings.{collected_none, collected_turn, collected_many}
 use Rattle.pack.specs.declared.entry.EntryView.{EntryView}
 use Rattle.pack.specs.Value.{Entry, lookup_at, entry_at}
-use Rattle.pack.specs.Notation.{if◌then◌else◌, ◌<ᵇ◌}
+use Rattle.pack.specs.Notation.{◌<ᵇ◌}
 use Rattle.pack.specs.Meaning.{entry_meaning, pack_of}
 use lib.ListN.{set}
 use mathlib.Core.Path.{◌≡◌, refl, sym, ap, ◌∙◌}

@@ -1,6 +1,6 @@
+use Rattle.std.specs.Prelude.{◌==◌}
 use Rattle.walk.specs.StopParts.{among}
 use Rattle.rules.specs.SearchLaws.{any_turn, any_hit}
-use Rattle.pack.specs.Notation.{◌==◌}
 use borrow.Author.Tests.{eq-eqb, ne_eqb}
 use lib.ListN.{get_or}
 use mathlib.Core.Path.{◌≡◌, refl, sym, ap, ◌∙◌}

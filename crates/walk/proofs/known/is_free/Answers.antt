@@ -1,4 +1,4 @@
-use Rattle.pack.specs.Notation.{◌==◌}
+use Rattle.std.specs.Prelude.{◌==◌}
 use mathlib.Core.Path.{ap}
 use Prim.Native.Nat.{ℕ}
 use Rattle.walk.proofs.known.is_free.Goals as goal

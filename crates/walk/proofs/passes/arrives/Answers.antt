@@ -1,4 +1,4 @@
-use Rattle.pack.specs.Notation.{◌==◌}
+use Rattle.std.specs.Prelude.{◌==◌}
 use Rattle.walk.specs.State.{rest_of}
 use Rattle.walk.proofs.PassLaws.{present_of}
 use Rattle.walk.proofs.passes.arrives.Goals as goal

@@ -1,3 +1,4 @@
+use Rattle.std.specs.Prelude.{◌==◌}
 use Rattle.walk.specs.Stops.{names_missing, entries_name_missing}
 use Rattle.rules.specs.SearchLaws.{any_turn, any_hit}
 use Rattle.pack.specs.Meaning.{entry_meaning, pack_of}
@@ -9,7 +10,6 @@ use mathlib.Core.Path.{◌≡◌, refl, sym, ◌∙◌}
 use mathlib.Core.Bool.{Bool, ◌&&◌}
 use mathlib.Core.List.{List}
 use lib.ListN.{length, get_or}
-use Rattle.pack.specs.Notation.{◌==◌}
 use Rattle.pack.specs.Value.{no_entry, lookup_at}
 use Rattle.walk.proofs.stops.entries_name_missing.Invariants.{hits}
 use Rattle.walk.proofs.stops.entries_name_missing.Goals as goal

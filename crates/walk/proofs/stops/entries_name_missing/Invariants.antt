@@ -1,3 +1,4 @@
+use Rattle.std.specs.Prelude.{◌==◌}
 use Rattle.walk.specs.Stops.{names_missing}
 use Rattle.rules.specs.Search.{any_below}
 use Rattle.pack.specs.Meaning.{pack_of}
@@ -6,7 +7,6 @@ use mathlib.Core.Path.{◌≡◌}
 use mathlib.Core.Bool.{Bool, false, ◌&&◌}
 use mathlib.Core.List.{List}
 use lib.ListN.{get_or}
-use Rattle.pack.specs.Notation.{◌==◌}
 use Rattle.pack.specs.Value.{no_entry, lookup_at}
 use Rattle.walk.proofs.stops.entries_name_missing.Given as goal
 

@@ -1,3 +1,4 @@
+use Rattle.std.specs.Prelude.{◌==◌}
 use Rattle.pack.specs.declared.lookup.LookupView.{LookupView}
 use Rattle.walk.specs.StopParts.{Named}
 use Rattle.walk.specs.Stops.{entries_name_missing, lookup_names_missing, reference_names_missing}
@@ -11,7 +12,7 @@ use Prim.Native.Nat.{ℕ}
 use mathlib.Core.Path.{◌≡◌, sym, ◌∙◌, ap}
 use mathlib.Core.List.{List}
 use mathlib.Core.Option.{Option}
-use Rattle.pack.specs.Notation.{optional, ◌==◌}
+use Rattle.pack.specs.Notation.{optional}
 use Rattle.pack.specs.Ready.{LookupIs}
 use Rattle.walk.proofs.stops.fieldtype_lookup.Goals as goal
 

@@ -1,9 +1,9 @@
+use Rattle.std.specs.Prelude.{◌==◌}
 use mathlib.Core.Path.{◌≡◌, sym, ◌∙◌}
 use mathlib.Core.Bool.{false, false≢true}
 use Prim.Native.Nat.{◌-◌}
 use native.Mathlib.Omega.{arith}
 use Rattle.walk.specs.ByPlace.{counts}
-use Rattle.pack.specs.Notation.{◌==◌}
 use Rattle.pack.specs.Meaning.{opt_order}
 use Rattle.rules.specs.SearchLaws.{any_missed}
 use Rattle.walk.specs.SetsOf.{value_at}

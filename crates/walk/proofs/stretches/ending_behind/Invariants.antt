@@ -1,7 +1,7 @@
+use Rattle.std.specs.Prelude.{◌==◌}
 use mathlib.Core.Path.{◌≡◌}
 use mathlib.Core.Bool.{false}
 use Prim.Native.Nat.{ℕ, ◌≤◌, ◌<◌}
-use Rattle.pack.specs.Notation.{◌==◌}
 use Rattle.walk.specs.SetsOf.{value_at}
 use Rattle.walk.proofs.stretches.ending_behind.Given as goal
 

@@ -1,3 +1,4 @@
+use Rattle.std.specs.Prelude.{◌==◌}
 use Rattle.pack.specs.declared.pgn.PgnItem.{PgnItem}
 use Rattle.pack.specs.declared.pgn.OptRepeating.{OptRepeating}
 use Rattle.pack.specs.declared.pgn.OptRepeatingItem.{OptRepeatingItem}
@@ -7,7 +8,6 @@ use Rattle.pack.specs.declared.cursor.NumberItem.{NumberItem}
 use Rattle.pack.specs.declared.cursor.Cursor.{Cursor}
 use Rattle.pack.specs.Records.{absent_set, read_opt_repeating, read_pgn}
 use Rattle.pack.specs.Items.{read_number, read_text, read_code, read_opt_bytes}
-use Rattle.pack.specs.Notation.{◌==◌}
 use Prim.Native.Nat.{ℕ, ◌/◌, ◌%◌}
 use mathlib.Core.Path.{◌≡◌}
 use mathlib.Core.List.{List, [], ◌∷◌}
