@@ -229,7 +229,7 @@ read_opt_reference s c =
     then record { value = record { given = true; kind = kind.value; name = name.value }; next = name.next }
     else record { value = record { given = false; kind = 0; name = record { start = 0; len = 0 } }; next = m.next }
 
--- ".. `special_values`, `bit_length_field`, trailing_zero target, continuation width", of a field of `bits` bits
+-- ".. `special_values`, `bit_length_field`, trailing-zero target, continuation width", of a field of `bits` bits
 unfoldable pub read_links : ℕ → List ℕ → Cursor → LinksItem
 read_links bits s c =
     let reference = read_opt_reference s c in

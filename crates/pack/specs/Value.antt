@@ -46,7 +46,7 @@ pub record Reference : Type 0 where
 
 -- "Field: id, name, type text, field type index, flags (1 `bits` given, 2 `unit` given, 4 proprietary, 8 allowLookupWidthMismatch,
 -- 16 dynamicFieldLength, 32 overhead not 0), `res_bits`, `res_resolution`, `res_offset`; then optional `res_unit`, `resolution`, `offset`,
--- `spn`, `continues`, `match_`, reference (kind, name), `special_values`, `bit_length_field`, trailing_zero target, continuation width."
+-- `spn`, `continues`, `match_`, reference (kind, name), `special_values`, `bit_length_field`, trailing-zero target, continuation width."
 pub record Field : Type 0 where
   pub id : Bytes
   pub name : Bytes

@@ -30,7 +30,7 @@ module _ (p : Pgn) (a b : Option Repeating) (two : p.sets ≡ a ∷ b ∷ []) wh
       go false true = refl
       go false false = refl
 
-  -- R44: of two places it is "starts-behind set 1 and starts_behind set 2"
+  -- R44: of two places it is "starts_behind set 1 and starts_behind set 2"
   pub fixed_of_two : (j : ℕ)
       → fixed p j
       ≡ (not (any_below (λ k. ((field_at p k).res_bits == 0) || (field_at p k).proprietary) j) && starts_behind a (j + 1) && starts_behind b (j + 1))

@@ -1,6 +1,6 @@
 -- "A lone NaN field stays silent; two with one SPN do not" of every pack; the edges as computed packs, each with the theorem at it; and for
 -- three wrong readings a pack of which the theorem would be false.
-use Rattle.std.specs.Prelude.{if◌then◌else◌}
+use Rattle.std.specs.Prelude.{cond}
 use Prim.Native.Nat.{ℕ}
 use native.Mathlib.Omega.{arith}
 use mathlib.Core.Bool.{Bool, true, false, ◌&&◌, beq, false≢true}
@@ -151,7 +151,7 @@ edges_hold = refl
 -- ---- the theorem at each of them
 
 abbrev Instance : Edge → Type 0
-Instance e = if e.found then (AllAlike e.pack → ⊥) else AllAlike e.pack
+Instance e = cond e.found (AllAlike e.pack → ⊥) (AllAlike e.pack)
 
 abbrev Instances : List Edge → Type 0
 Instances [] = Unit {0}

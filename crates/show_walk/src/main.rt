@@ -18,7 +18,7 @@ fn usage() {
     say::words(b"there are at most 256 readings, numbers of 64 bits.\n");
 }
 
-// The PGN that the second argument names. An argument longer than the buffer is read as an empty one, which names none.
+// The PGN that the second argument names. An argument of more than 4,096 bytes is read as an empty one, which names none.
 fn show_named(
     pack: &[u8],
     work: &mut [u32],

@@ -51,7 +51,7 @@ abbrev pub target_current : (ℕ → Bool) → Option ℕ → Bool
 target_current current none = false
 target_current current (some t) = current t
 
--- "6 bitLengthField target not current; 7 continued field not current", "9 trailing_zero target not current": it is named, and is not
+-- "6 bitLengthField target not current; 7 continued field not current", "9 trailing-zero target not current": it is named, and is not
 unfoldable pub lacks : Pgn → (ℕ → Bool) → Option Bytes → Bool
 lacks p current none = false
 lacks p current (some id) = not (target_current current (target p id))
