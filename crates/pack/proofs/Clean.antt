@@ -1,4 +1,5 @@
 -- In an accepted pack every record begins at a cursor that is not refused.
+use Rattle.std.specs.Prelude.{None}
 use Rattle.std.specs.Prelude.{◌==◌}
 use Prim.Native.Nat.{ℕ, zero, suc, ◌+◌, ◌-◌, ◌≤◌, ◌<◌}
 use native.Mathlib.Omega.{arith}
@@ -10,7 +11,7 @@ use lib.ListN.{length}
 use Rattle.pack.specs.Notation.{◌<ᵇ◌}
 use Rattle.pack.specs.Items.{fresh}
 use Rattle.pack.specs.Records.{read_lookup, read_pgn}
-use Rattle.pack.specs.Format.{types, entries, lookup_next, lookups, no_text, fields, pgn_next, pgns, type_list, lookup_list, tree_start}
+use Rattle.pack.specs.Format.{types, entries, lookup_next, lookups, fields, pgn_next, pgns, type_list, lookup_list, tree_start}
 use Rattle.pack.specs.Format.{tree_list, pack_end}
 use Rattle.pack.specs.Format.{type_start, lookup_start, pgn_start}
 use Rattle.pack.specs.Load.{most_bytes, refused, accepted, verdict}
@@ -63,7 +64,7 @@ module _ (s : List ℕ) (a : (pack_end s).refused ≡ 0) where
 
   pub lookup_clean : (i : ℕ) → i ≤ (lookup_list s).value → (lookup_start s i).next.refused ≡ 0
   unfolding tree_start lookups
-  lookup_clean i l = clean (lookup_steps s) (record { next = (lookup_list s).next; before = no_text }) i (lookup_list s).value l (tree_clean 0 (omega arith))
+  lookup_clean i l = clean (lookup_steps s) (record { next = (lookup_list s).next; before = None }) i (lookup_list s).value l (tree_clean 0 (omega arith))
 
   lookup_next_clean : (i : ℕ) → i < (lookup_list s).value → (lookup_next s (lookup_start s i)).next.refused ≡ 0
   lookup_next_clean i l = rw (← lookups_turn s (lookup_list s).next i) (lookup_clean (i + 1) (omega arith))

@@ -7,10 +7,10 @@ use mathlib.Core.List.{List}
 use mathlib.Core.Bool.{Bool, true, false}
 use borrow.Author.Tests.{eq-eqb, lt-ltb, le-leb, ltb-true, leb-true}
 use Rattle.pack.specs.Notation.{◌<ᵇ◌, ◌≤ᵇ◌}
-use Rattle.pack.specs.Items.{◌≺◌, bytes_of, largest32, read_number, judged, read_code, read_index, read_sum, read_text, read_name}
+use Rattle.pack.specs.Items.{rises, largest32, read_number, judged, read_code, read_index, read_sum, read_text, read_name}
 use Rattle.pack.specs.Records.{read_lookup, read_names, read_scaling, read_authored, read_field}
-use Rattle.pack.specs.Format.{no_text}
-use Rattle.pack.specs.declared.text.OptText.{OptText}
+use Rattle.std.specs.Prelude.{Option, None}
+use Rattle.pack.specs.declared.text.Text.{Text}
 use Rattle.pack.specs.declared.cursor.Cursor.{Cursor}
 use Rattle.pack.specs.declared.cursor.NumberItem.{NumberItem}
 use Rattle.pack.proofs.Reading.{back, code_reader, number_reader, float_reader, opt_text_reader, scaling_reader, authored_reader, links_reader}
@@ -62,18 +62,17 @@ module _ (s : List ℕ) where
   unfolding read_scaling
   scaling_free c o e = rw (sum_free c o (back (float_reader s) _ (back (float_reader s) _ (back (opt_text_reader s) _ e))))
 
-  name_free : (c : Cursor) (b : OptText) → (read_name b s c).next.refused ≡ 0 → read_name b s c ≡ read_name no_text s c
+  name_free : (c : Cursor) (b : Option Text) → (read_name b s c).next.refused ≡ 0 → read_name b s c ≡ read_name None s c
   unfolding read_name
-  name_free c b e = go ((read_text s c).next.refused == 0) refl b.given refl (bytes_of s b.text ≺ bytes_of s (read_text s c).value) refl
+  name_free c b e = go ((read_text s c).next.refused == 0) refl (rises s b (read_text s c).value) refl
     where
-      go : (x : Bool) → ((read_text s c).next.refused == 0) ≡ x → (y : Bool) → b.given ≡ y → (z : Bool)
-          → (bytes_of s b.text ≺ bytes_of s (read_text s c).value) ≡ z → read_name b s c ≡ read_name no_text s c
-      go true x true y true z = rw (x, y, z)
-      go true x true y false z = let w : ◌≡◌ {A = ℕ} 5 0 = rw (x, y, z) at e in absurd (omega arith)
-      go true x false y z w = rw (x, y)
-      go false x y v z w = rw x
+      go : (x : Bool) → ((read_text s c).next.refused == 0) ≡ x → (y : Bool) → rises s b (read_text s c).value ≡ y
+          → read_name b s c ≡ read_name None s c
+      go true x true y = rw (x, y)
+      go true x false y = let w : ◌≡◌ {A = ℕ} 5 0 = rw (x, y) at e in absurd (omega arith)
+      go false x y v = rw x
 
-  pub lookup_free : (c : Cursor) (b : OptText) → (read_lookup b s c).next.refused ≡ 0 → read_lookup b s c ≡ read_lookup no_text s c
+  pub lookup_free : (c : Cursor) (b : Option Text) → (read_lookup b s c).next.refused ≡ 0 → read_lookup b s c ≡ read_lookup None s c
   unfolding read_lookup
   lookup_free c b e = rw (name_free c b (back (code_reader s 3) _ (back (number_reader s) _ (back (number_reader s) _ e))))
 

@@ -1,4 +1,5 @@
 -- Laws of the steps of `load`: records placed one after the other, and where a loop over them stops.
+use Rattle.std.specs.Prelude.{None}
 use Prim.Native.Nat.{ℕ, ◌+◌, ◌≤◌}
 use native.Mathlib.Omega.{arith}
 use native.Mathlib.Numerals.{add-one}
@@ -8,7 +9,7 @@ use mathlib.Core.List.{List, [], ◌∷◌, ◌++◌}
 use borrow.Author.Tests.{eq-eqb, ne_eqb}
 use lib.ListN.{set}
 use Rattle.pack.specs.Records.{read_type, read_entry}
-use Rattle.pack.specs.Format.{types, type_offsets, entries, entry_offsets, lookup_next, lookup_records, lookups, lookup_offsets, no_text}
+use Rattle.pack.specs.Format.{types, type_offsets, entries, entry_offsets, lookup_next, lookup_records, lookups, lookup_offsets}
 use Rattle.pack.specs.Format.{field_next, fields}
 use Rattle.pack.specs.Format.{field_offsets, pgn_next, pgn_records, pgns, pgn_offsets}
 use Rattle.pack.specs.Placing.{Room, PlacedTo, counted}
@@ -104,7 +105,7 @@ module _ (s : List ℕ) (c : Cursor) where
 
   pub lookups_stay : (i n : ℕ) → i ≤ n → ((lookups s c i).next.refused ≡ 0 → ⊥) → (lookups s c n).next ≡ (lookups s c i).next
   unfolding lookups
-  lookups_stay i n h = stays (lookup_steps s) (record { next = c; before = no_text }) i n h
+  lookups_stay i n h = stays (lookup_steps s) (record { next = c; before = None }) i n h
 
   pub fields_turn : (k i : ℕ) → fields k s c (i + 1) ≡ field_next k s (fields k s c i)
   unfolding fields

@@ -1,4 +1,5 @@
 -- What the layers above go by: the record at a record's work position means that record of the pack's value.
+use Rattle.std.specs.Prelude.{None}
 use Rattle.std.specs.Prelude.{◌==◌}
 use Prim.Native.Nat.{ℕ, zero, suc, ◌+◌, ◌-◌, ◌≤◌, ◌<◌}
 use native.Mathlib.Omega.{arith}
@@ -11,7 +12,7 @@ use Rattle.pack.specs.Notation.{concat_below}
 use Rattle.pack.specs.Value.{Lookup, Field, Pgn, Pack, no_field_type, no_entry, pgn_at, field_at, lookup_at}
 use Rattle.pack.specs.Items.{fresh, bytes_of, read_number, read_text, read_name, read_index, read_code}
 use Rattle.pack.specs.Records.{read_type, read_entry, read_lookup, read_names, read_scaling, read_authored, read_pgn, read_field}
-use Rattle.pack.specs.Format.{types, type_offsets, entries, entry_offsets, lookup_records, lookup_offsets, no_text, FieldState, field_next, fields}
+use Rattle.pack.specs.Format.{types, type_offsets, entries, entry_offsets, lookup_records, lookup_offsets, FieldState, field_next, fields}
 use Rattle.pack.specs.Format.{field_offsets, pgn_records, pgn_offsets, type_list, lookup_list, tree_list, type_part, lookup_part, tree_part}
 use Rattle.pack.specs.Format.{before, offsets}
 use Rattle.pack.specs.Format.{type_start, lookup_start, pgn_start, pack_end}
@@ -120,7 +121,7 @@ module _ (s w : List ℕ) (r : Ready s w) where
       (omega (arith, records_fit, o.1), (rw e (sym (type_is s i l))))
 
 -- a name with none before it
-name_first : (s : List ℕ) (c : Cursor) → read_name no_text s c ≡ read_text s c
+name_first : (s : List ℕ) (c : Cursor) → read_name None s c ≡ read_text s c
 unfolding read_name
 name_first s c = if_all (λ (t : TextItem). t ≡ read_text s c) ((read_text s c).next.refused == 0) _ _ (λ _. refl) (λ _. refl)
 
@@ -141,7 +142,7 @@ module _ {s w : List ℕ} {i p : ℕ} (a : LookupAt s w i p) where
       let x : get_or w p 0 ≡ (lookup_start s i).next.at = at_work s w a.ready p (omega (arith, o.1)) ∙ (rw e at o.0) in
       ap fresh x ∙ sym (fresh_at (lookup_start s i).next (lookup_clean s (clean_end s w a.ready) i (omega (arith, listed))))
 
-  lookup_view : read_lookup no_text s (fresh (get_or w p 0)) ≡ lookup_head s i
+  lookup_view : read_lookup None s (fresh (get_or w p 0)) ≡ lookup_head s i
   lookup_view = rw lookup_cursor (sym (lookup_free s (lookup_start s i).next (lookup_start s i).before lookup_head_clean))
 
   pub lookup_room : p + 1 + length (lookup_at (pack_of s).lookups i).entries ≤ length w
@@ -149,14 +150,14 @@ module _ {s w : List ℕ} {i p : ℕ} (a : LookupAt s w i p) where
       let l = length_lookup s (lookup_start s i) in
       omega (arith, a.place, entries_are s i listed, (lookup_offset s i 0 listed (omega arith)).1, records_fit s w a.ready)
 
-  pub lookup_law : LookupIs s (lookup_at (pack_of s).lookups i) (read_lookup no_text s (fresh (get_or w p 0))).value
+  pub lookup_law : LookupIs s (lookup_at (pack_of s).lookups i) (read_lookup None s (fresh (get_or w p 0))).value
   unfolding lookup_of_pack
   lookup_law = rw lookup_view (record { means = (rw (lookup_is s i listed)); entries = sym (entries_are s i listed) })
 
   pub lookup_name_law : bytes_of s (read_text s (fresh (get_or w p 0))).value ≡ (lookup_at (pack_of s).lookups i).name
   unfolding read_lookup
   lookup_name_law =
-      let e : bytes_of s (read_lookup no_text s (fresh (get_or w p 0))).value.name ≡ (lookup_at (pack_of s).lookups i).name
+      let e : bytes_of s (read_lookup None s (fresh (get_or w p 0))).value.name ≡ (lookup_at (pack_of s).lookups i).name
       = ap (λ (L : Lookup). L.name) lookup_law.means in
       rw (← name_first s (fresh (get_or w p 0))) e
 

@@ -9,15 +9,16 @@ use mathlib.Core.Bool.{Bool, true, false}
 use borrow.Author.Tests.{ne_eqb, eqb-false, ltb-true, leb-true}
 use lib.ListN.{length}
 use Rattle.pack.specs.Notation.{◌<ᵇ◌, ◌≤ᵇ◌}
-use Rattle.pack.specs.Items.{◌≺◌, bytes_of, refuse, moved, last_byte_at, shortest, capped, groups, largest32, largest64, read_wide}
+use Rattle.pack.specs.Items.{rises, refuse, moved, last_byte_at, shortest, capped, groups, largest32, largest64, read_wide}
 use Rattle.pack.specs.Items.{read_number, judged, read_version}
 use Rattle.pack.specs.Items.{read_code, read_index, read_sum, read_bytes, read_text, read_name, read_float, read_mark, read_opt_text}
 use Rattle.pack.specs.Items.{read_opt_number, read_opt_bytes, read_opt_sum, read_opt_float}
 use Rattle.pack.specs.Records.{read_type, read_first, read_kind_part, read_entry, read_lookup, read_repeating, read_opt_repeating, read_pgn}
 use Rattle.pack.specs.Records.{read_names, read_scaling, read_authored}
 use Rattle.pack.specs.Records.{read_opt_reference, read_links, read_field}
-use Rattle.pack.specs.Format.{iter, types, entries, LookupState, lookup_next, lookups, no_text, FieldState, field_next, fields, pgn_next, pgns}
-use Rattle.pack.specs.declared.text.OptText.{OptText}
+use Rattle.pack.specs.Format.{iter, types, entries, LookupState, lookup_next, lookups, FieldState, field_next, fields, pgn_next, pgns}
+use Rattle.std.specs.Prelude.{Option, None}
+use Rattle.pack.specs.declared.text.Text.{Text}
 use Rattle.pack.specs.declared.number.Value.{Value}
 use Rattle.pack.specs.declared.cursor.Cursor.{Cursor}
 use Rattle.pack.specs.declared.cursor.NumberItem.{NumberItem}
@@ -261,16 +262,16 @@ module _ (s : List ℕ) where
       text_all (λ w. w.next.refused ≡ 0 → c.at + 1 ≤ w.next.at) c (λ h z. absurd (eqb-false _ _ h z)) (λ z. absurd (omega arith))
       (λ v e k l z. omega (arith, number_moves c z))
 
-  name_all : (before : OptText) (P : TextItem → Type 0) (c : Cursor) → P (read_text s c)
+  name_all : (before : Option Text) (P : TextItem → Type 0) (c : Cursor) → P (read_text s c)
       → P (record { value = record { start = 0; len = 0 }; next = refuse c 5 }) → P (read_name before s c)
   unfolding read_name
   name_all before P c a b =
       let t = read_text s c in
       if_all P (t.next.refused == 0) _ _
-      (λ _. if_all P before.given _ _ (λ _. if_all P (bytes_of s before.text ≺ bytes_of s t.value) _ _ (λ _. a) (λ _. b)) (λ _. a))
+      (λ _. if_all P (rises s before t.value) _ _ (λ _. a) (λ _. b))
       (λ _. a)
 
-  pub name_reader : (before : OptText) → Reader s (λ c. (read_name before s c).next)
+  pub name_reader : (before : Option Text) → Reader s (λ c. (read_name before s c).next)
   unfolding read_name
   name_reader before =
       record {
@@ -283,7 +284,7 @@ module _ (s : List ℕ) where
       stick : (c : Cursor) → (c.refused ≡ 0 → ⊥) → (read_name before s c).next ≡ c
       stick c h = let e = text_reader.sticky c h in rw (e, ne_eqb _ _ h)
 
-  pub name_moves : (before : OptText) → Moves (λ c. (read_name before s c).next)
+  pub name_moves : (before : Option Text) → Moves (λ c. (read_name before s c).next)
   name_moves before c = name_all before (λ w. w.next.refused ≡ 0 → c.at + 1 ≤ w.next.at) c (text_moves c) (λ z. absurd (omega arith))
 
   pub float_reader : Reader s (λ c. (read_float s c).next)
@@ -368,11 +369,11 @@ module _ (s : List ℕ) where
   unfolding read_entry
   entry_moves kind = after_moves (first_reader kind) (λ c. moves_then (wide_moves largest64) (λ c. text_reader ▸ kind_part_reader kind))
 
-  pub lookup_reader : (before : OptText) → Reader s (λ c. (read_lookup before s c).next)
+  pub lookup_reader : (before : Option Text) → Reader s (λ c. (read_lookup before s c).next)
   unfolding read_lookup
   lookup_reader before = name_reader before ▸ code_reader 3 ▸ number_reader ▸ number_reader
 
-  pub lookup_moves : (before : OptText) → Moves (λ c. (read_lookup before s c).next)
+  pub lookup_moves : (before : Option Text) → Moves (λ c. (read_lookup before s c).next)
   unfolding read_lookup
   lookup_moves before = moves_then (name_moves before) (λ c. code_reader 3 ▸ number_reader ▸ number_reader)
 
@@ -447,7 +448,7 @@ module _ (s : List ℕ) where
   unfolding entries
   entries_reader kind n = often (entry_reader kind) n
 
-  pub lookup_next_reader : (before : OptText) → Reader s (λ c. (lookup_next s (record { next = c; before = before })).next)
+  pub lookup_next_reader : (before : Option Text) → Reader s (λ c. (lookup_next s (record { next = c; before = before })).next)
   unfolding lookup_next
   lookup_next_reader before =
       followed (lookup_reader before) (λ c. entries_reader (read_lookup before s c).value.kind (read_lookup before s c).value.entries)
@@ -466,10 +467,10 @@ module _ (s : List ℕ) where
   lookups_reader n =
       let r = often lookup_steps n in
       record {
-        sticky = λ c. r.sticky (record { next = c; before = no_text });
-        within = λ c. r.within (record { next = c; before = no_text });
-        grows = λ c. r.grows (record { next = c; before = no_text });
-        numbered = λ c. r.numbered (record { next = c; before = no_text });
+        sticky = λ c. r.sticky (record { next = c; before = None });
+        within = λ c. r.within (record { next = c; before = None });
+        grows = λ c. r.grows (record { next = c; before = None });
+        numbered = λ c. r.numbered (record { next = c; before = None });
       }
 
   pub field_steps : (k : ℕ) → Steps s (λ (a : FieldState). a.next) (field_next k s)

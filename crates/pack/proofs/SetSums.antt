@@ -4,7 +4,7 @@ use native.Mathlib.Omega.{arith}
 use mathlib.Core.Path.{◌≡◌, refl}
 use mathlib.Core.List.{List, []}
 use mathlib.Core.Bool.{Bool, true, false}
-use mathlib.Core.Option.{Option, none, some}
+use Rattle.std.specs.Prelude.{Option, None, Some}
 use Rattle.pack.specs.Value.{Repeating, pgn_at, set_place}
 use Rattle.pack.specs.Items.{largest32, read_number, read_mark}
 use Rattle.pack.specs.Records.{read_repeating, read_opt_repeating, read_pgn}
@@ -19,7 +19,7 @@ use Rattle.pack.proofs.Values.{pgns_are, pgn_is}
 
 -- the set that is given there ends so
 abbrev pub SetFits : Option Repeating → Type 0
-SetFits o = (r : Repeating) → o ≡ some r → r.start + r.count ≤ largest32
+SetFits o = (r : Repeating) → o ≡ Some r → r.start + r.count ≤ largest32
 
 module _ (s : List ℕ) where
   set_fits : (c : Cursor) → (read_repeating s c).next.refused ≡ 0 → (read_repeating s c).value.start.0 + (read_repeating s c).value.count ≤ largest32
@@ -36,10 +36,10 @@ module _ (s : List ℕ) where
       go : (b : Bool) → (read_mark s c).value ≡ b → r.start + r.count ≤ largest32
       go true x =
           let m = repeating_meaning (read_repeating s (read_mark s c).next).value in
-          let q : some m ≡ some r = rw x at h in
+          let q : Some m ≡ Some r = rw x at h in
           let y : m ≡ r = cc in
           rw (← y) (set_fits (read_mark s c).next (rw x at e))
-      go false x = let q : none ≡ some r = rw x at h in let u : ◌≡◌ {A = ℕ} 0 1 = cc in absurd (omega arith)
+      go false x = let q : None ≡ Some r = rw x at h in let u : ◌≡◌ {A = ℕ} 0 1 = cc in absurd (omega arith)
 
   pgn_sets_fit : (c : Cursor) → (read_pgn s c).next.refused ≡ 0 → (k : ℕ)
       → SetFits (set_place (pgn_meaning s (read_pgn s c).value []) k)

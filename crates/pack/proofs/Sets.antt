@@ -4,11 +4,11 @@ use native.Mathlib.Omega.{arith}
 use native.Mathlib.Decide.{dec_lt}
 use mathlib.Core.Path.{◌≡◌, refl, ap, ◌∙◌, sym}
 use mathlib.Core.List.{List, [], ◌∷◌}
-use mathlib.Core.Option.{Option, none}
+use Rattle.std.specs.Prelude.{Option, None}
 use lib.ListN.{length, get_or, get_or-eq_default}
 use Rattle.pack.specs.Notation.{tab}
 use Rattle.pack.specs.Value.{Repeating, Pgn, pgns_of, no_pgn, pgn_at, set_place}
-use Rattle.pack.specs.Records.{absent_set, read_pgn}
+use Rattle.pack.specs.Records.{read_pgn}
 use Rattle.pack.specs.Format.{tree_list, pgn_start}
 use Rattle.pack.specs.Meaning.{optional_repeating, pgn_of_pack, pack_of}
 use Rattle.pack.specs.Ready.{PgnIs}
@@ -23,18 +23,18 @@ places_read s c = refl
 
 -- what a view that means a PGN says of its sets
 module _ {s : List ℕ} {G : Pgn} {v : PgnView} (is : PgnIs s G v) where
-  sets_are : tab (λ k. optional_repeating (get_or v.sets k absent_set)) v.places ≡ G.sets
+  sets_are : tab (λ k. optional_repeating (get_or v.sets k None)) v.places ≡ G.sets
   sets_are = ap (λ (p : Pgn). p.sets) is.means
 
   pub places_are : v.places ≡ length G.sets
-  places_are = sym (length_tab (λ k. optional_repeating (get_or v.sets k absent_set)) v.places) ∙ ap length sets_are
+  places_are = sym (length_tab (λ k. optional_repeating (get_or v.sets k None)) v.places) ∙ ap length sets_are
 
-  pub set_is : (k : ℕ) → k < v.places → optional_repeating (get_or v.sets k absent_set) ≡ set_place G k
+  pub set_is : (k : ℕ) → k < v.places → optional_repeating (get_or v.sets k None) ≡ set_place G k
   set_is k h =
-      sym (getD_tab (λ k. optional_repeating (get_or v.sets k absent_set)) none v.places k h)
-      ∙ ap (λ (l : List (Option Repeating)). get_or l k none) sets_are
+      sym (getD_tab (λ k. optional_repeating (get_or v.sets k None)) None v.places k h)
+      ∙ ap (λ (l : List (Option Repeating)). get_or l k None) sets_are
 
-two_of : (l : List (Option Repeating)) → length l ≡ 2 → l ≡ get_or l 0 none ∷ get_or l 1 none ∷ []
+two_of : (l : List (Option Repeating)) → length l ≡ 2 → l ≡ get_or l 0 None ∷ get_or l 1 None ∷ []
 two_of [] h = absurd (omega (arith, h))
 two_of (a ∷ []) h = absurd (omega (arith, h))
 two_of (a ∷ b ∷ []) h = refl

@@ -1,9 +1,10 @@
 -- The pack as a whole: its lists of records one after the other, where each record begins, and how far reading gets.
 use Rattle.std.specs.Prelude.{ℕ, zero, suc, ◌+◌, false, true, List, ◌∷◌, ◌++◌}
+use Rattle.std.specs.Prelude.{Option, None, Some}
 use Rattle.pack.specs.Notation.{concat_below, tab}
 use Rattle.pack.specs.Items.{fresh, read_number, read_version, finish}
 use Rattle.pack.specs.Records.{read_type, read_entry, read_lookup, read_pgn, read_field}
-use Rattle.pack.specs.declared.text.OptText.{OptText}
+use Rattle.pack.specs.declared.text.Text.{Text}
 use Rattle.pack.specs.declared.cursor.Cursor.{Cursor}
 use Rattle.pack.specs.declared.cursor.NumberItem.{NumberItem}
 
@@ -39,10 +40,7 @@ entry_offsets kind s c n = tab (λ j. (entries kind s c j).at) n
 -- between two lookups: the cursor, and the name of the lookup before it, if there is one
 pub record LookupState : Type 0 where
   pub next : Cursor
-  pub before : OptText
-
-abbrev pub no_text : OptText
-no_text = record { given = false; text = record { start = 0; len = 0 } }
+  pub before : Option Text
 
 -- past a lookup and its entries
 unfoldable pub lookup_next : List ℕ → LookupState → LookupState
@@ -50,12 +48,12 @@ lookup_next s a =
     let l = read_lookup a.before s a.next in
     record {
       next = entries l.value.kind s l.next l.value.entries;
-      before = record { given = true; text = l.value.name };
+      before = Some l.value.name;
     }
 
 -- after n lookups from c on
 unfoldable pub lookups : List ℕ → Cursor → ℕ → LookupState
-lookups s c n = iter (lookup_next s) (record { next = c; before = no_text }) n
+lookups s c n = iter (lookup_next s) (record { next = c; before = None }) n
 
 -- where a lookup and its entries begin
 unfoldable pub lookup_records : List ℕ → LookupState → List ℕ

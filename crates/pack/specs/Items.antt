@@ -3,9 +3,9 @@
 -- the same cursor, so "the first offending item decides".
 use Rattle.std.specs.Prelude.{ℕ, zero, suc, ◌+◌, ◌-◌, ◌*◌, ◌%◌, ◌^◌, List, [], ◌∷◌}
 use Rattle.std.specs.Prelude.{Bool, true, false, not, ◌&&◌, length, get_or, drop, take, ◌==◌, if◌then◌else◌}
+use Rattle.std.specs.Prelude.{Option, None, Some}
 use Rattle.pack.specs.Notation.{◌<ᵇ◌, ◌≤ᵇ◌}
 use Rattle.pack.specs.declared.text.Text.{Text}
-use Rattle.pack.specs.declared.text.OptText.{OptText}
 use Rattle.pack.specs.declared.number.Value.{Value}
 use Rattle.pack.specs.declared.cursor.Cursor.{Cursor}
 use Rattle.pack.specs.declared.cursor.WideItem.{WideItem}
@@ -131,15 +131,17 @@ abbrev pub ◌≺◌ : List ℕ → List ℕ → Bool
 (a ∷ as') ≺ (b ∷ bs) = if a <ᵇ b then true else (if b <ᵇ a then false else as' ≺ bs)
 
 -- 5: "a lookup's name not above the previous one (byte order)"; the first has no previous one
-unfoldable pub read_name : OptText → List ℕ → Cursor → TextItem
+abbrev pub rises : List ℕ → Option Text → Text → Bool
+rises s None t = true
+rises s (Some before) t = bytes_of s before ≺ bytes_of s t
+
+unfoldable pub read_name : Option Text → List ℕ → Cursor → TextItem
 read_name before s c =
     let t = read_text s c in
     if t.next.refused == 0
-    then if before.given
-    then if bytes_of s before.text ≺ bytes_of s t.value
+    then if rises s before t.value
     then t
     else record { value = record { start = 0; len = 0 }; next = refuse c 5 }
-    else t
     else t
 
 -- "A float is 8 bytes of an f64, lowest first": its 64-bit pattern
@@ -164,14 +166,14 @@ read_opt_text s c =
     let m = read_mark s c in
     let t = read_text s m.next in
     if m.value
-    then record { value = record { given = true; text = t.value }; next = t.next }
-    else record { value = record { given = false; text = record { start = 0; len = 0 } }; next = m.next }
+    then record { value = Some t.value; next = t.next }
+    else record { value = None; next = m.next }
 
 abbrev pub some_number : NumberItem → OptNumberItem
-some_number n = record { value = record { given = true; value = n.value }; next = n.next }
+some_number n = record { value = Some n.value; next = n.next }
 
 abbrev pub no_number : Cursor → OptNumberItem
-no_number c = record { value = record { given = false; value = 0 }; next = c }
+no_number c = record { value = None; next = c }
 
 unfoldable pub read_opt_number : List ℕ → Cursor → OptNumberItem
 read_opt_number s c = let m = read_mark s c in if m.value then some_number (read_number s m.next) else no_number m.next
@@ -187,8 +189,8 @@ read_opt_float s c =
     let m = read_mark s c in
     let f = read_float s m.next in
     if m.value
-    then record { value = record { given = true; pattern = f.value }; next = f.next }
-    else record { value = record { given = false; pattern = 0 }; next = m.next }
+    then record { value = Some f.value; next = f.next }
+    else record { value = None; next = m.next }
 
 -- ---- the end
 

@@ -1,36 +1,28 @@
 -- The pack's value: what the bytes of an accepted pack say.
 use Rattle.std.specs.Prelude.{ℕ, List, get_or}
-use Rattle.std.proofs.Math.Option.{Option}
-use Rattle.pack.specs.Notation.{tab, optional}
+use Rattle.std.specs.Prelude.{Option, None}
+use Rattle.std.specs.Option.{option_map}
+use Rattle.pack.specs.Notation.{tab}
 use Rattle.pack.specs.Value.{Bytes, FieldType, Entry, Lookup, Repeating, Reference, Field, Pgn, Pack}
 use Rattle.pack.specs.Items.{bytes_of}
-use Rattle.pack.specs.Records.{read_type, read_entry, read_lookup, absent_set, read_pgn, read_field}
+use Rattle.pack.specs.Records.{read_type, read_entry, read_lookup, read_pgn, read_field}
 use Rattle.pack.specs.Format.{entries, fields, type_list, lookup_list, tree_list, type_start, lookup_start, pgn_start, offsets}
 use Rattle.pack.specs.Load.{Verdict, refused, accepted, verdict}
-use Rattle.pack.specs.declared.text.OptText.{OptText}
-use Rattle.pack.specs.declared.optional.OptNumber.{OptNumber}
-use Rattle.pack.specs.declared.optional.OptFloat.{OptFloat}
+use Rattle.pack.specs.declared.text.Text.{Text}
+use Rattle.pack.specs.declared.protocol.FieldOrder.{FieldOrder}
 use Rattle.pack.specs.declared.load.Refusal.{Refusal}
-use Rattle.pack.specs.declared.protocol.OptOrder.{OptOrder}
 use Rattle.pack.specs.declared.field_type.FieldTypeView.{FieldTypeView}
 use Rattle.pack.specs.declared.entry.EntryView.{EntryView}
 use Rattle.pack.specs.declared.lookup.LookupView.{LookupView}
 use Rattle.pack.specs.declared.pgn.RepeatingView.{RepeatingView}
-use Rattle.pack.specs.declared.pgn.OptRepeating.{OptRepeating}
 use Rattle.pack.specs.declared.pgn.PgnView.{PgnView}
-use Rattle.pack.specs.declared.field.OptReference.{OptReference}
+use Rattle.pack.specs.declared.field.ReferenceView.{ReferenceView}
 use Rattle.pack.specs.declared.field.FieldView.{FieldView}
 
 -- ---- what a view means
 
-abbrev pub optional_bytes : List ℕ → OptText → Option Bytes
-optional_bytes s o = optional o.given (bytes_of s o.text)
-
-abbrev pub optional_number : OptNumber → Option ℕ
-optional_number o = optional o.given o.value
-
-abbrev pub optional_float : OptFloat → Option ℕ
-optional_float o = optional o.given o.pattern
+abbrev pub optional_bytes : List ℕ → Option Text → Option Bytes
+optional_bytes s o = option_map (bytes_of s) o
 
 abbrev pub type_meaning : List ℕ → FieldTypeView → FieldType
 type_meaning s v =
@@ -58,17 +50,20 @@ entry_meaning s v =
 abbrev pub lookup_meaning : List ℕ → LookupView → List Entry → Lookup
 lookup_meaning s v es = record { name = bytes_of s v.name; kind = v.kind; bits = v.bits; entries = es }
 
-abbrev pub opt_order : OptOrder → Option ℕ
-opt_order v = optional v.given v.order.0
+abbrev pub opt_order : Option FieldOrder → Option ℕ
+opt_order o = option_map (λ v. v.0) o
 
 abbrev pub repeating_meaning : RepeatingView → Repeating
 repeating_meaning v = record { count = v.count; start = v.start.0; count_field = opt_order v.counter; nested = v.nested }
 
-abbrev pub optional_repeating : OptRepeating → Option Repeating
-optional_repeating o = optional o.given (repeating_meaning o.set)
+abbrev pub optional_repeating : Option RepeatingView → Option Repeating
+optional_repeating o = option_map repeating_meaning o
 
-abbrev pub optional_reference : List ℕ → OptReference → Option Reference
-optional_reference s o = optional o.given (record { kind = o.kind; name = bytes_of s o.name })
+abbrev pub reference_meaning : List ℕ → ReferenceView → Reference
+reference_meaning s v = record { kind = v.kind; name = bytes_of s v.name }
+
+abbrev pub optional_reference : List ℕ → Option ReferenceView → Option Reference
+optional_reference s o = option_map (reference_meaning s) o
 
 abbrev pub field_meaning : List ℕ → FieldView → Field
 field_meaning s v =
@@ -87,16 +82,16 @@ field_meaning s v =
       res_resolution = v.scaling.resolution;
       res_offset = v.scaling.offset;
       res_unit = optional_bytes s v.scaling.unit;
-      resolution = optional_float v.authored.resolution;
-      offset = optional_float v.authored.offset;
-      spn = optional_number v.authored.spn;
+      resolution = v.authored.resolution;
+      offset = v.authored.offset;
+      spn = v.authored.spn;
       continues = optional_bytes s v.authored.continues;
       match = optional_bytes s v.authored.matched;
       reference = optional_reference s v.links.reference;
-      special_values = optional_number v.links.special;
+      special_values = v.links.special;
       bit_length_field = optional_bytes s v.links.length;
       trailing_zero = optional_bytes s v.links.trailing;
-      continuation = optional_number v.links.continuation;
+      continuation = v.links.continuation;
     }
 
 -- a PGN's view has only the number of its fields
@@ -110,8 +105,8 @@ pgn_meaning s v fs =
       variable = v.flags.variable;
       missing_company_fields = v.flags.incomplete;
       length = v.length;
-      min_length = optional_number v.minimum;
-      sets = tab (λ k. optional_repeating (get_or v.sets k absent_set)) v.places;
+      min_length = v.minimum;
+      sets = tab (λ k. optional_repeating (get_or v.sets k None)) v.places;
       fields = fs;
     }
 

@@ -1,6 +1,6 @@
 -- Notation that the definitions share, so that they read like the paper: tests on numbers and bytes, and lists made by index.
 use Rattle.std.specs.Prelude.{ℕ, zero, suc, Bool, true, false, ◌&&◌, List, [], ◌∷◌, ◌++◌, ltb, leb, ◌==◌}
-use Rattle.std.proofs.Math.Option.{Option, none, some}
+use Rattle.std.specs.Prelude.{Option, None, Some}
 
 infix 50 ◌<ᵇ◌
 infix 50 ◌≤ᵇ◌
@@ -26,8 +26,3 @@ concat_below f (suc n) = concat_below f n ++ f n
 -- the list of f 0, f 1, .. f (n - 1)
 abbrev pub tab : {A : Type 0} → (ℕ → A) → ℕ → List A
 tab f n = concat_below (λ i. f i ∷ []) n
-
--- what is given, where it is given
-abbrev pub optional : {A : Type 0} → Bool → A → Option A
-optional true a = some a
-optional false a = none

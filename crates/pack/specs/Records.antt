@@ -1,9 +1,12 @@
 -- The five kinds of record, item by item in document 01's order, as views: numbers, float patterns, and texts as parts of the pack.
 use Rattle.std.specs.Prelude.{ℕ, ◌/◌, ◌%◌, List, [], ◌∷◌, true, false, ◌==◌, if◌then◌else◌}
+use Rattle.std.specs.Prelude.{Option, None, Some}
+use Rattle.std.specs.Option.{option_map}
 use Rattle.pack.specs.Items.{largest64, read_wide, read_number, read_code, read_index, read_sum, read_mark, read_text, read_name, read_float}
 use Rattle.pack.specs.Items.{read_opt_text, read_opt_number, read_opt_float}
 use Rattle.pack.specs.Items.{read_opt_bytes, read_opt_sum}
-use Rattle.pack.specs.declared.text.OptText.{OptText}
+use Rattle.pack.specs.declared.text.Text.{Text}
+use Rattle.pack.specs.declared.protocol.FieldOrder.{FieldOrder}
 use Rattle.pack.specs.declared.cursor.Cursor.{Cursor}
 use Rattle.pack.specs.declared.cursor.WideItem.{WideItem}
 use Rattle.pack.specs.declared.field_type.FieldTypeItem.{FieldTypeItem}
@@ -11,7 +14,6 @@ use Rattle.pack.specs.declared.entry.EntryItem.{EntryItem}
 use Rattle.pack.specs.declared.entry.KindPartItem.{KindPartItem}
 use Rattle.pack.specs.declared.lookup.LookupItem.{LookupItem}
 use Rattle.pack.specs.declared.pgn.RepeatingItem.{RepeatingItem}
-use Rattle.pack.specs.declared.pgn.OptRepeating.{OptRepeating}
 use Rattle.pack.specs.declared.pgn.OptRepeatingItem.{OptRepeatingItem}
 use Rattle.pack.specs.declared.pgn.PgnItem.{PgnItem}
 use Rattle.pack.specs.declared.field.NamesItem.{NamesItem}
@@ -55,7 +57,7 @@ read_kind_part kind s c =
     let n = read_opt_text s t.next in
     if kind == 3
     then record { fieldtype = t.value; nested = n.value; next = n.next }
-    else record { fieldtype = record { start = 0; len = 0 }; nested = record { given = false; text = record { start = 0; len = 0 } }; next = c }
+    else record { fieldtype = record { start = 0; len = 0 }; nested = None; next = c }
 
 -- an entry of a lookup of that kind. "Pair and bit: value, name."
 unfoldable pub read_entry : ℕ → List ℕ → Cursor → EntryItem
@@ -77,7 +79,7 @@ read_entry kind s c =
     }
 
 -- "Lookup: name, kind (0 pair, 1 triplet, 2 bit, 3 fieldtype), `bits`, list of entries": up to the count of the entries
-unfoldable pub read_lookup : OptText → List ℕ → Cursor → LookupItem
+unfoldable pub read_lookup : Option Text → List ℕ → Cursor → LookupItem
 read_lookup before s c =
     let name = read_name before s c in
     let kind = read_code 3 s name.next in
@@ -87,6 +89,9 @@ read_lookup before s c =
       value = record { name = name.value; kind = kind.value; bits = bits.value; entries = entries.value };
       next = entries.next;
     }
+
+abbrev pub order_of : Option ℕ → Option FieldOrder
+order_of n = option_map (λ n. record { 0 = n }) n
 
 -- "Set: count, start, optional countField, nested mark." "Sums under 7: a set's start + count"
 unfoldable pub read_repeating : List ℕ → Cursor → RepeatingItem
@@ -100,23 +105,10 @@ read_repeating s c =
           record {
             count = count.value;
             start = record { 0 = start.value };
-            counter = record { given = counter.value.given; order = record { 0 = counter.value.value } };
+            counter = order_of counter.value;
             nested = nested.value;
           };
       next = nested.next;
-    }
-
-abbrev pub absent_set : OptRepeating
-absent_set =
-    record {
-      given = false;
-      set =
-          record {
-            count = 0;
-            start = record { 0 = 0 };
-            counter = record { given = false; order = record { 0 = 0 } };
-            nested = false;
-          };
     }
 
 unfoldable pub read_opt_repeating : List ℕ → Cursor → OptRepeatingItem
@@ -124,8 +116,8 @@ read_opt_repeating s c =
     let m = read_mark s c in
     let r = read_repeating s m.next in
     if m.value
-    then record { value = record { given = true; set = r.value }; next = r.next }
-    else record { value = absent_set; next = m.next }
+    then record { value = Some r.value; next = r.next }
+    else record { value = None; next = m.next }
 
 -- "PGN: number, id, type (0 Single, 1 Fast, 2 ISO, 3 Mixed), flags (1 fallback, 2 variable, 4 MissingCompanyFields), length,
 -- optional minimum length, two optional sets, list of fields": up to the count of the fields
@@ -154,7 +146,7 @@ read_pgn s c =
                 };
             length = length.value;
             minimum = minimum.value;
-            sets = first.value ∷ second.value ∷ absent_set ∷ absent_set ∷ [];
+            sets = first.value ∷ second.value ∷ None ∷ None ∷ [];
             places = 2;
             fields = fields.value;
           };
@@ -226,8 +218,8 @@ read_opt_reference s c =
     let kind = read_code 3 s m.next in
     let name = read_text s kind.next in
     if m.value
-    then record { value = record { given = true; kind = kind.value; name = name.value }; next = name.next }
-    else record { value = record { given = false; kind = 0; name = record { start = 0; len = 0 } }; next = m.next }
+    then record { value = Some (record { kind = kind.value; name = name.value }); next = name.next }
+    else record { value = None; next = m.next }
 
 -- ".. `special_values`, `bit_length_field`, trailing-zero target, continuation width", of a field of `bits` bits
 unfoldable pub read_links : ℕ → List ℕ → Cursor → LinksItem

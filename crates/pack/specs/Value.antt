@@ -1,7 +1,7 @@
 -- What a pack says, with no position in it: numbers, texts as their bytes, floats as their 64-bit patterns, and lists of records.
 -- The names follow the Rust's `model.rs` and document 01, with hyphens.
 use Rattle.std.specs.Prelude.{ℕ, zero, suc, Bool, false, List, [], get_or}
-use Rattle.std.proofs.Math.Option.{Option, none}
+use Rattle.std.specs.Prelude.{Option, None}
 
 abbrev pub Bytes : Type 0
 Bytes = List ℕ
@@ -108,7 +108,7 @@ abbrev pub no_field_type : FieldType
 no_field_type = record { name = []; base = false; print_function = false; signed = false; size = 0; resolution = 0; root_name = [] }
 
 abbrev pub no_entry : Entry
-no_entry = record { first = 0; value = 0; name = []; fieldtype = []; nested = none }
+no_entry = record { first = 0; value = 0; name = []; fieldtype = []; nested = None }
 
 abbrev pub no_lookup : Lookup
 no_lookup = record { name = []; kind = 0; bits = 0; entries = [] }
@@ -129,17 +129,17 @@ no_field =
       res_bits = 0;
       res_resolution = 0;
       res_offset = 0;
-      res_unit = none;
-      resolution = none;
-      offset = none;
-      spn = none;
-      continues = none;
-      match = none;
-      reference = none;
-      special_values = none;
-      bit_length_field = none;
-      trailing_zero = none;
-      continuation = none;
+      res_unit = None;
+      resolution = None;
+      offset = None;
+      spn = None;
+      continues = None;
+      match = None;
+      reference = None;
+      special_values = None;
+      bit_length_field = None;
+      trailing_zero = None;
+      continuation = None;
     }
 
 abbrev pub no_pgn : Pgn
@@ -152,7 +152,7 @@ no_pgn =
       variable = false;
       missing_company_fields = false;
       length = 0;
-      min_length = none;
+      min_length = None;
       sets = [];
       fields = [];
     }
@@ -173,4 +173,4 @@ field_at p k = get_or p.fields k no_field
 
 -- the set at place k, counted from 0, if it is given
 abbrev pub set_place : Pgn → ℕ → Option Repeating
-set_place p k = get_or p.sets k none
+set_place p k = get_or p.sets k None

@@ -2,7 +2,7 @@
 ghost use Rattle.std.specs.Prelude.{◌≡◌};
 ghost use Rattle.pack.specs.Items.{fresh, read_number, read_text};
 ghost use Rattle.pack.specs.Records.{read_type, read_entry, read_lookup, read_pgn, read_field};
-ghost use Rattle.pack.specs.Format.{no_text};
+ghost use Rattle.std.specs.Prelude.{None};
 
 use crate::cursor::fresh;
 use crate::entry::EntryView;
@@ -10,7 +10,7 @@ use crate::field::FieldView;
 use crate::field_type::FieldTypeView;
 use crate::lookup::LookupView;
 use crate::pgn::PgnView;
-use crate::text::{OptText, Text};
+use crate::text::Text;
 
 // The number that a record begins with: a PGN's.
 pub fn number_at(s: &[u8], at: usize) -> u32
@@ -46,13 +46,9 @@ pub fn type_at(s: &[u8], at: usize) -> FieldTypeView
 
 // A lookup without a name before it.
 pub fn lookup_at(s: &[u8], at: usize) -> LookupView
-    ensures { result ≡ (read_lookup no_text s.now (fresh at)).value }
+    ensures { result ≡ (read_lookup None s.now (fresh at)).value }
 {
-    let before = OptText {
-        given: false,
-        text: Text { start: 0, len: 0 },
-    };
-    let r = fresh(at).lookup(s, before);
+    let r = fresh(at).lookup(s, None);
     r.value
 }
 

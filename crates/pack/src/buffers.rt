@@ -7,9 +7,7 @@ pub fn copy(from: &[u32], to: &mut [u32], n: usize)
     requires { record { from : n ≤ length from.now; to : n ≤ length to.old } }
     ensures { to.new ≡ over (take n from.now) to.old }
 {
-    let mut i = 0;
-    while i < n {
+    for i in 0..n {
         to[i] = from[i];
-        i += 1;
     }
 }

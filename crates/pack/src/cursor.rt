@@ -6,7 +6,7 @@ ghost use Rattle.pack.specs.Items.{read_mark, read_text, read_name, four, read_f
 ghost use Rattle.pack.specs.Items.{fresh, finish};
 
 use crate::number::{decode, is_shortest, last_byte};
-use crate::text::{OptText, Text, text_precedes};
+use crate::text::{Text, text_precedes};
 
 #[derive(Clone, Copy)]
 pub struct Cursor {
@@ -260,7 +260,7 @@ impl Cursor {
     }
 
     // A lookup's name, which is above the one before it.
-    pub fn name(self, s: &[u8], before: OptText) -> TextItem
+    pub fn name(self, s: &[u8], before: Option<Text>) -> TextItem
         ensures { result ≡ read_name before s.now self }
     {
         let t = self.text(s);
@@ -268,10 +268,9 @@ impl Cursor {
         if c.refused != 0 {
             return t;
         }
-        if !before.given {
+        let Some(earlier) = before else {
             return t;
-        }
-        let earlier = before.text;
+        };
         let this = t.value;
         if text_precedes(s, earlier, this) {
             return t;

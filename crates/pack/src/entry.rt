@@ -3,7 +3,7 @@ ghost use Rattle.std.specs.Prelude.{◌≡◌};
 ghost use Rattle.pack.specs.Records.{read_first, read_kind_part, read_entry};
 
 use crate::cursor::{Cursor, WideItem};
-use crate::text::{OptText, Text};
+use crate::text::Text;
 
 // An entry of a lookup; what its kind does not have is 0 or empty.
 #[derive(Clone, Copy)]
@@ -12,7 +12,7 @@ pub struct EntryView {
     pub value: u64,
     pub name: Text,
     pub fieldtype: Text,
-    pub nested: OptText,
+    pub nested: Option<Text>,
 }
 
 #[derive(Clone, Copy)]
@@ -25,7 +25,7 @@ pub struct EntryItem {
 #[derive(Clone, Copy)]
 pub struct KindPartItem {
     pub fieldtype: Text,
-    pub nested: OptText,
+    pub nested: Option<Text>,
     pub next: Cursor,
 }
 
@@ -60,10 +60,7 @@ impl Cursor {
         }
         KindPartItem {
             fieldtype: Text { start: 0, len: 0 },
-            nested: OptText {
-                given: false,
-                text: Text { start: 0, len: 0 },
-            },
+            nested: None,
             next: self,
         }
     }

@@ -1,10 +1,10 @@
 // A field, read item by item in 01's order.
-ghost use Rattle.std.specs.Prelude.{false, ◌≡◌, ◌+◌, ◌≤◌};
+ghost use Rattle.std.specs.Prelude.{◌≡◌, ◌+◌, ◌≤◌};
+ghost use Rattle.std.specs.Prelude.{None};
 ghost use Rattle.pack.specs.Records.{read_names, field_flags_of, read_scaling, read_authored, read_opt_reference, read_links, read_field};
 
 use crate::cursor::{Cursor, fresh};
-use crate::optional::{OptFloat, OptNumber};
-use crate::text::{OptText, Text};
+use crate::text::Text;
 
 // What a field is called.
 #[derive(Clone, Copy)]
@@ -36,7 +36,7 @@ pub struct ScalingView {
     pub bits: u32,
     pub resolution: u64,
     pub offset: u64,
-    pub unit: OptText,
+    pub unit: Option<Text>,
 }
 
 #[derive(Clone, Copy)]
@@ -48,11 +48,11 @@ pub struct ScalingItem {
 // What the author wrote.
 #[derive(Clone, Copy)]
 pub struct AuthoredView {
-    pub resolution: OptFloat,
-    pub offset: OptFloat,
-    pub spn: OptNumber,
-    pub continues: OptText,
-    pub matched: OptText,
+    pub resolution: Option<u64>,
+    pub offset: Option<u64>,
+    pub spn: Option<u32>,
+    pub continues: Option<Text>,
+    pub matched: Option<Text>,
 }
 
 #[derive(Clone, Copy)]
@@ -62,26 +62,25 @@ pub struct AuthoredItem {
 }
 
 #[derive(Clone, Copy)]
-pub struct OptReference {
-    pub given: bool,
+pub struct ReferenceView {
     pub kind: u32,
     pub name: Text,
 }
 
 #[derive(Clone, Copy)]
 pub struct OptReferenceItem {
-    pub value: OptReference,
+    pub value: Option<ReferenceView>,
     pub next: Cursor,
 }
 
 // What a field refers to.
 #[derive(Clone, Copy)]
 pub struct LinksView {
-    pub reference: OptReference,
-    pub special: OptNumber,
-    pub length: OptText,
-    pub trailing: OptText,
-    pub continuation: OptNumber,
+    pub reference: Option<ReferenceView>,
+    pub special: Option<u32>,
+    pub length: Option<Text>,
+    pub trailing: Option<Text>,
+    pub continuation: Option<u32>,
 }
 
 #[derive(Clone, Copy)]
@@ -120,14 +119,10 @@ fn field_flags(n: u32) -> FieldFlags
 }
 
 fn no_reference(c: Cursor) -> OptReferenceItem
-    ensures { result ≡ record { value = record { given = false; kind = 0; name = record { start = 0; len = 0 } }; next = c } }
+    ensures { result ≡ record { value = None; next = c } }
 {
     OptReferenceItem {
-        value: OptReference {
-            given: false,
-            kind: 0,
-            name: Text { start: 0, len: 0 },
-        },
+        value: None,
         next: c,
     }
 }
@@ -224,11 +219,10 @@ impl Cursor {
             let n = name.value;
             let next = name.next;
             return OptReferenceItem {
-                value: OptReference {
-                    given: true,
+                value: Some(ReferenceView {
                     kind: kind.value,
                     name: n,
-                },
+                }),
                 next,
             };
         }

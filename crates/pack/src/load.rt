@@ -8,7 +8,7 @@ ghost use Rattle.pack.specs.Placing.{Room, Placing, LookupPlacing, TreePlacing, 
 
 use crate::buffers::copy;
 use crate::cursor::Cursor;
-use crate::text::{OptText, Text};
+use crate::text::Text;
 
 const MOST_BYTES: usize = 1_048_576;
 // Up to so many bytes 512 offsets are held on the stack, else 4,096.
@@ -97,7 +97,7 @@ struct Placed {
 #[derive(Clone, Copy)]
 struct LookupPlaced {
     next: Cursor,
-    before: OptText,
+    before: Option<Text>,
     place: usize,
 }
 
@@ -138,8 +138,7 @@ fn place_types(s: &[u8], work: &mut [u32], c: Cursor, n: u32, p: usize) -> Place
 {
     let mut c = c;
     let mut p = p;
-    let mut i: u32 = 0;
-    while i < n {
+    for i in 0..n {
         if c.refused != 0 {
             return Placed { next: c, place: p };
         }
@@ -148,7 +147,6 @@ fn place_types(s: &[u8], work: &mut [u32], c: Cursor, n: u32, p: usize) -> Place
         let r = c.field_type(s);
         c = r.next;
         p = past(c, p);
-        i += 1;
     }
     Placed { next: c, place: p }
 }
@@ -159,8 +157,7 @@ fn place_entries(s: &[u8], work: &mut [u32], c: Cursor, kind: u32, n: u32, p: us
 {
     let mut c = c;
     let mut p = p;
-    let mut i: u32 = 0;
-    while i < n {
+    for i in 0..n {
         if c.refused != 0 {
             return Placed { next: c, place: p };
         }
@@ -169,13 +166,12 @@ fn place_entries(s: &[u8], work: &mut [u32], c: Cursor, kind: u32, n: u32, p: us
         let r = c.entry(s, kind);
         c = r.next;
         p = past(c, p);
-        i += 1;
     }
     Placed { next: c, place: p }
 }
 
 // A lookup whose name is above `before`, and its entries.
-fn place_lookup(s: &[u8], work: &mut [u32], c: Cursor, before: OptText, p: usize) -> LookupPlaced
+fn place_lookup(s: &[u8], work: &mut [u32], c: Cursor, before: Option<Text>, p: usize) -> LookupPlaced
     requires { Room s.now c p }
     ensures { LookupPlacing s.now (record { next = c; before = before }) work.old p work.new result }
 {
@@ -187,7 +183,7 @@ fn place_lookup(s: &[u8], work: &mut [u32], c: Cursor, before: OptText, p: usize
     if next.refused != 0 {
         return LookupPlaced {
             next,
-            before: OptText { given: true, text },
+            before: Some(text),
             place: p,
         };
     }
@@ -195,7 +191,7 @@ fn place_lookup(s: &[u8], work: &mut [u32], c: Cursor, before: OptText, p: usize
     let end = e.next;
     LookupPlaced {
         next: end,
-        before: OptText { given: true, text },
+        before: Some(text),
         place: e.place,
     }
 }
@@ -205,13 +201,9 @@ fn place_lookups(s: &[u8], work: &mut [u32], c: Cursor, n: u32, p: usize) -> Pla
     ensures { Placing (lookups s.now c n).next work.old p (lookup_offsets s.now c n) work.new result }
 {
     let mut c = c;
-    let mut before = OptText {
-        given: false,
-        text: Text { start: 0, len: 0 },
-    };
+    let mut before = None;
     let mut p = p;
-    let mut i: u32 = 0;
-    while i < n {
+    for i in 0..n {
         if c.refused != 0 {
             return Placed { next: c, place: p };
         }
@@ -219,7 +211,6 @@ fn place_lookups(s: &[u8], work: &mut [u32], c: Cursor, n: u32, p: usize) -> Pla
         c = r.next;
         before = r.before;
         p = r.place;
-        i += 1;
     }
     Placed { next: c, place: p }
 }
@@ -232,8 +223,7 @@ fn place_fields(s: &[u8], work: &mut [u32], c: Cursor, types: u32, n: u32, p: us
     let mut c = c;
     let mut total: u32 = 0;
     let mut p = p;
-    let mut i: u32 = 0;
-    while i < n {
+    for i in 0..n {
         if c.refused != 0 {
             return Placed { next: c, place: p };
         }
@@ -243,7 +233,6 @@ fn place_fields(s: &[u8], work: &mut [u32], c: Cursor, types: u32, n: u32, p: us
         c = r.next;
         total = total + r.value.scaling.bits;
         p = past(c, p);
-        i += 1;
     }
     Placed { next: c, place: p }
 }
@@ -269,15 +258,13 @@ fn place_pgns(s: &[u8], work: &mut [u32], c: Cursor, types: u32, n: u32, p: usiz
 {
     let mut c = c;
     let mut p = p;
-    let mut i: u32 = 0;
-    while i < n {
+    for i in 0..n {
         if c.refused != 0 {
             return Placed { next: c, place: p };
         }
         let r = place_pgn(s, work, c, types, p);
         c = r.next;
         p = r.place;
-        i += 1;
     }
     Placed { next: c, place: p }
 }

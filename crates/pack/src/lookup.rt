@@ -3,7 +3,7 @@ ghost use Rattle.std.specs.Prelude.{◌≡◌};
 ghost use Rattle.pack.specs.Records.{read_lookup};
 
 use crate::cursor::Cursor;
-use crate::text::{OptText, Text};
+use crate::text::Text;
 
 // A lookup without its entries, which follow it.
 #[derive(Clone, Copy)]
@@ -30,7 +30,7 @@ pub struct LookupItem {
 
 impl Cursor {
     // A lookup up to its entries, its name above the one before it.
-    pub fn lookup(self, s: &[u8], before: OptText) -> LookupItem
+    pub fn lookup(self, s: &[u8], before: Option<Text>) -> LookupItem
         ensures { result ≡ read_lookup before s.now self }
     {
         let name = self.name(s, before);

@@ -1,39 +1,28 @@
 // Optional items: a mark, 0 or 1, then the item if 1. An absent one is answered at its mark.
 ghost use Rattle.std.specs.Prelude.{true, false, ◌≡◌, ◌+◌, ◌<◌, length};
+ghost use Rattle.std.specs.Prelude.{None};
 ghost use Rattle.pack.specs.Items.{read_opt_text, read_opt_number, read_opt_float, read_opt_bytes, read_opt_sum, some_number, no_number};
 ghost use Rattle.pack.specs.Items.{fresh, read_mark};
 
 use crate::cursor::{Cursor, NumberItem, fresh};
-use crate::text::{OptText, Text};
-
-#[derive(Clone, Copy)]
-pub struct OptNumber {
-    pub given: bool,
-    pub value: u32,
-}
-
-// An optional float, by its 64-bit pattern.
-#[derive(Clone, Copy)]
-pub struct OptFloat {
-    pub given: bool,
-    pub pattern: u64,
-}
+use crate::text::Text;
 
 #[derive(Clone, Copy)]
 pub struct OptTextItem {
-    pub value: OptText,
+    pub value: Option<Text>,
     pub next: Cursor,
 }
 
 #[derive(Clone, Copy)]
 pub struct OptNumberItem {
-    pub value: OptNumber,
+    pub value: Option<u32>,
     pub next: Cursor,
 }
 
+// A float by its 64-bit pattern.
 #[derive(Clone, Copy)]
 pub struct OptFloatItem {
-    pub value: OptFloat,
+    pub value: Option<u64>,
     pub next: Cursor,
 }
 
@@ -42,10 +31,7 @@ fn some_number(n: NumberItem) -> OptNumberItem
 {
     let d = n.next;
     OptNumberItem {
-        value: OptNumber {
-            given: true,
-            value: n.value,
-        },
+        value: Some(n.value),
         next: d,
     }
 }
@@ -54,34 +40,25 @@ fn no_number(c: Cursor) -> OptNumberItem
     ensures { result ≡ no_number c }
 {
     OptNumberItem {
-        value: OptNumber {
-            given: false,
-            value: 0,
-        },
+        value: None,
         next: c,
     }
 }
 
 fn no_text(c: Cursor) -> OptTextItem
-    ensures { result ≡ record { value = record { given = false; text = record { start = 0; len = 0 } }; next = c } }
+    ensures { result ≡ record { value = None; next = c } }
 {
     OptTextItem {
-        value: OptText {
-            given: false,
-            text: Text { start: 0, len: 0 },
-        },
+        value: None,
         next: c,
     }
 }
 
 fn no_float(c: Cursor) -> OptFloatItem
-    ensures { result ≡ record { value = record { given = false; pattern = 0 }; next = c } }
+    ensures { result ≡ record { value = None; next = c } }
 {
     OptFloatItem {
-        value: OptFloat {
-            given: false,
-            pattern: 0,
-        },
+        value: None,
         next: c,
     }
 }
@@ -123,7 +100,7 @@ impl Cursor {
             let text = t.value;
             let d = t.next;
             return OptTextItem {
-                value: OptText { given: true, text },
+                value: Some(text),
                 next: d,
             };
         }
@@ -217,10 +194,7 @@ impl Cursor {
             let f = c.float(s);
             let d = f.next;
             return OptFloatItem {
-                value: OptFloat {
-                    given: true,
-                    pattern: f.value,
-                },
+                value: Some(f.value),
                 next: d,
             };
         }

@@ -1,17 +1,17 @@
 // A PGN and its sets, read item by item in 01's order, up to its fields.
 ghost use Rattle.std.specs.Prelude.{◌≡◌, ◌<◌, get_or};
-ghost use Rattle.pack.specs.Records.{absent_set, read_repeating, read_opt_repeating, read_pgn};
+ghost use Rattle.std.specs.Prelude.{None};
+ghost use Rattle.pack.specs.Records.{order_of, read_repeating, read_opt_repeating, read_pgn};
 
 use crate::cursor::{Cursor, fresh};
-use crate::optional::OptNumber;
-use crate::protocol::{FieldOrder, OptOrder};
+use crate::protocol::FieldOrder;
 use crate::text::Text;
 
 #[derive(Clone, Copy)]
 pub struct RepeatingView {
     pub count: u32,
     pub start: FieldOrder,
-    pub counter: OptOrder,
+    pub counter: Option<FieldOrder>,
     pub nested: bool,
 }
 
@@ -22,14 +22,8 @@ pub struct RepeatingItem {
 }
 
 #[derive(Clone, Copy)]
-pub struct OptRepeating {
-    pub given: bool,
-    pub set: RepeatingView,
-}
-
-#[derive(Clone, Copy)]
 pub struct OptRepeatingItem {
-    pub value: OptRepeating,
+    pub value: Option<RepeatingView>,
     pub next: Cursor,
 }
 
@@ -48,8 +42,8 @@ pub struct PgnView {
     pub kind: u32,
     pub flags: PgnFlags,
     pub length: u32,
-    pub minimum: OptNumber,
-    pub sets: [OptRepeating; 4],
+    pub minimum: Option<u32>,
+    pub sets: [Option<RepeatingView>; 4],
     pub places: u32,
     pub fields: u32,
 }
@@ -69,37 +63,24 @@ pub struct PgnItem {
     pub next: Cursor,
 }
 
-// What stands where there is no set.
-pub fn absent_set() -> OptRepeating
-    ensures { result ≡ absent_set }
-{
-    OptRepeating {
-        given: false,
-        set: RepeatingView {
-            count: 0,
-            start: FieldOrder(0),
-            counter: OptOrder {
-                given: false,
-                order: FieldOrder(0),
-            },
-            nested: false,
-        },
-    }
-}
-
 // The set at place k.
-pub fn set_at(g: PgnView, k: u32) -> OptRepeating
+pub fn set_at(g: PgnView, k: u32) -> Option<RepeatingView>
     requires { k < 4 }
-    ensures { result ≡ get_or g.sets k absent_set }
+    ensures { result ≡ get_or g.sets k None }
 {
     g.sets[k as usize]
 }
 
-fn no_repeating(c: Cursor) -> OptRepeatingItem
-    ensures { result ≡ record { value = absent_set; next = c } }
+fn order_of(number: Option<u32>) -> Option<FieldOrder>
+    ensures { result ≡ order_of number }
 {
-    let value = absent_set();
-    OptRepeatingItem { value, next: c }
+    number.map(FieldOrder)
+}
+
+fn no_repeating(c: Cursor) -> OptRepeatingItem
+    ensures { result ≡ record { value = None; next = c } }
+{
+    OptRepeatingItem { value: None, next: c }
 }
 
 impl Cursor {
@@ -110,16 +91,13 @@ impl Cursor {
         let start = count.next.sum(s, count.value);
         let counter = start.next.opt_number(s);
         let nested = counter.next.mark(s);
-        let c = counter.value;
+        let c = order_of(counter.value);
         let next = nested.next;
         RepeatingItem {
             value: RepeatingView {
                 count: count.value,
                 start: FieldOrder(start.value),
-                counter: OptOrder {
-                    given: c.given,
-                    order: FieldOrder(c.value),
-                },
+                counter: c,
                 nested: nested.value,
             },
             next,
@@ -146,7 +124,7 @@ impl Cursor {
             let set = r.value;
             let next = r.next;
             return OptRepeatingItem {
-                value: OptRepeating { given: true, set },
+                value: Some(set),
                 next,
             };
         }
@@ -171,8 +149,7 @@ impl Cursor {
         let m = minimum.value;
         let a = first.value;
         let b = second.value;
-        let none = absent_set();
-        let sets = [a, b, none, none];
+        let sets = [a, b, None, None];
         let next = fields.next;
         PgnItem {
             value: PgnView {

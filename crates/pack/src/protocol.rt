@@ -86,13 +86,6 @@ pub struct FieldIndex(pub u32);
 #[derive(Clone, Copy)]
 pub struct FieldOrder(pub u32);
 
-// An order, if it is given.
-#[derive(Clone, Copy)]
-pub struct OptOrder {
-    pub given: bool,
-    pub order: FieldOrder,
-}
-
 impl FieldIndex {
     pub fn order(self) -> FieldOrder
         requires { self.0 < 4294967295 }

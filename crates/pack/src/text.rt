@@ -10,12 +10,6 @@ pub struct Text {
     pub len: usize,
 }
 
-#[derive(Clone, Copy)]
-pub struct OptText {
-    pub given: bool,
-    pub text: Text,
-}
-
 // The bytes of a text, as far as the pack has them.
 pub fn part(s: &[u8], t: Text) -> &[u8]
     ensures { result.now ≡ bytes_of s.now t }
@@ -41,12 +35,10 @@ pub(crate) fn same(a: &[u8], b: &[u8]) -> bool
     if a.len() != b.len() {
         return false;
     }
-    let mut i = 0;
-    while i < a.len() {
+    for i in 0..a.len() {
         if a[i] != b[i] {
             return false;
         }
-        i += 1;
     }
     true
 }

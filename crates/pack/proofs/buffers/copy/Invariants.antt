@@ -11,6 +11,3 @@ invariant-loop-i l =
       length : length l.to ≡ length l.initial.to;
       stored : Stored l.initial.to 0 (take l.i l.from) l.to l.i;
     }
-
-abbrev pub decreases-loop-i : goal.decreases-loop-i
-decreases-loop-i l = l.n - l.i

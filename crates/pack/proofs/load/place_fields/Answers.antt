@@ -37,10 +37,6 @@ pub past-p-requires : goal.past-p-requires
 past-p-requires c =
     omega (arith, c.loop-i.invariant.room.short, c.loop-i.invariant.room.inside, c.loop-i.invariant.room.few)
 
-pub overflow_add-i : goal.overflow_add-i
-overflow_add-i c =
-    omega (arith, c.loop-i-test.true, c.ranges.n)
-
 pub loop-i-smaller : goal.loop-i-smaller
 loop-i-smaller c =
     omega (arith, c.loop-i-test.true)

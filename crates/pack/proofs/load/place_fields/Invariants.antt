@@ -14,6 +14,3 @@ invariant-loop-i l =
       room : Room l.s l.c l.p;
       total : l.total ≡ (fields l.types l.s l.initial.c l.i).total;
     }
-
-abbrev pub decreases-loop-i : goal.decreases-loop-i
-decreases-loop-i l = l.n - l.i

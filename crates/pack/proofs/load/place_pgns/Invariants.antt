@@ -13,6 +13,3 @@ invariant-loop-i l =
       placed : PlacedTo (pgns l.types l.s l.initial.c l.i) l.initial.work l.initial.p (pgn_offsets l.types l.s l.initial.c l.i) l.work l.c l.p;
       room : Room l.s l.c l.p;
     }
-
-abbrev pub decreases-loop-i : goal.decreases-loop-i
-decreases-loop-i l = l.n - l.i

@@ -10,6 +10,3 @@ invariant-loop-i l =
       lengths : length l.a ≡ length l.b;
       rest : (l.a ≐ l.b) ≡ (drop l.i l.a ≐ drop l.i l.b);
     }
-
-abbrev pub decreases-loop-i : goal.decreases-loop-i
-decreases-loop-i l = length l.a - l.i
