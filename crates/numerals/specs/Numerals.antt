@@ -1,8 +1,9 @@
 -- The number that a text writes: in decimal, and in hexadecimal after 0x.
 use Rattle.std.specs.Prelude.{ℕ, ◌+◌, ◌-◌, ◌*◌, ◌^◌, Bool, true, ◌&&◌, ◌||◌, [], ◌∷◌, length, ◌==◌, if◌then◌else◌}
-use Rattle.std.proofs.Math.Option.{Option, none}
+use Rattle.std.specs.Prelude.{Option, None}
+use Rattle.std.specs.Bool.{then_some}
 use Rattle.pack.specs.Value.{Bytes}
-use Rattle.pack.specs.Notation.{◌<ᵇ◌, ◌≤ᵇ◌, optional}
+use Rattle.pack.specs.Notation.{◌<ᵇ◌, ◌≤ᵇ◌}
 
 -- "first parses a u64: digits, one leading + allowed"
 abbrev pub is_digit : ℕ → Bool
@@ -18,11 +19,11 @@ decimal v [] = v
 decimal v (b ∷ bs) = decimal (10 * v + (b - 48)) bs
 
 unfoldable pub parse_digits : Bytes → Option ℕ
-parse_digits [] = none
-parse_digits (b ∷ bs) = optional (all_digits (b ∷ bs) && (decimal 0 (b ∷ bs) <ᵇ 2 ^ 64)) (decimal 0 (b ∷ bs))
+parse_digits [] = None
+parse_digits (b ∷ bs) = then_some (all_digits (b ∷ bs) && (decimal 0 (b ∷ bs) <ᵇ 2 ^ 64)) (decimal 0 (b ∷ bs))
 
 unfoldable pub parse_u64 : Bytes → Option ℕ
-parse_u64 [] = none
+parse_u64 [] = None
 parse_u64 (b ∷ bs) = if b == 43 then parse_digits bs else parse_digits (b ∷ bs)
 
 -- a hexadecimal digit: 0 to 9, A to F, a to f; its value
@@ -47,6 +48,6 @@ is_hex_prefix z x = (z == 48) && ((x == 120) || (x == 88))
 
 -- "a text of 0x or 0X and 1 to 16 hexadecimal digits now resolves to that number"
 unfoldable pub parse_hex : Bytes → Option ℕ
-parse_hex [] = none
-parse_hex (z ∷ []) = none
-parse_hex (z ∷ x ∷ ds) = optional (is_hex_prefix z x && ((1 ≤ᵇ length ds) && (length ds ≤ᵇ 16)) && all_hex_digits ds) (hexadecimal 0 ds)
+parse_hex [] = None
+parse_hex (z ∷ []) = None
+parse_hex (z ∷ x ∷ ds) = then_some (is_hex_prefix z x && ((1 ≤ᵇ length ds) && (length ds ≤ᵇ 16)) && all_hex_digits ds) (hexadecimal 0 ds)

@@ -1,58 +1,41 @@
 // Numbers in decimal.
-ghost use Rattle.std.specs.Prelude.{◌≡◌, ◌≤◌, length, drop};
-ghost use Rattle.pack.specs.Notation.{optional};
-ghost use Rattle.numerals.specs.Numerals.{parse_digits, parse_u64};
+ghost use Rattle.std.specs.Prelude.{◌≡◌, ◌-◌};
+ghost use Rattle.std.specs.Bool.{then_some};
+ghost use Rattle.numerals.specs.Numerals.{is_digit, parse_digits, parse_u64};
 
-use crate::OptWide;
-
-// The number that the bytes from an index on write in decimal.
-fn parse_digits(b: &[u8], from: usize) -> OptWide
-    requires { from ≤ length b.now }
-    ensures { optional result.given result.value ≡ parse_digits (drop from b.now) }
+// The value of a digit.
+fn digit(c: u8) -> Option<u8>
+    ensures { result ≡ then_some (is_digit c) (c - 48) }
 {
-    let mut given = false;
-    let mut value: u64 = 0;
-    let mut i = from;
-    while i < b.len() {
-        let c = b[i];
-        if c < 48 {
-            return OptWide {
-                given: false,
-                value: 0,
-            };
-        }
-        if 57 < c {
-            return OptWide {
-                given: false,
-                value: 0,
-            };
-        }
-        let digit = (c - 48) as u64;
-        if (0xffff_ffff_ffff_ffff - digit) / 10 < value {
-            return OptWide {
-                given: false,
-                value: 0,
-            };
-        }
-        value = 10 * value + digit;
-        given = true;
-        i += 1;
+    match c {
+        b'0'..=b'9' => Some(c - b'0'),
+        _ => None,
     }
-    OptWide { given, value }
+}
+
+// The number that digits write, of which there is one at least.
+#[tactic(auto, unfolding(crate::specs::Numerals::parse_digits))]
+fn parse_digits(digits: &[u8]) -> Option<u64>
+    ensures { result ≡ parse_digits digits.now }
+{
+    if digits.is_empty() {
+        return None;
+    }
+    let mut value: u64 = 0;
+    for &c in digits {
+        let digit = digit(c)?;
+        value = value.checked_mul(10)?.checked_add(digit as u64)?;
+    }
+    Some(value)
 }
 
 // "digits, one leading + allowed"
-pub fn parse_u64(b: &[u8]) -> OptWide
-    ensures { optional result.given result.value ≡ parse_u64 b.now }
+#[tactic(auto, unfolding(crate::specs::Numerals::parse_u64))]
+pub fn parse_u64(b: &[u8]) -> Option<u64>
+    ensures { result ≡ parse_u64 b.now }
 {
-    if b.len() == 0 {
-        return OptWide {
-            given: false,
-            value: 0,
-        };
+    match b.strip_prefix(b"+") {
+        Some(digits) => parse_digits(digits),
+        None => parse_digits(b),
     }
-    if b[0] == 43 {
-        return parse_digits(b, 1);
-    }
-    parse_digits(b, 0)
 }

@@ -1,79 +1,39 @@
-use Rattle.numerals.specs.Numerals.{all_digits, decimal, parse_digits}
-use Rattle.pack.specs.Notation.{◌≤ᵇ◌}
-use lib.Seq.{drop-cons}
-use lib.ListN.{drop_of_length-le, get_or, drop}
-use mathlib.Core.Option.{none}
-use mathlib.Core.Bool.{Bool, true, false}
-use Prim.Native.Nat.{ℕ, suc, ◌+◌, ◌-◌, ◌*◌, ◌^◌, ◌≤◌, ◌<◌}
-use native.Mathlib.Omega.{arith}
-use native.Mathlib.Numerals.{add-one}
-use mathlib.Core.Path.{◌≡◌, refl, ◌∙◌, sym}
-use mathlib.Core.List.{List, [], ◌∷◌}
-use Rattle.numerals.proofs.Tests.{and_false}
-use borrow.Author.Tests.{lt-ltb, le-ltb, le-leb, lt-leb}
+use Rattle.std.proofs.Common.{ℕ, suc, ◌≡◌, ◌∙◌, sym, ◌≤◌, ◌+◌, ◌-◌, ◌*◌, ◌^◌, Bool, true, false, ◌&&◌, refl}
+use Rattle.std.proofs.Common.{List, [], ◌∷◌, get_or, drop, drop-cons, arith}
+use Rattle.std.proofs.lemmas.Bool.{le-ltb}
+use Rattle.std.proofs.lemmas.Grind.{common_steps}
+use Rattle.std.specs.Prelude.{None, Some}
+use Rattle.std.specs.Bool.{then_some}
+use Rattle.numerals.specs.Numerals.{is_digit, all_digits, decimal}
 use Rattle.numerals.proofs.decimal.parse_digits.Invariants.{left}
 use Rattle.numerals.proofs.decimal.parse_digits.Goals as goal
-
-begin : (xs : List ℕ) → parse_digits xs ≡ left false 0 xs
-unfolding parse_digits
-begin [] = refl
-begin (x ∷ xs) = refl
 
 decimal_grows : (v : ℕ) (xs : List ℕ) → v ≤ decimal v xs
 decimal_grows v [] = omega arith
 decimal_grows v (x ∷ xs) = omega (arith, decimal_grows (10 * v + (x - 48)) xs)
 
-low : (r : Bool) (v x : ℕ) (xs : List ℕ) → x < 48 → left r v (x ∷ xs) ≡ none
-low r v x xs h = rw (lt-leb 48 x h)
-
-high : (r : Bool) (v x : ℕ) (xs : List ℕ) → 57 < x → left r v (x ∷ xs) ≡ none
-high r v x xs h = rw (lt-leb x 57 h, and_false (48 ≤ᵇ x))
-
-big : (r : Bool) (v x : ℕ) (xs : List ℕ) → 2 ^ 64 ≤ 10 * v + (x - 48) → left r v (x ∷ xs) ≡ none
-big r v x xs h =
+too_large : (v x : ℕ) (xs : List ℕ) → 2 ^ 64 ≤ 10 * v + (x - 48) → left v (x ∷ xs) ≡ None
+too_large v x xs h =
     let e = le-ltb (decimal (10 * v + (x - 48)) xs) (2 ^ 64) (omega (arith, decimal_grows (10 * v + (x - 48)) xs)) in
     rw (e, and_false (all_digits (x ∷ xs)))
+  where
+    and_false : (b : Bool) → (b && false) ≡ false
+    and_false true = refl
+    and_false false = refl
 
-turn : (r : Bool) (v x : ℕ) (xs : List ℕ) → 48 ≤ x → x ≤ 57 → 10 * v + (x - 48) < 2 ^ 64 → left r v (x ∷ xs) ≡ left true (10 * v + (x - 48)) xs
-turn r v x [] h k l = rw (le-leb 48 x h, le-leb x 57 k, lt-ltb _ _ l)
-turn r v x (y ∷ ys) h k l = rw (le-leb 48 x h, le-leb x 57 k)
+its_value : (x d : ℕ) → then_some (is_digit x) (x - 48) ≡ Some d → x - 48 ≡ d
+its_value x d e = grind (arith, common_steps)
 
-pub loop-i-init : goal.loop-i-init
-loop-i-init c = record { turns = c.requires; rest = begin (drop c.args.from c.args.b.now) }
+pub returns-in_err-checked_mul : goal.returns-in_err-checked_mul
+returns-in_err-checked_mul c =
+    let b = c.args.digits.now in
+    let large = too_large c.loop-c.value (get_or b c.loop-c.c-index 0) (drop (suc c.loop-c.c-index) b) (omega (arith, c.in_err-checked_mul.ensures)) in
+    c.from_residual-in_err-checked_mul.ensures ∙ sym (c.loop-c.invariant.rest ∙ rw (drop-cons b c.loop-c.c-index 0 c.loop-c-test.true) large)
 
-pub returns-then-c-lt48 : goal.returns-then-c-lt48
-returns-then-c-lt48 c =
-    let b = c.args.b.now in
-    sym (c.loop-i.invariant.rest
-    ∙ (rw (drop-cons b c.loop-i.i 0 c.loop-i-test.true)
-    (low c.loop-i.given c.loop-i.value (get_or b c.loop-i.i 0) (drop (suc c.loop-i.i) b) c.if-c-lt48.true)))
-
-pub returns-then-c-gt57 : goal.returns-then-c-gt57
-returns-then-c-gt57 c =
-    let b = c.args.b.now in
-    sym (c.loop-i.invariant.rest
-    ∙ (rw (drop-cons b c.loop-i.i 0 c.loop-i-test.true) (high c.loop-i.given c.loop-i.value (get_or b c.loop-i.i 0) (drop (suc c.loop-i.i) b)
-    c.if-c-gt57.true)))
-
-pub returns-then-digit-value : goal.returns-then-digit-value
-returns-then-digit-value c =
-    let b = c.args.b.now in
-    sym (c.loop-i.invariant.rest
-    ∙ (rw (drop-cons b c.loop-i.i 0 c.loop-i-test.true) (big c.loop-i.given c.loop-i.value (get_or b c.loop-i.i 0) (drop (suc c.loop-i.i) b)
-    (omega (arith, c.if-c-lt48.false, c.if-c-gt57.false, c.if-digit-value.true)))))
-
-pub loop-i-preserved : goal.loop-i-preserved
-loop-i-preserved c =
-    let b = c.args.b.now in
-    record {
-      turns = omega (arith, c);
-      rest = c.loop-i.invariant.rest
-          ∙ (rw (add-one c.loop-i.i, drop-cons b c.loop-i.i 0 c.loop-i-test.true)
-          (turn c.loop-i.given c.loop-i.value (get_or b c.loop-i.i 0) (drop (suc c.loop-i.i) b) (omega (arith, c.if-c-lt48.false))
-          (omega (arith, c.if-c-gt57.false))
-          (omega (arith, c.if-c-lt48.false, c.if-c-gt57.false, c.if-digit-value.false))));
-    }
-
-pub returns : goal.returns
-returns c =
-    sym (c.loop-i.invariant.rest ∙ (rw (drop_of_length-le c.args.b.now {i = c.loop-i.i} (omega (arith, c.loop-i-test.false)))))
+pub returns-in_err-value : goal.returns-in_err-value
+returns-in_err-value c =
+    let b = c.args.digits.now in
+    let digit = its_value (get_or b c.loop-c.c-index 0) c.in_ok-digit.digit (sym c.digit.ensures ∙ c.in_ok-digit.was) in
+    let large = too_large c.loop-c.value (get_or b c.loop-c.c-index 0) (drop (suc c.loop-c.c-index) b)
+    (omega (arith, digit, c.in_ok-checked_mul.ensures, c.in_err-value.ensures)) in
+    c.from_residual-in_err-value.ensures ∙ sym (c.loop-c.invariant.rest ∙ rw (drop-cons b c.loop-c.c-index 0 c.loop-c-test.true) large)
