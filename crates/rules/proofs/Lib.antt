@@ -5,6 +5,8 @@ pub mod Extremes
 pub mod Groups
 pub mod Marking
 pub mod MatchKeys
+pub mod OptionMaps
+pub mod Parts
 pub mod PlaceCalls
 pub mod PlaceTexts
 pub mod Ranks

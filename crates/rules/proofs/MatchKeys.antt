@@ -1,4 +1,5 @@
 -- The stream of a key of matches: what a step takes off it, and the keys that two streams compare.
+use Rattle.std.specs.Prelude.{is_some}
 use Rattle.std.specs.Prelude.{if◌then◌else◌}
 use Prim.Native.Nat.{ℕ, zero, suc, ◌+◌, ◌-◌, ◌≤◌, ◌<◌}
 use native.Mathlib.Decide.{dec_lt}
@@ -7,7 +8,7 @@ use native.Mathlib.Omega.{arith}
 use mathlib.Core.Path.{◌≡◌, refl, sym, ap, ◌∙◌}
 use mathlib.Core.Bool.{Bool, true, false, not, ◌||◌, false≢true}
 use mathlib.Core.List.{List, [], ◌∷◌, ◌++◌, append-nil, append_assoc}
-use mathlib.Core.Option.{Option, none, some}
+use Rattle.std.specs.Prelude.{Option, None, Some}
 use borrow.Author.Tests.{eq-eqb, ne_eqb}
 use lib.ListN.{length, get_or, take, drop, drop_of_length-le}
 use lib.Seq.{drop-cons}
@@ -18,7 +19,6 @@ use Rattle.pack.specs.declared.text.Text.{Text}
 use Rattle.rules.specs.declared.match_keys.MatchKey.{MatchKey}
 use Rattle.rules.specs.declared.match_keys.KeyByte.{KeyByte}
 use Rattle.rules.specs.Digits.{digits}
-use Rattle.rules.specs.Model.{given}
 use Rattle.rules.specs.MatchKeys.{piece, pieces_from, to_come, first_and, Begun}
 use Rattle.rules.specs.Texts.{bytes}
 use Rattle.rules.specs.Variants.{has_match, match_key_at, match_key}
@@ -47,12 +47,12 @@ all_pieces p (suc n) =
 -- ---- the key behind its first `,`
 
 key_turn : (p : Pgn) (n : ℕ) (b : Bool) (m : Option Bytes) (P K : Bytes) → has_match p n ≡ b → P ≡ (if b then 44 ∷ K else []) → (b ≡ false → K ≡ [])
-    → (P ++ piece n m ≡ (if b || given m then 44 ∷ (K ++ match_key_at p n m) else [])) × ((b || given m) ≡ false → K ++ match_key_at p n m ≡ [])
+    → (P ++ piece n m ≡ (if b || is_some m then 44 ∷ (K ++ match_key_at p n m) else [])) × ((b || is_some m) ≡ false → K ++ match_key_at p n m ≡ [])
 unfolding match_key_at
-key_turn p n true none P K h e f = ((rw (e, append-nil K)), λ z. absurd (false≢true (sym z)))
-key_turn p n true (some m) P K h e f = ((rw (e, h)), λ z. absurd (false≢true (sym z)))
-key_turn p n false none P K h e f = ((rw e), λ _. (rw (f refl)))
-key_turn p n false (some m) P K h e f = ((rw (e, f refl, h)), λ z. absurd (false≢true (sym z)))
+key_turn p n true None P K h e f = ((rw (e, append-nil K)), λ z. absurd (false≢true (sym z)))
+key_turn p n true (Some m) P K h e f = ((rw (e, h)), λ z. absurd (false≢true (sym z)))
+key_turn p n false None P K h e f = ((rw e), λ _. (rw (f refl)))
+key_turn p n false (Some m) P K h e f = ((rw (e, f refl, h)), λ z. absurd (false≢true (sym z)))
 
 key_led : (p : Pgn) (n : ℕ)
     → (concat_below (λ k. piece k (field_at p k).match) n ≡ (if has_match p n then 44 ∷ concat_below (λ k. match_key_at p k (field_at p k).match) n else []))
@@ -115,33 +115,10 @@ module _ (s : List ℕ) (p : Pgn) where
         rw (drop_of_length-le key.head l, e) (ap (λ (x : Bytes). x ++ pieces_from p key.field (length p.fields - key.field)) t.2)
 
   -- a piece that begins
-  pub piece_begun : (k n : ℕ) (text : Text) (r : KeyByte) → k < n → n ≡ length p.fields → (field_at p k).match ≡ some (bytes_of s text)
+  pub piece_begun : (k n : ℕ) (text : Text) (r : KeyByte) → k < n → n ≡ length p.fields → (field_at p k).match ≡ Some (bytes_of s text)
       → Begun k text r
-      → pieces_from p k (n - k) ≡ first_and r.given r.byte (to_come s p r.after)
+      → pieces_from p k (n - k) ≡ first_and s p (Some r)
   unfolding to_come
   piece_begun k n text r h e m b =
-      rw (pieces_next p k n h, m, b.given, b.byte, b.written, b.text, b.field, ← e)
+      rw (pieces_next p k n h, m, b.byte, b.written, b.text, b.field, ← e)
       (ap (λ (x : Bytes). 44 ∷ x) (append_assoc (digits k ++ bytes "=") (bytes_of s text) (pieces_from p (k + 1) (n - (k + 1)))))
-
--- ---- two streams, each a byte on
-
-module _ (A : Bytes) (g : Bool) (x : ℕ) (A' : Bytes) (e : A ≡ first_and g x A') where
-  pub shorter : g ≡ true → length A' < length A
-  shorter z = rw (e, z) (omega arith)
-
-  module _ (B : Bytes) (h : Bool) (y : ℕ) (B' : Bytes) (f : B ≡ first_and h y B') where
-    pub over : g ≡ false → not h ≡ (A ≐ B)
-    over z = rw (e, f, z) (go h)
-      where
-        go : (h : Bool) → not h ≡ ([] ≐ first_and h y B')
-        go true = refl
-        go false = refl
-
-    pub longer : g ≡ true → h ≡ false → false ≡ (A ≐ B)
-    longer z w = rw (e, f, z, w)
-
-    pub differ : g ≡ true → h ≡ true → (x ≡ y → ⊥) → false ≡ (A ≐ B)
-    differ z w n = rw (e, f, z, w, ne_eqb x y n)
-
-    pub level : g ≡ true → h ≡ true → x ≡ y → (A ≐ B) ≡ (A' ≐ B')
-    level z w q = rw (e, f, z, w, eq-eqb x y q)

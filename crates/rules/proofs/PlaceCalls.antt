@@ -5,10 +5,10 @@ use native.Mathlib.Omega.{arith}
 use mathlib.Core.Path.{◌≡◌, refl, ap, ◌∙◌}
 use mathlib.Core.Bool.{Bool, true, false}
 use mathlib.Core.List.{List}
-use mathlib.Core.Option.{Option, none, some}
+use Rattle.std.specs.Prelude.{Option, None, Some}
 use lib.ListN.{length}
 use borrow.Author.Tests.{le-leb, lt-leb}
-use Rattle.pack.specs.Notation.{◌≤ᵇ◌, optional}
+use Rattle.pack.specs.Notation.{◌≤ᵇ◌}
 use Rattle.pack.specs.Load.{Answer, loaded, work_after}
 use Rattle.pack.specs.Meaning.{pack_of}
 use Rattle.pack.specs.Placing.{Stored}
@@ -29,23 +29,24 @@ pub record Named (o : Option Bytes) (w : List ℕ) (r : Placed) (w' : List ℕ) 
   pub answer : r ≡ named o (length w)
   pub text : w' ≡ text_left (named o (length w)) o w
 
-module _ (o : Option Bytes) (b : Bool) (x : Bytes) (e : optional b x ≡ o) (w : List ℕ) where
-  pub not_there : b ≡ false → Named o w (Refused Absent) w
-  not_there h = rw (← e, h) (record { answer = refl; text = refl })
+module _ (o : Option Bytes) (w : List ℕ) where
+  pub not_there : None ≡ o → Named o w (Refused Absent) w
+  not_there e = rw (← e) (record { answer = refl; text = refl })
 
-  pub too_short : b ≡ true → (n : ℕ) → n ≡ 0 + length x → length w < n → Named o w (Refused (Place n)) w
-  too_short h n c l =
-      let k : n ≡ length x = omega arith in
-      rw (← e, h, k) (record { answer = (rw (lt-leb (length x) (length w) (omega arith))); text = (rw (lt-leb (length x) (length w) (omega arith))) })
+  module _ (x : Bytes) (e : Some x ≡ o) where
+    pub too_short : (n : ℕ) → n ≡ 0 + length x → length w < n → Named o w (Refused (Place n)) w
+    too_short n c l =
+        let k : n ≡ length x = omega arith in
+        rw (← e, k) (record { answer = (rw (lt-leb (length x) (length w) (omega arith))); text = (rw (lt-leb (length x) (length w) (omega arith))) })
 
-  pub all_written : b ≡ true → (n : ℕ) → n ≡ 0 + length x → n ≤ length w → (w' : List ℕ) (m : ℕ) → Stored w 0 x w' m → Named o w (Written n) w'
-  all_written h n c l w' m a =
-      let k : n ≡ length x = omega arith in
-      rw (← e, h, k)
-      (record {
-        answer = (rw (le-leb (length x) (length w) (omega arith)));
-        text = (rw (le-leb (length x) (length w) (omega arith)) (a.work ∙ sets_over w x (omega arith)));
-      })
+    pub all_written : (n : ℕ) → n ≡ 0 + length x → n ≤ length w → (w' : List ℕ) (m : ℕ) → Stored w 0 x w' m → Named o w (Written n) w'
+    all_written n c l w' m a =
+        let k : n ≡ length x = omega arith in
+        rw (← e, k)
+        (record {
+          answer = (rw (le-leb (length x) (length w) (omega arith)));
+          text = (rw (le-leb (length x) (length w) (omega arith)) (a.work ∙ sets_over w x (omega arith)));
+        })
 
 -- answer and text buffer of the call
 pub record Answered (s : List ℕ) (m place t item : ℕ) (w : List ℕ) (r : Placed) (w' : List ℕ) : Type 0 where
@@ -63,10 +64,10 @@ module _ (s : List ℕ) (m place t item : ℕ) (w : List ℕ) where
   is_loaded i e r w' a b = record { answer = (rw e a); text = (rw e b) }
 
 named_told : (o : Option Bytes) (n : ℕ) → place_answer (named o n) ≡ text_tells o n
-named_told none n = refl
-named_told (some b) n = go (length b ≤ᵇ n) refl
+named_told None n = refl
+named_told (Some b) n = go (length b ≤ᵇ n) refl
   where
-    go : (t : Bool) → (length b ≤ᵇ n) ≡ t → place_answer (named (some b) n) ≡ text_tells (some b) n
+    go : (t : Bool) → (length b ≤ᵇ n) ≡ t → place_answer (named (Some b) n) ≡ text_tells (Some b) n
     go true e = rw e
     go false e = rw e
 

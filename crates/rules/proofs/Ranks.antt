@@ -1,14 +1,15 @@
 -- Numbers in rising order, as `ranked` gives them: every one has a rank, each has one only, and there are no more ranks than things that give one.
-use Rattle.std.specs.Prelude.{if◌then◌else◌}
+use Rattle.std.specs.Bool.{then_some}
+use Rattle.std.specs.Prelude.{if◌then◌else◌, Option, None, Some}
 use Prim.Native.Nat.{ℕ, zero, suc, ◌+◌, ◌≤◌, ◌<◌}
 use native.Mathlib.Decide.{ℕ_discrete}
 use native.Mathlib.Omega.{arith}
 use mathlib.Core.Bool.{Bool, true, false}
 use mathlib.Core.List.{List, []}
-use mathlib.Core.Option.{Option, none, some, none-ne-some, some-injective}
+use Rattle.std.proofs.lemmas.Option.{none-some, same_Some}
 use mathlib.Core.Path.{◌≡◌, refl, sym, ap, ◌∙◌}
 use borrow.Author.Tests.{ltb-true, ltb-false, lt-ltb, le-ltb, leb-true, le-leb}
-use Rattle.pack.specs.Notation.{◌<ᵇ◌, ◌≤ᵇ◌, concat_below, optional}
+use Rattle.pack.specs.Notation.{◌<ᵇ◌, ◌≤ᵇ◌, concat_below}
 use Rattle.rules.specs.Search.{sum_below, smaller, min_below, next_rank, ranked}
 use Rattle.rules.specs.SearchLaws.{ranked_turn, below_suc, concat_ends}
 use Rattle.rules.proofs.Extremes.{min_is, optional_is}
@@ -19,70 +20,70 @@ use Rattle.rules.proofs.Extremes.{min_is, optional_is}
 pub record HasRank (least : ℕ → Option ℕ) (n v : ℕ) : Type 0 where
   pub rank : ℕ
   pub below : rank < n
-  pub is : ranked least rank ≡ some v
+  pub is : ranked least rank ≡ Some v
 
 -- The ranks below n give the numbers that are held, all of them, each once and rising; from n on there is none.
 pub record Enumerates (least : ℕ → Option ℕ) (Held : ℕ → Type 0) (n : ℕ) : Type 0 where
   pub complete : (v : ℕ) → Held v → HasRank least n v
-  pub sound : (r v : ℕ) → ranked least r ≡ some v → Held v
-  pub rising : (q r u v : ℕ) → q < r → ranked least q ≡ some u → ranked least r ≡ some v → u < v
-  pub ended : (r : ℕ) → n ≤ r → ranked least r ≡ none
+  pub sound : (r v : ℕ) → ranked least r ≡ Some v → Held v
+  pub rising : (q r u v : ℕ) → q < r → ranked least q ≡ Some u → ranked least r ≡ Some v → u < v
+  pub ended : (r : ℕ) → n ≤ r → ranked least r ≡ None
 
 -- ---- what makes it so
 
 -- `least b` is the least number from b on that is held; `lower v` counts, among n things, those that give one below v.
 pub record Ranking (least : ℕ → Option ℕ) (Held : ℕ → Type 0) (n : ℕ) : Type 0 where
-  pub found : (b v : ℕ) → least b ≡ some v → (b ≤ v) × Held v
-  pub lowest : (b v w : ℕ) → least b ≡ some v → Held w → b ≤ w → v ≤ w
-  pub missed : (b w : ℕ) → least b ≡ none → Held w → b ≤ w → ⊥
+  pub found : (b v : ℕ) → least b ≡ Some v → (b ≤ v) × Held v
+  pub lowest : (b v w : ℕ) → least b ≡ Some v → Held w → b ≤ w → v ≤ w
+  pub missed : (b w : ℕ) → least b ≡ None → Held w → b ≤ w → ⊥
   pub lower : ℕ → ℕ
   pub few : (v : ℕ) → lower v ≤ n
   pub grows : (v w : ℕ) → v ≤ w → lower v ≤ lower w
   pub counts : (v : ℕ) → Held v → lower v < lower (v + 1)
 
 module _ (least : ℕ → Option ℕ) (Held : ℕ → Type 0) (n : ℕ) (R : Ranking least Held n) where
-  ranked_held : (r v : ℕ) → ranked least r ≡ some v → Held v
+  ranked_held : (r v : ℕ) → ranked least r ≡ Some v → Held v
   ranked_held zero v e = (R.found 0 v e).1
   ranked_held (suc r) v e = go (ranked least r) e
     where
-      go : (o : Option ℕ) → next_rank least o ≡ some v → Held v
-      go none x = absurd (none-ne-some v x)
-      go (some u) x = (R.found (u + 1) v x).1
+      go : (o : Option ℕ) → next_rank least o ≡ Some v → Held v
+      go None x = absurd (none-some v x)
+      go (Some u) x = (R.found (u + 1) v x).1
 
   -- the number of the next rank is larger
-  next_larger : (r u v : ℕ) → ranked least r ≡ some u → ranked least (suc r) ≡ some v → u < v
+  next_larger : (r u v : ℕ) → ranked least r ≡ Some u → ranked least (suc r) ≡ Some v → u < v
   next_larger r u v e f = omega (arith, (R.found (u + 1) v (sym (ap (next_rank least) e) ∙ f)).0)
 
-  ranks_rise : (r q u v : ℕ) → q < r → ranked least q ≡ some u → ranked least r ≡ some v → u < v
+  ranks_rise : (r q u v : ℕ) → q < r → ranked least q ≡ Some u → ranked least r ≡ Some v → u < v
   ranks_rise zero q u v h e f = absurd (omega arith)
   ranks_rise (suc r) q u v h e f = go (ranked least r) refl f (ranks_rise r q u) (ℕ_discrete q r)
     where
-      go : (o : Option ℕ) → ranked least r ≡ o → next_rank least o ≡ some v
-          → ((w : ℕ) → q < r → ranked least q ≡ some u → ranked least r ≡ some w → u < w) → Dec (q ≡ r) → u < v
-      go none x y rec d = absurd (none-ne-some v y)
-      go (some w) x y rec (yes s) = next_larger r u v (ap (ranked least) (sym s) ∙ e) f
-      go (some w) x y rec (no s) = omega (arith, rec w (omega arith) e x, next_larger r w v x f)
+      go : (o : Option ℕ) → ranked least r ≡ o → next_rank least o ≡ Some v
+          → ((w : ℕ) → q < r → ranked least q ≡ Some u → ranked least r ≡ Some w → u < w) → Dec (q ≡ r) → u < v
+      go None x y rec d = absurd (none-some v y)
+      go (Some w) x y rec (yes s) = next_larger r u v (ap (ranked least) (sym s) ∙ e) f
+      go (Some w) x y rec (no s) = omega (arith, rec w (omega arith) e x, next_larger r w v x f)
 
   -- the number of rank r has r lower ones
-  lower_ones : (r v : ℕ) → ranked least r ≡ some v → r ≤ R.lower v
+  lower_ones : (r v : ℕ) → ranked least r ≡ Some v → r ≤ R.lower v
   lower_ones zero v e = omega arith
   lower_ones (suc r) v e = go (ranked least r) refl e (lower_ones r)
     where
-      go : (o : Option ℕ) → ranked least r ≡ o → next_rank least o ≡ some v → ((u : ℕ) → ranked least r ≡ some u → r ≤ R.lower u) → suc r ≤ R.lower v
-      go none x y rec = absurd (none-ne-some v y)
-      go (some u) x y rec =
+      go : (o : Option ℕ) → ranked least r ≡ o → next_rank least o ≡ Some v → ((u : ℕ) → ranked least r ≡ Some u → r ≤ R.lower u) → suc r ≤ R.lower v
+      go None x y rec = absurd (none-some v y)
+      go (Some u) x y rec =
           let l = next_larger r u v x e in
           omega (arith, rec u x, R.counts u (ranked_held r u x), R.grows (u + 1) v (omega (arith, l)))
 
-  rank_below : (r v : ℕ) → ranked least r ≡ some v → r < n
+  rank_below : (r v : ℕ) → ranked least r ≡ Some v → r < n
   rank_below r v e = omega (arith, lower_ones r v e, R.counts v (ranked_held r v e), R.few (v + 1))
 
-  ranks_end : (r : ℕ) → n ≤ r → ranked least r ≡ none
+  ranks_end : (r : ℕ) → n ≤ r → ranked least r ≡ None
   ranks_end r h = go (ranked least r) refl
     where
-      go : (o : Option ℕ) → ranked least r ≡ o → o ≡ none
-      go none e = refl
-      go (some v) e = absurd (omega (arith, h, rank_below r v e))
+      go : (o : Option ℕ) → ranked least r ≡ o → o ≡ None
+      go None e = refl
+      go (Some v) e = absurd (omega (arith, h, rank_below r v e))
 
   -- from b on, where the search of rank r begins, v is met with
   climb : (v : ℕ) → Held v → (d r b : ℕ) → v < b + d → b ≤ v → ranked least r ≡ least b → HasRank least n v
@@ -90,11 +91,11 @@ module _ (least : ℕ → Option ℕ) (Held : ℕ → Type 0) (n : ℕ) (R : Ran
   climb v held (suc d) r b l h e = go (least b) refl (climb v held d (r + 1))
     where
       go : (o : Option ℕ) → least b ≡ o → ((c : ℕ) → v < c + d → c ≤ v → ranked least (r + 1) ≡ least c → HasRank least n v) → HasRank least n v
-      go none x rec = absurd (R.missed b v x held h)
-      go (some u) x rec = at (ℕ_discrete u v)
+      go None x rec = absurd (R.missed b v x held h)
+      go (Some u) x rec = at (ℕ_discrete u v)
         where
           at : Dec (u ≡ v) → HasRank least n v
-          at (yes s) = let is = e ∙ x ∙ ap some s in record { rank = r; below = rank_below r v is; is = is }
+          at (yes s) = let is = e ∙ x ∙ ap Some s in record { rank = r; below = rank_below r v is; is = is }
           at (no s) =
               let low = (R.found b u x).0 in
               let up = R.lowest b u v x held h in
@@ -111,58 +112,58 @@ module _ (least : ℕ → Option ℕ) (Held : ℕ → Type 0) (n : ℕ) (R : Ran
 
 -- so what is made of each rank's number is all there below n
 pub ranks_enough : {A : Type 0} (least : ℕ → Option ℕ) (Held : ℕ → Type 0) (n : ℕ) → Enumerates least Held n
-    → (f : Option ℕ → List A) → f none ≡ [] → (d : ℕ) → concat_below (λ r. f (ranked least r)) (n + d) ≡ concat_below (λ r. f (ranked least r)) n
+    → (f : Option ℕ → List A) → f None ≡ [] → (d : ℕ) → concat_below (λ r. f (ranked least r)) (n + d) ≡ concat_below (λ r. f (ranked least r)) n
 ranks_enough least Held n E f e d = concat_ends (λ r. f (ranked least r)) n d (λ k. ap f (E.ended (n + k) (omega arith)) ∙ e)
 
 -- ---- one thing, which may give a number
 
 abbrev pub from : (b : ℕ) → Option ℕ → Option ℕ
-from b none = none
-from b (some v) = optional (b ≤ᵇ v) v
+from b None = None
+from b (Some v) = then_some (b ≤ᵇ v) v
 
-from_found : (b v : ℕ) (o : Option ℕ) → from b o ≡ some v → (b ≤ v) × (o ≡ some v)
-from_found b v none e = absurd (none-ne-some v e)
-from_found b v (some u) e = let q = optional_is (b ≤ᵇ u) u v e in (omega (arith, leb-true b u q.0, q.1), ap some q.1)
+from_found : (b v : ℕ) (o : Option ℕ) → from b o ≡ Some v → (b ≤ v) × (o ≡ Some v)
+from_found b v None e = absurd (none-some v e)
+from_found b v (Some u) e = let q = optional_is (b ≤ᵇ u) u v e in (omega (arith, leb-true b u q.0, q.1), ap Some q.1)
 
-from_missed : (b w : ℕ) (o : Option ℕ) → from b o ≡ none → o ≡ some w → b ≤ w → ⊥
-from_missed b w none e f h = none-ne-some w f
-from_missed b w (some u) e f h =
-    let q = some-injective u w f in
-    none-ne-some u (sym e ∙ ap (λ (c : Bool). optional c u) (le-leb b u (omega (arith, q, h))))
+from_missed : (b w : ℕ) (o : Option ℕ) → from b o ≡ None → o ≡ Some w → b ≤ w → ⊥
+from_missed b w None e f h = none-some w f
+from_missed b w (Some u) e f h =
+    let q = same_Some u w f in
+    none-some u (sym e ∙ ap (λ (c : Bool). then_some c u) (le-leb b u (omega (arith, q, h))))
 
 abbrev lower_one : (v : ℕ) → Option ℕ → ℕ
-lower_one v none = 0
-lower_one v (some u) = if u <ᵇ v then 1 else 0
+lower_one v None = 0
+lower_one v (Some u) = if u <ᵇ v then 1 else 0
 
 lower_most : (v : ℕ) (o : Option ℕ) → lower_one v o ≤ 1
-lower_most v none = omega arith
-lower_most v (some u) = go (u <ᵇ v)
+lower_most v None = omega arith
+lower_most v (Some u) = go (u <ᵇ v)
   where
     go : (c : Bool) → (if c then 1 else 0) ≤ 1
     go true = omega arith
     go false = omega arith
 
 lower_grows : (v w : ℕ) (o : Option ℕ) → v ≤ w → lower_one v o ≤ lower_one w o
-lower_grows v w none h = omega arith
-lower_grows v w (some u) h = go (u <ᵇ v) refl (u <ᵇ w) refl
+lower_grows v w None h = omega arith
+lower_grows v w (Some u) h = go (u <ᵇ v) refl (u <ᵇ w) refl
   where
     go : (c : Bool) → (u <ᵇ v) ≡ c → (d : Bool) → (u <ᵇ w) ≡ d → (if c then 1 else 0) ≤ (if d then 1 else 0)
     go false x d y = omega arith
     go true x true y = omega arith
     go true x false y = absurd (omega (arith, ltb-true u v x, ltb-false u w y, h))
 
-lower_counts : (v : ℕ) (o : Option ℕ) → o ≡ some v → lower_one v o < lower_one (v + 1) o
-lower_counts v none e = absurd (none-ne-some v e)
-lower_counts v (some u) e =
-    let q = some-injective u v e in
+lower_counts : (v : ℕ) (o : Option ℕ) → o ≡ Some v → lower_one v o < lower_one (v + 1) o
+lower_counts v None e = absurd (none-some v e)
+lower_counts v (Some u) e =
+    let q = same_Some u v e in
     rw (le-ltb u v (omega (arith, q)), lt-ltb u (v + 1) (omega (arith, q))) (omega arith)
 
 module _ (least : ℕ → Option ℕ) (o : Option ℕ) (is : (b : ℕ) → least b ≡ from b o) where
-  of_one : Ranking least (λ v. o ≡ some v) 1
+  of_one : Ranking least (λ v. o ≡ Some v) 1
   of_one =
       record {
         found = λ b v e. from_found b v o (sym (is b) ∙ e);
-        lowest = λ b v w e f h. (let q = some-injective v w (sym (from_found b v o (sym (is b) ∙ e)).1 ∙ f) in omega (arith, q));
+        lowest = λ b v w e f h. (let q = same_Some v w (sym (from_found b v o (sym (is b) ∙ e)).1 ∙ f) in omega (arith, q));
         missed = λ b w e f h. from_missed b w o (sym (is b) ∙ e) f h;
         lower = λ v. lower_one v o;
         few = λ v. lower_most v o;
@@ -178,43 +179,43 @@ pub record Among (Held : ℕ → ℕ → Type 0) (n v : ℕ) : Type 0 where
   pub below : index < n
   pub held : Held index v
 
-smaller_none : (a b : Option ℕ) → smaller a b ≡ none → (a ≡ none) × (b ≡ none)
-smaller_none none b h = (refl, h)
-smaller_none (some a) none h = absurd (none-ne-some a (sym h))
-smaller_none (some a) (some b) h = absurd (none-ne-some (if b <ᵇ a then b else a) (sym h))
+smaller_none : (a b : Option ℕ) → smaller a b ≡ None → (a ≡ None) × (b ≡ None)
+smaller_none None b h = (refl, h)
+smaller_none (Some a) None h = absurd (none-some a (sym h))
+smaller_none (Some a) (Some b) h = absurd (none-some (if b <ᵇ a then b else a) (sym h))
 
-smaller_left : (a : ℕ) (b : Option ℕ) (e : ℕ) → smaller (some a) b ≡ some e → e ≤ a
-smaller_left a none e h = let q = some-injective a e h in omega arith
-smaller_left a (some b) e h = go (b <ᵇ a) refl h
+smaller_left : (a : ℕ) (b : Option ℕ) (e : ℕ) → smaller (Some a) b ≡ Some e → e ≤ a
+smaller_left a None e h = let q = same_Some a e h in omega arith
+smaller_left a (Some b) e h = go (b <ᵇ a) refl h
   where
-    go : (c : Bool) → (b <ᵇ a) ≡ c → some (if c then b else a) ≡ some e → e ≤ a
-    go true u x = let q = some-injective b e x in omega (arith, ltb-true b a u)
-    go false u x = let q = some-injective a e x in omega arith
+    go : (c : Bool) → (b <ᵇ a) ≡ c → Some (if c then b else a) ≡ Some e → e ≤ a
+    go true u x = let q = same_Some b e x in omega (arith, ltb-true b a u)
+    go false u x = let q = same_Some a e x in omega arith
 
-smaller_right : (a : Option ℕ) (b e : ℕ) → smaller a (some b) ≡ some e → e ≤ b
-smaller_right none b e h = let q = some-injective b e h in omega arith
-smaller_right (some a) b e h = go (b <ᵇ a) refl h
+smaller_right : (a : Option ℕ) (b e : ℕ) → smaller a (Some b) ≡ Some e → e ≤ b
+smaller_right None b e h = let q = same_Some b e h in omega arith
+smaller_right (Some a) b e h = go (b <ᵇ a) refl h
   where
-    go : (c : Bool) → (b <ᵇ a) ≡ c → some (if c then b else a) ≡ some e → e ≤ b
-    go true u x = let q = some-injective b e x in omega arith
-    go false u x = let q = some-injective a e x in omega (arith, ltb-false b a u)
+    go : (c : Bool) → (b <ᵇ a) ≡ c → Some (if c then b else a) ≡ Some e → e ≤ b
+    go true u x = let q = same_Some b e x in omega arith
+    go false u x = let q = same_Some a e x in omega (arith, ltb-false b a u)
 
-min_none : (f : ℕ → Option ℕ) (n : ℕ) → min_below f n ≡ none → (k : ℕ) → k < n → f k ≡ none
+min_none : (f : ℕ → Option ℕ) (n : ℕ) → min_below f n ≡ None → (k : ℕ) → k < n → f k ≡ None
 min_none f zero e k h = absurd (omega arith)
 min_none f (suc n) e k h =
     let q = smaller_none (min_below f n) (f n) e in
     below_suc k n h (min_none f n q.0 k) (λ x. ap f x ∙ q.1)
 
-min_bounds : (f : ℕ → Option ℕ) (n e : ℕ) → min_below f n ≡ some e → (k x : ℕ) → k < n → f k ≡ some x → e ≤ x
+min_bounds : (f : ℕ → Option ℕ) (n e : ℕ) → min_below f n ≡ Some e → (k x : ℕ) → k < n → f k ≡ Some x → e ≤ x
 min_bounds f zero e h k x l q = absurd (omega arith)
 min_bounds f (suc n) e h k x l q =
     below_suc k n l (λ y. go (min_below f n) refl h y (min_bounds f n))
     (λ y. smaller_right (min_below f n) x e (ap (smaller (min_below f n)) (sym (ap f (sym y) ∙ q)) ∙ h))
   where
-    go : (o : Option ℕ) → min_below f n ≡ o → smaller o (f n) ≡ some e → k < n
-        → ((a : ℕ) → min_below f n ≡ some a → (k x : ℕ) → k < n → f k ≡ some x → a ≤ x) → e ≤ x
-    go none u v y rec = absurd (none-ne-some x (sym (min_none f n u k y) ∙ q))
-    go (some a) u v y rec = omega (arith, rec a u k x y q, smaller_left a (f n) e v)
+    go : (o : Option ℕ) → min_below f n ≡ o → smaller o (f n) ≡ Some e → k < n
+        → ((a : ℕ) → min_below f n ≡ Some a → (k x : ℕ) → k < n → f k ≡ Some x → a ≤ x) → e ≤ x
+    go None u v y rec = absurd (none-some x (sym (min_none f n u k y) ∙ q))
+    go (Some a) u v y rec = omega (arith, rec a u k x y q, smaller_left a (f n) e v)
 
 sum_most : (f g : ℕ → ℕ) (n : ℕ) → ((i : ℕ) → f i ≤ g i) → sum_below f n ≤ sum_below g n
 sum_most f g zero h = omega arith
@@ -230,18 +231,18 @@ sum_ones zero = refl
 sum_ones (suc n) = omega (arith, sum_ones n)
 
 module _ (f : ℕ → ℕ → Option ℕ) (Held : ℕ → ℕ → Type 0) (m : ℕ → ℕ) (R : (i : ℕ) → Ranking (λ b. f b i) (Held i) (m i)) (n : ℕ) where
-  all_found : (b v : ℕ) → min_below (f b) n ≡ some v → (b ≤ v) × Among Held n v
+  all_found : (b v : ℕ) → min_below (f b) n ≡ Some v → (b ≤ v) × Among Held n v
   all_found b v e =
       let g = min_is (f b) n v e in
       let q = (R g.index).found b v g.is in
       (q.0, record { index = g.index; below = g.below; held = q.1 })
 
-  all_lowest : (b v w : ℕ) → min_below (f b) n ≡ some v → Among Held n w → b ≤ w → v ≤ w
+  all_lowest : (b v w : ℕ) → min_below (f b) n ≡ Some v → Among Held n w → b ≤ w → v ≤ w
   all_lowest b v w e a h = go (f b a.index) refl
     where
       go : (o : Option ℕ) → f b a.index ≡ o → v ≤ w
-      go none x = absurd ((R a.index).missed b w x a.held h)
-      go (some u) x = omega (arith, min_bounds (f b) n v e a.index u a.below x, (R a.index).lowest b u w x a.held h)
+      go None x = absurd ((R a.index).missed b w x a.held h)
+      go (Some u) x = omega (arith, min_bounds (f b) n v e a.index u a.below x, (R a.index).lowest b u w x a.held h)
 
   all_counts : (v : ℕ) → Among Held n v → sum_below (λ i. (R i).lower v) n < sum_below (λ i. (R i).lower (v + 1)) n
   all_counts v a =
@@ -262,5 +263,5 @@ module _ (f : ℕ → ℕ → Option ℕ) (Held : ℕ → ℕ → Type 0) (m : �
 
 -- things that give one number each, or none
 pub of_ones : (f : ℕ → ℕ → Option ℕ) (o : ℕ → Option ℕ) → ((b i : ℕ) → f b i ≡ from b (o i))
-    → (n : ℕ) → Ranking (λ b. min_below (f b) n) (Among (λ i v. o i ≡ some v) n) n
-of_ones f o is n = rw (sum_ones n) at (of_all f (λ i v. o i ≡ some v) (λ i. 1) (λ i. of_one (λ b. f b i) (o i) (λ b. is b i)) n)
+    → (n : ℕ) → Ranking (λ b. min_below (f b) n) (Among (λ i v. o i ≡ Some v) n) n
+of_ones f o is n = rw (sum_ones n) at (of_all f (λ i v. o i ≡ Some v) (λ i. 1) (λ i. of_one (λ b. f b i) (o i) (λ b. is b i)) n)

@@ -3,7 +3,7 @@ use Rattle.std.specs.Prelude.{◌==◌, if◌then◌else◌}
 use Prim.Native.Nat.{ℕ, zero, suc}
 use mathlib.Core.Bool.{Bool, true, false, not}
 use mathlib.Core.List.{List, [], ◌∷◌, ◌++◌, append-nil}
-use mathlib.Core.Option.{Option, none, some}
+use Rattle.std.specs.Prelude.{Option, None, Some}
 use mathlib.Core.Path.{◌≡◌, refl, ap, ◌∙◌}
 use lib.ListN.{length}
 use Rattle.pack.specs.Notation.{concat_below}
@@ -73,8 +73,8 @@ quick_range_own t i p = search Parts
 
 found_range_own : (t i : ℕ) (p : Pgn) (r : Option Range) → OfRule 2 (found_range t i p r)
 unfolding found_range
-found_range_own t i p none = search Parts
-found_range_own t i p (some r) = search Parts
+found_range_own t i p None = search Parts
+found_range_own t i p (Some r) = search Parts
 
 pub pgn_range_own : (t i : ℕ) (p : Pgn) → OfRule 2 (check_pgn_range t i p)
 unfolding check_pgn_range
@@ -88,18 +88,18 @@ frame_length_own t i p = search Parts
 -- R05
 count_field_own : (t i n start : ℕ) (c : Option ℕ) → OfRule 5 (set_count_field t i n start c)
 unfolding set_count_field
-count_field_own t i n start none = search Parts
-count_field_own t i n start (some c) = search Parts
+count_field_own t i n start None = search Parts
+count_field_own t i n start (Some c) = search Parts
 
 nesting_own : (t i n : ℕ) (outer : Option Repeating) (r : Repeating) → OfRule 5 (set_nesting t i n outer r)
 unfolding set_nesting
-nesting_own t i n none r = search Parts
-nesting_own t i n (some o) r = search Parts
+nesting_own t i n None r = search Parts
+nesting_own t i n (Some o) r = search Parts
 
 set_own : (t i n fields : ℕ) (outer set : Option Repeating) → OfRule 5 (check_set t i n fields outer set)
 unfolding check_set set_bounds
-set_own t i n fields outer none = search Parts
-set_own t i n fields outer (some r) = search (Parts, count_field_own, nesting_own)
+set_own t i n fields outer None = search Parts
+set_own t i n fields outer (Some r) = search (Parts, count_field_own, nesting_own)
 
 pub repeating_own : (t i : ℕ) (p : Pgn) → OfRule 5 (check_repeating t i p)
 unfolding check_repeating
@@ -122,13 +122,13 @@ width_own t i k f l lookup = search Parts
 
 found_own : (ls : List Lookup) (t i k : ℕ) (f : Field) (r : Reference) (l : Option ℕ) → OfRule 8 (lookup_found_at ls t i k f r l)
 unfolding lookup_found_at
-found_own ls t i k f r none = search Parts
-found_own ls t i k f r (some l) = search (Parts, width_own)
+found_own ls t i k f r None = search Parts
+found_own ls t i k f r (Some l) = search (Parts, width_own)
 
 ref_own : (ls : List Lookup) (t i k : ℕ) (f : Field) (r : Option Reference) → OfRule 8 (lookup_ref_at ls t i k f r)
 unfolding lookup_ref_at
-ref_own ls t i k f none = search Parts
-ref_own ls t i k f (some r) = search (Parts, found_own)
+ref_own ls t i k f None = search Parts
+ref_own ls t i k f (Some r) = search (Parts, found_own)
 
 pub lookup_refs_own : (ls : List Lookup) (t i : ℕ) (p : Pgn) → OfRule 8 (check_lookup_refs ls t i p)
 unfolding check_lookup_refs
@@ -137,8 +137,8 @@ lookup_refs_own ls t i p = search (Parts, ref_own)
 -- R08, 6 and 7
 nested_lookup_own : (ls : List Lookup) (l e : ℕ) (name : Option Bytes) → OfRule 8 (nested_lookup_at ls l e name)
 unfolding nested_lookup_at
-nested_lookup_own ls l e none = search Parts
-nested_lookup_own ls l e (some name) = search Parts
+nested_lookup_own ls l e None = search Parts
+nested_lookup_own ls l e (Some name) = search Parts
 
 pub nested_refs_own : (P : Pack) (l : ℕ) (lookup : Lookup) → OfRule 8 (check_nested_refs P l lookup)
 unfolding check_nested_refs fieldtype_entry_at
@@ -151,8 +151,8 @@ unreferenced_own P l = search Parts
 -- R09
 special_value_own : (t i k bits : ℕ) (value : Option ℕ) → OfRule 9 (special_values_at t i k bits value)
 unfolding special_values_at
-special_value_own t i k bits none = search Parts
-special_value_own t i k bits (some value) = search Parts
+special_value_own t i k bits None = search Parts
+special_value_own t i k bits (Some value) = search Parts
 
 pub special_values_own : (t i : ℕ) (p : Pgn) → OfRule 9 (check_special_values t i p)
 unfolding check_special_values
@@ -171,8 +171,8 @@ reserved_ids_own t i p = search Parts
 -- R13
 resolved_own : (t i k bits : ℕ) (value : Option ℕ) → OfRule 13 (resolved_at t i k bits value)
 unfolding resolved_at
-resolved_own t i k bits none = search Parts
-resolved_own t i k bits (some value) = search Parts
+resolved_own t i k bits None = search Parts
+resolved_own t i k bits (Some value) = search Parts
 
 pub match_values_own : (ls : List Lookup) (t i : ℕ) (p : Pgn) → OfRule 13 (check_match_values ls t i p)
 unfolding check_match_values match_value_at
@@ -186,13 +186,13 @@ overrides_own fts t i p = search Parts
 -- R15
 bit_target_own : (t i : ℕ) (p : Pgn) (k : ℕ) (j : Option ℕ) → OfRule 15 (bit_length_target_at t i p k j)
 unfolding bit_length_target_at
-bit_target_own t i p k none = search Parts
-bit_target_own t i p k (some j) = search Parts
+bit_target_own t i p k None = search Parts
+bit_target_own t i p k (Some j) = search Parts
 
 bit_length_own : (t i : ℕ) (p : Pgn) (k : ℕ) (id : Option Bytes) → OfRule 15 (bit_length_field_at t i p k id)
 unfolding bit_length_field_at
-bit_length_own t i p k none = search Parts
-bit_length_own t i p k (some id) = search (Parts, bit_target_own)
+bit_length_own t i p k None = search Parts
+bit_length_own t i p k (Some id) = search (Parts, bit_target_own)
 
 pub bit_length_field_own : (t i : ℕ) (p : Pgn) → OfRule 15 (check_bit_length_field t i p)
 unfolding check_bit_length_field
@@ -201,8 +201,8 @@ bit_length_field_own t i p = search (Parts, bit_length_own)
 -- R16
 least_own : (t i : ℕ) (p : Pgn) (m : Option ℕ) → OfRule 16 (min_length_at t i p m)
 unfolding min_length_at
-least_own t i p none = search Parts
-least_own t i p (some m) = search Parts
+least_own t i p None = search Parts
+least_own t i p (Some m) = search Parts
 
 pub min_length_own : (t i : ℕ) (p : Pgn) → OfRule 16 (check_min_length t i p)
 unfolding check_min_length
@@ -211,13 +211,13 @@ min_length_own t i p = search (Parts, least_own)
 -- R20
 duplicate_own : (t : ℕ) (pgns : List Pgn) (i : ℕ) (j : Option ℕ) → OfRule 20 (duplicate_of t pgns i j)
 unfolding duplicate_of
-duplicate_own t pgns i none = search Parts
-duplicate_own t pgns i (some j) = search Parts
+duplicate_own t pgns i None = search Parts
+duplicate_own t pgns i (Some j) = search Parts
 
 group_own : (t : ℕ) (pgns : List Pgn) (number : Option ℕ) → OfRule 20 (group_findings t pgns number)
 unfolding group_findings variant_at
-group_own t pgns none = search Parts
-group_own t pgns (some number) = search (Parts, duplicate_own)
+group_own t pgns None = search Parts
+group_own t pgns (Some number) = search (Parts, duplicate_own)
 
 pub variants_own : (t : ℕ) (pgns : List Pgn) → OfRule 20 (check_variants t pgns)
 unfolding check_variants
@@ -226,8 +226,8 @@ variants_own t pgns = search (Parts, group_own)
 -- R21
 same_id_own : (t i : ℕ) (j : Option ℕ) → OfRule 21 (same_id_as t i j)
 unfolding same_id_as
-same_id_own t i none = search Parts
-same_id_own t i (some j) = search Parts
+same_id_own t i None = search Parts
+same_id_own t i (Some j) = search Parts
 
 pub unique_ids_own : (t : ℕ) (pgns : List Pgn) → OfRule 21 (check_unique_ids t pgns)
 unfolding check_unique_ids unique_field_ids
@@ -241,8 +241,8 @@ fieldtypes_own fts = search Parts
 -- R24
 same_name_own : (l e : ℕ) (d : Option ℕ) → OfRule 24 (same_name_as l e d)
 unfolding same_name_as
-same_name_own l e none = search Parts
-same_name_own l e (some d) = search Parts
+same_name_own l e None = search Parts
+same_name_own l e (Some d) = search Parts
 
 names_own : (l : ℕ) (lookup : Lookup) → OfRule 24 (lookup_names_of l lookup)
 unfolding lookup_names_of
@@ -250,12 +250,12 @@ names_own l lookup = search (Parts, same_name_own)
 
 clash_own : (pgns : List Pgn) (s : ℕ) (e : Option ℕ) → OfRule 24 (clash_with pgns s e)
 unfolding clash_with clash_at
-clash_own pgns s none = search Parts
-clash_own pgns s (some e) = search Parts
+clash_own pgns s None = search Parts
+clash_own pgns s (Some e) = search Parts
 
 clash_of_own : (pgns : List Pgn) (s : Option ℕ) → OfRule 24 (clash_of pgns s)
-clash_of_own pgns none = search Parts
-clash_of_own pgns (some s) = search (Parts, clash_own)
+clash_of_own pgns None = search Parts
+clash_of_own pgns (Some s) = search (Parts, clash_own)
 
 spn_names_own : (pgns : List Pgn) → OfRule 24 (check_spn_names pgns)
 unfolding check_spn_names
@@ -268,18 +268,18 @@ lookup_names_own P = search (Parts, spn_names_own, names_own)
 -- R42
 unlike_own : (pgns : List Pgn) (i k j : ℕ) (h : Option ℕ) → OfRule 42 (unlike_field pgns i k j h)
 unfolding unlike_field
-unlike_own pgns i k j none = search Parts
-unlike_own pgns i k j (some h) = search Parts
+unlike_own pgns i k j None = search Parts
+unlike_own pgns i k j (Some h) = search Parts
 
 first_own : (pgns : List Pgn) (i k s : ℕ) (j : Option ℕ) → OfRule 42 (unlike_first pgns i k s j)
 unfolding unlike_first
-first_own pgns i k s none = search Parts
-first_own pgns i k s (some j) = search (Parts, unlike_own)
+first_own pgns i k s None = search Parts
+first_own pgns i k s (Some j) = search (Parts, unlike_own)
 
 spn_own : (pgns : List Pgn) (i k : ℕ) (s : Option ℕ) → OfRule 42 (spn_at pgns i k s)
 unfolding spn_at
-spn_own pgns i k none = search Parts
-spn_own pgns i k (some s) = search (Parts, first_own)
+spn_own pgns i k None = search Parts
+spn_own pgns i k (Some s) = search (Parts, first_own)
 
 pub spns_own : (P : Pack) → OfRule 42 (check_spns P)
 unfolding check_spns spns_elsewhere check_scalings
@@ -288,13 +288,13 @@ spns_own P = search (Parts, spn_own)
 -- R43
 continued_own : (fts : List FieldType) (t i : ℕ) (p : Pgn) (k : ℕ) (id : Bytes) (j : Option ℕ) → OfRule 43 (continued_found_at fts t i p k id j)
 unfolding continued_found_at continued_at
-continued_own fts t i p k id none = search Parts
-continued_own fts t i p k id (some j) = search Parts depth 9
+continued_own fts t i p k id None = search Parts
+continued_own fts t i p k id (Some j) = search Parts depth 9
 
 continues_at_own : (fts : List FieldType) (t i : ℕ) (p : Pgn) (k : ℕ) (id : Option Bytes) → OfRule 43 (continues_at fts t i p k id)
 unfolding continues_at
-continues_at_own fts t i p k none = search Parts
-continues_at_own fts t i p k (some id) = search (Parts, continued_own)
+continues_at_own fts t i p k None = search Parts
+continues_at_own fts t i p k (Some id) = search (Parts, continued_own)
 
 pub continues_own : (fts : List FieldType) (t i : ℕ) (p : Pgn) → OfRule 43 (check_continues fts t i p)
 unfolding check_continues
@@ -303,13 +303,13 @@ continues_own fts t i p = search (Parts, continues_at_own)
 -- R44
 target_own : (fts : List FieldType) (t i : ℕ) (p : Pgn) (k : ℕ) (j : Option ℕ) → OfRule 44 (trailing_zero_target_at fts t i p k j)
 unfolding trailing_zero_target_at
-target_own fts t i p k none = search Parts
-target_own fts t i p k (some j) = search Parts
+target_own fts t i p k None = search Parts
+target_own fts t i p k (Some j) = search Parts
 
 digit_own : (fts : List FieldType) (t i : ℕ) (p : Pgn) (k : ℕ) (id : Option Bytes) → OfRule 44 (trailing_zero_at fts t i p k id)
 unfolding trailing_zero_at
-digit_own fts t i p k none = search Parts
-digit_own fts t i p k (some id) = search (Parts, target_own)
+digit_own fts t i p k None = search Parts
+digit_own fts t i p k (Some id) = search (Parts, target_own)
 
 pub trailing_zero_own : (fts : List FieldType) (t i : ℕ) (p : Pgn) → OfRule 44 (check_trailing_zero_is_digit fts t i p)
 unfolding check_trailing_zero_is_digit

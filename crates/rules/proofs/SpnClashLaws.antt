@@ -1,15 +1,15 @@
 -- Where no two fields of the J1939 tree have one name and different SPNs, no two SPNs have one name: R24 cause 2 reports nothing.
+use Rattle.std.specs.Prelude.{is_some, Option, None, Some}
 use Prim.Native.Nat.{ℕ, zero, suc, ◌+◌, ◌≤◌, ◌<◌}
 use native.Mathlib.Omega.{arith}
 use mathlib.Core.Bool.{Bool, true, false, ◌&&◌, false≢true}
 use mathlib.Core.List.{List, []}
-use mathlib.Core.Option.{Option, none, some, none-ne-some}
+use Rattle.std.proofs.lemmas.Option.{none-some}
 use mathlib.Core.Path.{◌≡◌, refl, sym, ap, ◌∙◌}
 use lib.ListN.{length, get_or}
 use borrow.Author.Tests.{ltb-true, leb-true, leb-false, ne_eqb}
 use Rattle.pack.specs.Notation.{◌<ᵇ◌, ◌≤ᵇ◌, ◌≐◌}
 use Rattle.pack.specs.Value.{Bytes, Pgn, no_pgn, field_at}
-use Rattle.rules.specs.Model.{given}
 use Rattle.rules.specs.PlaceLaws.{same_refl, same_eq}
 use Rattle.rules.specs.Search.{next_rank, ranked, sum_below}
 use Rattle.rules.specs.SearchLaws.{any_hit, concat_none}
@@ -23,7 +23,7 @@ use Rattle.rules.proofs.SpnLaws.{least_named}
 record Carries (pgns : List Pgn) (name : Bytes) (spn i k : ℕ) : Type 0 where
   in_tree : i < length pgns
   in_pgn : k < length (get_or pgns i no_pgn).fields
-  carries : (field_at (get_or pgns i no_pgn) k).spn ≡ some spn
+  carries : (field_at (get_or pgns i no_pgn) k).spn ≡ Some spn
   names : (field_at (get_or pgns i no_pgn) k).name ≡ name
 
 module _ (pgns : List Pgn) where
@@ -52,23 +52,23 @@ module _ (pgns : List Pgn) where
       go false u = met name e s j h i k b a (λ q. omega (arith, l, q)) (omega (arith, leb-false j i u))
 
   -- the field that has the earlier one
-  earlier_carries : (s i k e : ℕ) (o : Option ℕ) → earlier_if pgns s i k o ≡ some e
-      → (o ≡ some e) × (e < s) × ((field_at (get_or pgns i no_pgn) k).name ≡ spn_name pgns s)
-  earlier_carries s i k e none h = absurd (none-ne-some e h)
-  earlier_carries s i k e (some x) h =
+  earlier_carries : (s i k e : ℕ) (o : Option ℕ) → earlier_if pgns s i k o ≡ Some e
+      → (o ≡ Some e) × (e < s) × ((field_at (get_or pgns i no_pgn) k).name ≡ spn_name pgns s)
+  earlier_carries s i k e None h = absurd (none-some e h)
+  earlier_carries s i k e (Some x) h =
       let own = (field_at (get_or pgns i no_pgn) k).name in
       let q = optional_is ((x <ᵇ s) && (own ≐ spn_name pgns s) && names_spn pgns x i k) x e h in
       let t = and_left ((x <ᵇ s) && (own ≐ spn_name pgns s)) (names_spn pgns x i k) q.0 in
       let l : x < s = ltb-true x s (and_left (x <ᵇ s) (own ≐ spn_name pgns s) t) in
-      (ap some q.1, omega (arith, l, q.1), same_eq own (spn_name pgns s) (and_right (x <ᵇ s) (own ≐ spn_name pgns s) t))
+      (ap Some q.1, omega (arith, l, q.1), same_eq own (spn_name pgns s) (and_right (x <ᵇ s) (own ≐ spn_name pgns s) t))
 
-  no_earlier : may_clash pgns ≡ false → (s : ℕ) → given (spn_pgn pgns s) ≡ true → earlier_spn pgns s ≡ none
+  no_earlier : may_clash pgns ≡ false → (s : ℕ) → is_some (spn_pgn pgns s) ≡ true → earlier_spn pgns s ≡ None
   unfolding earlier_spn earlier_in
   no_earlier w s g = go (earlier_spn pgns s) refl
     where
-      go : (o : Option ℕ) → earlier_spn pgns s ≡ o → o ≡ none
-      go none u = refl
-      go (some e) u =
+      go : (o : Option ℕ) → earlier_spn pgns s ≡ o → o ≡ None
+      go None u = refl
+      go (Some e) u =
           let i = max_is (earlier_in pgns s) (length pgns) e u in
           let p = get_or pgns i.index no_pgn in
           let k = max_is (λ k. earlier_if pgns s i.index k (field_at p k).spn) (length p.fields) e i.is in
@@ -84,13 +84,13 @@ module _ (pgns : List Pgn) where
           let b : Carries pgns (spn_name pgns s) e i.index k.index = record { in_tree = i.below; in_pgn = k.below; carries = c.0; names = c.2 } in
           absurd (false≢true (sym w ∙ met_either (spn_name pgns s) s e n.pgn n.field i.index k.index a b c.1))
 
-  ranked_named : (r s : ℕ) → ranked (least_spn pgns) r ≡ some s → given (spn_pgn pgns s) ≡ true
+  ranked_named : (r s : ℕ) → ranked (least_spn pgns) r ≡ Some s → is_some (spn_pgn pgns s) ≡ true
   ranked_named zero s h = least_named pgns 0 s h
   ranked_named (suc r) s h = go (ranked (least_spn pgns) r) h
     where
-      go : (o : Option ℕ) → next_rank (least_spn pgns) o ≡ some s → given (spn_pgn pgns s) ≡ true
-      go none u = absurd (none-ne-some s u)
-      go (some b) u = least_named pgns (b + 1) s u
+      go : (o : Option ℕ) → next_rank (least_spn pgns) o ≡ Some s → is_some (spn_pgn pgns s) ≡ true
+      go None u = absurd (none-some s u)
+      go (Some b) u = least_named pgns (b + 1) s u
 
   pub no_clash : may_clash pgns ≡ false → check_spn_names pgns ≡ []
   unfolding check_spn_names clash_with
@@ -99,5 +99,5 @@ module _ (pgns : List Pgn) where
       (λ r l. go r (ranked (least_spn pgns) r) refl)
     where
       go : (r : ℕ) (o : Option ℕ) → ranked (least_spn pgns) r ≡ o → clash_of pgns o ≡ []
-      go r none u = refl
-      go r (some s) u = ap (clash_with pgns s) (no_earlier w s (ranked_named r s u))
+      go r None u = refl
+      go r (Some s) u = ap (clash_with pgns s) (no_earlier w s (ranked_named r s u))

@@ -1,60 +1,60 @@
 -- SPNs that are met with are carried by a field, and so named by one; and the field that names one.
 -- ---- SPNs that are met with
+use Rattle.std.specs.Prelude.{is_some, Option, None, Some}
 use Prim.Native.Nat.{ℕ, ◌<◌}
-use mathlib.Core.Bool.{Bool, true, false, ◌&&◌, false≢true}
+use mathlib.Core.Bool.{true, false, ◌&&◌, false≢true}
 use mathlib.Core.List.{List}
-use mathlib.Core.Option.{Option, none, some, none-ne-some}
+use Rattle.std.proofs.lemmas.Option.{none-some}
 use mathlib.Core.Path.{◌≡◌, refl, sym, ap, ◌∙◌}
 use lib.ListN.{length, get_or}
 use borrow.Author.Tests.{eq-eqb}
-use Rattle.pack.specs.Notation.{◌<ᵇ◌, ◌≤ᵇ◌, ◌≐◌, optional}
+use Rattle.pack.specs.Notation.{◌<ᵇ◌, ◌≤ᵇ◌, ◌≐◌}
 use Rattle.pack.specs.Value.{Pgn, Field, no_pgn, pgn_at, field_at}
 use Rattle.pack.specs.Items.{bytes_of}
 use Rattle.pack.specs.Meaning.{pack_of, field_meaning}
 use Rattle.pack.specs.declared.field.FieldView.{FieldView}
 use Rattle.rules.specs.declared.spn_names.Namer.{Namer}
-use Rattle.rules.specs.Model.{given}
 use Rattle.rules.specs.SpnNames.{is_number, spn_field, spn_pgn, name_in, name_by, spn_name, names_spn, earlier_if, earlier_in, earlier_spn, spn_from}
 use Rattle.rules.specs.SpnNames.{least_spn_in, least_spn}
 use Rattle.rules.specs.Namers.{NamesAmong}
 use Rattle.rules.proofs.Extremes.{max_is, min_is, first_given, least_given, optional_is, and_left, and_right}
 
-number_given : (o : Option ℕ) (i : ℕ) → is_number o i ≡ true → given o ≡ true
-number_given none i h = absurd (false≢true h)
-number_given (some n) i h = refl
+number_given : (o : Option ℕ) (i : ℕ) → is_number o i ≡ true → is_some o ≡ true
+number_given None i h = absurd (false≢true h)
+number_given (Some n) i h = refl
 
-from_is : (pgns : List Pgn) (b s : ℕ) (o : Option ℕ) → spn_from pgns b o ≡ some s → o ≡ some s
-from_is pgns b s none h = absurd (none-ne-some s h)
-from_is pgns b s (some x) h = ap some (optional_is (b ≤ᵇ x) x s h).1
+from_is : (b s : ℕ) (o : Option ℕ) → spn_from b o ≡ Some s → o ≡ Some s
+from_is b s None h = absurd (none-some s h)
+from_is b s (Some x) h = ap Some (optional_is (b ≤ᵇ x) x s h).1
 
 -- an SPN that a field carries is named
 pub carried_named : (pgns : List Pgn) (s i k : ℕ) → i < length pgns → k < length (get_or pgns i no_pgn).fields
-    → (field_at (get_or pgns i no_pgn) k).spn ≡ some s → given (spn_pgn pgns s) ≡ true
+    → (field_at (get_or pgns i no_pgn) k).spn ≡ Some s → is_some (spn_pgn pgns s) ≡ true
 unfolding spn_pgn spn_field
 carried_named pgns s i k l m e =
     let p = get_or pgns i no_pgn in
     let hit : is_number (field_at p k).spn s ≡ true = ap (λ (o : Option ℕ). is_number o s) e ∙ eq-eqb s s refl in
-    least_given (λ i. (get_or pgns i no_pgn).pgn) (λ i. given (spn_field (get_or pgns i no_pgn) s)) (length pgns) i l
+    least_given (λ i. (get_or pgns i no_pgn).pgn) (λ i. is_some (spn_field (get_or pgns i no_pgn) s)) (length pgns) i l
     (first_given (λ k. is_number (field_at p k).spn s) (length p.fields) k m hit)
 
 -- the least from b on
-pub least_named : (pgns : List Pgn) (b s : ℕ) → least_spn pgns b ≡ some s → given (spn_pgn pgns s) ≡ true
+pub least_named : (pgns : List Pgn) (b s : ℕ) → least_spn pgns b ≡ Some s → is_some (spn_pgn pgns s) ≡ true
 unfolding least_spn least_spn_in
 least_named pgns b s h =
     let i = min_is (least_spn_in pgns b) (length pgns) s h in
     let p = get_or pgns i.index no_pgn in
-    let k = min_is (λ k. spn_from pgns b (field_at p k).spn) (length p.fields) s i.is in
-    carried_named pgns s i.index k.index i.below k.below (from_is pgns b s (field_at p k.index).spn k.is)
+    let k = min_is (λ k. spn_from b (field_at p k).spn) (length p.fields) s i.is in
+    carried_named pgns s i.index k.index i.below k.below (from_is b s (field_at p k.index).spn k.is)
 
-earlier_is : (pgns : List Pgn) (s i k e : ℕ) (o : Option ℕ) → earlier_if pgns s i k o ≡ some e → names_spn pgns e i k ≡ true
-earlier_is pgns s i k e none h = absurd (none-ne-some e h)
-earlier_is pgns s i k e (some x) h =
+earlier_is : (pgns : List Pgn) (s i k e : ℕ) (o : Option ℕ) → earlier_if pgns s i k o ≡ Some e → names_spn pgns e i k ≡ true
+earlier_is pgns s i k e None h = absurd (none-some e h)
+earlier_is pgns s i k e (Some x) h =
     let a = (x <ᵇ s) && ((field_at (get_or pgns i no_pgn) k).name ≐ spn_name pgns s) in
     let q = optional_is (a && names_spn pgns x i k) x e h in
     ap (λ (y : ℕ). names_spn pgns y i k) (sym q.1) ∙ and_right a (names_spn pgns x i k) q.0
 
 -- the earlier one of a name
-pub earlier_named : (pgns : List Pgn) (s e : ℕ) → earlier_spn pgns s ≡ some e → given (spn_pgn pgns e) ≡ true
+pub earlier_named : (pgns : List Pgn) (s e : ℕ) → earlier_spn pgns s ≡ Some e → is_some (spn_pgn pgns e) ≡ true
 unfolding earlier_spn earlier_in names_spn
 earlier_named pgns s e h =
     let i = max_is (earlier_in pgns s) (length pgns) e h in
@@ -65,24 +65,22 @@ earlier_named pgns s e h =
 
 -- ---- the field that names an SPN
 
-module _ (s w : List ℕ) (spn : ℕ) (r : Namer) (a : NamesAmong s w spn (length (pack_of s).pgns_j1939) r) where
-  pub given_both : r.given ≡ given (spn_pgn (pack_of s).pgns_j1939 spn)
+module _ (s w : List ℕ) (spn : ℕ) (m : Namer) (a : NamesAmong s w spn (length (pack_of s).pgns_j1939) (Some m)) where
+  pub pgn_is : spn_pgn (pack_of s).pgns_j1939 spn ≡ Some m.pgn
   unfolding spn_pgn
-  given_both = sym (given_is r.given r.pgn) ∙ ap given a.least
-    where
-      given_is : (b : Bool) (x : ℕ) → given (optional b x) ≡ b
-      given_is true x = refl
-      given_is false x = refl
+  pgn_is = sym a.least
 
-  pub pgn_is : r.given ≡ true → spn_pgn (pack_of s).pgns_j1939 spn ≡ some r.pgn
-  unfolding spn_pgn
-  pgn_is e = sym a.least ∙ ap (λ (b : Bool). optional b r.pgn) e
-
-  pub name_is : r.given ≡ true → (v : FieldView) → field_meaning s v ≡ field_at (pgn_at (pack_of s) 1 r.pgn) r.field
+  pub name_is : (v : FieldView) → field_meaning s v ≡ field_at (pgn_at (pack_of s) 1 m.pgn) m.field
       → bytes_of s v.names.name ≡ spn_name (pack_of s).pgns_j1939 spn
   unfolding spn_name
-  name_is e v is =
+  name_is v is =
       let pgns = (pack_of s).pgns_j1939 in
-      let x = ap (name_by pgns spn) (pgn_is e) in
-      let y = ap (name_in pgns (get_or pgns r.pgn no_pgn)) (a.field e) in
+      let x = ap (name_by pgns spn) pgn_is in
+      let y = ap (name_in pgns (get_or pgns m.pgn no_pgn)) a.is.field in
       ap (λ (F : Field). F.name) is ∙ sym (x ∙ y)
+
+-- where a field names the SPN, the search for it finds one
+pub named_by_one : (s w : List ℕ) (spn : ℕ) → NamesAmong s w spn (length (pack_of s).pgns_j1939) None
+    → is_some (spn_pgn (pack_of s).pgns_j1939 spn) ≡ true → ⊥
+unfolding spn_pgn
+named_by_one s w spn a named = false≢true (ap is_some a.least ∙ named)

@@ -1,7 +1,7 @@
 -- R24 cause 2: no SPN is left out, since there are no more SPNs than fields.
 use Prim.Native.Nat.{ℕ, ◌+◌}
 use mathlib.Core.List.{List}
-use mathlib.Core.Option.{Option, none, some}
+use Rattle.std.specs.Prelude.{Option, None, Some}
 use mathlib.Core.Path.{◌≡◌, refl}
 use lib.ListN.{length, get_or}
 use Rattle.pack.specs.Notation.{concat_below}
@@ -14,14 +14,14 @@ use Rattle.rules.proofs.Ranks.{Enumerates, Among, from, of_ones, of_all, ranks_e
 module _ (pgns : List Pgn) where
   -- field k of PGN i carries the SPN, for a k; and for an i
   abbrev pub carried_in : (i spn : ℕ) → Type 0
-  carried_in i = Among (λ k spn. (field_at (get_or pgns i no_pgn) k).spn ≡ some spn) (length (get_or pgns i no_pgn).fields)
+  carried_in i = Among (λ k spn. (field_at (get_or pgns i no_pgn) k).spn ≡ Some spn) (length (get_or pgns i no_pgn).fields)
 
   abbrev pub Carried : (spn : ℕ) → Type 0
   Carried = Among carried_in (length pgns)
 
-  from_same : (b : ℕ) (o : Option ℕ) → spn_from pgns b o ≡ from b o
-  from_same b none = refl
-  from_same b (some s) = refl
+  from_same : (b : ℕ) (o : Option ℕ) → spn_from b o ≡ from b o
+  from_same b None = refl
+  from_same b (Some s) = refl
 
   -- The ranks below the number of fields give every SPN that a field carries, once and rising; further ranks give none.
   pub spn_ranks : Enumerates (least_spn pgns) Carried (fields_of pgns)
@@ -29,7 +29,7 @@ module _ (pgns : List Pgn) where
   spn_ranks =
       ranks_enumerate (least_spn pgns) Carried (fields_of pgns)
       (of_all (least_spn_in pgns) carried_in (λ i. length (get_or pgns i no_pgn).fields)
-      (λ i. of_ones (λ b k. spn_from pgns b (field_at (get_or pgns i no_pgn) k).spn) (λ k. (field_at (get_or pgns i no_pgn) k).spn)
+      (λ i. of_ones (λ b k. spn_from b (field_at (get_or pgns i no_pgn) k).spn) (λ k. (field_at (get_or pgns i no_pgn) k).spn)
       (λ b k. from_same b (field_at (get_or pgns i no_pgn) k).spn) (length (get_or pgns i no_pgn).fields))
       (length pgns))
 

@@ -1,12 +1,12 @@
 -- Version 1 has two places for sets (`two_sets`, pack/proofs/Sets). Of two places the rules are what they are over set 1 and set 2 by name.
+use Rattle.std.specs.Bool.{then_some}
 use Rattle.std.specs.Prelude.{◌==◌, if◌then◌else◌}
 use Prim.Native.Nat.{ℕ, ◌+◌}
 use mathlib.Core.Bool.{Bool, true, false, not, ◌&&◌, ◌||◌}
 use mathlib.Core.List.{[], ◌∷◌, ◌++◌}
-use mathlib.Core.Option.{Option, none}
+use Rattle.std.specs.Prelude.{Option, None}
 use mathlib.Core.Path.{◌≡◌, refl}
 use lib.ListN.{length}
-use Rattle.pack.specs.Notation.{optional}
 use Rattle.pack.specs.Value.{Repeating, Pgn, field_at}
 use Rattle.rules.specs.Search.{or_else, any_below}
 use Rattle.rules.specs.Repeating.{check_set, check_repeating}
@@ -16,7 +16,7 @@ use Rattle.rules.specs.TrailingZero.{starts_behind, fixed}
 module _ (p : Pgn) (a b : Option Repeating) (two : p.sets ≡ a ∷ b ∷ []) where
   -- R05: of two places it is set 1, which nothing encloses, then set 2 beside set 1
   pub repeating_of_two : (t i : ℕ)
-      → check_repeating t i p ≡ check_set t i 1 (length p.fields) none a ++ check_set t i 2 (length p.fields) a b
+      → check_repeating t i p ≡ check_set t i 1 (length p.fields) None a ++ check_set t i 2 (length p.fields) a b
   unfolding check_repeating
   repeating_of_two t i = rw two
 
@@ -25,7 +25,7 @@ module _ (p : Pgn) (a b : Option Repeating) (two : p.sets ≡ a ∷ b ∷ []) wh
   unfolding set_of
   set_of_two k = rw two (go (holds_order b (k + 1)) (holds_order a (k + 1)))
     where
-      go : (y x : Bool) → place_number (or_else (optional y 1) (or_else (optional x 0) none)) ≡ (if y then 2 else (if x then 1 else 0))
+      go : (y x : Bool) → place_number (or_else (then_some y 1) (or_else (then_some x 0) None)) ≡ (if y then 2 else (if x then 1 else 0))
       go true x = refl
       go false true = refl
       go false false = refl

@@ -1,14 +1,14 @@
 -- R20: that the Rust leaves groups of one out changes nothing, and no group is left out here.
-use Rattle.std.specs.Prelude.{if◌then◌else◌}
+use Rattle.std.specs.Bool.{then_some}
+use Rattle.std.specs.Prelude.{if◌then◌else◌, Option, None, Some}
 use Prim.Native.Nat.{ℕ, zero, suc, ◌+◌, ◌≤◌, ◌<◌}
 use native.Mathlib.Omega.{arith}
 use mathlib.Core.Bool.{Bool, true, false, ◌&&◌, not}
 use mathlib.Core.List.{List, []}
-use mathlib.Core.Option.{Option, none, some}
 use mathlib.Core.Path.{◌≡◌, refl, sym, ap, ◌∙◌}
 use lib.ListN.{length, get_or}
 use borrow.Author.Tests.{ltb-true, le-ltb}
-use Rattle.pack.specs.Notation.{◌<ᵇ◌, ◌≤ᵇ◌, concat_below, optional}
+use Rattle.pack.specs.Notation.{◌<ᵇ◌, ◌≤ᵇ◌, concat_below}
 use Rattle.pack.specs.Value.{Pgn, no_pgn}
 use Rattle.rules.specs.declared.Finding.{Finding}
 use Rattle.rules.specs.Search.{latest_below, count_below, ranked}
@@ -67,8 +67,8 @@ module _ (t : ℕ) (pgns : List Pgn) where
       same j = in_group t pgns number j && duplicates (get_or pgns j no_pgn) (get_or pgns i no_pgn)
 
       at : in_group t pgns number i ≡ true → (o : Option ℕ) → latest_below same i ≡ o → duplicate_of t pgns i o ≡ []
-      at e none u = refl
-      at e (some j) u =
+      at e None u = refl
+      at e (Some j) u =
           let q = latest_is same i j u in
           let other = and_left (in_group t pgns number j) (duplicates (get_or pgns j no_pgn) (get_or pgns i no_pgn)) q.1 in
           absurd (omega (arith, few, count_two (in_group t pgns number) (length pgns) i j q.0 l other e))
@@ -89,22 +89,22 @@ module _ (t : ℕ) (pgns : List Pgn) where
       ))
 
   -- a number with fewer than two variants has neither finding
-  pub one_variant : (number : ℕ) → variants number < 2 → group_findings t pgns (some number) ≡ []
+  pub one_variant : (number : ℕ) → variants number < 2 → group_findings t pgns (Some number) ≡ []
   unfolding group_findings
   one_variant number few =
       rw (concat_none (variant_at t pgns number) (length pgns) (λ i l. lone_variant number i few l), lone_matchless number few)
 
   -- the Rust's `if group.len() < 2 { continue; }`
   abbrev pub of_two_or_more : Option ℕ → List Finding
-  of_two_or_more none = []
-  of_two_or_more (some number) = if variants number <ᵇ 2 then [] else group_findings t pgns (some number)
+  of_two_or_more None = []
+  of_two_or_more (Some number) = if variants number <ᵇ 2 then [] else group_findings t pgns (Some number)
 
   same_findings : (number : Option ℕ) → of_two_or_more number ≡ group_findings t pgns number
   unfolding group_findings
-  same_findings none = refl
-  same_findings (some number) = go (variants number <ᵇ 2) refl
+  same_findings None = refl
+  same_findings (Some number) = go (variants number <ᵇ 2) refl
     where
-      go : (c : Bool) → (variants number <ᵇ 2) ≡ c → (if c then [] else group_findings t pgns (some number)) ≡ group_findings t pgns (some number)
+      go : (c : Bool) → (variants number <ᵇ 2) ≡ c → (if c then [] else group_findings t pgns (Some number)) ≡ group_findings t pgns (Some number)
       go true e = sym (one_variant number (ltb-true (variants number) 2 e))
       go false e = refl
 
@@ -117,17 +117,17 @@ module _ (t : ℕ) (pgns : List Pgn) where
 
   -- the number of PGN i, unless it is a fallback
   abbrev pub number_of : (i : ℕ) → Option ℕ
-  number_of i = optional (not (get_or pgns i no_pgn).fallback) (get_or pgns i no_pgn).pgn
+  number_of i = then_some (not (get_or pgns i no_pgn).fallback) (get_or pgns i no_pgn).pgn
 
   -- The ranks below the number of PGNs give every number that has a group, once and rising; further ranks give none.
-  pub variants_ranks : Enumerates (least_group t pgns) (Among (λ i v. number_of i ≡ some v) (length pgns)) (length pgns)
+  pub variants_ranks : Enumerates (least_group t pgns) (Among (λ i v. number_of i ≡ Some v) (length pgns)) (length pgns)
   unfolding least_group
   variants_ranks =
-      ranks_enumerate (least_group t pgns) (Among (λ i v. number_of i ≡ some v) (length pgns)) (length pgns)
-      (of_ones (λ b i. optional (not (get_or pgns i no_pgn).fallback && (b ≤ᵇ (get_or pgns i no_pgn).pgn)) (get_or pgns i no_pgn).pgn) number_of
+      ranks_enumerate (least_group t pgns) (Among (λ i v. number_of i ≡ Some v) (length pgns)) (length pgns)
+      (of_ones (λ b i. then_some (not (get_or pgns i no_pgn).fallback && (b ≤ᵇ (get_or pgns i no_pgn).pgn)) (get_or pgns i no_pgn).pgn) number_of
       (λ b i. numbered b (get_or pgns i no_pgn).pgn (get_or pgns i no_pgn).fallback) (length pgns))
     where
-      numbered : (b number : ℕ) (fallback : Bool) → optional (not fallback && (b ≤ᵇ number)) number ≡ from b (optional (not fallback) number)
+      numbered : (b number : ℕ) (fallback : Bool) → then_some (not fallback && (b ≤ᵇ number)) number ≡ from b (then_some (not fallback) number)
       numbered b number true = refl
       numbered b number false = refl
 
@@ -135,4 +135,4 @@ module _ (t : ℕ) (pgns : List Pgn) where
   pub variants_enough : (d : ℕ) → concat_below (λ r. group_findings t pgns (ranked (least_group t pgns) r)) (length pgns + d) ≡ check_variants t pgns
   unfolding check_variants group_findings
   variants_enough d =
-      ranks_enough (least_group t pgns) (Among (λ i v. number_of i ≡ some v) (length pgns)) (length pgns) variants_ranks (group_findings t pgns) refl d
+      ranks_enough (least_group t pgns) (Among (λ i v. number_of i ≡ Some v) (length pgns)) (length pgns) variants_ranks (group_findings t pgns) refl d

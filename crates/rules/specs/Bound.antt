@@ -1,7 +1,7 @@
 -- How many findings a rule can have: so many for each record that it looks at.
 use Rattle.std.specs.Prelude.{ℕ, zero, suc, ◌+◌, ◌*◌, ◌≤◌, Bool, true, false, not, List, [], ◌∷◌, ◌++◌, ◌≡◌, length, get_or, ◌==◌, if◌then◌else◌}
 use Rattle.std.proofs.Common.{arith, length-append}
-use Rattle.std.proofs.Math.Option.{Option, none, some}
+use Rattle.std.specs.Prelude.{Option, None, Some}
 use Rattle.pack.specs.Notation.{concat_below}
 use Rattle.pack.specs.Value.{Bytes, FieldType, Lookup, Entry, Reference, Repeating, Field, Pgn, Pack, pgns_of, no_pgn, no_lookup, field_at, set_place}
 use Rattle.pack.specs.Value.{lookup_at, entry_at}
@@ -91,18 +91,18 @@ lookup_width_most t i k f l lookup = search Most
 
 lookup_found_most : (ls : List Lookup) (t i k : ℕ) (f : Field) (r : Reference) (l : Option ℕ) → AtMost 2 (lookup_found_at ls t i k f r l)
 unfolding lookup_found_at
-lookup_found_most ls t i k f r none = search Most
-lookup_found_most ls t i k f r (some l) = search (Most, lookup_width_most)
+lookup_found_most ls t i k f r None = search Most
+lookup_found_most ls t i k f r (Some l) = search (Most, lookup_width_most)
 
 pub lookup_ref_most : (ls : List Lookup) (t i k : ℕ) (f : Field) (r : Option Reference) → AtMost 2 (lookup_ref_at ls t i k f r)
 unfolding lookup_ref_at
-lookup_ref_most ls t i k f none = search Most
-lookup_ref_most ls t i k f (some r) = lookup_found_most ls t i k f r _
+lookup_ref_most ls t i k f None = search Most
+lookup_ref_most ls t i k f (Some r) = lookup_found_most ls t i k f r _
 
 nested_lookup_most : (ls : List Lookup) (l e : ℕ) (name : Option Bytes) → AtMost 1 (nested_lookup_at ls l e name)
 unfolding nested_lookup_at
-nested_lookup_most ls l e none = search Most
-nested_lookup_most ls l e (some name) = search Most
+nested_lookup_most ls l e None = search Most
+nested_lookup_most ls l e (Some name) = search Most
 
 pub fieldtype_entry_most : (P : Pack) (l e : ℕ) (entry : Entry) → AtMost 2 (fieldtype_entry_at P l e entry)
 unfolding fieldtype_entry_at
@@ -110,8 +110,8 @@ fieldtype_entry_most P l e entry = search (Most, nested_lookup_most)
 
 pub same_name_most : (l e : ℕ) (d : Option ℕ) → AtMost 1 (same_name_as l e d)
 unfolding same_name_as
-same_name_most l e none = search Most
-same_name_most l e (some d) = search Most
+same_name_most l e None = search Most
+same_name_most l e (Some d) = search Most
 
 pub dynamic_length_most : (fts : List FieldType) (t i : ℕ) (p : Pgn) (k : ℕ) (f : Field) → AtMost 3 (dynamic_length_at fts t i p k f)
 unfolding dynamic_length_at
@@ -119,8 +119,8 @@ dynamic_length_most fts t i p k f = search Most
 
 pub special_values_most : (t i k bits : ℕ) (sv : Option ℕ) → AtMost 1 (special_values_at t i k bits sv)
 unfolding special_values_at
-special_values_most t i k bits none = search Most
-special_values_most t i k bits (some sv) = search Most
+special_values_most t i k bits None = search Most
+special_values_most t i k bits (Some sv) = search Most
 
 pub reserved_id_most : (t i k : ℕ) (f : Field) → AtMost 1 (reserved_id_at t i k f)
 unfolding reserved_id_at
@@ -128,8 +128,8 @@ reserved_id_most t i k f = search Most
 
 resolved_most : (t i k bits : ℕ) (v : Option ℕ) → AtMost 1 (resolved_at t i k bits v)
 unfolding resolved_at
-resolved_most t i k bits none = search Most
-resolved_most t i k bits (some v) = search Most
+resolved_most t i k bits None = search Most
+resolved_most t i k bits (Some v) = search Most
 
 pub match_value_most : (ls : List Lookup) (t i : ℕ) (p : Pgn) (k : ℕ) → AtMost 1 (match_value_at ls t i p k)
 unfolding match_value_at
@@ -141,38 +141,38 @@ overrides_most t i k f ft = search Most
 
 bit_length_target_most : (t i : ℕ) (p : Pgn) (k : ℕ) (j : Option ℕ) → AtMost 1 (bit_length_target_at t i p k j)
 unfolding bit_length_target_at
-bit_length_target_most t i p k none = search Most
-bit_length_target_most t i p k (some j) = search Most
+bit_length_target_most t i p k None = search Most
+bit_length_target_most t i p k (Some j) = search Most
 
 pub bit_length_field_most : (t i : ℕ) (p : Pgn) (k : ℕ) (id : Option Bytes) → AtMost 1 (bit_length_field_at t i p k id)
 unfolding bit_length_field_at
-bit_length_field_most t i p k none = search Most
-bit_length_field_most t i p k (some id) = search (Most, bit_length_target_most)
+bit_length_field_most t i p k None = search Most
+bit_length_field_most t i p k (Some id) = search (Most, bit_length_target_most)
 
 trailing_zero_target_most : (fts : List FieldType) (t i : ℕ) (p : Pgn) (k : ℕ) (j : Option ℕ) → AtMost 1 (trailing_zero_target_at fts t i p k j)
 unfolding trailing_zero_target_at
-trailing_zero_target_most fts t i p k none = search Most
-trailing_zero_target_most fts t i p k (some j) = search Most
+trailing_zero_target_most fts t i p k None = search Most
+trailing_zero_target_most fts t i p k (Some j) = search Most
 
 pub trailing_zero_most : (fts : List FieldType) (t i : ℕ) (p : Pgn) (k : ℕ) (id : Option Bytes) → AtMost 1 (trailing_zero_at fts t i p k id)
 unfolding trailing_zero_at
-trailing_zero_most fts t i p k none = search Most
-trailing_zero_most fts t i p k (some id) = search (Most, trailing_zero_target_most)
+trailing_zero_most fts t i p k None = search Most
+trailing_zero_most fts t i p k (Some id) = search (Most, trailing_zero_target_most)
 
 unlike_field_most : (pgns : List Pgn) (i k j : ℕ) (h : Option ℕ) → AtMost 1 (unlike_field pgns i k j h)
 unfolding unlike_field
-unlike_field_most pgns i k j none = search Most
-unlike_field_most pgns i k j (some h) = search Most
+unlike_field_most pgns i k j None = search Most
+unlike_field_most pgns i k j (Some h) = search Most
 
 unlike_first_most : (pgns : List Pgn) (i k s : ℕ) (j : Option ℕ) → AtMost 1 (unlike_first pgns i k s j)
 unfolding unlike_first
-unlike_first_most pgns i k s none = search Most
-unlike_first_most pgns i k s (some j) = unlike_field_most pgns i k j _
+unlike_first_most pgns i k s None = search Most
+unlike_first_most pgns i k s (Some j) = unlike_field_most pgns i k j _
 
 pub spn_most : (pgns : List Pgn) (i k : ℕ) (s : Option ℕ) → AtMost 1 (spn_at pgns i k s)
 unfolding spn_at
-spn_most pgns i k none = search Most
-spn_most pgns i k (some s) = search (Most, unlike_first_most)
+spn_most pgns i k None = search Most
+spn_most pgns i k (Some s) = search (Most, unlike_first_most)
 
 continued_most : (fts : List FieldType) (t i : ℕ) (p : Pgn) (k : ℕ) (f : Field) (id : Bytes) (j : ℕ) (low : Field)
     → AtMost 6 (continued_at fts t i p k f id j low)
@@ -184,13 +184,13 @@ one_of_six f = record { bound = omega arith }
 
 continued_found_most : (fts : List FieldType) (t i : ℕ) (p : Pgn) (k : ℕ) (id : Bytes) (j : Option ℕ) → AtMost 6 (continued_found_at fts t i p k id j)
 unfolding continued_found_at
-continued_found_most fts t i p k id none = one_of_six _
-continued_found_most fts t i p k id (some j) = continued_most fts t i p k _ id j _
+continued_found_most fts t i p k id None = one_of_six _
+continued_found_most fts t i p k id (Some j) = continued_most fts t i p k _ id j _
 
 pub continues_most : (fts : List FieldType) (t i : ℕ) (p : Pgn) (k : ℕ) (id : Option Bytes) → AtMost 6 (continues_at fts t i p k id)
 unfolding continues_at
-continues_most fts t i p k none = search Most
-continues_most fts t i p k (some id) = continued_found_most fts t i p k id _
+continues_most fts t i p k None = search Most
+continues_most fts t i p k (Some id) = continued_found_most fts t i p k id _
 
 two_of_two : (f g : Finding) → AtMost 2 (f ∷ g ∷ [])
 two_of_two f g = record { bound = omega arith }
@@ -202,12 +202,12 @@ clash_most pgns earlier s i j = search (Most, two_of_two)
 
 clash_with_most : (pgns : List Pgn) (s : ℕ) (e : Option ℕ) → AtMost 2 (clash_with pgns s e)
 unfolding clash_with
-clash_with_most pgns s none = search Most
-clash_with_most pgns s (some e) = clash_most pgns e s _ _
+clash_with_most pgns s None = search Most
+clash_with_most pgns s (Some e) = clash_most pgns e s _ _
 
 pub clash_of_most : (pgns : List Pgn) (s : Option ℕ) → AtMost 2 (clash_of pgns s)
-clash_of_most pgns none = search Most
-clash_of_most pgns (some s) = clash_with_most pgns s _
+clash_of_most pgns None = search Most
+clash_of_most pgns (Some s) = clash_with_most pgns s _
 
 -- ---- of a PGN, beside its fields
 
@@ -217,8 +217,8 @@ quick_range_most t i p = search Most
 
 found_range_most : (t i : ℕ) (p : Pgn) (r : Option Range) → AtMost 2 (found_range t i p r)
 unfolding found_range
-found_range_most t i p none = search Most
-found_range_most t i p (some r) = search Most
+found_range_most t i p None = search Most
+found_range_most t i p (Some r) = search Most
 
 pub pgn_range_most : (t i : ℕ) (p : Pgn) → AtMost 2 (check_pgn_range t i p)
 unfolding check_pgn_range
@@ -230,19 +230,19 @@ frame_length_most t i p = search Most
 
 set_count_most : (t i n start : ℕ) (c : Option ℕ) → AtMost 1 (set_count_field t i n start c)
 unfolding set_count_field
-set_count_most t i n start none = search Most
-set_count_most t i n start (some c) = search Most
+set_count_most t i n start None = search Most
+set_count_most t i n start (Some c) = search Most
 
 set_nesting_most : (t i n : ℕ) (outer : Option Repeating) (r : Repeating) → AtMost 1 (set_nesting t i n outer r)
 unfolding set_nesting
-set_nesting_most t i n none r = search Most
-set_nesting_most t i n (some o) r = search Most
+set_nesting_most t i n None r = search Most
+set_nesting_most t i n (Some o) r = search Most
 
 -- three a set
 pub set_most : (t i n fields : ℕ) (outer set : Option Repeating) → AtMost 3 (check_set t i n fields outer set)
 unfolding check_set set_bounds
-set_most t i n fields outer none = search Most
-set_most t i n fields outer (some r) = search (Most, set_count_most, set_nesting_most)
+set_most t i n fields outer None = search Most
+set_most t i n fields outer (Some r) = search (Most, set_count_most, set_nesting_most)
 
 pub repeating_most : (t i : ℕ) (p : Pgn) → AtMost (length p.sets * 3) (check_repeating t i p)
 unfolding check_repeating
@@ -258,8 +258,8 @@ field_count_most t i p = search Most
 
 min_length_at_most : (t i : ℕ) (p : Pgn) (m : Option ℕ) → AtMost 1 (min_length_at t i p m)
 unfolding min_length_at
-min_length_at_most t i p none = search Most
-min_length_at_most t i p (some m) = search Most
+min_length_at_most t i p None = search Most
+min_length_at_most t i p (Some m) = search Most
 
 pub min_length_most : (t i : ℕ) (p : Pgn) → AtMost 1 (check_min_length t i p)
 unfolding check_min_length
@@ -267,13 +267,13 @@ min_length_most t i p = min_length_at_most t i p p.min_length
 
 pub same_id_most : (t i : ℕ) (j : Option ℕ) → AtMost 1 (same_id_as t i j)
 unfolding same_id_as
-same_id_most t i none = search Most
-same_id_most t i (some j) = search Most
+same_id_most t i None = search Most
+same_id_most t i (Some j) = search Most
 
 duplicate_most : (t : ℕ) (pgns : List Pgn) (i : ℕ) (j : Option ℕ) → AtMost 1 (duplicate_of t pgns i j)
 unfolding duplicate_of
-duplicate_most t pgns i none = search Most
-duplicate_most t pgns i (some j) = search Most
+duplicate_most t pgns i None = search Most
+duplicate_most t pgns i (Some j) = search Most
 
 pub variant_most : (t : ℕ) (pgns : List Pgn) (number i : ℕ) → AtMost 1 (variant_at t pgns number i)
 unfolding variant_at
@@ -372,8 +372,8 @@ spn_names_most pgns = search (most_below, clash_of_most)
 -- R20. Each group looks through all PGNs: a coarse bound.
 group_most : (t : ℕ) (pgns : List Pgn) (number : Option ℕ) → AtMost (length pgns * 1 + 1) (group_findings t pgns number)
 unfolding group_findings
-group_most t pgns none = most_none _
-group_most t pgns (some number) = search (most_append, most_below, variant_most, most_if)
+group_most t pgns None = most_none _
+group_most t pgns (Some number) = search (most_append, most_below, variant_most, most_if)
 
 pub variants_most : (t : ℕ) (pgns : List Pgn) → AtMost (length pgns * (length pgns * 1 + 1)) (check_variants t pgns)
 unfolding check_variants

@@ -1,6 +1,6 @@
 -- What the examples' packs are made of.
 use Rattle.std.specs.Prelude.{ℕ, true, false, List, [], ◌∷◌}
-use Rattle.std.proofs.Math.Option.{Option, none}
+use Rattle.std.specs.Prelude.{Option, None}
 use Rattle.pack.specs.Value.{Bytes, FieldType, Lookup, Repeating, Reference, Field, Pgn, Pack}
 use Rattle.rules.specs.Texts.{NUMBER}
 
@@ -28,16 +28,16 @@ a_field id name type bits resolution offset unit spn match reference special tra
       res_resolution = resolution;
       res_offset = offset;
       res_unit = unit;
-      resolution = none;
-      offset = none;
+      resolution = None;
+      offset = None;
       spn = spn;
-      continues = none;
+      continues = None;
       match = match;
       reference = reference;
       special_values = special;
-      bit_length_field = none;
+      bit_length_field = None;
       trailing_zero = trailing;
-      continuation = none;
+      continuation = None;
     }
 
 abbrev pub with_sets : (number : ℕ) (id : Bytes) → List (Option Repeating) → List Field → Pgn
@@ -50,13 +50,13 @@ with_sets number id sets fields =
       variable = false;
       missing_company_fields = false;
       length = 8;
-      min_length = none;
+      min_length = None;
       sets = sets;
       fields = fields;
     }
 
 abbrev pub a_pgn : (number : ℕ) (id : Bytes) → Option Repeating → List Field → Pgn
-a_pgn number id set fields = with_sets number id (set ∷ none ∷ []) fields
+a_pgn number id set fields = with_sets number id (set ∷ None ∷ []) fields
 
 abbrev pub in_nmea2000 : List Lookup → List Pgn → Pack
 in_nmea2000 lookups pgns = record { fieldtypes = number_type ∷ []; lookups = lookups; pgns = pgns; pgns_j1939 = []; pgns_quick = [] }

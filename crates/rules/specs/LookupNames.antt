@@ -1,6 +1,5 @@
 -- R24, `check_lookup_names`: a lookup gives each name to one code (under the same first value, for a triplet).
-use Rattle.std.specs.Prelude.{ℕ, Bool, ◌&&◌, ◌||◌, not, List, [], ◌∷◌, ◌++◌, length, ◌==◌, if◌then◌else◌}
-use Rattle.std.proofs.Math.Option.{Option, none, some}
+use Rattle.std.specs.Prelude.{ℕ, Bool, ◌&&◌, ◌||◌, not, List, [], ◌∷◌, ◌++◌, length, ◌==◌, if◌then◌else◌, Option, None, Some}
 use Rattle.pack.specs.Notation.{◌≐◌, concat_below}
 use Rattle.pack.specs.Value.{Entry, Lookup, Pack, lookup_at, entry_at}
 use Rattle.rules.specs.declared.Finding.{Finding}
@@ -15,8 +14,8 @@ same_name kind a b = (not (kind == 1) || (a.first == b.first)) && (a.name ≐ b.
 
 -- 1: `insert` answers the latest earlier holder of the name
 unfoldable pub same_name_as : (l e : ℕ) → Option ℕ → List Finding
-same_name_as l e none = []
-same_name_as l e (some d) = lookup_error 24 1 l e d ∷ []
+same_name_as l e None = []
+same_name_as l e (Some d) = lookup_error 24 1 l e d ∷ []
 
 -- J1939_SPN is "generated from field names: reported where the name is written"
 unfoldable pub lookup_names_of : (l : ℕ) → Lookup → List Finding

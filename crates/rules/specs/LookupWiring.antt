@@ -1,11 +1,12 @@
 -- R08 and R22, `check_lookup_wiring`: every reference resolves with the right kind and bit width; every lookup is referenced somewhere.
+use Rattle.std.specs.Prelude.{is_some}
 use Rattle.std.specs.Prelude.{ℕ, ◌^◌, Bool, false, ◌&&◌, ◌||◌, not, List, [], ◌∷◌, ◌++◌, length, get_or, ◌==◌, if◌then◌else◌}
-use Rattle.std.proofs.Math.Option.{Option, none, some}
+use Rattle.std.specs.Prelude.{Option, None, Some}
 use Rattle.pack.specs.Notation.{◌<ᵇ◌, ◌≤ᵇ◌, ◌≐◌, concat_below}
 use Rattle.pack.specs.Value.{Bytes, FieldType, Entry, Lookup, Reference, Field, Pgn, Pack, pgns_of, no_field_type, pgn_at, field_at, lookup_at, entry_at}
 use Rattle.rules.specs.declared.Finding.{Finding}
 use Rattle.rules.specs.Findings.{pgn_error, pgn_warning, lookup_error, lookup_warning, report_if}
-use Rattle.rules.specs.Model.{given, is_text, value_bits, lookup_ref, find_lookup, fieldtypes}
+use Rattle.rules.specs.Model.{is_text, value_bits, lookup_ref, find_lookup, fieldtypes}
 use Rattle.rules.specs.Search.{any_below}
 
 -- A field of this width can't have the value: a bit's position counts from 0, any other value is a number.
@@ -27,13 +28,13 @@ lookup_width_at t i k f l lookup =
 
 -- 1 unknown lookup, 2 a reference of another kind
 unfoldable pub lookup_found_at : List Lookup → (t i k : ℕ) → Field → Reference → Option ℕ → List Finding
-lookup_found_at ls t i k f r none = pgn_error 8 1 t i k 0 ∷ []
-lookup_found_at ls t i k f r (some l) =
+lookup_found_at ls t i k f r None = pgn_error 8 1 t i k 0 ∷ []
+lookup_found_at ls t i k f r (Some l) =
     report_if (not ((lookup_at ls l).kind == r.kind)) (pgn_error 8 2 t i k l) ++ lookup_width_at t i k f l (lookup_at ls l)
 
 unfoldable pub lookup_ref_at : List Lookup → (t i k : ℕ) → Field → Option Reference → List Finding
-lookup_ref_at ls t i k f none = []
-lookup_ref_at ls t i k f (some r) = lookup_found_at ls t i k f r (find_lookup ls r.name)
+lookup_ref_at ls t i k f None = []
+lookup_ref_at ls t i k f (Some r) = lookup_found_at ls t i k f r (find_lookup ls r.name)
 
 unfoldable pub check_lookup_refs : List Lookup → (t i : ℕ) → Pgn → List Finding
 check_lookup_refs ls t i p = concat_below (λ k. lookup_ref_at ls t i k (field_at p k) (lookup_ref (field_at p k))) (length p.fields)
@@ -44,8 +45,8 @@ is_fieldtype fts name = any_below (λ j. (get_or fts j no_field_type).name ≐ n
 
 -- 7 unknown nested lookup, of entry e of lookup l
 unfoldable pub nested_lookup_at : List Lookup → (l e : ℕ) → Option Bytes → List Finding
-nested_lookup_at ls l e none = []
-nested_lookup_at ls l e (some name) = report_if (not (given (find_lookup ls name))) (lookup_error 8 7 l e 0)
+nested_lookup_at ls l e None = []
+nested_lookup_at ls l e (Some name) = report_if (not (is_some (find_lookup ls name))) (lookup_error 8 7 l e 0)
 
 -- 6 unknown fieldtype, and 7
 unfoldable pub fieldtype_entry_at : Pack → (l e : ℕ) → Entry → List Finding
@@ -59,8 +60,8 @@ check_nested_refs P l lookup =
 
 -- R22. By a field of any tree, whatever the reference's kind, or by an entry of any fieldtype lookup, its own included.
 abbrev pub ref_is : Option Reference → Bytes → Bool
-ref_is none name = false
-ref_is (some r) name = r.name ≐ name
+ref_is None name = false
+ref_is (Some r) name = r.name ≐ name
 
 unfoldable pub referenced_by_pgn : Bytes → Pgn → Bool
 referenced_by_pgn name p = any_below (λ k. ref_is (lookup_ref (field_at p k)) name) (length p.fields)

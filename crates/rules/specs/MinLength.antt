@@ -1,6 +1,6 @@
 -- R16, `check_min_length`: an authored minLength names a shorter payload that ends between two fields.
 use Rattle.std.specs.Prelude.{ℕ, suc, ◌*◌, Bool, ◌||◌, not, List, [], ◌∷◌, length, ◌==◌, if◌then◌else◌}
-use Rattle.std.proofs.Math.Option.{Option, none, some}
+use Rattle.std.specs.Prelude.{Option, None, Some}
 use Rattle.pack.specs.Notation.{◌≤ᵇ◌}
 use Rattle.pack.specs.Value.{Pgn, field_at}
 use Rattle.rules.specs.declared.Finding.{Finding}
@@ -13,8 +13,8 @@ lands_on_boundary p least = any_below (λ k. sum_below (λ j. (field_at p j).res
 
 -- 1 the PGN is variable, 2 not from 1 to below the full length, 3 not on a field boundary
 unfoldable pub min_length_at : (t i : ℕ) → Pgn → Option ℕ → List Finding
-min_length_at t i p none = []
-min_length_at t i p (some least) =
+min_length_at t i p None = []
+min_length_at t i p (Some least) =
     if p.variable then pgn_error 16 1 t i 0 0 ∷ []
     else (if (least == 0) || (p.length ≤ᵇ least) then pgn_error 16 2 t i 0 0 ∷ []
     else report_if (not (lands_on_boundary p least)) (pgn_error 16 3 t i 0 0))

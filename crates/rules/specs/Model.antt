@@ -1,18 +1,14 @@
 -- What the rules read of a pack: the Rust's `model.rs`.
 use Rattle.std.specs.Prelude.{ℕ, ◌+◌, Bool, true, false, ◌||◌, List, [], length, get_or, ◌==◌, if◌then◌else◌}
-use Rattle.std.proofs.Math.Option.{Option, none, some}
+use Rattle.std.specs.Prelude.{Option, None, Some}
 use Rattle.pack.specs.Notation.{◌≐◌}
 use Rattle.pack.specs.Value.{Bytes, FieldType, Entry, Lookup, Reference, Field, Pgn, no_field_type, field_at, lookup_at, entry_at}
 use Rattle.numerals.specs.Numerals.{parse_u64, parse_hex}
 use Rattle.rules.specs.Search.{or_else, first_below}
 
-abbrev pub given : {A : Type 0} → Option A → Bool
-given none = false
-given (some a) = true
-
 abbrev pub is_text : Option Bytes → Bytes → Bool
-is_text none t = false
-is_text (some s) t = s ≐ t
+is_text None t = false
+is_text (Some s) t = s ≐ t
 
 -- the Rust's `db.fieldtypes[f.ft]`, and its root's name
 abbrev pub fieldtype_of : List FieldType → Field → FieldType
@@ -23,8 +19,8 @@ root_of fts f = (fieldtype_of fts f).root_name
 
 -- `value_bits`: "its own bits plus any bits a later field continues it with"
 abbrev pub continuation_bits : Option ℕ → ℕ
-continuation_bits none = 0
-continuation_bits (some bits) = bits
+continuation_bits None = 0
+continuation_bits (Some bits) = bits
 
 unfoldable pub value_bits : Field → ℕ
 value_bits f = f.res_bits + continuation_bits f.continuation
@@ -50,8 +46,8 @@ fieldtypes l = if l.kind == 3 then l.entries else []
 
 -- the value of the first entry with a name
 abbrev pub value_at : List Entry → Option ℕ → Option ℕ
-value_at es none = none
-value_at es (some e) = some (entry_at es e).value
+value_at es None = None
+value_at es (Some e) = Some (entry_at es e).value
 
 unfoldable pub value_named : List Entry → Bytes → Option ℕ
 value_named es name = value_at es (first_below (λ e. (entry_at es e).name ≐ name) (length es))
@@ -61,18 +57,18 @@ abbrev pub entries_for : Reference → Lookup → List Entry
 entries_for r l = if r.kind == 3 then fieldtypes l else pairs l
 
 unfoldable pub resolve_in : List Lookup → Bytes → Reference → Option ℕ → Option ℕ
-resolve_in ls m r none = none
-resolve_in ls m r (some l) = value_named (entries_for r (lookup_at ls l)) m
+resolve_in ls m r None = None
+resolve_in ls m r (Some l) = value_named (entries_for r (lookup_at ls l)) m
 
 unfoldable pub resolve_name : List Lookup → Bytes → Option Reference → Option ℕ
-resolve_name ls m none = none
-resolve_name ls m (some r) = resolve_in ls m r (find_lookup ls r.name)
+resolve_name ls m None = None
+resolve_name ls m (Some r) = resolve_in ls m r (find_lookup ls r.name)
 
 -- "first parses a u64"; "After the decimal form is tried, a text of 0x or 0X and 1 to 16 hexadecimal digits now resolves to that number; only
 -- then are names searched."
 unfoldable pub resolve_text : List Lookup → Option Reference → Option Bytes → Option ℕ
-resolve_text ls r none = none
-resolve_text ls r (some m) = or_else (parse_u64 m) (or_else (parse_hex m) (resolve_name ls m r))
+resolve_text ls r None = None
+resolve_text ls r (Some m) = or_else (parse_u64 m) (or_else (parse_hex m) (resolve_name ls m r))
 
 -- `resolve_match`, with document 02's hexadecimal
 unfoldable pub resolve_match : List Lookup → Field → Option ℕ

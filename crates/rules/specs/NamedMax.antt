@@ -2,19 +2,19 @@
 use Rattle.std.specs.Prelude.{ℕ, zero, suc, ◌^◌, ◌≤◌, Bool, true, false, ◌&&◌, ◌||◌, ◌≡◌, refl, length, ◌==◌, if◌then◌else◌}
 use Rattle.std.proofs.Common.{arith, sym, ◌∙◌, ltb-true, ltb-false, leb-true, le-leb}
 use Rattle.std.proofs.lemmas.Bool.{false≢true}
-use Rattle.std.proofs.Math.Option.{Option, none, some}
+use Rattle.std.specs.Prelude.{Option, None, Some}
 use Rattle.pack.specs.Notation.{◌<ᵇ◌, ◌≤ᵇ◌}
 use Rattle.pack.specs.Value.{Lookup, entry_at}
 use Rattle.rules.specs.LookupWiring.{beyond_width, unreachable}
 use Rattle.rules.specs.Search.{any_below, larger, max_below}
 
 abbrev pub named_max : Lookup → Option ℕ
-named_max l = max_below (λ e. some (entry_at l.entries e).value) (length l.entries)
+named_max l = max_below (λ e. Some (entry_at l.entries e).value) (length l.entries)
 
 -- the Rust's `named_max.is_some_and(..)`
 abbrev pub is_some_and : Option ℕ → (ℕ → Bool) → Bool
-is_some_and none p = false
-is_some_and (some v) p = p v
+is_some_and None p = false
+is_some_and (Some v) p = p v
 
 abbrev Rising : (ℕ → Bool) → Type 0
 Rising p = (a b : ℕ) → a ≤ b → p a ≡ true → p b ≡ true
@@ -29,13 +29,13 @@ or_largest p r a b = go (a <ᵇ b) refl (p a) refl (p b) refl
     go false q false u true v = absurd (false≢true (sym u ∙ r b a (ltb-false a b q) v))
     go false q false u false v = sym u
 
-any_largest : (p : ℕ → Bool) → Rising p → (v : ℕ → ℕ) (n : ℕ) → any_below (λ e. p (v e)) n ≡ is_some_and (max_below (λ e. some (v e)) n) p
+any_largest : (p : ℕ → Bool) → Rising p → (v : ℕ → ℕ) (n : ℕ) → any_below (λ e. p (v e)) n ≡ is_some_and (max_below (λ e. Some (v e)) n) p
 any_largest p r v zero = refl
-any_largest p r v (suc n) = go (max_below (λ e. some (v e)) n) (any_largest p r v n)
+any_largest p r v (suc n) = go (max_below (λ e. Some (v e)) n) (any_largest p r v n)
   where
-    go : (m : Option ℕ) → any_below (λ e. p (v e)) n ≡ is_some_and m p → (any_below (λ e. p (v e)) n || p (v n)) ≡ is_some_and (larger m (some (v n))) p
-    go none e = rw e
-    go (some a) e = rw e (or_largest p r a (v n))
+    go : (m : Option ℕ) → any_below (λ e. p (v e)) n ≡ is_some_and m p → (any_below (λ e. p (v e)) n || p (v n)) ≡ is_some_and (larger m (Some (v n))) p
+    go None e = rw e
+    go (Some a) e = rw e (or_largest p r a (v n))
 
 beyond_rises : (kind width : ℕ) → Rising (beyond_width kind width)
 unfolding beyond_width

@@ -2,12 +2,18 @@
 use Rattle.std.specs.Prelude.{ℕ, ◌+◌, ◌*◌, ◌/◌, ◌%◌, ◌≤◌, ◌<◌, Bool, true, false, ◌&&◌, List, [], ◌∷◌, ◌≡◌, refl, ◌==◌, if◌then◌else◌}
 use Rattle.std.proofs.Common.{mod-lt, div-add-mod', arith, ltb-true, leb-true, eqb-true, lt-ltb, le-ltb}
 use Rattle.std.proofs.lemmas.Bool.{false≢true}
-use Rattle.std.proofs.Math.Option.{some, none-ne-some, some-injective}
+use Rattle.std.specs.Prelude.{Some}
+use Rattle.std.proofs.lemmas.Option.{none-some, same_Some}
 use Rattle.pack.specs.Notation.{◌<ᵇ◌, ◌≤ᵇ◌}
-use Rattle.rules.specs.PgnRange.{Range, PGN_RANGES, J1939_PGN_RANGES, ranges_of, find_range}
+use Rattle.rules.specs.PgnRange.{Range, range, PGN_RANGES, J1939_PGN_RANGES, ranges_of, find_range}
+use Rattle.rules.specs.declared.pgn_range.Range.{Range as Row}
 
 unfoldable pub pdu1 : ℕ → Bool
 pdu1 n = n / 256 % 256 <ᵇ 240
+
+-- a row of the code's tables, which has no step, as the range that it is
+abbrev pub range_of : Row → Range
+range_of r = range r.start r.end (if pdu1 r.start then 256 else 1) r.kind
 
 -- the range stays in one page of 65,536 numbers, and there on one side of 240
 abbrev one_sided : Range → Bool
@@ -59,18 +65,18 @@ within r n o a b = go (r.start / 256 / 256 == r.end / 256 / 256) refl (r.step ==
         rw (q, le-ltb (n / 256 % 256) 240 (omega (arith, x.from, leb-true 240 (r.start / 256 % 256) h)))
 
 -- what is found is a row of the table, and does not end below the number
-found : (rs : List Range) (n : ℕ) (r : Range) → all_one_sided rs ≡ true → find_range rs n ≡ some r → (one_sided r ≡ true) × (n ≤ r.end)
+found : (rs : List Range) (n : ℕ) (r : Range) → all_one_sided rs ≡ true → find_range rs n ≡ Some r → (one_sided r ≡ true) × (n ≤ r.end)
 unfolding find_range
-found [] n r o e = absurd (none-ne-some r e)
+found [] n r o e = absurd (none-some r e)
 found (x ∷ rs) n r o e = go (one_sided x) refl o (n ≤ᵇ x.end) refl (found rs n r)
   where
     go : (s : Bool) → one_sided x ≡ s → (s && all_one_sided rs) ≡ true → (b : Bool) → (n ≤ᵇ x.end) ≡ b
-        → (all_one_sided rs ≡ true → find_range rs n ≡ some r → (one_sided r ≡ true) × (n ≤ r.end))
+        → (all_one_sided rs ≡ true → find_range rs n ≡ Some r → (one_sided r ≡ true) × (n ≤ r.end))
         → (one_sided r ≡ true) × (n ≤ r.end)
     go false s h b q rec = absurd (false≢true h)
     go true s h false q rec = rec h (rw q at e)
     go true s h true q rec =
-        let z : x ≡ r = some-injective x r (rw q at e) in
+        let z : x ≡ r = same_Some x r (rw q at e) in
         rw (← z) (s, leb-true n x.end q)
 
 tables : (t : ℕ) → all_one_sided (ranges_of t) ≡ true
@@ -80,5 +86,5 @@ tables t = go (t == 1)
     go true = refl
     go false = refl
 
-pub pdu1_step : (t n : ℕ) (r : Range) → find_range (ranges_of t) n ≡ some r → r.start ≤ n → (r.step == 256) ≡ pdu1 n
+pub pdu1_step : (t n : ℕ) (r : Range) → find_range (ranges_of t) n ≡ Some r → r.start ≤ n → (r.step == 256) ≡ pdu1 n
 pdu1_step t n r e h = let f = found (ranges_of t) n r (tables t) e in within r n f.0 h f.1

@@ -1,6 +1,6 @@
 -- R02, `check_pgn_range`: the number in a valid range; PDU1 PGNs end in 0x00; the packet type agrees with the range.
 use Rattle.std.specs.Prelude.{ℕ, ◌%◌, ◌&&◌, ◌||◌, not, List, [], ◌∷◌, ◌++◌, ◌==◌, if◌then◌else◌}
-use Rattle.std.proofs.Math.Option.{Option, none, some}
+use Rattle.std.specs.Prelude.{Option, None, Some}
 use Rattle.pack.specs.Notation.{◌<ᵇ◌, ◌≤ᵇ◌}
 use Rattle.pack.specs.Value.{Pgn}
 use Rattle.rules.specs.declared.Finding.{Finding}
@@ -63,8 +63,8 @@ ranges_of t = if t == 1 then J1939_PGN_RANGES else PGN_RANGES
 
 -- the first range that does not end below the number
 unfoldable pub find_range : List Range → ℕ → Option Range
-find_range [] n = none
-find_range (r ∷ rs) n = if n ≤ᵇ r.end then some r else find_range rs n
+find_range [] n = None
+find_range (r ∷ rs) n = if n ≤ᵇ r.end then Some r else find_range rs n
 
 -- "The first of canboat's own pseudo-PGNs"
 abbrev pub ACTISENSE_BEM : ℕ
@@ -76,8 +76,8 @@ quick_range t i p = report_if (0x7ff <ᵇ p.pgn) (pgn_error 2 1 t i 0 0) ++ repo
 
 -- 3 beyond every range, 4 in no range, 5 PDU1 and not ending in 0x00, 6 another packet type than the range's
 unfoldable pub found_range : (t i : ℕ) → Pgn → Option Range → List Finding
-found_range t i p none = pgn_error 2 3 t i 0 0 ∷ []
-found_range t i p (some r) =
+found_range t i p None = pgn_error 2 3 t i 0 0 ∷ []
+found_range t i p (Some r) =
     if p.pgn <ᵇ r.start then pgn_error 2 4 t i 0 0 ∷ []
     else report_if ((r.step == 256) && not (p.pgn % 256 == 0)) (pgn_error 2 5 t i 0 0)
     ++ report_if (not ((r.type == p.type) || (r.type == MIXED) || (p.type == ISO))) (pgn_error 2 6 t i 0 0)

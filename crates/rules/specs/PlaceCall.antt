@@ -1,6 +1,6 @@
 -- What the place text call answers, and what it leaves in the text buffer.
 use Rattle.std.specs.Prelude.{ℕ, ◌≡◌, List, [], ◌∷◌, length, if◌then◌else◌}
-use Rattle.std.proofs.Math.Option.{Option, none, some}
+use Rattle.std.specs.Prelude.{Option, None, Some}
 use Rattle.pack.specs.Notation.{◌≤ᵇ◌}
 use Rattle.pack.specs.Load.{Answer, refuses, gives, after, refusal_answer, loaded, load_tells, over, work_after}
 use Rattle.pack.specs.Meaning.{pack_of}
@@ -18,8 +18,8 @@ fitted b n = if length b ≤ᵇ n then Written (length b) else Refused (Place (l
 
 -- 23: "tree, PGN, field or finding named is not in the pack", which comes before 24
 abbrev pub named : Option Bytes → ℕ → Placed
-named none n = Refused Absent
-named (some b) n = fitted b n
+named None n = Refused Absent
+named (Some b) n = fitted b n
 
 -- "Input refusals come before these; then 21, 23, .. 24"
 abbrev pub after_load : Loaded → Option Bytes → ℕ → Placed
@@ -33,8 +33,8 @@ placed s m place t item n = after_load (loaded s m) (place_text (pack_of s) plac
 -- "After 22 and higher numbers no other buffer has changed"; "Success writes only the entries it reports."
 abbrev pub text_left : Placed → Option Bytes → List ℕ → List ℕ
 text_left (Refused r) b o = o
-text_left (Written n) none o = o
-text_left (Written n) (some b) o = over b o
+text_left (Written n) None o = o
+text_left (Written n) (Some b) o = over b o
 
 unfoldable pub text_after : List ℕ → (m place tree item : ℕ) → List ℕ → List ℕ
 text_after s m place t item o = text_left (placed s m place t item (length o)) (place_text (pack_of s) place t item) o
@@ -48,8 +48,8 @@ place_answer (Written n) = gives (n ∷ [])
 
 -- 23, then 24 with "the length needed"
 abbrev pub text_tells : Option Bytes → ℕ → Answer
-text_tells none n = refuses 23 0
-text_tells (some b) n = if length b ≤ᵇ n then gives (length b ∷ []) else refuses 24 (length b)
+text_tells None n = refuses 23 0
+text_tells (Some b) n = if length b ≤ᵇ n then gives (length b ∷ []) else refuses 24 (length b)
 
 unfoldable pub place_tells : List ℕ → (m place tree item n : ℕ) → Answer
 place_tells s m place t item n = after (load_tells s m) (text_tells (place_text (pack_of s) place t item) n)

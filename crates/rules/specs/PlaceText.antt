@@ -1,7 +1,8 @@
 -- The text of a finding's place, and whether it is in the pack.
+use Rattle.std.specs.Bool.{then_some}
 use Rattle.std.specs.Prelude.{ℕ, zero, suc, Bool, ◌&&◌, [], ◌++◌, length, ◌==◌, if◌then◌else◌}
-use Rattle.std.proofs.Math.Option.{Option, none}
-use Rattle.pack.specs.Notation.{◌<ᵇ◌, optional}
+use Rattle.std.specs.Prelude.{Option, None}
+use Rattle.pack.specs.Notation.{◌<ᵇ◌}
 use Rattle.pack.specs.Value.{Bytes, Pgn, Pack, pgns_of, pgn_at, lookup_at}
 use Rattle.rules.specs.Digits.{six_digits}
 use Rattle.rules.specs.Search.{any_below}
@@ -30,8 +31,8 @@ has_number P t number = any_below (λ i. (pgn_at P t i).pgn == number) (length (
 -- "it is in the pack if that record, or for place 3 a PGN of that number in the tree, is there; places 0 and 2 want tree 0"
 unfoldable pub place_text : Pack → (place tree item : ℕ) → Option Bytes
 place_text P place t item =
-    if place == 0 then optional ((t == 0) && (item <ᵇ length P.fieldtypes)) (bytes "fieldtypes.yaml")
-    else (if place == 1 then optional ((t <ᵇ 3) && (item <ᵇ length (pgns_of P t))) (pgn_loc t (pgn_at P t item))
-    else (if place == 2 then optional ((t == 0) && (item <ᵇ length P.lookups)) (lookup_loc (lookup_at P.lookups item).name)
-    else (if place == 3 then optional ((t <ᵇ 3) && has_number P t item) (group_loc t item)
-    else none)))
+    if place == 0 then then_some ((t == 0) && (item <ᵇ length P.fieldtypes)) (bytes "fieldtypes.yaml")
+    else (if place == 1 then then_some ((t <ᵇ 3) && (item <ᵇ length (pgns_of P t))) (pgn_loc t (pgn_at P t item))
+    else (if place == 2 then then_some ((t == 0) && (item <ᵇ length P.lookups)) (lookup_loc (lookup_at P.lookups item).name)
+    else (if place == 3 then then_some ((t <ᵇ 3) && has_number P t item) (group_loc t item)
+    else None)))

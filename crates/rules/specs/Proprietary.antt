@@ -1,6 +1,6 @@
 -- R07, `check_proprietary`: manufacturer-proprietary PGNs open with Manufacturer Code / Reserved / Industry Code, or declare MissingCompanyFields.
 use Rattle.std.specs.Prelude.{ℕ, Bool, false, ◌&&◌, ◌||◌, not, List, [], length, ◌==◌, if◌then◌else◌}
-use Rattle.std.proofs.Math.Option.{Option, none, some}
+use Rattle.std.specs.Prelude.{Option, None, Some}
 use Rattle.pack.specs.Notation.{◌≤ᵇ◌, ◌≐◌}
 use Rattle.pack.specs.Value.{Bytes, FieldType, Reference, Pgn, field_at}
 use Rattle.rules.specs.declared.Finding.{Finding}
@@ -14,8 +14,8 @@ is_manufacturer_pgn pgn = (0xff00 ≤ᵇ pgn) && (pgn ≤ᵇ 0xffff) || (pgn == 
 
 -- the Rust's `lookup`: a reference of kind pair
 abbrev pub pair_is : Option Reference → Bytes → Bool
-pair_is none name = false
-pair_is (some r) name = (r.kind == 0) && (r.name ≐ name)
+pair_is None name = false
+pair_is (Some r) name = (r.kind == 0) && (r.name ≐ name)
 
 unfoldable pub company_fields : List FieldType → Pgn → Bool
 company_fields fts p =

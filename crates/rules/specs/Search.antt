@@ -1,11 +1,12 @@
 -- Searches among the indexes below n. Each goes by recursion on n, so that a loop that counts up makes one step of it a turn.
+use Rattle.std.specs.Bool.{then_some}
 use Rattle.std.specs.Prelude.{ℕ, zero, suc, ◌+◌, Bool, true, false, ◌&&◌, ◌||◌, if◌then◌else◌}
-use Rattle.std.proofs.Math.Option.{Option, none, some}
-use Rattle.pack.specs.Notation.{◌<ᵇ◌, optional}
+use Rattle.std.specs.Prelude.{Option, None, Some}
+use Rattle.pack.specs.Notation.{◌<ᵇ◌}
 
 abbrev pub or_else : {A : Type 0} → Option A → Option A → Option A
-or_else none y = y
-or_else (some x) y = some x
+or_else None y = y
+or_else (Some x) y = Some x
 
 -- whether some index below n has the property
 abbrev pub any_below : (ℕ → Bool) → ℕ → Bool
@@ -19,12 +20,12 @@ every_below p (suc n) = every_below p n && p n
 
 -- the first and the latest index below n that has it
 abbrev pub first_below : (ℕ → Bool) → ℕ → Option ℕ
-first_below p zero = none
-first_below p (suc n) = or_else (first_below p n) (optional (p n) n)
+first_below p zero = None
+first_below p (suc n) = or_else (first_below p n) (then_some (p n) n)
 
 abbrev pub latest_below : (ℕ → Bool) → ℕ → Option ℕ
-latest_below p zero = none
-latest_below p (suc n) = or_else (optional (p n) n) (latest_below p n)
+latest_below p zero = None
+latest_below p (suc n) = or_else (then_some (p n) n) (latest_below p n)
 
 -- how many indexes below n have it
 abbrev pub count_below : (ℕ → Bool) → ℕ → ℕ
@@ -38,36 +39,36 @@ sum_below f (suc n) = sum_below f n + f n
 
 -- the larger and the smaller of two, and of what f gives below n, where it gives anything
 abbrev pub larger : Option ℕ → Option ℕ → Option ℕ
-larger none y = y
-larger (some a) none = some a
-larger (some a) (some b) = some (if a <ᵇ b then b else a)
+larger None y = y
+larger (Some a) None = Some a
+larger (Some a) (Some b) = Some (if a <ᵇ b then b else a)
 
 abbrev pub smaller : Option ℕ → Option ℕ → Option ℕ
-smaller none y = y
-smaller (some a) none = some a
-smaller (some a) (some b) = some (if b <ᵇ a then b else a)
+smaller None y = y
+smaller (Some a) None = Some a
+smaller (Some a) (Some b) = Some (if b <ᵇ a then b else a)
 
 abbrev pub max_below : (ℕ → Option ℕ) → ℕ → Option ℕ
-max_below f zero = none
+max_below f zero = None
 max_below f (suc n) = larger (max_below f n) (f n)
 
 abbrev pub min_below : (ℕ → Option ℕ) → ℕ → Option ℕ
-min_below f zero = none
+min_below f zero = None
 min_below f (suc n) = smaller (min_below f n) (f n)
 
 -- the index below n that has the property and the least key, the first of equals
 abbrev pub lower_key : (ℕ → ℕ) → Option ℕ → ℕ → ℕ
-lower_key key none n = n
-lower_key key (some m) n = if key n <ᵇ key m then n else m
+lower_key key None n = n
+lower_key key (Some m) n = if key n <ᵇ key m then n else m
 
 abbrev pub least_below : (ℕ → ℕ) → (ℕ → Bool) → ℕ → Option ℕ
-least_below key p zero = none
-least_below key p (suc n) = if p n then some (lower_key key (least_below key p n) n) else least_below key p n
+least_below key p zero = None
+least_below key p (suc n) = if p n then Some (lower_key key (least_below key p n) n) else least_below key p n
 
 -- numbers in rising order, by rank: `least b` is the least of them from b on
 abbrev pub next_rank : (ℕ → Option ℕ) → Option ℕ → Option ℕ
-next_rank least none = none
-next_rank least (some s) = least (s + 1)
+next_rank least None = None
+next_rank least (Some s) = least (s + 1)
 
 abbrev pub ranked : (ℕ → Option ℕ) → ℕ → Option ℕ
 ranked least zero = least 0

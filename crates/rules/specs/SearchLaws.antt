@@ -1,10 +1,12 @@
 -- Searches among the indexes below n: a loop's turn at k + 1, what leaving early says, and what an answer says.
+use Rattle.std.specs.Bool.{then_some}
 use Rattle.std.specs.Prelude.{ℕ, zero, suc, ◌+◌, ◌<◌, Bool, true, false, ◌&&◌, ◌||◌, List, [], ◌++◌, ◌≡◌, refl, if◌then◌else◌}
 use Rattle.std.proofs.Math.Decide.{ℕ_discrete}
 use Rattle.std.proofs.Common.{add-one, arith, append-nil, sym, ap, ◌∙◌}
 use Rattle.std.proofs.lemmas.Bool.{false≢true}
-use Rattle.std.proofs.Math.Option.{Option, none, some, none-ne-some, some-injective}
-use Rattle.pack.specs.Notation.{concat_below, optional}
+use Rattle.std.specs.Prelude.{Option, None, Some}
+use Rattle.std.proofs.lemmas.Option.{none-some, same_Some}
+use Rattle.pack.specs.Notation.{concat_below}
 use Rattle.rules.specs.Search.{or_else, any_below, every_below, first_below, latest_below, count_below, sum_below, larger, smaller, max_below}
 use Rattle.rules.specs.Search.{min_below, lower_key, least_below, next_rank, ranked}
 
@@ -19,10 +21,10 @@ any_turn p k = rw (add-one k)
 pub every_turn : (p : ℕ → Bool) (k : ℕ) → every_below p (k + 1) ≡ (every_below p k && p k)
 every_turn p k = rw (add-one k)
 
-pub first_turn : (p : ℕ → Bool) (k : ℕ) → first_below p (k + 1) ≡ or_else (first_below p k) (optional (p k) k)
+pub first_turn : (p : ℕ → Bool) (k : ℕ) → first_below p (k + 1) ≡ or_else (first_below p k) (then_some (p k) k)
 first_turn p k = rw (add-one k)
 
-pub latest_turn : (p : ℕ → Bool) (k : ℕ) → latest_below p (k + 1) ≡ or_else (optional (p k) k) (latest_below p k)
+pub latest_turn : (p : ℕ → Bool) (k : ℕ) → latest_below p (k + 1) ≡ or_else (then_some (p k) k) (latest_below p k)
 latest_turn p k = rw (add-one k)
 
 pub count_turn : (p : ℕ → Bool) (k : ℕ) → count_below p (k + 1) ≡ (if p k then count_below p k + 1 else count_below p k)
@@ -38,7 +40,7 @@ pub min_turn : (f : ℕ → Option ℕ) (k : ℕ) → min_below f (k + 1) ≡ sm
 min_turn f k = rw (add-one k)
 
 pub least_turn : (key : ℕ → ℕ) (p : ℕ → Bool) (k : ℕ)
-    → least_below key p (k + 1) ≡ (if p k then some (lower_key key (least_below key p k) k) else least_below key p k)
+    → least_below key p (k + 1) ≡ (if p k then Some (lower_key key (least_below key p k) k) else least_below key p k)
 least_turn key p k = rw (add-one k)
 
 pub ranked_turn : (least : ℕ → Option ℕ) (r : ℕ) → ranked least (r + 1) ≡ next_rank least (ranked least r)
@@ -80,42 +82,42 @@ any_missed p (suc n) e k h = go (any_below p n) (p n) refl refl e (any_missed p 
     go false b u v w rec = below_suc k n h (rec u k) (λ q. ap p q ∙ v ∙ w)
 
 -- all before k missed, and k hit
-pub first_hit : (p : ℕ → Bool) (n k : ℕ) → k < n → first_below p k ≡ none → p k ≡ true → first_below p n ≡ some k
+pub first_hit : (p : ℕ → Bool) (n k : ℕ) → k < n → first_below p k ≡ None → p k ≡ true → first_below p n ≡ Some k
 first_hit p zero k h m e = absurd (omega arith)
 first_hit p (suc n) k h m e = below_suc k n h (λ l. rw (first_hit p n k l m e)) (λ q. let u = rw q at m in let v = rw q at e in rw (u, v, q))
 
 -- ---- what an answer says
 
-pub first_is : (p : ℕ → Bool) (n k : ℕ) → first_below p n ≡ some k → (k < n) × (p k ≡ true)
-first_is p zero k e = absurd (none-ne-some k e)
+pub first_is : (p : ℕ → Bool) (n k : ℕ) → first_below p n ≡ Some k → (k < n) × (p k ≡ true)
+first_is p zero k e = absurd (none-some k e)
 first_is p (suc n) k e = go (first_below p n) refl (p n) refl e (first_is p n k)
   where
-    go : (f : Option ℕ) → first_below p n ≡ f → (b : Bool) → p n ≡ b → or_else f (optional b n) ≡ some k
-        → (first_below p n ≡ some k → (k < n) × (p k ≡ true)) → (k < suc n) × (p k ≡ true)
-    go (some j) u b v w rec = let r = rec (u ∙ w) in (omega arith, r.1)
-    go none u true v w rec = let q : n ≡ k = some-injective n k w in (omega arith, ap p (sym q) ∙ v)
-    go none u false v w rec = absurd (none-ne-some k w)
+    go : (f : Option ℕ) → first_below p n ≡ f → (b : Bool) → p n ≡ b → or_else f (then_some b n) ≡ Some k
+        → (first_below p n ≡ Some k → (k < n) × (p k ≡ true)) → (k < suc n) × (p k ≡ true)
+    go (Some j) u b v w rec = let r = rec (u ∙ w) in (omega arith, r.1)
+    go None u true v w rec = let q : n ≡ k = same_Some n k w in (omega arith, ap p (sym q) ∙ v)
+    go None u false v w rec = absurd (none-some k w)
 
-pub first_misses : (p : ℕ → Bool) (n : ℕ) → first_below p n ≡ none → (k : ℕ) → k < n → p k ≡ false
+pub first_misses : (p : ℕ → Bool) (n : ℕ) → first_below p n ≡ None → (k : ℕ) → k < n → p k ≡ false
 first_misses p zero e k h = absurd (omega arith)
 first_misses p (suc n) e k h = go (first_below p n) refl (p n) refl e (first_misses p n)
   where
-    go : (f : Option ℕ) → first_below p n ≡ f → (b : Bool) → p n ≡ b → or_else f (optional b n) ≡ none
-        → (first_below p n ≡ none → (k : ℕ) → k < n → p k ≡ false) → p k ≡ false
-    go (some j) u b v w rec = absurd (none-ne-some j (sym w))
-    go none u true v w rec = absurd (none-ne-some n (sym w))
-    go none u false v w rec = below_suc k n h (rec u k) (λ q. ap p q ∙ v)
+    go : (f : Option ℕ) → first_below p n ≡ f → (b : Bool) → p n ≡ b → or_else f (then_some b n) ≡ None
+        → (first_below p n ≡ None → (k : ℕ) → k < n → p k ≡ false) → p k ≡ false
+    go (Some j) u b v w rec = absurd (none-some j (sym w))
+    go None u true v w rec = absurd (none-some n (sym w))
+    go None u false v w rec = below_suc k n h (rec u k) (λ q. ap p q ∙ v)
 
-pub latest_is : (p : ℕ → Bool) (n k : ℕ) → latest_below p n ≡ some k → (k < n) × (p k ≡ true)
-latest_is p zero k e = absurd (none-ne-some k e)
+pub latest_is : (p : ℕ → Bool) (n k : ℕ) → latest_below p n ≡ Some k → (k < n) × (p k ≡ true)
+latest_is p zero k e = absurd (none-some k e)
 latest_is p (suc n) k e = go (p n) refl e (latest_is p n k)
   where
-    go : (b : Bool) → p n ≡ b → or_else (optional b n) (latest_below p n) ≡ some k
-        → (latest_below p n ≡ some k → (k < n) × (p k ≡ true)) → (k < suc n) × (p k ≡ true)
-    go true v w rec = let q : n ≡ k = some-injective n k w in (omega arith, ap p (sym q) ∙ v)
+    go : (b : Bool) → p n ≡ b → or_else (then_some b n) (latest_below p n) ≡ Some k
+        → (latest_below p n ≡ Some k → (k < n) × (p k ≡ true)) → (k < suc n) × (p k ≡ true)
+    go true v w rec = let q : n ≡ k = same_Some n k w in (omega arith, ap p (sym q) ∙ v)
     go false v w rec = let r = rec w in (omega arith, r.1)
 
-pub latest_none : (p : ℕ → Bool) (n : ℕ) → ((k : ℕ) → p k ≡ false) → latest_below p n ≡ none
+pub latest_none : (p : ℕ → Bool) (n : ℕ) → ((k : ℕ) → p k ≡ false) → latest_below p n ≡ None
 latest_none p zero h = refl
 latest_none p (suc n) h = rw (h n) (latest_none p n h)
 
@@ -127,7 +129,7 @@ concat_none f (suc n) h = rw (concat_none f n (λ k l. h k (omega arith)), h n (
 
 -- ---- ranks: once they have ended, nothing follows
 
-pub ranked_ends : (least : ℕ → Option ℕ) (r d : ℕ) → ranked least r ≡ none → ranked least (r + d) ≡ none
+pub ranked_ends : (least : ℕ → Option ℕ) (r d : ℕ) → ranked least r ≡ None → ranked least (r + d) ≡ None
 ranked_ends least r zero e = let q : r + 0 ≡ r = omega arith in rw q e
 ranked_ends least r (suc d) e =
     let q : r + suc d ≡ suc (r + d) = omega arith in

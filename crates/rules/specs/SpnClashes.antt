@@ -1,14 +1,17 @@
 -- For the code of R24 cause 2: whether two fields of the J1939 tree have one name and carry different SPNs. Where no two have, nothing is reported.
-use Rattle.std.specs.Prelude.{ℕ, ◌+◌, Bool, false, not, ◌&&◌, List, length, get_or, ◌==◌}
-use Rattle.std.proofs.Math.Option.{Option, none, some}
+use Rattle.std.specs.Prelude.{ℕ, ◌+◌, Bool, false, not, ◌&&◌, List, length, get_or, ◌==◌, Option, None, Some}
 use Rattle.pack.specs.Notation.{◌≐◌}
 use Rattle.pack.specs.Value.{Bytes, Pgn, no_pgn, field_at}
 use Rattle.rules.specs.Search.{any_below}
 
+abbrev pub differs : Option ℕ → (spn : ℕ) → Bool
+differs None spn = false
+differs (Some e) spn = not (e == spn)
+
 -- a field of its own name and SPN has that name, and carries another SPN than that one
 abbrev pub other_spn : Bytes → (spn : ℕ) → Bytes → Option ℕ → Bool
-other_spn name spn own none = false
-other_spn name spn own (some e) = (own ≐ name) && not (e == spn)
+other_spn name spn own None = false
+other_spn name spn own (Some e) = (own ≐ name) && not (e == spn)
 
 unfoldable pub other_in : Bytes → (spn : ℕ) → Pgn → Bool
 other_in name spn p = any_below (λ h. other_spn name spn (field_at p h).name (field_at p h).spn) (length p.fields)
@@ -16,8 +19,8 @@ other_in name spn p = any_below (λ h. other_spn name spn (field_at p h).name (f
 module _ (pgns : List Pgn) where
   -- one of the fields of the first n PGNs
   abbrev pub other_among : (n : ℕ) → Bytes → Option ℕ → Bool
-  other_among n name none = false
-  other_among n name (some spn) = any_below (λ j. other_in name spn (get_or pgns j no_pgn)) n
+  other_among n name None = false
+  other_among n name (Some spn) = any_below (λ j. other_in name spn (get_or pgns j no_pgn)) n
 
   -- a field of PGN i and one up to there
   unfoldable pub clash_from : (i : ℕ) → Bool

@@ -1,6 +1,5 @@
 -- R21, `check_unique_ids`: PGN ids are unique in a tree, field ids within a PGN.
-use Rattle.std.specs.Prelude.{ℕ, List, [], ◌∷◌, ◌++◌, length, get_or}
-use Rattle.std.proofs.Math.Option.{Option, none, some}
+use Rattle.std.specs.Prelude.{ℕ, List, [], ◌∷◌, ◌++◌, length, get_or, Option, None, Some}
 use Rattle.pack.specs.Notation.{◌≐◌, concat_below}
 use Rattle.pack.specs.Value.{Pgn, no_pgn, field_at}
 use Rattle.rules.specs.declared.Finding.{Finding}
@@ -9,8 +8,8 @@ use Rattle.rules.specs.Search.{any_below, latest_below}
 
 -- 1: `insert` answers the latest earlier holder of the id
 unfoldable pub same_id_as : (t i : ℕ) → Option ℕ → List Finding
-same_id_as t i none = []
-same_id_as t i (some j) = pgn_error 21 1 t i 0 j ∷ []
+same_id_as t i None = []
+same_id_as t i (Some j) = pgn_error 21 1 t i 0 j ∷ []
 
 -- 2
 unfoldable pub unique_field_ids : (t i : ℕ) → Pgn → List Finding

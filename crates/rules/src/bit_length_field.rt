@@ -1,6 +1,6 @@
 // R15
-ghost use Rattle.std.specs.Prelude.{◌≡◌, not, ◌||◌, ◌<◌, length, ◌==◌};
-ghost use Rattle.pack.specs.Meaning.{optional_number, field_meaning};
+ghost use Rattle.std.specs.Prelude.{◌≡◌, not, ◌||◌, ◌<◌, length, ◌==◌, is_some};
+ghost use Rattle.pack.specs.Meaning.{field_meaning};
 ghost use Rattle.pack.specs.Ready.{PgnAt, PgnRecordIs, pgn_in};
 ghost use Rattle.pack.specs.Value.{field_at};
 ghost use Rattle.rules.specs.Emit.{Emitted, Fits};
@@ -12,33 +12,25 @@ use crate::floats::{ONE, float_eq};
 use crate::targets::target;
 use pack::field::FieldView;
 use pack::of::field_of;
-use pack::optional::OptNumber;
 use pack::pgn::PgnRecord;
 use pack::text::text_is;
 
+#[tactic(auto, unfolding(crate::specs::BitLengthField::variable_binary))]
 fn variable_binary(s: &[u8], f: FieldView) -> bool
     ensures { result ≡ variable_binary (field_meaning s.now f) }
 {
-    if f.scaling.bits == 0 {
-        return text_is(s, f.names.kind, b"BINARY");
-    }
-    false
+    f.scaling.bits == 0 && text_is(s, f.names.kind, b"BINARY")
 }
 
 // "not an integer bit-count field"
 fn not_bit_count(f: FieldView) -> bool
-    ensures { result ≡ (f.links.reference.given || not (float_eq f.scaling.resolution ONE) || (f.scaling.bits == 0)) }
+    ensures { result ≡ (is_some f.links.reference || not (float_eq f.scaling.resolution ONE) || (f.scaling.bits == 0)) }
 {
-    if f.links.reference.given {
-        return true;
-    }
-    if !float_eq(f.scaling.resolution, ONE) {
-        return true;
-    }
-    f.scaling.bits == 0
+    f.links.reference.is_some() || !float_eq(f.scaling.resolution, ONE) || f.scaling.bits == 0
 }
 
 // The target of field k.
+#[tactic(auto, unfolding(crate::specs::BitLengthField::bit_length_target_at, crate::specs::BitLengthField::not_bit_count))]
 fn bit_length_target_at(
     out: &mut [u32],
     n: usize,
@@ -46,28 +38,29 @@ fn bit_length_target_at(
     work: &[u32],
     g: PgnRecord,
     k: u32,
-    j: OptNumber,
+    j: Option<u32>,
 ) -> usize
     requires { record {
-      fits : Fits n (bit_length_target_at g.tree g.item (pgn_in s.now g) k (optional_number j));
+      fits : Fits n (bit_length_target_at g.tree g.item (pgn_in s.now g) k j);
       at : PgnAt s.now work.now g.tree g.item g.place;
       field : k < length (pgn_in s.now g).fields;
     } }
     ensures { Emitted out.old n
-        (bit_length_target_at g.tree g.item (pgn_in s.now g) k (optional_number j)) out.new result }
+        (bit_length_target_at g.tree g.item (pgn_in s.now g) k j) out.new result }
 {
-    if !j.given {
+    let Some(j) = j else {
         return put(out, n, pgn_error(15, 3, g.tree, g.item, k, 0));
+    };
+    if k <= j {
+        return put(out, n, pgn_error(15, 4, g.tree, g.item, k, j));
     }
-    if k <= j.value {
-        return put(out, n, pgn_error(15, 4, g.tree, g.item, k, j.value));
-    }
-    let f = field_of(s, work, g.tree, g.item, g.place, j.value);
+    let f = field_of(s, work, g.tree, g.item, g.place, j);
     let wrong = not_bit_count(f);
-    put_if(out, n, wrong, pgn_error(15, 5, g.tree, g.item, k, j.value))
+    put_if(out, n, wrong, pgn_error(15, 5, g.tree, g.item, k, j))
 }
 
 // Field k, which is f.
+#[tactic(auto, unfolding(crate::specs::BitLengthField::bit_length_field_at))]
 fn bit_length_field_at(
     out: &mut [u32],
     n: usize,
@@ -88,25 +81,18 @@ fn bit_length_field_at(
         out.new result }
 {
     let binary = variable_binary(s, f);
-    if !f.links.length.given {
+    let Some(id) = f.links.length else {
         return put_if(out, n, binary, pgn_error(15, 1, g.tree, g.item, k, 0));
-    }
+    };
     if !binary {
         return put(out, n, pgn_error(15, 2, g.tree, g.item, k, 0));
     }
-    let j = target(
-        s,
-        work,
-        g.tree,
-        g.item,
-        g.place,
-        g.view.fields,
-        f.links.length.text,
-    );
+    let j = target(s, work, g.tree, g.item, g.place, g.view.fields, id);
     bit_length_target_at(out, n, s, work, g, k, j)
 }
 
 // R15: a variable-length BINARY field takes its length from an earlier integer field.
+#[tactic(auto, unfolding(crate::specs::BitLengthField::check_bit_length_field))]
 pub fn check_bit_length_field(
     out: &mut [u32],
     n: usize,
@@ -122,11 +108,9 @@ pub fn check_bit_length_field(
 {
     let fields = g.view.fields;
     let mut m = n;
-    let mut k: u32 = 0;
-    while k < fields {
+    for k in 0..fields {
         let f = field_of(s, work, g.tree, g.item, g.place, k);
         m = bit_length_field_at(out, m, s, work, g, k, f);
-        k += 1;
     }
     m
 }

@@ -1,5 +1,5 @@
 // Bytes put into a buffer. A byte is stored only where the buffer has its place, so the same code over an empty part of the buffer counts.
-ghost use Rattle.std.specs.Prelude.{◌≡◌, ◌++◌, ◌+◌, ◌-◌, ◌≤◌, max, length, set, replicate};
+ghost use Rattle.std.specs.Prelude.{◌≡◌, ◌++◌, ◌+◌, ◌-◌, ◌≤◌, length, set, replicate};
 ghost use Rattle.pack.specs.Placing.{Stored};
 ghost use Rattle.rules.specs.Digits.{digits, six_digits};
 
@@ -20,23 +20,11 @@ pub fn put_bytes(out: &mut [u8], at: usize, bytes: &[u8]) -> usize
     ensures { Stored out.old at bytes.now out.new result }
 {
     let mut end = at;
-    let mut i = 0;
-    while i < bytes.len() {
-        put_byte(out, end, bytes[i]);
+    for b in bytes {
+        put_byte(out, end, *b);
         end += 1;
-        i += 1;
     }
     end
-}
-
-// The greater of the two.
-fn at_least(count: usize, least: usize) -> usize
-    ensures { result ≡ max count least }
-{
-    if count < least {
-        return least;
-    }
-    count
 }
 
 // The digits of n in `places` places from `at` on, the lowest in the last, with zeros before them; answers where they end.
@@ -45,12 +33,10 @@ fn put_digits(out: &mut [u8], at: usize, places: usize, n: u32) -> usize
     ensures { Stored out.old at (replicate (places - length (digits n)) 48 ++ digits n) out.new result }
 {
     let mut v = n;
-    let mut i = 0;
-    while i < places {
+    for i in 0..places {
         let before = places - 1 - i;
         put_byte(out, at + before, lowest(v));
         v = v / 10;
-        i += 1;
     }
     at + places
 }
@@ -60,6 +46,6 @@ pub fn put_six_digits(out: &mut [u8], at: usize, n: u32) -> usize
     requires { at + 16 ≤ 18446744073709551615 }
     ensures { Stored out.old at (six_digits n) out.new result }
 {
-    let places = at_least(digit_count(n), 6);
+    let places = digit_count(n).max(6);
     put_digits(out, at, places, n)
 }

@@ -1,5 +1,5 @@
 // The call `check`.
-ghost use Rattle.std.specs.Prelude.{◌≡◌, ◌+◌, ◌*◌, ◌≤◌, length, get_or, take, ◌==◌, if◌then◌else◌};
+ghost use Rattle.std.specs.Prelude.{◌≡◌, ◌+◌, ◌*◌, ◌≤◌, length, get_or, take, ◌==◌};
 ghost use Rattle.pack.specs.Load.{over};
 ghost use Rattle.pack.specs.Meaning.{pack_of};
 ghost use Rattle.pack.specs.Ready.{Ready, IndexIs};
@@ -42,28 +42,17 @@ fn check_all(out: &mut [u32], n: usize, s: &[u8], work: &[u32], index: Index) ->
     check_trees_continues(out, r42, s, work, index)
 }
 
-// One more, at an error.
-fn one_more(count: usize, error: bool) -> usize
-    requires { count + 1 ≤ 18446744073709551615 }
-    ensures { result ≡ (if error then count + 1 else count) }
-{
-    if error {
-        return count + 1;
-    }
-    count
-}
-
 // How many of the first n findings of the buffer are errors.
+#[tactic(auto, using(crate::specs::SearchLaws::count_turn))]
 fn count_errors(findings: &[u32], n: usize) -> usize
     requires { 8 * n ≤ length findings.now }
     ensures { result ≡ count_below (λ i. get_or findings.now (8 * i + 1) 0 == 1) n }
 {
     let mut errors = 0;
-    let mut i = 0;
-    while i < n {
-        let severity = findings[8 * i + 1];
-        errors = one_more(errors, severity == 1);
-        i += 1;
+    for i in 0..n {
+        if findings[8 * i + 1] == 1 {
+            errors += 1;
+        }
     }
     errors
 }

@@ -2,7 +2,7 @@
 ghost use Rattle.std.specs.Prelude.{◌≡◌, not, ◌||◌, [], ◌∷◌, ◌<◌, length, ◌==◌, if◌then◌else◌};
 ghost use Rattle.pack.specs.Notation.{◌<ᵇ◌, ◌≐◌};
 ghost use Rattle.pack.specs.Items.{bytes_of};
-ghost use Rattle.pack.specs.Meaning.{optional_float, optional_repeating, field_meaning, pack_of};
+ghost use Rattle.pack.specs.Meaning.{optional_repeating, field_meaning, pack_of};
 ghost use Rattle.pack.specs.Ready.{Ready, PgnIs, PgnRecordIs, pgn_in};
 ghost use Rattle.pack.specs.Value.{field_at};
 ghost use Rattle.rules.specs.Emit.{Emitted, Fits};
@@ -20,89 +20,76 @@ use crate::searches::counted;
 use crate::targets::{first_with_id, integer};
 use pack::field::FieldView;
 use pack::of::{field_of, type_of};
-use pack::optional::OptFloat;
-use pack::pgn::{OptRepeating, PgnRecord, set_at};
+use pack::pgn::{PgnRecord, RepeatingView, set_at};
 use pack::protocol::{FieldIndex, FieldOrder, among};
 use pack::text::{Text, text_is};
 
 // The set holds the order.
-pub fn holds_order(set: OptRepeating, order: FieldOrder) -> bool
+pub fn holds_order(set: Option<RepeatingView>, order: FieldOrder) -> bool
     ensures { result ≡ holds_order (optional_repeating set) order.0 }
 {
-    if !set.given {
-        return false;
+    match set {
+        Some(given) => among(order, given.start, given.count),
+        None => false,
     }
-    among(order, set.set.start, set.set.count)
 }
 
 // The highest place whose set holds field k, from 1; 0 for none.
+#[tactic(auto, unfolding(crate::specs::Continues::set_of))]
 fn set_of(s: &[u8], g: PgnRecord, k: u32) -> u32
     requires { record { is : PgnIs s.now (pgn_in s.now g) g.view; field : k < 4294967295 } }
     ensures { result ≡ set_of (pgn_in s.now g) k }
 {
     let order = FieldIndex(k).order();
-    let mut j = g.view.places;
-    while 0 < j {
-        let below = j - 1;
-        let set = set_at(g.view, below);
-        if holds_order(set, order) {
-            return j;
+    for j in (0..g.view.places).rev() {
+        if holds_order(set_at(g.view, j), order) {
+            return j + 1;
         }
-        j = below;
     }
     0
 }
 
 // Given, and not the float.
-fn differs_from(o: OptFloat, c: u64) -> bool
-    ensures { result ≡ differs_from (optional_float o) c }
+fn differs_from(o: Option<u64>, c: u64) -> bool
+    ensures { result ≡ differs_from o c }
 {
-    if o.given {
-        return !float_eq(o.pattern, c);
+    match o {
+        Some(pattern) => !float_eq(pattern, c),
+        None => false,
     }
-    false
 }
 
 // What a continuing field has of its own beside its bits.
+#[tactic(auto, unfolding(crate::specs::Continues::not_raw))]
 fn not_raw(s: &[u8], f: FieldView) -> bool
     ensures { result ≡ not_raw (field_meaning s.now f) }
 {
-    if differs_from(f.authored.resolution, ONE) {
-        return true;
-    }
-    if differs_from(f.authored.offset, ZERO) {
-        return true;
-    }
-    if f.flags.unit {
-        return true;
-    }
-    if f.links.reference.given {
-        return true;
-    }
-    if f.authored.matched.given {
-        return true;
-    }
-    f.authored.spn.given
+    differs_from(f.authored.resolution, ONE)
+        || differs_from(f.authored.offset, ZERO)
+        || f.flags.unit
+        || f.links.reference.is_some()
+        || f.authored.matched.is_some()
+        || f.authored.spn.is_some()
 }
 
 // How many fields of the PGN do.
+#[tactic(auto, using(crate::specs::SearchLaws::count_turn), unfolding(crate::specs::Continues::continued_by))]
 fn continued_by(s: &[u8], work: &[u32], g: PgnRecord, id: Text) -> u32
     requires { PgnRecordIs s.now work.now g }
     ensures { result ≡ continued_by (pgn_in s.now g) (bytes_of s.now id) }
 {
     let fields = g.view.fields;
     let mut count: u32 = 0;
-    let mut k: u32 = 0;
-    while k < fields {
+    for k in 0..fields {
         let f = field_of(s, work, g.tree, g.item, g.place, k);
         let hit = is_text(s, f.authored.continues, id);
         count = counted(count, hit);
-        k += 1;
     }
     count
 }
 
 // Not integers: the field low and the field f that continues it.
+#[tactic(auto, using(crate::proofs::Types::integer_is))]
 fn not_integers(s: &[u8], work: &[u32], low: FieldView, f: FieldView) -> bool
     requires { record {
       ready : Ready s.now work.now;
@@ -114,11 +101,8 @@ fn not_integers(s: &[u8], work: &[u32], low: FieldView, f: FieldView) -> bool
         (root_of (pack_of s.now).fieldtypes (field_meaning s.now f) ≐ NUMBER)) }
 {
     let v = type_of(s, work, low.ft);
-    if !integer(s, v) {
-        return true;
-    }
     let u = type_of(s, work, f.ft);
-    !text_is(s, u.root, b"NUMBER")
+    !integer(s, v) || !text_is(s, u.root, b"NUMBER")
 }
 
 // A sign or an offset.
@@ -129,10 +113,7 @@ fn not_plain(s: &[u8], work: &[u32], low: FieldView) -> bool
         (float_eq low.scaling.offset ZERO)) }
 {
     let v = type_of(s, work, low.ft);
-    if v.signed {
-        return true;
-    }
-    !float_eq(low.scaling.offset, ZERO)
+    v.signed || !float_eq(low.scaling.offset, ZERO)
 }
 
 // Wider than 64 bits with its continuation.
@@ -193,6 +174,7 @@ fn placed_at(
 }
 
 // Field f continues the earlier one.
+#[tactic(auto, unfolding(crate::specs::Continues::continued_at))]
 fn continued_at(
     out: &mut [u32],
     n: usize,
@@ -222,8 +204,13 @@ fn continued_at(
     let dressed = not_raw(s, f);
     let scaled = not_plain(s, work, low);
     let wide = too_wide(s, low);
-    let a = placed_at(out, n, s, work, g, link, low.links.continuation.given);
-    let b = put_if(out, a, low.authored.continues.given, link_error(5, g, link));
+    let a = placed_at(out, n, s, work, g, link, low.links.continuation.is_some());
+    let b = put_if(
+        out,
+        a,
+        low.authored.continues.is_some(),
+        link_error(5, g, link),
+    );
     let c = put_if(out, b, words, link_error(6, g, link));
     let d = put_if(out, c, dressed, link_error(7, g, link));
     let e = put_if(out, d, scaled, link_error(8, g, link));
@@ -231,6 +218,7 @@ fn continued_at(
 }
 
 // Field k, which is f.
+#[tactic(auto, unfolding(crate::specs::Continues::continues_at, crate::specs::Continues::continued_found_at))]
 fn continues_at(
     out: &mut [u32],
     n: usize,
@@ -250,15 +238,12 @@ fn continues_at(
         (continues_at (pack_of s.now).fieldtypes g.tree g.item (pgn_in s.now g) k
         (field_at (pgn_in s.now g) k).continues) out.new result }
 {
-    if !f.authored.continues.given {
+    let Some(id) = f.authored.continues else {
         return n;
-    }
-    let id = f.authored.continues.text;
-    let j = first_with_id(s, work, g.tree, g.item, g.place, k, id);
-    if !j.given {
+    };
+    let Some(earlier) = first_with_id(s, work, g.tree, g.item, g.place, k, id) else {
         return put(out, n, pgn_error(43, 1, g.tree, g.item, k, 0));
-    }
-    let earlier = j.value;
+    };
     let link = Continuing {
         field: k,
         id,
@@ -268,6 +253,7 @@ fn continues_at(
 }
 
 // R43: a `continues:` field adds high bits to an earlier, plain integer field of the same record, at a fixed distance from it.
+#[tactic(auto, unfolding(crate::specs::Continues::check_continues))]
 pub(crate) fn check_continues(
     out: &mut [u32],
     n: usize,
@@ -284,11 +270,9 @@ pub(crate) fn check_continues(
 {
     let fields = g.view.fields;
     let mut m = n;
-    let mut k: u32 = 0;
-    while k < fields {
+    for k in 0..fields {
         let f = field_of(s, work, g.tree, g.item, g.place, k);
         m = continues_at(out, m, s, work, g, k, f);
-        k += 1;
     }
     m
 }

@@ -22,20 +22,7 @@ use pack::text::{Text, text_is};
 pub fn length_source(s: &[u8], dynamic: bool, root: Text) -> bool
     ensures { result ≡ (dynamic || (bytes_of s.now root ≐ DYNAMIC_FIELD_KEY)) }
 {
-    if dynamic {
-        return true;
-    }
-    text_is(s, root, b"DYNAMIC_FIELD_KEY")
-}
-
-// Whether there was one, or the field is one.
-fn have_length_source(s: &[u8], have: bool, dynamic: bool, root: Text) -> bool
-    ensures { result ≡ (have || (dynamic || (bytes_of s.now root ≐ DYNAMIC_FIELD_KEY))) }
-{
-    if have {
-        return true;
-    }
-    length_source(s, dynamic, root)
+    dynamic || text_is(s, root, b"DYNAMIC_FIELD_KEY")
 }
 
 // Field k with its root's name, and whether there is a length source by then.
@@ -72,6 +59,7 @@ fn dynamic_length_at(
 
 // R06: DYNAMIC_FIELD_VALUE needs an earlier length source; overhead only on length fields; dynamicFieldLength only on
 // DYNAMIC_FIELD_LENGTH fields.
+#[tactic(auto, unfolding(crate::specs::DynamicLength::check_dynamic_length))]
 pub(crate) fn check_dynamic_length(
     out: &mut [u32],
     n: usize,
@@ -88,13 +76,11 @@ pub(crate) fn check_dynamic_length(
 {
     let mut m = n;
     let mut have = false;
-    let mut k = 0;
-    while k < g.view.fields {
+    for k in 0..g.view.fields {
         let f = field_of(s, work, g.tree, g.item, g.place, k);
         let root = root_of(s, work, f.ft);
-        have = have_length_source(s, have, f.flags.dynamic, root);
+        have |= length_source(s, f.flags.dynamic, root);
         m = dynamic_length_at(out, m, s, g, k, f, root, have);
-        k += 1;
     }
     m
 }

@@ -10,28 +10,22 @@ fn write(out: &mut [u32], at: usize, f: Finding)
     requires { at + 8 ≤ length out.old }
     ensures { out.new ≡ sets out.old at (numbers f) }
 {
-    out[at] = f.rule;
-    out[at + 1] = f.severity;
-    out[at + 2] = f.cause;
-    out[at + 3] = f.place;
-    out[at + 4] = f.tree;
-    out[at + 5] = f.item;
-    out[at + 6] = f.part;
-    out[at + 7] = f.other;
+    out[at..at + 8].copy_from_slice(&[
+        f.rule, f.severity, f.cause, f.place, f.tree, f.item, f.part, f.other,
+    ]);
 }
 
 // The finding behind n others; answers how many there are then.
+#[tactic(auto, unfolding(crate::specs::Emit::stored))]
 pub fn put(out: &mut [u32], n: usize, f: Finding) -> usize
     requires { Fits n (f ∷ []) }
     ensures { Emitted out.old n (f ∷ []) out.new result }
 {
     let at = 8 * n;
-    let m = n + 1;
     if at + 8 <= out.len() {
         write(out, at, f);
-        return m;
     }
-    m
+    n + 1
 }
 
 // The finding, if it is to be reported.
@@ -82,14 +76,8 @@ pub fn pgn_warning(rule: u32, cause: u32, tree: u32, item: u32, part: u32, other
     ensures { result ≡ pgn_warning rule cause tree item part other }
 {
     Finding {
-        rule,
         severity: 0,
-        cause,
-        place: 1,
-        tree,
-        item,
-        part,
-        other,
+        ..pgn_error(rule, cause, tree, item, part, other)
     }
 }
 
@@ -114,14 +102,8 @@ pub fn lookup_warning(rule: u32, cause: u32, item: u32, part: u32, other: u32) -
     ensures { result ≡ lookup_warning rule cause item part other }
 {
     Finding {
-        rule,
         severity: 0,
-        cause,
-        place: 2,
-        tree: 0,
-        item,
-        part,
-        other,
+        ..lookup_error(rule, cause, item, part, other)
     }
 }
 

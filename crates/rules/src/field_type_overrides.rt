@@ -7,13 +7,13 @@ ghost use Rattle.rules.specs.Emit.{Emitted, Fits};
 ghost use Rattle.rules.specs.FieldTypeOverrides.{overrides_at, check_field_type_overrides};
 ghost use Rattle.rules.specs.Model.{fieldtype_of};
 
-use crate::bools::and_not;
 use crate::emit::{pgn_error, put_if};
 use crate::floats::{ZERO, float_eq};
 use pack::field::FieldView;
 use pack::of::{field_of, type_of};
 use pack::pgn::PgnRecord;
 
+#[tactic(auto, unfolding(crate::specs::FieldTypeOverrides::overrides_at))]
 fn overrides_at(
     out: &mut [u32],
     n: usize,
@@ -36,14 +36,14 @@ fn overrides_at(
         (fieldtype_of (pack_of s.now).fieldtypes (field_at (pgn_in s.now g) k))) out.new result }
 {
     let ft = type_of(s, work, f.ft);
-    let width = and_not(f.flags.bits, ft.size == 0);
+    let width = f.flags.bits && ft.size != 0;
     let m = put_if(out, n, width, pgn_error(14, 1, g.tree, g.item, k, 0));
-    let unfixed = float_eq(ft.resolution, ZERO);
-    let resolution = and_not(f.authored.resolution.given, unfixed);
+    let resolution = f.authored.resolution.is_some() && !float_eq(ft.resolution, ZERO);
     put_if(out, m, resolution, pgn_error(14, 2, g.tree, g.item, k, 0))
 }
 
 // R14: a field does not author the width or the resolution that its field type fixes.
+#[tactic(auto, unfolding(crate::specs::FieldTypeOverrides::check_field_type_overrides))]
 pub fn check_field_type_overrides(
     out: &mut [u32],
     n: usize,
@@ -60,11 +60,9 @@ pub fn check_field_type_overrides(
         result }
 {
     let mut m = n;
-    let mut k = 0;
-    while k < g.view.fields {
+    for k in 0..g.view.fields {
         let f = field_of(s, work, g.tree, g.item, g.place, k);
         m = overrides_at(out, m, s, work, g, k, f);
-        k += 1;
     }
     m
 }

@@ -1,5 +1,5 @@
 // R22: a mark at each lookup that is referenced, in one pass over the references.
-ghost use Rattle.std.specs.Prelude.{◌≡◌, false, ◌||◌, ◌<◌, ◌≤◌, length, get_or, set};
+ghost use Rattle.std.specs.Prelude.{◌<◌, ◌≤◌, length};
 ghost use Rattle.pack.specs.Notation.{◌≐◌};
 ghost use Rattle.pack.specs.Value.{lookup_at};
 ghost use Rattle.pack.specs.Items.{bytes_of};
@@ -10,23 +10,13 @@ ghost use Rattle.rules.specs.Model.{is_text};
 ghost use Rattle.rules.specs.Search.{any_below};
 ghost use Rattle.rules.specs.LookupWiring.{ref_is, referenced_by_pgn, referenced_by_tree, referenced_by_lookup, referenced};
 
-use pack::field::OptReference;
+use pack::field::ReferenceView;
 use pack::load::{Index, Section};
 use pack::lookup::LookupRecord;
 use pack::of::{entry_of, field_of, lookup_of, pgn_of};
 use pack::pgn::PgnRecord;
 use pack::protocol::Protocol;
-use pack::text::{OptText, Text, same_text};
-
-// A mark at l on a hit.
-fn mark_if(marks: &mut [bool], l: usize, hit: bool)
-    requires { l < length marks.old }
-    ensures { marks.new ≡ set marks.old l (get_or marks.old l false || hit) }
-{
-    if hit {
-        marks[l] = true;
-    }
-}
+use pack::text::{Text, same_text};
 
 // Every lookup of that name: that there is one at most is not used.
 fn mark(marks: &mut [bool], s: &[u8], work: &[u32], lookups: Section, name: Text)
@@ -39,18 +29,21 @@ fn mark(marks: &mut [bool], s: &[u8], work: &[u32], lookups: Section, name: Text
 {
     let count = lookups.count;
     let mut p = lookups.place;
-    let mut l: u32 = 0;
-    while l < count {
+    for l in 0..count {
         let v = lookup_of(s, work, l, p);
-        let hit = same_text(s, name, v.name);
-        mark_if(marks, l as usize, hit);
+        marks[l as usize] |= same_text(s, name, v.name);
         p = p + 1 + v.entries as usize;
-        l += 1;
     }
 }
 
 // What a field refers to, if it does.
-fn mark_reference(marks: &mut [bool], s: &[u8], work: &[u32], lookups: Section, r: OptReference)
+fn mark_reference(
+    marks: &mut [bool],
+    s: &[u8],
+    work: &[u32],
+    lookups: Section,
+    r: Option<ReferenceView>,
+)
     requires { record {
       marks : length (pack_of s.now).lookups ≤ length marks.now;
       ready : Ready s.now work.now;
@@ -58,13 +51,13 @@ fn mark_reference(marks: &mut [bool], s: &[u8], work: &[u32], lookups: Section, 
     } }
     ensures { Marked (pack_of s.now) marks.old (λ n. ref_is (optional_reference s.now r) n) marks.new }
 {
-    if r.given {
-        mark(marks, s, work, lookups, r.name);
+    if let Some(reference) = r {
+        mark(marks, s, work, lookups, reference.name);
     }
 }
 
 // What an entry nests, if it does.
-fn mark_nested(marks: &mut [bool], s: &[u8], work: &[u32], lookups: Section, o: OptText)
+fn mark_nested(marks: &mut [bool], s: &[u8], work: &[u32], lookups: Section, o: Option<Text>)
     requires { record {
       marks : length (pack_of s.now).lookups ≤ length marks.now;
       ready : Ready s.now work.now;
@@ -72,8 +65,8 @@ fn mark_nested(marks: &mut [bool], s: &[u8], work: &[u32], lookups: Section, o: 
     } }
     ensures { Marked (pack_of s.now) marks.old (λ n. is_text (optional_bytes s.now o) n) marks.new }
 {
-    if o.given {
-        mark(marks, s, work, lookups, o.text);
+    if let Some(name) = o {
+        mark(marks, s, work, lookups, name);
     }
 }
 
@@ -87,11 +80,9 @@ fn mark_by_pgn(marks: &mut [bool], s: &[u8], work: &[u32], lookups: Section, g: 
     ensures { Marked (pack_of s.now) marks.old (λ n. referenced_by_pgn n (pgn_in s.now g)) marks.new }
 {
     let fields = g.view.fields;
-    let mut k: u32 = 0;
-    while k < fields {
+    for k in 0..fields {
         let f = field_of(s, work, g.tree, g.item, g.place, k);
         mark_reference(marks, s, work, lookups, f.links.reference);
-        k += 1;
     }
 }
 
@@ -108,8 +99,7 @@ fn mark_by_tree(marks: &mut [bool], s: &[u8], work: &[u32], lookups: Section, t:
 {
     let count = tree.count;
     let mut p = tree.place;
-    let mut i: u32 = 0;
-    while i < count {
+    for i in 0..count {
         let view = pgn_of(s, work, t, i, p);
         let pgn = PgnRecord {
             tree: t,
@@ -119,7 +109,6 @@ fn mark_by_tree(marks: &mut [bool], s: &[u8], work: &[u32], lookups: Section, t:
         };
         mark_by_pgn(marks, s, work, lookups, pgn);
         p = p + 1 + view.fields as usize;
-        i += 1;
     }
 }
 
@@ -133,11 +122,9 @@ fn mark_by_trees(marks: &mut [bool], s: &[u8], work: &[u32], index: Index)
     ensures { Marked (pack_of s.now) marks.old
         (λ n. any_below (λ t. referenced_by_tree (pack_of s.now) n t) 3) marks.new }
 {
-    let mut t: u32 = 0;
-    while t < 3 {
+    for t in 0u32..3 {
         let tree = Protocol::of_tree(t).section(index);
         mark_by_tree(marks, s, work, index.lookups, t, tree);
-        t += 1;
     }
 }
 
@@ -154,11 +141,9 @@ fn mark_by_lookup(marks: &mut [bool], s: &[u8], work: &[u32], lookups: Section, 
         return;
     }
     let entries = l.view.entries;
-    let mut e: u32 = 0;
-    while e < entries {
+    for e in 0..entries {
         let entry = entry_of(s, work, l.item, l.place, 3, e);
         mark_nested(marks, s, work, lookups, entry.nested);
-        e += 1;
     }
 }
 
@@ -175,8 +160,7 @@ fn mark_by_lookups(marks: &mut [bool], s: &[u8], work: &[u32], lookups: Section)
 {
     let count = lookups.count;
     let mut p = lookups.place;
-    let mut l: u32 = 0;
-    while l < count {
+    for l in 0..count {
         let view = lookup_of(s, work, l, p);
         let lookup = LookupRecord {
             item: l,
@@ -185,7 +169,6 @@ fn mark_by_lookups(marks: &mut [bool], s: &[u8], work: &[u32], lookups: Section)
         };
         mark_by_lookup(marks, s, work, lookups, lookup);
         p = p + 1 + view.entries as usize;
-        l += 1;
     }
 }
 

@@ -2,7 +2,7 @@
 ghost use Rattle.std.specs.Prelude.{◌≡◌, ◌<◌, length, get_or};
 ghost use Rattle.pack.specs.Notation.{concat_below};
 ghost use Rattle.pack.specs.Value.{no_entry, lookup_at};
-ghost use Rattle.pack.specs.Meaning.{optional_number, entry_meaning, pack_of};
+ghost use Rattle.pack.specs.Meaning.{entry_meaning, pack_of};
 ghost use Rattle.pack.specs.Ready.{Ready, LookupAt, LookupsAre, lookup_in, LookupRecordIs};
 ghost use Rattle.rules.specs.Emit.{Emitted, Fits};
 ghost use Rattle.rules.specs.Search.{latest_below};
@@ -14,7 +14,6 @@ use pack::entry::EntryView;
 use pack::load::Section;
 use pack::lookup::LookupRecord;
 use pack::of::{entry_of, lookup_of};
-use pack::optional::OptNumber;
 use pack::text::{same_text, text_is};
 
 // One name, of a triplet under one first value.
@@ -39,28 +38,23 @@ fn latest_same_name(
     kind: u32,
     e: u32,
     entry: EntryView,
-) -> OptNumber
+) -> Option<u32>
     requires { record {
       at : LookupAt s.now work.now l p;
       kind : kind ≡ (lookup_at (pack_of s.now).lookups l).kind;
       means : entry_meaning s.now entry ≡ get_or (lookup_at (pack_of s.now).lookups l).entries e no_entry;
       entry : e < length (lookup_at (pack_of s.now).lookups l).entries;
     } }
-    ensures { optional_number result ≡ latest_below
+    ensures { result ≡ latest_below
         (λ d. same_name (lookup_at (pack_of s.now).lookups l).kind
         (get_or (lookup_at (pack_of s.now).lookups l).entries d no_entry)
         (get_or (lookup_at (pack_of s.now).lookups l).entries e no_entry)) e }
 {
-    let mut found = OptNumber {
-        given: false,
-        value: 0,
-    };
-    let mut d: u32 = 0;
-    while d < e {
+    let mut found = None;
+    for d in 0..e {
         let other = entry_of(s, work, l, p, kind, d);
         let hit = same_name(s, kind, other, entry);
         found = latest(hit, d, found);
-        d += 1;
     }
     found
 }
@@ -95,11 +89,10 @@ fn same_name_at(
         (get_or (lookup_at (pack_of s.now).lookups l).entries e no_entry)) e)) out.new result }
 {
     let entry = entry_of(s, work, l, p, kind, e);
-    let found = latest_same_name(s, work, l, p, kind, e, entry);
-    if !found.given {
+    let Some(d) = latest_same_name(s, work, l, p, kind, e, entry) else {
         return n;
-    }
-    put(out, n, lookup_error(24, 1, l, e, found.value))
+    };
+    put(out, n, lookup_error(24, 1, l, e, d))
 }
 
 // One lookup. J1939_SPN is generated from field names.
@@ -116,10 +109,8 @@ fn lookup_names_of(out: &mut [u32], n: usize, s: &[u8], work: &[u32], l: LookupR
     let entries = l.view.entries;
     let kind = l.view.kind;
     let mut m = n;
-    let mut e: u32 = 0;
-    while e < entries {
+    for e in 0..entries {
         m = same_name_at(out, m, s, work, l.item, l.place, kind, e);
-        e += 1;
     }
     m
 }
@@ -144,8 +135,7 @@ pub fn check_lookup_names(
     let count = lookups.count;
     let mut m = n;
     let mut p = lookups.place;
-    let mut l: u32 = 0;
-    while l < count {
+    for l in 0..count {
         let view = lookup_of(s, work, l, p);
         let lookup = LookupRecord {
             item: l,
@@ -154,7 +144,6 @@ pub fn check_lookup_names(
         };
         m = lookup_names_of(out, m, s, work, lookup);
         p = p + 1 + view.entries as usize;
-        l += 1;
     }
     m
 }

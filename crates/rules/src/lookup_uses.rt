@@ -15,7 +15,7 @@ ghost use Rattle.rules.specs.LookupWiring.{ref_is, referenced_by_pgn, referenced
 use crate::emit::{lookup_warning, put_if};
 use crate::lookup_marks::mark_referenced;
 use crate::model::is_text;
-use pack::field::OptReference;
+use pack::field::ReferenceView;
 use pack::load::{Index, Section};
 use pack::lookup::LookupRecord;
 use pack::of::{entry_of, field_of, lookup_of, pgn_of};
@@ -24,13 +24,10 @@ use pack::protocol::Protocol;
 use pack::text::{Text, same_text};
 
 // Whether a reference is given and names that.
-fn ref_is(s: &[u8], r: OptReference, name: Text) -> bool
+fn ref_is(s: &[u8], r: Option<ReferenceView>, name: Text) -> bool
     ensures { result ≡ ref_is (optional_reference s.now r) (bytes_of s.now name) }
 {
-    if r.given {
-        return same_text(s, r.name, name);
-    }
-    false
+    r.is_some_and(|reference| same_text(s, reference.name, name))
 }
 
 // By a field of a PGN.
@@ -39,13 +36,11 @@ fn referenced_by_pgn(s: &[u8], work: &[u32], g: PgnRecord, name: Text) -> bool
     ensures { result ≡ referenced_by_pgn (bytes_of s.now name) (pgn_in s.now g) }
 {
     let fields = g.view.fields;
-    let mut k: u32 = 0;
-    while k < fields {
+    for k in 0..fields {
         let f = field_of(s, work, g.tree, g.item, g.place, k);
         if ref_is(s, f.links.reference, name) {
             return true;
         }
-        k += 1;
     }
     false
 }
@@ -57,8 +52,7 @@ fn referenced_by_tree(s: &[u8], work: &[u32], t: u32, tree: Section, name: Text)
 {
     let count = tree.count;
     let mut p = tree.place;
-    let mut i: u32 = 0;
-    while i < count {
+    for i in 0..count {
         let view = pgn_of(s, work, t, i, p);
         let pgn = PgnRecord {
             tree: t,
@@ -70,7 +64,6 @@ fn referenced_by_tree(s: &[u8], work: &[u32], t: u32, tree: Section, name: Text)
             return true;
         }
         p = p + 1 + view.fields as usize;
-        i += 1;
     }
     false
 }
@@ -80,13 +73,11 @@ fn referenced_by_trees(s: &[u8], work: &[u32], index: Index, name: Text) -> bool
     requires { record { ready : Ready s.now work.now; index : IndexIs (pack_of s.now) index } }
     ensures { result ≡ any_below (λ t. referenced_by_tree (pack_of s.now) (bytes_of s.now name) t) 3 }
 {
-    let mut t: u32 = 0;
-    while t < 3 {
+    for t in 0u32..3 {
         let tree = Protocol::of_tree(t).section(index);
         if referenced_by_tree(s, work, t, tree, name) {
             return true;
         }
-        t += 1;
     }
     false
 }
@@ -100,13 +91,11 @@ fn referenced_by_lookup(s: &[u8], work: &[u32], l: LookupRecord, name: Text) -> 
         return false;
     }
     let entries = l.view.entries;
-    let mut e: u32 = 0;
-    while e < entries {
+    for e in 0..entries {
         let entry = entry_of(s, work, l.item, l.place, 3, e);
         if is_text(s, entry.nested, name) {
             return true;
         }
-        e += 1;
     }
     false
 }
@@ -120,8 +109,7 @@ fn referenced_by_lookups(s: &[u8], work: &[u32], lookups: Section, name: Text) -
 {
     let count = lookups.count;
     let mut p = lookups.place;
-    let mut l: u32 = 0;
-    while l < count {
+    for l in 0..count {
         let view = lookup_of(s, work, l, p);
         let lookup = LookupRecord {
             item: l,
@@ -132,20 +120,17 @@ fn referenced_by_lookups(s: &[u8], work: &[u32], lookups: Section, name: Text) -
             return true;
         }
         p = p + 1 + view.entries as usize;
-        l += 1;
     }
     false
 }
 
 // By anything.
+#[tactic(auto, unfolding(crate::specs::LookupWiring::referenced))]
 fn referenced(s: &[u8], work: &[u32], index: Index, name: Text) -> bool
     requires { record { ready : Ready s.now work.now; index : IndexIs (pack_of s.now) index } }
     ensures { result ≡ referenced (pack_of s.now) (bytes_of s.now name) }
 {
-    if referenced_by_trees(s, work, index, name) {
-        return true;
-    }
-    referenced_by_lookups(s, work, index.lookups, name)
+    referenced_by_trees(s, work, index, name) || referenced_by_lookups(s, work, index.lookups, name)
 }
 
 // Each lookup searched for.
@@ -166,13 +151,11 @@ fn check_by_search(out: &mut [u32], n: usize, s: &[u8], work: &[u32], index: Ind
     let count = index.lookups.count;
     let mut m = n;
     let mut p = index.lookups.place;
-    let mut l: u32 = 0;
-    while l < count {
+    for l in 0..count {
         let v = lookup_of(s, work, l, p);
         let used = referenced(s, work, index, v.name);
         m = put_if(out, m, !used, lookup_warning(22, 1, l, 0, 0));
         p = p + 1 + v.entries as usize;
-        l += 1;
     }
     m
 }
@@ -187,11 +170,9 @@ fn report_unmarked(out: &mut [u32], n: usize, marks: &[bool], count: u32) -> usi
         (concat_below (λ l. report_if (not (get_or marks.now l false)) (lookup_warning 22 1 l 0 0)) count) out.new result }
 {
     let mut m = n;
-    let mut l: u32 = 0;
-    while l < count {
+    for l in 0..count {
         let used = marks[l as usize];
         m = put_if(out, m, !used, lookup_warning(22, 1, l, 0, 0));
-        l += 1;
     }
     m
 }

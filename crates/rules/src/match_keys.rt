@@ -1,7 +1,7 @@
 // The keys of PGNs' matches, as streams of bytes: no buffer holds one. Each is read with a `,` before it, so that all pieces are alike.
-ghost use Rattle.std.specs.Prelude.{◌≡◌, ◌-◌, ◌≤◌, ◌<◌, length};
+ghost use Rattle.std.specs.Prelude.{◌≡◌, IfSome, ◌-◌, ◌≤◌, ◌<◌, length};
 ghost use Rattle.pack.specs.Notation.{◌≐◌};
-ghost use Rattle.rules.specs.MatchKeys.{pieces_from, to_come, first_and, Begun, Before};
+ghost use Rattle.rules.specs.MatchKeys.{pieces_from, to_come, first_and, KeyHolds, Begun, Before};
 ghost use Rattle.rules.specs.Variants.{has_match, duplicates};
 ghost use Rattle.pack.specs.Ready.{PgnRecordIs, pgn_in};
 
@@ -19,10 +19,9 @@ pub struct MatchKey {
     pub text: Text,
 }
 
-// A byte, if there is one, and what comes after it.
+// A byte, and what comes after it.
 #[derive(Clone, Copy)]
 pub struct KeyByte {
-    pub given: bool,
     pub byte: u8,
     pub after: MatchKey,
 }
@@ -33,13 +32,11 @@ pub fn has_match(s: &[u8], work: &[u32], g: PgnRecord) -> bool
     ensures { result ≡ has_match (pgn_in s.now g) g.view.fields }
 {
     let fields = g.view.fields;
-    let mut k: u32 = 0;
-    while k < fields {
+    for k in 0..fields {
         let f = field_of(s, work, g.tree, g.item, g.place, k);
-        if f.authored.matched.given {
+        if f.authored.matched.is_some() {
             return true;
         }
-        k += 1;
     }
     false
 }
@@ -58,11 +55,7 @@ fn begun(k: u32, text: Text) -> KeyByte
         at,
         text,
     };
-    KeyByte {
-        given: true,
-        byte: 44,
-        after,
-    }
+    KeyByte { byte: 44, after }
 }
 
 // Nothing to come before the fields from `field` on.
@@ -80,34 +73,25 @@ fn before(field: u32) -> MatchKey
 }
 
 // The first byte of what fields from `from` on bring.
-fn next_piece(s: &[u8], work: &[u32], g: PgnRecord, from: u32) -> KeyByte
+fn next_piece(s: &[u8], work: &[u32], g: PgnRecord, from: u32) -> Option<KeyByte>
     requires { record { pgn : PgnRecordIs s.now work.now g; from : from ≤ g.view.fields } }
     ensures { record {
-      came : pieces_from (pgn_in s.now g) from (g.view.fields - from) ≡ first_and result.given result.byte
-          (to_come s.now (pgn_in s.now g) result.after);
-      field : result.after.field ≤ g.view.fields;
-      head : length result.after.head ≡ 11;
+      came : pieces_from (pgn_in s.now g) from (g.view.fields - from) ≡ first_and s.now (pgn_in s.now g) result;
+      next : IfSome result (λ b. KeyHolds b.after g.view.fields);
     } }
 {
     let fields = g.view.fields;
-    let mut k = from;
-    while k < fields {
+    for k in from..fields {
         let f = field_of(s, work, g.tree, g.item, g.place, k);
-        if f.authored.matched.given {
-            return begun(k, f.authored.matched.text);
+        if let Some(text) = f.authored.matched {
+            return Some(begun(k, text));
         }
-        k += 1;
     }
-    let after = before(fields);
-    KeyByte {
-        given: false,
-        byte: 0,
-        after,
-    }
+    None
 }
 
 // The text without its first byte, which comes, or the next piece where it is empty.
-fn next_of_text(s: &[u8], work: &[u32], g: PgnRecord, key: MatchKey) -> KeyByte
+fn next_of_text(s: &[u8], work: &[u32], g: PgnRecord, key: MatchKey) -> Option<KeyByte>
     requires { record {
       pgn : PgnRecordIs s.now work.now g;
       field : key.field ≤ g.view.fields;
@@ -115,10 +99,8 @@ fn next_of_text(s: &[u8], work: &[u32], g: PgnRecord, key: MatchKey) -> KeyByte
       written : 11 ≤ key.at;
     } }
     ensures { record {
-      came : to_come s.now (pgn_in s.now g) key ≡ first_and result.given result.byte
-          (to_come s.now (pgn_in s.now g) result.after);
-      field : result.after.field ≤ g.view.fields;
-      head : length result.after.head ≡ 11;
+      came : to_come s.now (pgn_in s.now g) key ≡ first_and s.now (pgn_in s.now g) result;
+      next : IfSome result (λ b. KeyHolds b.after g.view.fields);
     } }
 {
     let b = part(s, key.text);
@@ -130,52 +112,29 @@ fn next_of_text(s: &[u8], work: &[u32], g: PgnRecord, key: MatchKey) -> KeyByte
         start: key.text.start + 1,
         len: key.text.len - 1,
     };
-    let head = key.head;
-    let after = MatchKey {
-        field: key.field,
-        head,
-        at: key.at,
-        text,
-    };
-    KeyByte {
-        given: true,
-        byte,
-        after,
-    }
+    let after = MatchKey { text, ..key };
+    Some(KeyByte { byte, after })
 }
 
 // The next byte of the key.
-fn next(s: &[u8], work: &[u32], g: PgnRecord, key: MatchKey) -> KeyByte
+fn next(s: &[u8], work: &[u32], g: PgnRecord, key: MatchKey) -> Option<KeyByte>
     requires { record {
       pgn : PgnRecordIs s.now work.now g;
       field : key.field ≤ g.view.fields;
       head : length key.head ≡ 11;
     } }
     ensures { record {
-      came : to_come s.now (pgn_in s.now g) key ≡ first_and result.given result.byte
-          (to_come s.now (pgn_in s.now g) result.after);
-      field : result.after.field ≤ g.view.fields;
-      head : length result.after.head ≡ 11;
+      came : to_come s.now (pgn_in s.now g) key ≡ first_and s.now (pgn_in s.now g) result;
+      next : IfSome result (λ b. KeyHolds b.after g.view.fields);
     } }
 {
     let at = key.at;
     if 11 <= at {
         return next_of_text(s, work, g, key);
     }
-    let head = key.head;
-    let byte = head[at];
-    let text = key.text;
-    let after = MatchKey {
-        field: key.field,
-        head,
-        at: at + 1,
-        text,
-    };
-    KeyByte {
-        given: true,
-        byte,
-        after,
-    }
+    let byte = key.head[at];
+    let after = MatchKey { at: at + 1, ..key };
+    Some(KeyByte { byte, after })
 }
 
 // Whether the two keys are the same bytes, each with its `,` before it.
@@ -186,14 +145,12 @@ fn same_key(s: &[u8], work: &[u32], g: PgnRecord, h: PgnRecord) -> bool
     let mut a = before(0);
     let mut b = before(0);
     loop {
-        let x = next(s, work, g, a);
-        let y = next(s, work, h, b);
-        if !x.given {
-            return !y.given;
-        }
-        if !y.given {
+        let Some(x) = next(s, work, g, a) else {
+            return next(s, work, h, b).is_none();
+        };
+        let Some(y) = next(s, work, h, b) else {
             return false;
-        }
+        };
         if x.byte != y.byte {
             return false;
         }
@@ -203,15 +160,10 @@ fn same_key(s: &[u8], work: &[u32], g: PgnRecord, h: PgnRecord) -> bool
 }
 
 // Two variants, each with a match, that the matches do not tell apart.
+#[tactic(auto, using(crate::proofs::MatchKeys::same_keys), unfolding(crate::specs::Variants::duplicates))]
 pub fn duplicates(s: &[u8], work: &[u32], g: PgnRecord, h: PgnRecord) -> bool
     requires { record { pgn : PgnRecordIs s.now work.now g; other : PgnRecordIs s.now work.now h } }
     ensures { result ≡ duplicates (pgn_in s.now g) (pgn_in s.now h) }
 {
-    if !has_match(s, work, g) {
-        return false;
-    }
-    if !has_match(s, work, h) {
-        return false;
-    }
-    same_key(s, work, g, h)
+    has_match(s, work, g) && has_match(s, work, h) && same_key(s, work, g, h)
 }

@@ -15,6 +15,7 @@ use pack::of::field_of;
 use pack::pgn::PgnRecord;
 
 // Field k, which is f.
+#[tactic(auto, unfolding(crate::specs::MatchValues::match_value_at, crate::specs::MatchValues::resolved_at))]
 fn match_value_at(
     out: &mut [u32],
     n: usize,
@@ -34,18 +35,18 @@ fn match_value_at(
     ensures { Emitted out.old n
         (match_value_at (pack_of s.now).lookups g.tree g.item (pgn_in s.now g) k) out.new result }
 {
-    if !f.authored.matched.given {
+    if f.authored.matched.is_none() {
         return n;
     }
-    let v = resolve_match(s, work, lookups, f);
-    if !v.given {
+    let Some(v) = resolve_match(s, work, lookups, f) else {
         return put(out, n, pgn_error(13, 1, g.tree, g.item, k, 0));
-    }
-    let wide = exceeds(f.scaling.bits, v.value);
+    };
+    let wide = exceeds(f.scaling.bits, v);
     put_if(out, n, wide, pgn_error(13, 2, g.tree, g.item, k, 0))
 }
 
 // R13: a match resolves to a number that fits the field's width.
+#[tactic(auto, unfolding(crate::specs::MatchValues::check_match_values))]
 pub fn check_match_values(
     out: &mut [u32],
     n: usize,
@@ -64,11 +65,9 @@ pub fn check_match_values(
 {
     let fields = g.view.fields;
     let mut m = n;
-    let mut k: u32 = 0;
-    while k < fields {
+    for k in 0..fields {
         let f = field_of(s, work, g.tree, g.item, g.place, k);
         m = match_value_at(out, m, s, work, lookups, g, k, f);
-        k += 1;
     }
     m
 }

@@ -8,7 +8,7 @@ ghost use Rattle.rules.specs.Model.{is_text, value_bits};
 
 use pack::field::FieldView;
 use pack::of::type_of;
-use pack::text::{OptText, Text, same_text};
+use pack::text::{Text, same_text};
 
 // The name of the root of field type ft.
 pub fn root_of(s: &[u8], work: &[u32], ft: u32) -> Text
@@ -20,22 +20,16 @@ pub fn root_of(s: &[u8], work: &[u32], ft: u32) -> Text
 }
 
 // Whether a text is given and is that one.
-pub(crate) fn is_text(s: &[u8], o: OptText, t: Text) -> bool
+pub(crate) fn is_text(s: &[u8], o: Option<Text>, t: Text) -> bool
     ensures { result ≡ is_text (optional_bytes s.now o) (bytes_of s.now t) }
 {
-    if o.given {
-        return same_text(s, o.text, t);
-    }
-    false
+    o.is_some_and(|own| same_text(s, own, t))
 }
 
 // "its own bits plus any bits a later field continues it with"
+#[tactic(auto, unfolding(crate::specs::Model::value_bits))]
 pub(crate) fn value_bits(s: &[u8], f: FieldView) -> u64
     ensures { result ≡ value_bits (field_meaning s.now f) }
 {
-    let own = f.scaling.bits as u64;
-    if f.links.continuation.given {
-        return own + f.links.continuation.value as u64;
-    }
-    own
+    f.scaling.bits as u64 + f.links.continuation.unwrap_or(0) as u64
 }

@@ -14,20 +14,18 @@ use pack::entry::EntryView;
 use pack::load::{Index, Section};
 use pack::lookup::LookupRecord;
 use pack::of::{entry_of, lookup_of, type_of};
-use pack::text::{OptText, Text, same_text};
+use pack::text::{Text, same_text};
 
 // `db.fieldtype(name)`, of so many field types.
 pub fn is_fieldtype(s: &[u8], work: &[u32], types: u32, name: Text) -> bool
     requires { record { ready : Ready s.now work.now; types : types ≡ length (pack_of s.now).fieldtypes } }
     ensures { result ≡ is_fieldtype (pack_of s.now).fieldtypes (bytes_of s.now name) }
 {
-    let mut j: u32 = 0;
-    while j < types {
+    for j in 0..types {
         let v = type_of(s, work, j);
         if same_text(s, v.name, name) {
             return true;
         }
-        j += 1;
     }
     false
 }
@@ -41,7 +39,7 @@ fn nested_lookup_at(
     lookups: Section,
     l: u32,
     e: u32,
-    nested: OptText,
+    nested: Option<Text>,
 ) -> usize
     requires { record {
       fits : Fits n (nested_lookup_at (pack_of s.now).lookups l e (optional_bytes s.now nested));
@@ -51,11 +49,11 @@ fn nested_lookup_at(
     ensures { Emitted out.old n
         (nested_lookup_at (pack_of s.now).lookups l e (optional_bytes s.now nested)) out.new result }
 {
-    if !nested.given {
+    let Some(name) = nested else {
         return n;
-    }
-    let found = find_lookup(s, work, lookups, nested.text);
-    put_if(out, n, !found.given, lookup_error(8, 7, l, e, 0))
+    };
+    let missing = find_lookup(s, work, lookups, name).is_none();
+    put_if(out, n, missing, lookup_error(8, 7, l, e, 0))
 }
 
 // Entry e of lookup l.
@@ -104,11 +102,9 @@ fn check_nested_refs(
     }
     let entries = l.view.entries;
     let mut m = n;
-    let mut e: u32 = 0;
-    while e < entries {
+    for e in 0..entries {
         let entry = entry_of(s, work, l.item, l.place, 3, e);
         m = fieldtype_entry_at(out, m, s, work, index, l.item, e, entry);
-        e += 1;
     }
     m
 }
@@ -133,8 +129,7 @@ pub(crate) fn check_all_nested_refs(
     let count = index.lookups.count;
     let mut m = n;
     let mut p = index.lookups.place;
-    let mut l: u32 = 0;
-    while l < count {
+    for l in 0..count {
         let view = lookup_of(s, work, l, p);
         let lookup = LookupRecord {
             item: l,
@@ -143,7 +138,6 @@ pub(crate) fn check_all_nested_refs(
         };
         m = check_nested_refs(out, m, s, work, index, lookup);
         p = p + 1 + view.entries as usize;
-        l += 1;
     }
     m
 }

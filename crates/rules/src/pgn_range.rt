@@ -1,11 +1,11 @@
 // R02
-ghost use Rattle.std.specs.Prelude.{◌≡◌, not, ◌&&◌, ◌||◌, ◌∷◌, ◌+◌, ◌%◌, ◌<◌, length, drop, ◌==◌, if◌then◌else◌};
-ghost use Rattle.pack.specs.Notation.{optional};
+ghost use Rattle.std.specs.Option.{option_map};
+ghost use Rattle.std.specs.Prelude.{◌≡◌, not, ◌&&◌, ◌||◌, ◌%◌, ◌<◌, map, ◌==◌};
 ghost use Rattle.pack.specs.Ready.{PgnIs, pgn_in};
 ghost use Rattle.pack.specs.Trees.{tree_number};
 ghost use Rattle.rules.specs.Emit.{Emitted, Fits};
-ghost use Rattle.rules.specs.Pdu1.{pdu1};
-ghost use Rattle.rules.specs.PgnRange.{range, ranges_of, find_range, quick_range, found_range, check_pgn_range};
+ghost use Rattle.rules.specs.Pdu1.{pdu1, range_of};
+ghost use Rattle.rules.specs.PgnRange.{ranges_of, find_range, quick_range, found_range, check_pgn_range};
 
 use crate::emit::{pgn_error, put, put_if};
 use pack::pgn::PgnRecord;
@@ -28,19 +28,8 @@ pub struct Range {
     pub kind: u32,
 }
 
-#[derive(Clone, Copy)]
-pub struct OptRange {
-    pub given: bool,
-    pub range: Range,
-}
-
-// How many ranges the tables have.
-const COUNT: usize = 8;
-
-const J1939_COUNT: usize = 10;
-
 // pgn.h pgnRange[]
-const PGN_RANGES: [Range; COUNT] = [
+const PGN_RANGES: [Range; 8] = [
     Range {
         start: 0xe800,
         end: 0xee00,
@@ -84,7 +73,7 @@ const PGN_RANGES: [Range; COUNT] = [
 ];
 
 // pgn-j1939.h pgnRange[]
-const J1939_PGN_RANGES: [Range; J1939_COUNT] = [
+const J1939_PGN_RANGES: [Range; 10] = [
     Range {
         start: 0x0000,
         end: 0xe700,
@@ -143,78 +132,46 @@ const ACTISENSE_BEM: u32 = 0x40000;
 // The largest of Quick's message types: 11 bits.
 const QUICK_MOST: u32 = 0x7ff;
 
-// How many ranges a tree's table has. Quick goes by none.
-fn range_count(protocol: Protocol) -> usize
-    ensures { result ≡ length (ranges_of (tree_number protocol)) }
+// A tree's table. Quick goes by none.
+#[tactic(auto, unfolding(crate::specs::Pdu1::pdu1))]
+fn table(protocol: Protocol) -> &'static [Range]
+    ensures { map range_of result.now ≡ ranges_of (tree_number protocol) }
 {
     match protocol {
-        Protocol::J1939 => J1939_COUNT,
-        Protocol::Nmea2000 => COUNT,
-        Protocol::Quick => COUNT,
-    }
-}
-
-// Range j of a tree's table.
-fn range_at(protocol: Protocol, j: usize) -> Range
-    requires { j < length (ranges_of (tree_number protocol)) }
-    ensures { drop j (ranges_of (tree_number protocol)) ≡ range result.start result.end (if pdu1 result.start then 256 else 1) result.kind ∷
-        drop (j + 1) (ranges_of (tree_number protocol)) }
-{
-    match protocol {
-        Protocol::J1939 => J1939_PGN_RANGES[j],
-        Protocol::Nmea2000 => PGN_RANGES[j],
-        Protocol::Quick => PGN_RANGES[j],
+        Protocol::J1939 => &J1939_PGN_RANGES,
+        Protocol::Nmea2000 | Protocol::Quick => &PGN_RANGES,
     }
 }
 
 // The first range that does not end below the number.
-fn find_range(protocol: Protocol, pgn: u32) -> OptRange
-    ensures { find_range (ranges_of (tree_number protocol)) pgn ≡ optional result.given
-        (range result.range.start result.range.end (if pdu1 result.range.start then 256 else 1) result.range.kind) }
+fn find_range(protocol: Protocol, pgn: u32) -> Option<Range>
+    ensures { find_range (ranges_of (tree_number protocol)) pgn ≡ option_map range_of result }
 {
-    let count = range_count(protocol);
-    let mut j = 0;
-    while j < count {
-        let range = range_at(protocol, j);
+    for range in table(protocol) {
         if pgn <= range.end {
-            return OptRange { given: true, range };
+            return Some(*range);
         }
-        j += 1;
     }
-    OptRange {
-        given: false,
-        range: Range {
-            start: 0,
-            end: 0,
-            kind: SINGLE,
-        },
-    }
+    None
 }
 
 // J1939-21's PDU1, by bits 8 to 15, and not ending in 0x00.
+#[tactic(auto, unfolding(crate::specs::Pdu1::pdu1))]
 fn pdu1_unended(pgn: u32) -> bool
     ensures { result ≡ (pdu1 pgn && not (pgn % 256 == 0)) }
 {
-    if pgn / 256 % 256 < 240 {
-        return pgn % 256 != 0;
-    }
-    false
+    pgn / 256 % 256 < 240 && pgn % 256 != 0
 }
 
 // A packet type that does not agree with the range's.
 fn disagrees(range: u32, kind: u32) -> bool
     ensures { result ≡ not ((range == kind) || (range == 3) || (kind == 2)) }
 {
-    if range == kind {
-        return false;
-    }
-    if range == MIXED {
-        return false;
-    }
-    kind != ISO
+    range != kind && range != MIXED && kind != ISO
 }
 
 // Quick's "PGN" is an 11-bit CAN identifier, and one frame is the whole message.
+#[tactic(auto, unfolding(crate::specs::PgnRange::quick_range))]
 fn quick_range(out: &mut [u32], n: usize, s: &[u8], g: PgnRecord) -> usize
     requires { record {
       fits : Fits n (quick_range g.tree g.item (pgn_in s.now g));
@@ -237,30 +194,31 @@ fn quick_range(out: &mut [u32], n: usize, s: &[u8], g: PgnRecord) -> usize
 }
 
 // A PGN beside the range that was found for it.
-fn found_range(out: &mut [u32], n: usize, s: &[u8], g: PgnRecord, found: OptRange) -> usize
+#[tactic(auto, unfolding(crate::specs::PgnRange::found_range))]
+fn found_range(out: &mut [u32], n: usize, s: &[u8], g: PgnRecord, found: Option<Range>) -> usize
     requires { record {
       fits : Fits n (found_range g.tree g.item (pgn_in s.now g) (find_range (ranges_of g.tree) g.view.pgn));
       is : PgnIs s.now (pgn_in s.now g) g.view;
-      found : find_range (ranges_of g.tree) g.view.pgn ≡ optional found.given
-          (range found.range.start found.range.end (if pdu1 found.range.start then 256 else 1) found.range.kind);
+      found : find_range (ranges_of g.tree) g.view.pgn ≡ option_map range_of found;
     } }
     ensures { Emitted out.old n
         (found_range g.tree g.item (pgn_in s.now g) (find_range (ranges_of g.tree) g.view.pgn)) out.new
         result }
 {
-    if found.given {
-        if g.view.pgn < found.range.start {
-            return put(out, n, pgn_error(2, 4, g.tree, g.item, 0, 0));
-        }
-        let unended = pdu1_unended(g.view.pgn);
-        let m = put_if(out, n, unended, pgn_error(2, 5, g.tree, g.item, 0, 0));
-        let other = disagrees(found.range.kind, g.view.kind);
-        return put_if(out, m, other, pgn_error(2, 6, g.tree, g.item, 0, 0));
+    let Some(range) = found else {
+        return put(out, n, pgn_error(2, 3, g.tree, g.item, 0, 0));
+    };
+    if g.view.pgn < range.start {
+        return put(out, n, pgn_error(2, 4, g.tree, g.item, 0, 0));
     }
-    put(out, n, pgn_error(2, 3, g.tree, g.item, 0, 0))
+    let unended = pdu1_unended(g.view.pgn);
+    let m = put_if(out, n, unended, pgn_error(2, 5, g.tree, g.item, 0, 0));
+    let other = disagrees(range.kind, g.view.kind);
+    put_if(out, m, other, pgn_error(2, 6, g.tree, g.item, 0, 0))
 }
 
 // R02: the number in a valid range; PDU1 PGNs end in 0x00; the packet type agrees with the range.
+#[tactic(auto, unfolding(crate::specs::PgnRange::check_pgn_range))]
 pub fn check_pgn_range(out: &mut [u32], n: usize, s: &[u8], g: PgnRecord) -> usize
     requires { record {
       fits : Fits n (check_pgn_range g.tree g.item (pgn_in s.now g));

@@ -34,11 +34,9 @@ fn write_named(
           (place_text (pack_of pack.now) place tree item) text.old;
     } }
 {
-    let found = find_loc(pack, work, index, place, tree, item);
-    if !found.given {
+    let Some(loc) = find_loc(pack, work, index, place, tree, item) else {
         return Placed::Refused(Refusal::Absent);
-    }
-    let loc = found.loc;
+    };
     let needed = put_loc(&mut text[..0], pack, loc);
     if text.len() < needed {
         return Placed::Refused(Refusal::Place(needed));

@@ -1,6 +1,8 @@
 // The record that a finding's place names, found in the pack.
-ghost use Rattle.std.specs.Prelude.{◌≡◌, false, ◌&&◌, ◌<◌, length, ◌==◌};
-ghost use Rattle.pack.specs.Notation.{◌<ᵇ◌, optional};
+ghost use Rattle.std.specs.Bool.{then_some};
+ghost use Rattle.std.specs.Option.{option_map};
+ghost use Rattle.std.specs.Prelude.{◌≡◌, ◌&&◌, ◌<◌, length, ◌==◌};
+ghost use Rattle.pack.specs.Notation.{◌<ᵇ◌};
 ghost use Rattle.pack.specs.Value.{pgns_of, pgn_at, lookup_at};
 ghost use Rattle.pack.specs.Meaning.{pack_of};
 ghost use Rattle.pack.specs.Ready.{Ready, LookupAt, PgnAt, place_of_tree, place_of_lookup, IndexIs, LookupsAre, TreeIs};
@@ -11,13 +13,6 @@ use crate::locs::Loc;
 use pack::load::{Index, Section};
 use pack::of::{lookup_name_of, lookup_of, pgn_of};
 use pack::protocol::Protocol;
-
-// The text of a place, if it is in the pack.
-#[derive(Clone, Copy)]
-pub(crate) struct FoundLoc {
-    pub given: bool,
-    pub loc: Loc,
-}
 
 // The work position of a PGN of tree t, which begins at `first`.
 pub fn pgn_position(s: &[u8], work: &[u32], t: u32, first: usize, item: u32) -> usize
@@ -30,11 +25,9 @@ pub fn pgn_position(s: &[u8], work: &[u32], t: u32, first: usize, item: u32) -> 
     ensures { PgnAt s.now work.now t item result }
 {
     let mut p = first;
-    let mut i: u32 = 0;
-    while i < item {
+    for i in 0..item {
         let g = pgn_of(s, work, t, i, p);
         p = p + 1 + g.fields as usize;
-        i += 1;
     }
     p
 }
@@ -49,11 +42,9 @@ fn lookup_position(s: &[u8], work: &[u32], first: usize, item: u32) -> usize
     ensures { LookupAt s.now work.now item result }
 {
     let mut p = first;
-    let mut l: u32 = 0;
-    while l < item {
+    for l in 0..item {
         let v = lookup_of(s, work, l, p);
         p = p + 1 + v.entries as usize;
-        l += 1;
     }
     p
 }
@@ -65,14 +56,12 @@ fn has_number(s: &[u8], work: &[u32], t: u32, tree: Section, number: u32) -> boo
 {
     let n = tree.count;
     let mut p = tree.place;
-    let mut i: u32 = 0;
-    while i < n {
+    for i in 0..n {
         let g = pgn_of(s, work, t, i, p);
         if g.pgn == number {
             return true;
         }
         p = p + 1 + g.fields as usize;
-        i += 1;
     }
     false
 }
@@ -81,79 +70,59 @@ fn has_number(s: &[u8], work: &[u32], t: u32, tree: Section, number: u32) -> boo
 fn in_first_tree(tree: u32, item: u32, count: u32) -> bool
     ensures { result ≡ ((tree == 0) && (item <ᵇ count)) }
 {
-    if tree != 0 {
-        return false;
-    }
-    item < count
-}
-
-// Not in the pack.
-fn absent() -> FoundLoc
-    ensures { result.given ≡ false }
-{
-    FoundLoc {
-        given: false,
-        loc: Loc::FieldTypes,
-    }
+    tree == 0 && item < count
 }
 
 // Place 1.
-fn pgn_loc(s: &[u8], work: &[u32], index: Index, tree: u32, item: u32) -> FoundLoc
+fn pgn_loc(s: &[u8], work: &[u32], index: Index, tree: u32, item: u32) -> Option<Loc>
     requires { record { ready : Ready s.now work.now; index : IndexIs (pack_of s.now) index } }
-    ensures { optional result.given (loc_text s.now result.loc) ≡ optional
+    ensures { option_map (loc_text s.now) result ≡ then_some
         ((tree <ᵇ 3) && (item <ᵇ length (pgns_of (pack_of s.now) tree)))
         (pgn_loc tree (pgn_at (pack_of s.now) tree item)) }
 {
     if Protocol::COUNT <= tree as usize {
-        return absent();
+        return None;
     }
     let section = Protocol::of_tree(tree).section(index);
     if section.count <= item {
-        return absent();
+        return None;
     }
     let p = pgn_position(s, work, tree, section.place, item);
     let g = pgn_of(s, work, tree, item, p);
-    let number = g.pgn;
-    let id = g.id;
-    FoundLoc {
-        given: true,
-        loc: Loc::Pgn { tree, number, id },
-    }
+    Some(Loc::Pgn {
+        tree,
+        number: g.pgn,
+        id: g.id,
+    })
 }
 
 // Place 2.
-fn lookup_loc(s: &[u8], work: &[u32], lookups: Section, tree: u32, item: u32) -> FoundLoc
+fn lookup_loc(s: &[u8], work: &[u32], lookups: Section, tree: u32, item: u32) -> Option<Loc>
     requires { record { ready : Ready s.now work.now; lookups : LookupsAre (pack_of s.now) lookups } }
-    ensures { optional result.given (loc_text s.now result.loc) ≡ optional
+    ensures { option_map (loc_text s.now) result ≡ then_some
         ((tree == 0) && (item <ᵇ length (pack_of s.now).lookups))
         (lookup_loc (lookup_at (pack_of s.now).lookups item).name) }
 {
     if !in_first_tree(tree, item, lookups.count) {
-        return absent();
+        return None;
     }
     let p = lookup_position(s, work, lookups.place, item);
     let name = lookup_name_of(s, work, item, p);
-    FoundLoc {
-        given: true,
-        loc: Loc::Lookup(name),
-    }
+    Some(Loc::Lookup(name))
 }
 
 // Place 3, where the item is the PGN number.
-fn group_loc(s: &[u8], work: &[u32], index: Index, tree: u32, item: u32) -> FoundLoc
+fn group_loc(s: &[u8], work: &[u32], index: Index, tree: u32, item: u32) -> Option<Loc>
     requires { record { ready : Ready s.now work.now; index : IndexIs (pack_of s.now) index } }
-    ensures { optional result.given (loc_text s.now result.loc) ≡ optional
+    ensures { option_map (loc_text s.now) result ≡ then_some
         ((tree <ᵇ 3) && has_number (pack_of s.now) tree item) (group_loc tree item) }
 {
     if Protocol::COUNT <= tree as usize {
-        return absent();
+        return None;
     }
     let section = Protocol::of_tree(tree).section(index);
     let given = has_number(s, work, tree, section, item);
-    FoundLoc {
-        given,
-        loc: Loc::Group { tree, number: item },
-    }
+    given.then_some(Loc::Group { tree, number: item })
 }
 
 // "The place text call names a finding by place, tree and item"
@@ -164,24 +133,15 @@ pub(crate) fn find_loc(
     place: u32,
     tree: u32,
     item: u32,
-) -> FoundLoc
+) -> Option<Loc>
     requires { record { ready : Ready s.now work.now; index : IndexIs (pack_of s.now) index } }
-    ensures { optional result.given (loc_text s.now result.loc) ≡ place_text (pack_of s.now) place tree item }
+    ensures { option_map (loc_text s.now) result ≡ place_text (pack_of s.now) place tree item }
 {
-    if place == 0 {
-        return FoundLoc {
-            given: in_first_tree(tree, item, index.types.count),
-            loc: Loc::FieldTypes,
-        };
+    match place {
+        0 => in_first_tree(tree, item, index.types.count).then_some(Loc::FieldTypes),
+        1 => pgn_loc(s, work, index, tree, item),
+        2 => lookup_loc(s, work, index.lookups, tree, item),
+        3 => group_loc(s, work, index, tree, item),
+        _ => None,
     }
-    if place == 1 {
-        return pgn_loc(s, work, index, tree, item);
-    }
-    if place == 2 {
-        return lookup_loc(s, work, index.lookups, tree, item);
-    }
-    if place == 3 {
-        return group_loc(s, work, index, tree, item);
-    }
-    absent()
 }

@@ -21,17 +21,7 @@ fn is_pair(s: &[u8], f: FieldView, name: &[u8], bits: u32) -> bool
     ensures { result ≡ (pair_is (optional_reference s.now f.links.reference) name.now && (f.scaling.bits == bits)) }
 {
     let reference = f.links.reference;
-    let lookup = reference.name;
-    if !reference.given {
-        return false;
-    }
-    if reference.kind != 0 {
-        return false;
-    }
-    if text_is(s, lookup, name) {
-        return f.scaling.bits == bits;
-    }
-    false
+    reference.is_some_and(|r| r.kind == 0 && text_is(s, r.name, name)) && f.scaling.bits == bits
 }
 
 // A RESERVED field of so many bits.
@@ -40,10 +30,7 @@ fn is_reserved(s: &[u8], work: &[u32], f: FieldView, bits: u32) -> bool
     ensures { result ≡ ((root_of (pack_of s.now).fieldtypes (field_meaning s.now f) ≐ RESERVED) && (f.scaling.bits == bits)) }
 {
     let root = root_of(s, work, f.ft);
-    if text_is(s, root, b"RESERVED") {
-        return f.scaling.bits == bits;
-    }
-    false
+    text_is(s, root, b"RESERVED") && f.scaling.bits == bits
 }
 
 // Whether the PGN opens with Manufacturer Code, Reserved, Industry Code.
@@ -71,10 +58,7 @@ fn company_fields(s: &[u8], work: &[u32], g: PgnRecord) -> bool
 fn is_exempt(pgn: u32, fallback: bool) -> bool
     ensures { result ≡ (not (is_manufacturer_pgn pgn) || fallback) }
 {
-    if is_manufacturer_pgn(pgn) {
-        return fallback;
-    }
-    true
+    !is_manufacturer_pgn(pgn) || fallback
 }
 
 // R07: manufacturer-proprietary PGNs open with Manufacturer Code / Reserved / Industry Code, or declare MissingCompanyFields.

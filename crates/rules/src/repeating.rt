@@ -1,5 +1,5 @@
 // R05
-ghost use Rattle.std.specs.Prelude.{◌≡◌, not, ◌&&◌, ◌||◌, ◌+◌, ◌==◌};
+ghost use Rattle.std.specs.Prelude.{◌≡◌, ◌&&◌, ◌+◌};
 ghost use Rattle.pack.specs.Notation.{◌<ᵇ◌, ◌≤ᵇ◌};
 ghost use Rattle.pack.specs.Meaning.{opt_order, repeating_meaning, optional_repeating};
 ghost use Rattle.pack.specs.Ready.{PgnIs, pgn_in};
@@ -7,27 +7,17 @@ ghost use Rattle.rules.specs.Emit.{Emitted, Fits};
 ghost use Rattle.rules.specs.Repeating.{none_or_below, set_bounds, set_count_field, set_nesting, check_set, check_repeating};
 
 use crate::emit::{pgn_error, put, put_if};
-use pack::pgn::{OptRepeating, PgnRecord, RepeatingView, absent_set, set_at};
-use pack::protocol::{FieldOrder, OptOrder, precedes};
-
-// A countField that is none, or not before the set.
-fn misplaced(counter: FieldOrder, start: FieldOrder) -> bool
-    ensures { result ≡ ((counter.0 == 0) || (start.0 ≤ᵇ counter.0)) }
-{
-    if counter.0 == 0 {
-        return true;
-    }
-    !precedes(counter, start)
-}
+use pack::pgn::{PgnRecord, RepeatingView, set_at};
+use pack::protocol::{FieldOrder, precedes};
 
 // No countField, or one before the order.
-fn none_or_below(counter: OptOrder, order: FieldOrder) -> bool
+fn none_or_below(counter: Option<FieldOrder>, order: FieldOrder) -> bool
     ensures { result ≡ none_or_below (opt_order counter) order.0 }
 {
-    if counter.given {
-        return precedes(counter.order, order);
+    match counter {
+        Some(own) => precedes(own, order),
+        None => true,
     }
-    true
 }
 
 // The number behind a set's last order.
@@ -38,31 +28,13 @@ fn set_end(set: RepeatingView) -> u64
 }
 
 // A set that starts after the start of another and ends within it.
-fn lies_inside(set: RepeatingView, outer: OptRepeating) -> bool
-    ensures { result ≡
-        (outer.given
-        && ((outer.set.start.0 <ᵇ set.start.0) && (set.start.0 + set.count ≤ᵇ outer.set.start.0 + outer.set.count))) }
+fn lies_inside(set: RepeatingView, outer: RepeatingView) -> bool
+    ensures { result ≡ ((outer.start.0 <ᵇ set.start.0) && (set.start.0 + set.count ≤ᵇ outer.start.0 + outer.count)) }
 {
-    if !outer.given {
-        return false;
-    }
-    let enclosing = outer.set;
-    if precedes(enclosing.start, set.start) {
-        return set_end(set) <= set_end(enclosing);
-    }
-    false
+    precedes(outer.start, set.start) && set_end(set) <= set_end(outer)
 }
 
-// A set that is there and has fields.
-fn is_nonempty(set: OptRepeating) -> bool
-    ensures { result ≡ (set.given && not (set.set.count == 0)) }
-{
-    if set.given {
-        return set.set.count != 0;
-    }
-    false
-}
-
+#[tactic(auto, unfolding(crate::specs::Repeating::set_bounds))]
 fn set_bounds(
     out: &mut [u32],
     n: usize,
@@ -87,6 +59,7 @@ fn set_bounds(
     )
 }
 
+#[tactic(auto, unfolding(crate::specs::Repeating::set_count_field))]
 fn set_count_field(
     out: &mut [u32],
     n: usize,
@@ -94,39 +67,44 @@ fn set_count_field(
     i: u32,
     part: u32,
     start: FieldOrder,
-    counter: OptOrder,
+    counter: Option<FieldOrder>,
 ) -> usize
     requires { Fits n (set_count_field t i part start.0 (opt_order counter)) }
     ensures { Emitted out.old n (set_count_field t i part start.0 (opt_order counter)) out.new result }
 {
-    if counter.given {
-        let report = misplaced(counter.order, start);
-        return put_if(out, n, report, pgn_error(5, 3, t, i, part, 0));
-    }
-    n
+    let Some(counter) = counter else {
+        return n;
+    };
+    let misplaced = counter.0 == 0 || !precedes(counter, start);
+    put_if(out, n, misplaced, pgn_error(5, 3, t, i, part, 0))
 }
 
+#[tactic(auto, unfolding(crate::specs::Repeating::set_nesting))]
 fn set_nesting(
     out: &mut [u32],
     n: usize,
     t: u32,
     i: u32,
     part: u32,
-    outer: OptRepeating,
+    outer: Option<RepeatingView>,
     set: RepeatingView,
 ) -> usize
     requires { Fits n (set_nesting t i part (optional_repeating outer) (repeating_meaning set)) }
     ensures { Emitted out.old n (set_nesting t i part (optional_repeating outer) (repeating_meaning set)) out.new result }
 {
-    if lies_inside(set, outer) {
-        let counter = set.counter;
-        let report = none_or_below(counter, outer.set.start);
-        return put_if(out, n, report, pgn_error(5, 4, t, i, part, 0));
+    let Some(enclosing) = outer else {
+        return put(out, n, pgn_error(5, 5, t, i, part, 0));
+    };
+    if !lies_inside(set, enclosing) {
+        return put(out, n, pgn_error(5, 5, t, i, part, 0));
     }
-    put(out, n, pgn_error(5, 5, t, i, part, 0))
+    let counter = set.counter;
+    let report = none_or_below(counter, enclosing.start);
+    put_if(out, n, report, pgn_error(5, 4, t, i, part, 0))
 }
 
 // A set of a PGN with so many fields, beside the set that may enclose it.
+#[tactic(auto, unfolding(crate::specs::Repeating::check_set))]
 fn check_set(
     out: &mut [u32],
     n: usize,
@@ -134,26 +112,29 @@ fn check_set(
     i: u32,
     part: u32,
     fields: u32,
-    outer: OptRepeating,
-    set: OptRepeating,
+    outer: Option<RepeatingView>,
+    set: Option<RepeatingView>,
 ) -> usize
     requires { Fits n (check_set t i part fields (optional_repeating outer) (optional_repeating set)) }
     ensures { Emitted out.old n (check_set t i part fields (optional_repeating outer) (optional_repeating set)) out.new result }
 {
-    if is_nonempty(set) {
-        let r = set.set;
-        let counter = r.counter;
-        let m = set_bounds(out, n, t, i, part, fields, r);
-        let k = set_count_field(out, m, t, i, part, r.start, counter);
-        if r.nested {
-            return set_nesting(out, k, t, i, part, outer, r);
-        }
-        return k;
+    let Some(set) = set else {
+        return n;
+    };
+    if set.count == 0 {
+        return n;
     }
-    n
+    let counter = set.counter;
+    let m = set_bounds(out, n, t, i, part, fields, set);
+    let k = set_count_field(out, m, t, i, part, set.start, counter);
+    if set.nested {
+        return set_nesting(out, k, t, i, part, outer, set);
+    }
+    k
 }
 
 // R05: repeating sets are self-consistent, and a nested set lies wholly inside the one that encloses it. Nothing encloses the first.
+#[tactic(auto, unfolding(crate::specs::Repeating::check_repeating))]
 pub fn check_repeating(out: &mut [u32], n: usize, s: &[u8], g: PgnRecord) -> usize
     requires { record {
       fits : Fits n (check_repeating g.tree g.item (pgn_in s.now g));
@@ -162,14 +143,12 @@ pub fn check_repeating(out: &mut [u32], n: usize, s: &[u8], g: PgnRecord) -> usi
     ensures { Emitted out.old n (check_repeating g.tree g.item (pgn_in s.now g)) out.new result }
 {
     let places = g.view.places;
-    let mut outer = absent_set();
+    let mut outer = None;
     let mut m = n;
-    let mut k: u32 = 0;
-    while k < places {
+    for k in 0..places {
         let set = set_at(g.view, k);
         m = check_set(out, m, g.tree, g.item, k + 1, g.view.fields, outer, set);
         outer = set;
-        k += 1;
     }
     m
 }

@@ -1,11 +1,11 @@
 // R12
-ghost use Rattle.std.specs.Prelude.{◌≡◌, false, not, drop, if◌then◌else◌};
+ghost use Rattle.std.specs.Prelude.{◌≡◌, false, not, if◌then◌else◌};
 ghost use Rattle.pack.specs.Notation.{◌≐◌};
 ghost use Rattle.pack.specs.Items.{bytes_of};
 ghost use Rattle.pack.specs.Meaning.{field_meaning};
 ghost use Rattle.pack.specs.Value.{field_at};
 ghost use Rattle.rules.specs.Emit.{Emitted, Fits};
-ghost use Rattle.numerals.specs.Numerals.{is_digit, all_digits};
+ghost use Rattle.numerals.specs.Numerals.{all_digits};
 ghost use Rattle.rules.specs.ReservedIds.{numbered, reserved_id_at, check_reserved_ids};
 ghost use Rattle.rules.specs.Texts.{bytes};
 ghost use Rattle.pack.specs.Ready.{PgnRecordIs, pgn_in};
@@ -16,25 +16,14 @@ use pack::of::field_of;
 use pack::pgn::PgnRecord;
 use pack::text::{part, text_is};
 
-fn is_digit(b: u8) -> bool
-    ensures { result ≡ is_digit b }
+// Whether all bytes are ASCII digits.
+fn all_digits(digits: &[u8]) -> bool
+    ensures { result ≡ all_digits digits.now }
 {
-    if b < 48 {
-        return false;
-    }
-    b <= 57
-}
-
-// Whether the bytes from k on are ASCII digits.
-fn digits_from(id: &[u8], k: usize) -> bool
-    ensures { result ≡ all_digits (drop k id.now) }
-{
-    let mut j = k;
-    while j < id.len() {
-        if !is_digit(id[j]) {
+    for &b in digits {
+        if !b.is_ascii_digit() {
             return false;
         }
-        j += 1;
     }
     true
 }
@@ -43,17 +32,10 @@ fn digits_from(id: &[u8], k: usize) -> bool
 fn numbered(want: &[u8], id: &[u8]) -> bool
     ensures { result ≡ numbered want.now id.now }
 {
-    let mut k = 0;
-    while k < want.len() {
-        if id.len() <= k {
-            return false;
-        }
-        if want[k] != id[k] {
-            return false;
-        }
-        k += 1;
+    match id.strip_prefix(want) {
+        Some(rest) => all_digits(rest),
+        None => false,
     }
-    digits_from(id, k)
 }
 
 // Whether a Reserved or Spare field has another id.
@@ -74,6 +56,7 @@ fn misnamed(s: &[u8], f: FieldView) -> bool
     false
 }
 
+#[tactic(auto, unfolding(crate::specs::ReservedIds::reserved_id_at))]
 fn reserved_id_at(out: &mut [u32], n: usize, s: &[u8], g: PgnRecord, k: u32, f: FieldView) -> usize
     requires { record {
       fits : Fits n (reserved_id_at g.tree g.item k (field_at (pgn_in s.now g) k));
@@ -86,6 +69,7 @@ fn reserved_id_at(out: &mut [u32], n: usize, s: &[u8], g: PgnRecord, k: u32, f: 
 }
 
 // R12: Reserved and Spare fields have the id `reserved` or `spare`, with a number or without.
+#[tactic(auto, unfolding(crate::specs::ReservedIds::check_reserved_ids))]
 pub fn check_reserved_ids(out: &mut [u32], n: usize, s: &[u8], work: &[u32], g: PgnRecord) -> usize
     requires { record {
       fits : Fits n (check_reserved_ids g.tree g.item (pgn_in s.now g));
@@ -94,11 +78,9 @@ pub fn check_reserved_ids(out: &mut [u32], n: usize, s: &[u8], work: &[u32], g: 
     ensures { Emitted out.old n (check_reserved_ids g.tree g.item (pgn_in s.now g)) out.new result }
 {
     let mut m = n;
-    let mut k = 0;
-    while k < g.view.fields {
+    for k in 0..g.view.fields {
         let f = field_of(s, work, g.tree, g.item, g.place, k);
         m = reserved_id_at(out, m, s, g, k, f);
-        k += 1;
     }
     m
 }

@@ -1,10 +1,7 @@
 // Answers of searches that go on to the end.
+ghost use Rattle.std.specs.Bool.{then_some};
 ghost use Rattle.std.specs.Prelude.{◌≡◌, ◌+◌, ◌<◌, if◌then◌else◌};
-ghost use Rattle.pack.specs.Notation.{optional};
-ghost use Rattle.pack.specs.Meaning.{optional_number};
 ghost use Rattle.rules.specs.Search.{or_else, larger, smaller};
-
-use pack::optional::OptNumber;
 
 // One more, at a hit.
 pub fn counted(count: u32, hit: bool) -> u32
@@ -18,58 +15,30 @@ pub fn counted(count: u32, hit: bool) -> u32
 }
 
 // The latest hit, when index j is tried.
-pub fn latest(hit: bool, j: u32, earlier: OptNumber) -> OptNumber
-    ensures { optional_number result ≡ or_else (optional hit j) (optional_number earlier) }
+pub fn latest(hit: bool, j: u32, earlier: Option<u32>) -> Option<u32>
+    ensures { result ≡ or_else (then_some hit j) earlier }
 {
-    if hit {
-        return OptNumber {
-            given: true,
-            value: j,
-        };
-    }
-    earlier
+    if hit { Some(j) } else { earlier }
 }
 
-// The largest so far, when v is tried.
-pub fn larger(found: OptNumber, hit: bool, v: u32) -> OptNumber
-    ensures { optional_number result ≡ larger (optional_number found) (optional hit v) }
+// The larger of two, where there are any.
+pub fn larger(found: Option<u32>, one: Option<u32>) -> Option<u32>
+    ensures { result ≡ larger found one }
 {
-    if !hit {
-        return found;
-    }
-    if found.given {
-        if v <= found.value {
-            return found;
-        }
-        return OptNumber {
-            given: true,
-            value: v,
-        };
-    }
-    OptNumber {
-        given: true,
-        value: v,
+    match (found, one) {
+        (None, _) => one,
+        (Some(_), None) => found,
+        (Some(a), Some(b)) => Some(if a < b { b } else { a }),
     }
 }
 
-// The smallest so far, when v is tried.
-pub fn smaller(found: OptNumber, hit: bool, v: u32) -> OptNumber
-    ensures { optional_number result ≡ smaller (optional_number found) (optional hit v) }
+// The smaller of two, where there are any.
+pub fn smaller(found: Option<u32>, one: Option<u32>) -> Option<u32>
+    ensures { result ≡ smaller found one }
 {
-    if !hit {
-        return found;
-    }
-    if found.given {
-        if found.value <= v {
-            return found;
-        }
-        return OptNumber {
-            given: true,
-            value: v,
-        };
-    }
-    OptNumber {
-        given: true,
-        value: v,
+    match (found, one) {
+        (None, _) => one,
+        (Some(_), None) => found,
+        (Some(a), Some(b)) => Some(if b < a { b } else { a }),
     }
 }

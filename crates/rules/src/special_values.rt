@@ -1,6 +1,5 @@
 // R09
-ghost use Rattle.std.specs.Prelude.{◌≡◌, ◌||◌, ◌<◌};
-ghost use Rattle.pack.specs.Notation.{◌<ᵇ◌};
+ghost use Rattle.std.specs.Prelude.{◌≡◌};
 ghost use Rattle.pack.specs.Meaning.{field_meaning};
 ghost use Rattle.pack.specs.Value.{field_at};
 ghost use Rattle.rules.specs.Emit.{Emitted, Fits};
@@ -13,28 +12,14 @@ use pack::of::field_of;
 use pack::pgn::PgnRecord;
 
 // The largest value of so many bits, at most of 63.
+#[tactic(auto, unfolding(crate::specs::SpecialValues::special_max))]
 fn special_max(bits: u32) -> u64
     ensures { result ≡ special_max bits }
 {
-    if bits == 0 {
-        return 0;
-    }
-    if bits <= 63 {
-        return (1u64 << bits) - 1;
-    }
-    0x7fff_ffff_ffff_ffff
+    (1u64 << bits.min(63)) - 1
 }
 
-// Out of 0 to 3, or not below 2^bits.
-fn out_of_range(sv: u32, bits: u32) -> bool
-    ensures { result ≡ ((3 <ᵇ sv) || (special_max bits <ᵇ sv)) }
-{
-    if 3 < sv {
-        return true;
-    }
-    special_max(bits) < sv as u64
-}
-
+#[tactic(auto, unfolding(crate::specs::SpecialValues::special_values_at))]
 fn special_values_at(
     out: &mut [u32],
     n: usize,
@@ -51,15 +36,15 @@ fn special_values_at(
         (special_values_at g.tree g.item k (field_at (pgn_in s.now g) k).res_bits
         (field_at (pgn_in s.now g) k).special_values) out.new result }
 {
-    let special = f.links.special;
-    if special.given {
-        let report = out_of_range(special.value, f.scaling.bits);
-        return put_if(out, n, report, pgn_error(9, 1, g.tree, g.item, k, 0));
-    }
-    n
+    let Some(special) = f.links.special else {
+        return n;
+    };
+    let outside = 3 < special || special_max(f.scaling.bits) < special as u64;
+    put_if(out, n, outside, pgn_error(9, 1, g.tree, g.item, k, 0))
 }
 
 // R09: specialValues within 0 to 3, and below 2^bits.
+#[tactic(auto, unfolding(crate::specs::SpecialValues::check_special_values))]
 pub fn check_special_values(
     out: &mut [u32],
     n: usize,
@@ -74,11 +59,9 @@ pub fn check_special_values(
     ensures { Emitted out.old n (check_special_values g.tree g.item (pgn_in s.now g)) out.new result }
 {
     let mut m = n;
-    let mut k = 0;
-    while k < g.view.fields {
+    for k in 0..g.view.fields {
         let f = field_of(s, work, g.tree, g.item, g.place, k);
         m = special_values_at(out, m, s, g, k, f);
-        k += 1;
     }
     m
 }

@@ -1,24 +1,23 @@
 // For R24 cause 2: whether two fields have one name and different SPNs
 ghost use Rattle.std.specs.Prelude.{◌≡◌, not, ◌&&◌, ◌+◌, ◌<◌, length, ◌==◌};
 ghost use Rattle.pack.specs.Items.{bytes_of};
-ghost use Rattle.pack.specs.Meaning.{optional_number, pack_of};
+ghost use Rattle.pack.specs.Meaning.{pack_of};
 ghost use Rattle.pack.specs.Ready.{Ready, PgnAt, place_of_tree, TreeIs};
 ghost use Rattle.pack.specs.Value.{pgn_at, field_at};
-ghost use Rattle.rules.specs.SpnClashes.{other_spn, other_in, other_among, clash_from, may_clash};
+ghost use Rattle.rules.specs.SpnClashes.{differs, other_spn, other_in, other_among, clash_from, may_clash};
 
 use pack::load::Section;
 use pack::of::{field_name_of, field_of, pgn_of};
-use pack::optional::OptNumber;
 use pack::text::{Text, same_text};
 
 // Whether an SPN is given, and is not that one.
-fn differs(n: OptNumber, spn: u32) -> bool
-    ensures { result ≡ (n.given && not (n.value == spn)) }
+fn differs(n: Option<u32>, spn: u32) -> bool
+    ensures { result ≡ differs n spn }
 {
-    if n.given {
-        return n.value != spn;
+    match n {
+        Some(own) => own != spn,
+        None => false,
     }
-    false
 }
 
 // Whether field h of PGN j, which is at q, has that name, and carries another SPN. Few have the name: only of these more is read.
@@ -40,37 +39,33 @@ fn other_in(s: &[u8], work: &[u32], name: Text, spn: u32, j: u32, q: usize, fiel
     requires { record { at : PgnAt s.now work.now 1 j q; fields : fields ≡ length (pgn_at (pack_of s.now) 1 j).fields } }
     ensures { result ≡ other_in (bytes_of s.now name) spn (pgn_at (pack_of s.now) 1 j) }
 {
-    let mut h: u32 = 0;
-    while h < fields {
+    for h in 0..fields {
         if other_spn(s, work, name, spn, j, q, h) {
             return true;
         }
-        h += 1;
     }
     false
 }
 
 // Whether a field of the PGNs up to i does, if that SPN is given. The tree begins at `first`.
-fn other_among(s: &[u8], work: &[u32], first: usize, i: u32, name: Text, spn: OptNumber) -> bool
+fn other_among(s: &[u8], work: &[u32], first: usize, i: u32, name: Text, spn: Option<u32>) -> bool
     requires { record {
       ready : Ready s.now work.now;
       first : first ≡ place_of_tree (pack_of s.now) 1;
       item : i < length (pack_of s.now).pgns_j1939;
     } }
-    ensures { result ≡ other_among (pack_of s.now).pgns_j1939 (i + 1) (bytes_of s.now name) (optional_number spn) }
+    ensures { result ≡ other_among (pack_of s.now).pgns_j1939 (i + 1) (bytes_of s.now name) spn }
 {
-    if !spn.given {
+    let Some(spn) = spn else {
         return false;
-    }
+    };
     let mut q = first;
-    let mut j: u32 = 0;
-    while j <= i {
+    for j in 0..=i {
         let g = pgn_of(s, work, 1, j, q);
-        if other_in(s, work, name, spn.value, j, q, g.fields) {
+        if other_in(s, work, name, spn, j, q, g.fields) {
             return true;
         }
         q = q + 1 + g.fields as usize;
-        j += 1;
     }
     false
 }
@@ -84,13 +79,11 @@ fn clash_from(s: &[u8], work: &[u32], first: usize, i: u32, p: usize, fields: u3
     } }
     ensures { result ≡ clash_from (pack_of s.now).pgns_j1939 i }
 {
-    let mut k: u32 = 0;
-    while k < fields {
+    for k in 0..fields {
         let f = field_of(s, work, 1, i, p, k);
         if other_among(s, work, first, i, f.names.name, f.authored.spn) {
             return true;
         }
-        k += 1;
     }
     false
 }
@@ -103,14 +96,12 @@ pub fn may_clash(s: &[u8], work: &[u32], tree: Section) -> bool
     let count = tree.count;
     let first = tree.place;
     let mut p = first;
-    let mut i: u32 = 0;
-    while i < count {
+    for i in 0..count {
         let g = pgn_of(s, work, 1, i, p);
         if clash_from(s, work, first, i, p, g.fields) {
             return true;
         }
         p = p + 1 + g.fields as usize;
-        i += 1;
     }
     false
 }

@@ -1,18 +1,16 @@
 // R24 cause 2
-ghost use Rattle.std.specs.Prelude.{◌≡◌, true, ◌&&◌, [], ◌+◌, length, get_or};
-ghost use Rattle.std.proofs.Math.Option.{some};
+ghost use Rattle.std.specs.Prelude.{is_some, ◌≡◌, true, ◌&&◌, [], ◌+◌, length, get_or, Some};
 ghost use Rattle.pack.specs.Notation.{◌<ᵇ◌, ◌≤ᵇ◌, ◌≐◌};
 ghost use Rattle.pack.specs.Value.{no_pgn, pgn_at};
 ghost use Rattle.pack.specs.Items.{bytes_of};
-ghost use Rattle.pack.specs.Meaning.{optional_number, pgn_meaning, pack_of};
+ghost use Rattle.pack.specs.Meaning.{pgn_meaning, pack_of};
 ghost use Rattle.pack.specs.Ready.{Ready, PgnAt, PgnIs, TreeIs};
 ghost use Rattle.rules.specs.Emit.{Emitted, Fits};
-ghost use Rattle.rules.specs.Model.{given};
 ghost use Rattle.rules.specs.PlaceText.{pgn_loc};
 ghost use Rattle.rules.specs.Search.{sum_below};
-ghost use Rattle.rules.specs.SpnNames.{is_number, spn_field, spn_pgn, spn_name, earlier_spn, clash_at, clash_of, least_spn_in, least_spn};
+ghost use Rattle.rules.specs.SpnNames.{is_number, spn_field, spn_pgn, spn_name, earlier_spn, clash_at, clash_of, spn_from, least_spn_in, least_spn};
 ghost use Rattle.rules.specs.SpnNames.{check_spn_names};
-ghost use Rattle.rules.specs.Namers.{NamesAmong, candidate_in, candidate};
+ghost use Rattle.rules.specs.Namers.{NamesAmong, comes_after, candidate_at, candidate_in, candidate};
 
 use crate::emit::{pgn_error, put};
 use crate::searches::{larger, smaller};
@@ -20,14 +18,12 @@ use crate::spn_clashes::may_clash;
 use pack::field::FieldView;
 use pack::load::Section;
 use pack::of::{field_of, pgn_of};
-use pack::optional::OptNumber;
 use pack::pgn::PgnView;
 use pack::text::{Text, same_text};
 
-// The field that names an SPN, if one carries it: its PGN's index, work position and number, and its index there.
+// The field that names an SPN: its PGN's index, work position and number, and its index there.
 #[derive(Clone, Copy)]
 pub struct Namer {
-    pub given: bool,
     pub pgn: u32,
     pub place: usize,
     pub number: u32,
@@ -35,49 +31,46 @@ pub struct Namer {
 }
 
 // Whether a number is given, and is v.
-pub fn is_number(n: OptNumber, v: u32) -> bool
-    ensures { result ≡ is_number (optional_number n) v }
+pub fn is_number(n: Option<u32>, v: u32) -> bool
+    ensures { result ≡ is_number n v }
 {
-    if n.given {
-        return n.value == v;
-    }
-    false
+    n == Some(v)
 }
 
 // The first field of PGN j, which is at p, that carries the SPN.
-fn spn_field(s: &[u8], work: &[u32], j: u32, p: usize, fields: u32, spn: u32) -> OptNumber
+fn spn_field(s: &[u8], work: &[u32], j: u32, p: usize, fields: u32, spn: u32) -> Option<u32>
     requires { record { at : PgnAt s.now work.now 1 j p; fields : fields ≡ length (pgn_at (pack_of s.now) 1 j).fields } }
-    ensures { optional_number result ≡ spn_field (pgn_at (pack_of s.now) 1 j) spn }
+    ensures { result ≡ spn_field (pgn_at (pack_of s.now) 1 j) spn }
 {
-    let mut k: u32 = 0;
-    while k < fields {
+    for k in 0..fields {
         let f = field_of(s, work, 1, j, p, k);
         if is_number(f.authored.spn, spn) {
-            return OptNumber {
-                given: true,
-                value: k,
-            };
+            return Some(k);
         }
-        k += 1;
     }
-    OptNumber {
-        given: false,
-        value: 0,
-    }
+    None
 }
 
 // Whether a PGN of that number comes after the best so far.
-fn comes_after(best: Namer, number: u32) -> bool
-    ensures { result ≡ (best.given && (best.number ≤ᵇ number)) }
+fn comes_after(best: Option<Namer>, number: u32) -> bool
+    ensures { result ≡ comes_after best number }
 {
-    if best.given {
-        return best.number <= number;
+    match best {
+        Some(namer) => namer.number <= number,
+        None => false,
     }
-    false
 }
 
 // The best so far, when PGN j is tried, which is g, at p.
-fn better(s: &[u8], work: &[u32], spn: u32, best: Namer, j: u32, p: usize, g: PgnView) -> Namer
+fn better(
+    s: &[u8],
+    work: &[u32],
+    spn: u32,
+    best: Option<Namer>,
+    j: u32,
+    p: usize,
+    g: PgnView,
+) -> Option<Namer>
     requires { record {
       names : NamesAmong s.now work.now spn j best;
       at : PgnAt s.now work.now 1 j p;
@@ -88,39 +81,29 @@ fn better(s: &[u8], work: &[u32], spn: u32, best: Namer, j: u32, p: usize, g: Pg
     if comes_after(best, g.pgn) {
         return best;
     }
-    let f = spn_field(s, work, j, p, g.fields, spn);
-    if f.given {
-        return Namer {
-            given: true,
-            pgn: j,
-            place: p,
-            number: g.pgn,
-            field: f.value,
-        };
-    }
-    best
+    let Some(field) = spn_field(s, work, j, p, g.fields, spn) else {
+        return best;
+    };
+    Some(Namer {
+        pgn: j,
+        place: p,
+        number: g.pgn,
+        field,
+    })
 }
 
 // The PGN that names the SPN: of those that carry it the one of the least number, the first of equals.
-fn spn_pgn(s: &[u8], work: &[u32], tree: Section, spn: u32) -> Namer
+fn spn_pgn(s: &[u8], work: &[u32], tree: Section, spn: u32) -> Option<Namer>
     requires { record { ready : Ready s.now work.now; pgns : TreeIs (pack_of s.now) 1 tree } }
     ensures { NamesAmong s.now work.now spn (length (pack_of s.now).pgns_j1939) result }
 {
     let count = tree.count;
-    let mut best = Namer {
-        given: false,
-        pgn: 0,
-        place: 0,
-        number: 0,
-        field: 0,
-    };
+    let mut best = None;
     let mut p = tree.place;
-    let mut j: u32 = 0;
-    while j < count {
+    for j in 0..count {
         let g = pgn_of(s, work, 1, j, p);
         best = better(s, work, spn, best, j, p, g);
         p = p + 1 + g.fields as usize;
-        j += 1;
     }
     best
 }
@@ -128,8 +111,7 @@ fn spn_pgn(s: &[u8], work: &[u32], tree: Section, spn: u32) -> Namer
 // The SPN's name.
 fn spn_name(s: &[u8], work: &[u32], spn: u32, namer: Namer) -> Text
     requires { record {
-      names : NamesAmong s.now work.now spn (length (pack_of s.now).pgns_j1939) namer;
-      given : namer.given ≡ true;
+      names : NamesAmong s.now work.now spn (length (pack_of s.now).pgns_j1939) (Some namer);
     } }
     ensures { bytes_of s.now result ≡ spn_name (pack_of s.now).pgns_j1939 spn }
 {
@@ -142,29 +124,29 @@ fn has_name(s: &[u8], work: &[u32], tree: Section, spn: u32, name: Text) -> bool
     requires { record {
       ready : Ready s.now work.now;
       pgns : TreeIs (pack_of s.now) 1 tree;
-      named : given (spn_pgn (pack_of s.now).pgns_j1939 spn) ≡ true;
+      named : is_some (spn_pgn (pack_of s.now).pgns_j1939 spn) ≡ true;
     } }
     ensures { result ≡ (spn_name (pack_of s.now).pgns_j1939 spn ≐ bytes_of s.now name) }
 {
-    let namer = spn_pgn(s, work, tree, spn);
+    let Some(namer) = spn_pgn(s, work, tree, spn) else {
+        unreachable!()
+    };
     let own = spn_name(s, work, spn, namer);
     same_text(s, own, name)
 }
 
-// Whether f carries an SPN below b, under that name.
-fn is_candidate(s: &[u8], b: u32, name: Text, f: FieldView) -> bool
-    ensures { result ≡
-        (f.authored.spn.given && (f.authored.spn.value <ᵇ b) &&
-        (bytes_of s.now f.names.name ≐ bytes_of s.now name)) }
+// The SPN that f carries, if it is below b and under that name.
+fn candidate_at(s: &[u8], b: u32, name: Text, f: FieldView) -> Option<u32>
+    ensures { result ≡ candidate_at (bytes_of s.now name) b (bytes_of s.now f.names.name) f.authored.spn }
 {
-    let spn = f.authored.spn;
-    if !spn.given {
-        return false;
+    let spn = f.authored.spn?;
+    if b <= spn {
+        return None;
     }
-    if b <= spn.value {
-        return false;
+    if same_text(s, f.names.name, name) {
+        return Some(spn);
     }
-    same_text(s, f.names.name, name)
+    None
 }
 
 // The largest SPN below b that a field of PGN i, which is at p, carries under that name.
@@ -176,65 +158,52 @@ fn candidate_in(
     i: u32,
     p: usize,
     fields: u32,
-) -> OptNumber
+) -> Option<u32>
     requires { record { at : PgnAt s.now work.now 1 i p; fields : fields ≡ length (pgn_at (pack_of s.now) 1 i).fields } }
-    ensures { optional_number result ≡ candidate_in (pack_of s.now).pgns_j1939 (bytes_of s.now name) b i }
+    ensures { result ≡ candidate_in (pack_of s.now).pgns_j1939 (bytes_of s.now name) b i }
 {
-    let mut found = OptNumber {
-        given: false,
-        value: 0,
-    };
-    let mut k: u32 = 0;
-    while k < fields {
+    let mut found = None;
+    for k in 0..fields {
         let f = field_of(s, work, 1, i, p, k);
-        let hit = is_candidate(s, b, name, f);
-        found = larger(found, hit, f.authored.spn.value);
-        k += 1;
+        let one = candidate_at(s, b, name, f);
+        found = larger(found, one);
     }
     found
 }
 
 // The largest SPN below b that a field carries under that name.
-fn candidate(s: &[u8], work: &[u32], tree: Section, b: u32, name: Text) -> OptNumber
+fn candidate(s: &[u8], work: &[u32], tree: Section, b: u32, name: Text) -> Option<u32>
     requires { record { ready : Ready s.now work.now; pgns : TreeIs (pack_of s.now) 1 tree } }
-    ensures { optional_number result ≡ candidate (pack_of s.now).pgns_j1939 (bytes_of s.now name) b }
+    ensures { result ≡ candidate (pack_of s.now).pgns_j1939 (bytes_of s.now name) b }
 {
     let count = tree.count;
-    let mut found = OptNumber {
-        given: false,
-        value: 0,
-    };
+    let mut found = None;
     let mut p = tree.place;
-    let mut i: u32 = 0;
-    while i < count {
+    for i in 0..count {
         let g = pgn_of(s, work, 1, i, p);
         let one = candidate_in(s, work, b, name, i, p, g.fields);
-        found = larger(found, one.given, one.value);
+        found = larger(found, one);
         p = p + 1 + g.fields as usize;
-        i += 1;
     }
     found
 }
 
 // The largest SPN below this one of its name. Another field may name a candidate: then one below it is looked for.
-fn earlier_spn(s: &[u8], work: &[u32], tree: Section, spn: u32, name: Text) -> OptNumber
+fn earlier_spn(s: &[u8], work: &[u32], tree: Section, spn: u32, name: Text) -> Option<u32>
     requires { record {
       ready : Ready s.now work.now;
       pgns : TreeIs (pack_of s.now) 1 tree;
       name : bytes_of s.now name ≡ spn_name (pack_of s.now).pgns_j1939 spn;
     } }
-    ensures { optional_number result ≡ earlier_spn (pack_of s.now).pgns_j1939 spn }
+    ensures { result ≡ earlier_spn (pack_of s.now).pgns_j1939 spn }
 {
     let mut b = spn;
     loop {
-        let found = candidate(s, work, tree, b, name);
-        if !found.given {
-            return found;
+        let found = candidate(s, work, tree, b, name)?;
+        if has_name(s, work, tree, found, name) {
+            return Some(found);
         }
-        if has_name(s, work, tree, found.value, name) {
-            return found;
-        }
-        b = found.value;
+        b = found;
     }
 }
 
@@ -279,70 +248,64 @@ fn clash_at(
 // An SPN that a field carries, and the one before it of its name.
 fn clash_of(out: &mut [u32], n: usize, s: &[u8], work: &[u32], tree: Section, spn: u32) -> usize
     requires { record {
-      fits : Fits n (clash_of (pack_of s.now).pgns_j1939 (some spn));
+      fits : Fits n (clash_of (pack_of s.now).pgns_j1939 (Some spn));
       ready : Ready s.now work.now;
       pgns : TreeIs (pack_of s.now) 1 tree;
-      named : given (spn_pgn (pack_of s.now).pgns_j1939 spn) ≡ true;
+      named : is_some (spn_pgn (pack_of s.now).pgns_j1939 spn) ≡ true;
     } }
-    ensures { Emitted out.old n (clash_of (pack_of s.now).pgns_j1939 (some spn)) out.new result }
+    ensures { Emitted out.old n (clash_of (pack_of s.now).pgns_j1939 (Some spn)) out.new result }
 {
-    let namer = spn_pgn(s, work, tree, spn);
+    let Some(namer) = spn_pgn(s, work, tree, spn) else {
+        unreachable!()
+    };
     let name = spn_name(s, work, spn, namer);
-    let earlier = earlier_spn(s, work, tree, spn, name);
-    if !earlier.given {
+    let Some(earlier) = earlier_spn(s, work, tree, spn, name) else {
         return n;
-    }
-    let other = spn_pgn(s, work, tree, earlier.value);
-    clash_at(out, n, s, work, earlier.value, spn, other, namer)
+    };
+    let Some(other) = spn_pgn(s, work, tree, earlier) else {
+        unreachable!()
+    };
+    clash_at(out, n, s, work, earlier, spn, other, namer)
 }
 
-// Whether an SPN is given, and not below b.
-fn is_from(b: u64, spn: OptNumber) -> bool
-    ensures { result ≡ (spn.given && (b ≤ᵇ spn.value)) }
+// An SPN that is not below b.
+fn spn_from(b: u64, spn: Option<u32>) -> Option<u32>
+    ensures { result ≡ spn_from b spn }
 {
-    if spn.given {
-        return b <= spn.value as u64;
+    let spn = spn?;
+    if b <= spn as u64 {
+        return Some(spn);
     }
-    false
+    None
 }
 
 // The least SPN from b on that a field of PGN i carries, which is at p.
-fn least_spn_in(s: &[u8], work: &[u32], b: u64, i: u32, p: usize, fields: u32) -> OptNumber
+fn least_spn_in(s: &[u8], work: &[u32], b: u64, i: u32, p: usize, fields: u32) -> Option<u32>
     requires { record { at : PgnAt s.now work.now 1 i p; fields : fields ≡ length (pgn_at (pack_of s.now) 1 i).fields } }
-    ensures { optional_number result ≡ least_spn_in (pack_of s.now).pgns_j1939 b i }
+    ensures { result ≡ least_spn_in (pack_of s.now).pgns_j1939 b i }
 {
-    let mut found = OptNumber {
-        given: false,
-        value: 0,
-    };
-    let mut k: u32 = 0;
-    while k < fields {
+    let mut found = None;
+    for k in 0..fields {
         let f = field_of(s, work, 1, i, p, k);
-        let hit = is_from(b, f.authored.spn);
-        found = smaller(found, hit, f.authored.spn.value);
-        k += 1;
+        let one = spn_from(b, f.authored.spn);
+        found = smaller(found, one);
     }
     found
 }
 
 // The least SPN from b on. b is wide, since it is one above an SPN.
-fn least_spn(s: &[u8], work: &[u32], tree: Section, b: u64) -> OptNumber
+fn least_spn(s: &[u8], work: &[u32], tree: Section, b: u64) -> Option<u32>
     requires { record { ready : Ready s.now work.now; pgns : TreeIs (pack_of s.now) 1 tree } }
-    ensures { optional_number result ≡ least_spn (pack_of s.now).pgns_j1939 b }
+    ensures { result ≡ least_spn (pack_of s.now).pgns_j1939 b }
 {
     let count = tree.count;
-    let mut found = OptNumber {
-        given: false,
-        value: 0,
-    };
+    let mut found = None;
     let mut p = tree.place;
-    let mut i: u32 = 0;
-    while i < count {
+    for i in 0..count {
         let g = pgn_of(s, work, 1, i, p);
         let one = least_spn_in(s, work, b, i, p, g.fields);
-        found = smaller(found, one.given, one.value);
+        found = smaller(found, one);
         p = p + 1 + g.fields as usize;
-        i += 1;
     }
     found
 }
@@ -356,12 +319,10 @@ fn field_total(s: &[u8], work: &[u32], tree: Section) -> u32
     let count = tree.count;
     let mut total: u32 = 0;
     let mut p = tree.place;
-    let mut i: u32 = 0;
-    while i < count {
+    for i in 0..count {
         let g = pgn_of(s, work, 1, i, p);
         total += g.fields;
         p = p + 1 + g.fields as usize;
-        i += 1;
     }
     total
 }
@@ -378,15 +339,12 @@ fn spn_clashes(out: &mut [u32], n: usize, s: &[u8], work: &[u32], j1939: Section
     let total = field_total(s, work, j1939);
     let mut m = n;
     let mut b: u64 = 0;
-    let mut rank: u32 = 0;
-    while rank < total {
-        let spn = least_spn(s, work, j1939, b);
-        if !spn.given {
+    for rank in 0..total {
+        let Some(spn) = least_spn(s, work, j1939, b) else {
             return m;
-        }
-        m = clash_of(out, m, s, work, j1939, spn.value);
-        b = spn.value as u64 + 1;
-        rank += 1;
+        };
+        m = clash_of(out, m, s, work, j1939, spn);
+        b = spn as u64 + 1;
     }
     m
 }

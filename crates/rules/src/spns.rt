@@ -1,6 +1,5 @@
 // R42
-ghost use Rattle.std.specs.Prelude.{◌≡◌, true, ◌&&◌, ◌<◌, length, ◌==◌};
-ghost use Rattle.std.proofs.Math.Option.{some};
+ghost use Rattle.std.specs.Prelude.{◌≡◌, true, ◌&&◌, ◌<◌, length, ◌==◌, Some};
 ghost use Rattle.std.specs.Float.Ieee.{of_bits};
 ghost use Rattle.std.specs.Float.{binary64};
 ghost use Rattle.pack.specs.Notation.{concat_below};
@@ -20,7 +19,7 @@ use pack::load::{Index, Section};
 use pack::of::{field_of, pgn_of};
 use pack::pgn::{PgnRecord, PgnView};
 use pack::protocol::Protocol;
-use pack::text::{OptText, same_text};
+use pack::text::{Text, same_text};
 
 // "The largest SPN: J1939 carries them in 19 bits."
 const MAX_SPN: u32 = 0x7ffff;
@@ -31,7 +30,7 @@ struct Scaling {
     width: u32,
     resolution: f64,
     offset: f64,
-    unit: OptText,
+    unit: Option<Text>,
 }
 
 // A field by its PGN's index and work position, and its index there.
@@ -59,16 +58,14 @@ fn scaling_of(v: ScalingView) -> Scaling
 }
 
 // One unit, or none for both.
-fn same_unit(s: &[u8], a: OptText, b: OptText) -> bool
+fn same_unit(s: &[u8], a: Option<Text>, b: Option<Text>) -> bool
     ensures { result ≡ same_unit (optional_bytes s.now a) (optional_bytes s.now b) }
 {
-    if a.given {
-        if b.given {
-            return same_text(s, a.text, b.text);
-        }
-        return false;
+    match (a, b) {
+        (Some(x), Some(y)) => same_text(s, x, y),
+        (None, None) => true,
+        _ => false,
     }
-    !b.given
 }
 
 // `==` of the Rust's tuple: a NaN differs from itself.
@@ -99,11 +96,11 @@ fn first_seen(s: &[u8], work: &[u32], first: usize, i: u32, k: u32, spn: u32) ->
       first : first ≡ place_of_tree (pack_of s.now) 1;
       item : i < length (pgns_of (pack_of s.now) 1);
       field : k < length (pgn_at (pack_of s.now) 1 i).fields;
-      spn : (field_at (pgn_at (pack_of s.now) 1 i) k).spn ≡ some spn;
+      spn : (field_at (pgn_at (pack_of s.now) 1 i) k).spn ≡ Some spn;
     } }
     ensures { record {
-      seen : first_seen (pgns_of (pack_of s.now) 1) spn ≡ some result.pgn;
-      field : spn_field (pgn_at (pack_of s.now) 1 result.pgn) spn ≡ some result.field;
+      seen : first_seen (pgns_of (pack_of s.now) 1) spn ≡ Some result.pgn;
+      field : spn_field (pgn_at (pack_of s.now) 1 result.pgn) spn ≡ Some result.field;
       at : PgnAt s.now work.now 1 result.pgn result.place;
     } }
 {
@@ -126,49 +123,59 @@ fn first_seen(s: &[u8], work: &[u32], first: usize, i: u32, k: u32, spn: u32) ->
     Carrier { pgn, place, field }
 }
 
-// Whether it is field k of PGN i.
-fn is_at(c: Carrier, i: u32, k: u32) -> bool
-    ensures { result ≡ ((c.pgn == i) && (c.field == k)) }
+// A field by its PGN's index and its index there.
+#[derive(Clone, Copy)]
+struct FieldAt {
+    item: u32,
+    field: u32,
+}
+
+// Whether it is that field.
+fn is_at(c: Carrier, at: FieldAt) -> bool
+    ensures { result ≡ ((c.pgn == at.item) && (c.field == at.field)) }
 {
-    if c.pgn == i {
-        return c.field == k;
+    if c.pgn == at.item {
+        return c.field == at.field;
     }
     false
 }
 
-// Field k of PGN i, which is f and carries an SPN, against the first that carries it.
+// A field that carries an SPN, and is scaled so, against the first that carries it.
 fn unlike_first(
     out: &mut [u32],
     n: usize,
     s: &[u8],
     work: &[u32],
     first: usize,
-    i: u32,
-    k: u32,
+    at: FieldAt,
     f: FieldView,
+    spn: u32,
 ) -> usize
     requires { record {
-      fits : Fits n
-          (unlike_first (pgns_of (pack_of s.now) 1) i k f.authored.spn.value
-          (first_seen (pgns_of (pack_of s.now) 1) f.authored.spn.value));
+      fits : Fits n (unlike_first (pgns_of (pack_of s.now) 1) at.item at.field spn (first_seen (pgns_of (pack_of s.now) 1) spn));
       ready : Ready s.now work.now;
       first : first ≡ place_of_tree (pack_of s.now) 1;
-      item : i < length (pgns_of (pack_of s.now) 1);
-      field : k < length (pgn_at (pack_of s.now) 1 i).fields;
-      means : field_meaning s.now f ≡ field_at (pgn_at (pack_of s.now) 1 i) k;
-      spn : f.authored.spn.given ≡ true;
+      item : at.item < length (pgns_of (pack_of s.now) 1);
+      field : at.field < length (pgn_at (pack_of s.now) 1 at.item).fields;
+      means : field_meaning s.now f ≡ (field_at (pgn_at (pack_of s.now) 1 at.item) at.field);
+      spn : (field_at (pgn_at (pack_of s.now) 1 at.item) at.field).spn ≡ Some spn;
     } }
     ensures { Emitted out.old n
-        (unlike_first (pgns_of (pack_of s.now) 1) i k f.authored.spn.value
-        (first_seen (pgns_of (pack_of s.now) 1) f.authored.spn.value)) out.new result }
+        (unlike_first (pgns_of (pack_of s.now) 1) at.item at.field spn
+        (first_seen (pgns_of (pack_of s.now) 1) spn)) out.new result }
 {
-    let seen = first_seen(s, work, first, i, k, f.authored.spn.value);
-    if is_at(seen, i, k) {
+    let seen = first_seen(s, work, first, at.item, at.field, spn);
+    if is_at(seen, at) {
         return n;
     }
     let g = field_of(s, work, 1, seen.pgn, seen.place, seen.field);
     let alike = same_scaling(s, g.scaling, f.scaling);
-    put_if(out, n, !alike, pgn_error(42, 3, 1, i, k, seen.pgn))
+    put_if(
+        out,
+        n,
+        !alike,
+        pgn_error(42, 3, 1, at.item, at.field, seen.pgn),
+    )
 }
 
 // Field k of PGN i, which is f.
@@ -193,14 +200,14 @@ fn spn_at(
     ensures { Emitted out.old n
         (spn_at (pgns_of (pack_of s.now) 1) i k (field_at (pgn_at (pack_of s.now) 1 i) k).spn) out.new result }
 {
-    let spn = f.authored.spn;
-    if spn.given {
-        if MAX_SPN < spn.value {
-            return put(out, n, pgn_error(42, 2, 1, i, k, 0));
-        }
-        return unlike_first(out, n, s, work, first, i, k, f);
+    let Some(spn) = f.authored.spn else {
+        return n;
+    };
+    if MAX_SPN < spn {
+        return put(out, n, pgn_error(42, 2, 1, i, k, 0));
     }
-    n
+    let at = FieldAt { item: i, field: k };
+    unlike_first(out, n, s, work, first, at, f, spn)
 }
 
 // PGN i of the J1939 tree, at p.
@@ -224,11 +231,9 @@ fn check_scalings(
         (check_scalings (pgns_of (pack_of s.now) 1) i (pgn_at (pack_of s.now) 1 i)) out.new result }
 {
     let mut m = n;
-    let mut k: u32 = 0;
-    while k < g.fields {
+    for k in 0..g.fields {
         let f = field_of(s, work, 1, i, p, k);
         m = spn_at(out, m, s, work, first, i, k, f);
-        k += 1;
     }
     m
 }
@@ -248,12 +253,10 @@ fn scalings(out: &mut [u32], n: usize, s: &[u8], work: &[u32], tree: Section) ->
     let first = tree.place;
     let mut m = n;
     let mut p = first;
-    let mut i: u32 = 0;
-    while i < count {
+    for i in 0..count {
         let g = pgn_of(s, work, 1, i, p);
         m = check_scalings(out, m, s, work, first, i, p, g);
         p = p + 1 + g.fields as usize;
-        i += 1;
     }
     m
 }
@@ -267,16 +270,14 @@ fn spns_elsewhere(out: &mut [u32], n: usize, s: &[u8], work: &[u32], g: PgnRecor
     ensures { Emitted out.old n (spns_elsewhere g.tree g.item (pgn_in s.now g)) out.new result }
 {
     let mut m = n;
-    let mut k: u32 = 0;
-    while k < g.view.fields {
+    for k in 0..g.view.fields {
         let f = field_of(s, work, g.tree, g.item, g.place, k);
         m = put_if(
             out,
             m,
-            f.authored.spn.given,
+            f.authored.spn.is_some(),
             pgn_error(42, 1, g.tree, g.item, k, 0),
         );
-        k += 1;
     }
     m
 }
@@ -296,8 +297,7 @@ fn elsewhere(out: &mut [u32], n: usize, s: &[u8], work: &[u32], t: u32, tree: Se
     let count = tree.count;
     let mut m = n;
     let mut p = tree.place;
-    let mut i: u32 = 0;
-    while i < count {
+    for i in 0..count {
         let view = pgn_of(s, work, t, i, p);
         let pgn = PgnRecord {
             tree: t,
@@ -307,7 +307,6 @@ fn elsewhere(out: &mut [u32], n: usize, s: &[u8], work: &[u32], t: u32, tree: Se
         };
         m = spns_elsewhere(out, m, s, work, pgn);
         p = p + 1 + view.fields as usize;
-        i += 1;
     }
     m
 }

@@ -2,7 +2,7 @@
 ghost use Rattle.std.specs.Prelude.{◌≡◌, ◌||◌, ◌≤◌, length};
 ghost use Rattle.pack.specs.Notation.{◌≐◌};
 ghost use Rattle.pack.specs.Items.{bytes_of};
-ghost use Rattle.pack.specs.Meaning.{optional_number, pack_of};
+ghost use Rattle.pack.specs.Meaning.{pack_of};
 ghost use Rattle.pack.specs.Ready.{PgnAt};
 ghost use Rattle.pack.specs.Value.{pgn_at, field_at};
 ghost use Rattle.rules.specs.Search.{first_below};
@@ -11,10 +11,10 @@ ghost use Rattle.rules.specs.Texts.{NUMBER, LOOKUP};
 
 use pack::field_type::FieldTypeView;
 use pack::of::field_id_of;
-use pack::optional::OptNumber;
 use pack::text::{Text, same_text, text_is};
 
 // The first of n fields of PGN i of tree t, which is at p, with that id.
+#[tactic(auto, using(crate::specs::SearchLaws::first_turn))]
 pub(crate) fn first_with_id(
     s: &[u8],
     work: &[u32],
@@ -23,31 +23,24 @@ pub(crate) fn first_with_id(
     p: usize,
     n: u32,
     id: Text,
-) -> OptNumber
+) -> Option<u32>
     requires { record { at : PgnAt s.now work.now t i p; fields : n ≤ length (pgn_at (pack_of s.now) t i).fields } }
-    ensures { optional_number result ≡ first_below (λ j. (field_at (pgn_at (pack_of s.now) t i) j).id ≐ bytes_of s.now id) n }
+    ensures { result ≡ first_below (λ j. (field_at (pgn_at (pack_of s.now) t i) j).id ≐ bytes_of s.now id) n }
 {
-    let mut j: u32 = 0;
-    while j < n {
+    for j in 0..n {
         let other = field_id_of(s, work, t, i, p, j);
         if same_text(s, other, id) {
-            return OptNumber {
-                given: true,
-                value: j,
-            };
+            return Some(j);
         }
-        j += 1;
     }
-    OptNumber {
-        given: false,
-        value: 0,
-    }
+    None
 }
 
 // "A target is the first field with that id", of n fields.
-pub fn target(s: &[u8], work: &[u32], t: u32, i: u32, p: usize, n: u32, id: Text) -> OptNumber
+#[tactic(auto, unfolding(crate::specs::Model::target))]
+pub fn target(s: &[u8], work: &[u32], t: u32, i: u32, p: usize, n: u32, id: Text) -> Option<u32>
     requires { record { at : PgnAt s.now work.now t i p; fields : n ≡ length (pgn_at (pack_of s.now) t i).fields } }
-    ensures { optional_number result ≡ target (pgn_at (pack_of s.now) t i) (bytes_of s.now id) }
+    ensures { result ≡ target (pgn_at (pack_of s.now) t i) (bytes_of s.now id) }
 {
     first_with_id(s, work, t, i, p, n, id)
 }
@@ -56,8 +49,5 @@ pub fn target(s: &[u8], work: &[u32], t: u32, i: u32, p: usize, n: u32, id: Text
 pub(crate) fn integer(s: &[u8], v: FieldTypeView) -> bool
     ensures { result ≡ ((bytes_of s.now v.root ≐ NUMBER) || (bytes_of s.now v.root ≐ LOOKUP)) }
 {
-    if text_is(s, v.root, b"NUMBER") {
-        return true;
-    }
-    text_is(s, v.root, b"LOOKUP")
+    text_is(s, v.root, b"NUMBER") || text_is(s, v.root, b"LOOKUP")
 }

@@ -1,6 +1,6 @@
 // R44
 ghost use Rattle.std.specs.Prelude.{◌≡◌, ◌||◌, ◌≤◌, ◌<◌, length, ◌==◌};
-ghost use Rattle.pack.specs.Meaning.{optional_number, optional_repeating, field_meaning, pack_of};
+ghost use Rattle.pack.specs.Meaning.{optional_repeating, field_meaning, pack_of};
 ghost use Rattle.pack.specs.Ready.{Ready, PgnAt, PgnIs, PgnRecordIs, pgn_in};
 ghost use Rattle.pack.specs.Value.{field_at, set_place};
 ghost use Rattle.rules.specs.Emit.{Emitted, Fits};
@@ -13,39 +13,29 @@ use crate::floats::{ONE, ZERO, float_eq};
 use crate::targets::{integer, target};
 use pack::field::FieldView;
 use pack::of::{field_of, type_of};
-use pack::optional::OptNumber;
-use pack::pgn::{OptRepeating, PgnRecord, set_at};
+use pack::pgn::{PgnRecord, RepeatingView, set_at};
 use pack::protocol::{FieldIndex, FieldOrder, precedes};
 use pack::text::text_is;
 
-// A set counts where it is given, empty or not.
-fn counts(set: OptRepeating) -> bool
-    ensures { result ≡ set.given }
-{
-    set.given
-}
-
 // The set, if any, starts behind the order.
-fn starts_behind(set: OptRepeating, order: FieldOrder) -> bool
+fn starts_behind(set: Option<RepeatingView>, order: FieldOrder) -> bool
     ensures { result ≡ starts_behind (optional_repeating set) order.0 }
 {
-    if counts(set) {
-        return precedes(order, set.set.start);
+    match set {
+        Some(given) => precedes(order, given.start),
+        None => true,
     }
-    true
 }
 
 // A variable-width field, or a proprietary one that may be absent.
 fn moves(f: FieldView) -> bool
     ensures { result ≡ ((f.scaling.bits == 0) || f.flags.proprietary) }
 {
-    if f.scaling.bits == 0 {
-        return true;
-    }
-    f.flags.proprietary
+    f.scaling.bits == 0 || f.flags.proprietary
 }
 
 // Whether such a field is among the first n.
+#[tactic(auto, using(crate::specs::SearchLaws::any_turn))]
 fn any_moves(s: &[u8], work: &[u32], g: PgnRecord, n: u32) -> bool
     requires { record {
       at : PgnAt s.now work.now g.tree g.item g.place;
@@ -53,13 +43,11 @@ fn any_moves(s: &[u8], work: &[u32], g: PgnRecord, n: u32) -> bool
     } }
     ensures { result ≡ any_below (λ k. ((field_at (pgn_in s.now g) k).res_bits == 0) || (field_at (pgn_in s.now g) k).proprietary) n }
 {
-    let mut k: u32 = 0;
-    while k < n {
+    for k in 0..n {
         let f = field_of(s, work, g.tree, g.item, g.place, k);
         if moves(f) {
             return true;
         }
-        k += 1;
     }
     false
 }
@@ -71,54 +59,41 @@ fn sets_start_behind(s: &[u8], g: PgnRecord, order: FieldOrder) -> bool
         every_below (λ k. starts_behind (set_place (pgn_in s.now g) k) order.0) (length (pgn_in s.now g).sets) }
 {
     let places = g.view.places;
-    let mut k: u32 = 0;
-    while k < places {
+    for k in 0..places {
         let set = set_at(g.view, k);
         if !starts_behind(set, order) {
             return false;
         }
-        k += 1;
     }
     true
 }
 
 // Whether field j has a fixed position.
+#[tactic(auto, unfolding(crate::specs::TrailingZero::fixed))]
 fn fixed(s: &[u8], work: &[u32], g: PgnRecord, j: u32) -> bool
     requires { record { pgn : PgnRecordIs s.now work.now g; field : j < length (pgn_in s.now g).fields } }
     ensures { result ≡ fixed (pgn_in s.now g) j }
 {
-    if any_moves(s, work, g, j) {
-        return false;
-    }
-    let order = FieldIndex(j).order();
-    sets_start_behind(s, g, order)
+    !any_moves(s, work, g, j) && sets_start_behind(s, g, FieldIndex(j).order())
 }
 
 // "an unsigned, unscaled NUMBER or LOOKUP without an offset", of 1 to 63 bits
+#[tactic(auto, using(crate::proofs::Types::integer_is), unfolding(crate::specs::TrailingZero::unsigned_integer))]
 fn unsigned_integer(s: &[u8], work: &[u32], f: FieldView) -> bool
     requires { record { ready : Ready s.now work.now; type : f.ft < length (pack_of s.now).fieldtypes } }
     ensures { result ≡ unsigned_integer (pack_of s.now).fieldtypes (field_meaning s.now f) }
 {
     let v = type_of(s, work, f.ft);
-    if !integer(s, v) {
-        return false;
-    }
-    if v.signed {
-        return false;
-    }
-    if !float_eq(f.scaling.resolution, ONE) {
-        return false;
-    }
-    if !float_eq(f.scaling.offset, ZERO) {
-        return false;
-    }
-    if f.scaling.bits == 0 {
-        return false;
-    }
-    f.scaling.bits <= 63
+    integer(s, v)
+        && !v.signed
+        && float_eq(f.scaling.resolution, ONE)
+        && float_eq(f.scaling.offset, ZERO)
+        && f.scaling.bits != 0
+        && f.scaling.bits <= 63
 }
 
 // The target of field k.
+#[tactic(auto, unfolding(crate::specs::TrailingZero::trailing_zero_target_at))]
 fn trailing_zero_target_at(
     out: &mut [u32],
     n: usize,
@@ -126,32 +101,33 @@ fn trailing_zero_target_at(
     work: &[u32],
     g: PgnRecord,
     k: u32,
-    j: OptNumber,
+    j: Option<u32>,
 ) -> usize
     requires { record {
-      fits : Fits n (trailing_zero_target_at (pack_of s.now).fieldtypes g.tree g.item (pgn_in s.now g) k (optional_number j));
+      fits : Fits n (trailing_zero_target_at (pack_of s.now).fieldtypes g.tree g.item (pgn_in s.now g) k j);
       pgn : PgnRecordIs s.now work.now g;
       field : k < g.view.fields;
     } }
     ensures { Emitted out.old n
-        (trailing_zero_target_at (pack_of s.now).fieldtypes g.tree g.item (pgn_in s.now g) k (optional_number j))
+        (trailing_zero_target_at (pack_of s.now).fieldtypes g.tree g.item (pgn_in s.now g) k j)
         out.new result }
 {
-    if !j.given {
+    let Some(j) = j else {
         return put(out, n, pgn_error(44, 2, g.tree, g.item, k, 0));
+    };
+    if k <= j {
+        return put(out, n, pgn_error(44, 3, g.tree, g.item, k, j));
     }
-    if k <= j.value {
-        return put(out, n, pgn_error(44, 3, g.tree, g.item, k, j.value));
+    if !fixed(s, work, g, j) {
+        return put(out, n, pgn_error(44, 3, g.tree, g.item, k, j));
     }
-    if !fixed(s, work, g, j.value) {
-        return put(out, n, pgn_error(44, 3, g.tree, g.item, k, j.value));
-    }
-    let f = field_of(s, work, g.tree, g.item, g.place, j.value);
+    let f = field_of(s, work, g.tree, g.item, g.place, j);
     let right = unsigned_integer(s, work, f);
-    put_if(out, n, !right, pgn_error(44, 4, g.tree, g.item, k, j.value))
+    put_if(out, n, !right, pgn_error(44, 4, g.tree, g.item, k, j))
 }
 
 // Field k, which is f.
+#[tactic(auto, unfolding(crate::specs::TrailingZero::trailing_zero_at))]
 fn trailing_zero_at(
     out: &mut [u32],
     n: usize,
@@ -171,25 +147,18 @@ fn trailing_zero_at(
         (trailing_zero_at (pack_of s.now).fieldtypes g.tree g.item (pgn_in s.now g) k
         (field_at (pgn_in s.now g) k).trailing_zero) out.new result }
 {
-    if !f.links.trailing.given {
+    let Some(id) = f.links.trailing else {
         return n;
-    }
+    };
     if !text_is(s, f.names.kind, b"DECIMAL") {
         return put(out, n, pgn_error(44, 1, g.tree, g.item, k, 0));
     }
-    let j = target(
-        s,
-        work,
-        g.tree,
-        g.item,
-        g.place,
-        g.view.fields,
-        f.links.trailing.text,
-    );
+    let j = target(s, work, g.tree, g.item, g.place, g.view.fields, id);
     trailing_zero_target_at(out, n, s, work, g, k, j)
 }
 
 // R44: a DECIMAL's trailingZeroIsDigit names an earlier field of fixed position.
+#[tactic(auto, unfolding(crate::specs::TrailingZero::check_trailing_zero_is_digit))]
 pub fn check_trailing_zero_is_digit(
     out: &mut [u32],
     n: usize,
@@ -207,11 +176,9 @@ pub fn check_trailing_zero_is_digit(
 {
     let fields = g.view.fields;
     let mut m = n;
-    let mut k: u32 = 0;
-    while k < fields {
+    for k in 0..fields {
         let f = field_of(s, work, g.tree, g.item, g.place, k);
         m = trailing_zero_at(out, m, s, work, g, k, f);
-        k += 1;
     }
     m
 }

@@ -29,6 +29,7 @@ use pack::pgn::PgnRecord;
 use pack::protocol::Protocol;
 
 // One PGN.
+#[tactic(auto, using(crate::proofs::Parts::pgn_parts))]
 fn check_pgn(
     out: &mut [u32],
     n: usize,
@@ -83,8 +84,7 @@ fn check_pgns(
     let count = tree.count;
     let mut m = n;
     let mut p = tree.place;
-    let mut i: u32 = 0;
-    while i < count {
+    for i in 0..count {
         let view = pgn_of(s, work, t, i, p);
         let pgn = PgnRecord {
             tree: t,
@@ -94,7 +94,6 @@ fn check_pgns(
         };
         m = check_pgn(out, m, s, work, lookups, pgn);
         p = p + 1 + view.fields as usize;
-        i += 1;
     }
     m
 }
@@ -124,12 +123,15 @@ pub fn check_trees(out: &mut [u32], n: usize, s: &[u8], work: &[u32], index: Ind
     } }
     ensures { Emitted out.old n (concat_below (check_tree (pack_of s.now)) 3) out.new result }
 {
-    let nmea2000 = check_tree(out, n, s, work, index, 0);
-    let j1939 = check_tree(out, nmea2000, s, work, index, 1);
-    check_tree(out, j1939, s, work, index, 2)
+    let mut m = n;
+    for t in 0..3 {
+        m = check_tree(out, m, s, work, index, t);
+    }
+    m
 }
 
 // R43 of tree t.
+#[tactic(auto, unfolding(crate::specs::Check::check_tree_continues))]
 fn check_tree_continues(
     out: &mut [u32],
     n: usize,
@@ -149,8 +151,7 @@ fn check_tree_continues(
     let count = tree.count;
     let mut m = n;
     let mut p = tree.place;
-    let mut i: u32 = 0;
-    while i < count {
+    for i in 0..count {
         let view = pgn_of(s, work, t, i, p);
         let pgn = PgnRecord {
             tree: t,
@@ -160,7 +161,6 @@ fn check_tree_continues(
         };
         m = check_continues(out, m, s, work, pgn);
         p = p + 1 + view.fields as usize;
-        i += 1;
     }
     m
 }
@@ -179,7 +179,10 @@ pub fn check_trees_continues(
     } }
     ensures { Emitted out.old n (concat_below (check_tree_continues (pack_of s.now)) 3) out.new result }
 {
-    let nmea2000 = check_tree_continues(out, n, s, work, 0, index.nmea2000);
-    let j1939 = check_tree_continues(out, nmea2000, s, work, 1, index.j1939);
-    check_tree_continues(out, j1939, s, work, 2, index.quick)
+    let mut m = n;
+    for t in 0..3 {
+        let tree = Protocol::of_tree(t).section(index);
+        m = check_tree_continues(out, m, s, work, t, tree);
+    }
+    m
 }

@@ -3,7 +3,7 @@ ghost use Rattle.std.specs.Prelude.{◌≡◌, ◌≤◌, ◌<◌, length, ◌++
 ghost use Rattle.pack.specs.Notation.{◌≐◌};
 ghost use Rattle.pack.specs.Value.{pgns_of, pgn_at};
 ghost use Rattle.pack.specs.Items.{bytes_of};
-ghost use Rattle.pack.specs.Meaning.{optional_number, pack_of};
+ghost use Rattle.pack.specs.Meaning.{pack_of};
 ghost use Rattle.pack.specs.Ready.{Ready, PgnIs, place_of_tree, PgnRecordIs, TreeIs, pgn_in};
 ghost use Rattle.rules.specs.Emit.{Emitted, Fits};
 ghost use Rattle.rules.specs.Search.{latest_below};
@@ -14,32 +14,26 @@ use crate::searches::latest;
 use crate::targets::first_with_id;
 use pack::load::Section;
 use pack::of::{field_id_of, pgn_of};
-use pack::optional::OptNumber;
 use pack::pgn::PgnRecord;
 use pack::text::{Text, same_text};
 
 // The latest of the first n PGNs of tree t, which begins at `first`, with that id.
-fn latest_holder(s: &[u8], work: &[u32], t: u32, first: usize, n: u32, id: Text) -> OptNumber
+fn latest_holder(s: &[u8], work: &[u32], t: u32, first: usize, n: u32, id: Text) -> Option<u32>
     requires { record {
       ready : Ready s.now work.now;
       trees : t < 3;
       first : first ≡ place_of_tree (pack_of s.now) t;
       items : n ≤ length (pgns_of (pack_of s.now) t);
     } }
-    ensures { optional_number result ≡ latest_below (λ j. (pgn_at (pack_of s.now) t j).id ≐ bytes_of s.now id) n }
+    ensures { result ≡ latest_below (λ j. (pgn_at (pack_of s.now) t j).id ≐ bytes_of s.now id) n }
 {
-    let mut found = OptNumber {
-        given: false,
-        value: 0,
-    };
+    let mut found = None;
     let mut p = first;
-    let mut j: u32 = 0;
-    while j < n {
+    for j in 0..n {
         let g = pgn_of(s, work, t, j, p);
         let hit = same_text(s, g.id, id);
         found = latest(hit, j, found);
         p = p + 1 + g.fields as usize;
-        j += 1;
     }
     found
 }
@@ -59,11 +53,10 @@ fn same_id(out: &mut [u32], n: usize, s: &[u8], work: &[u32], g: PgnRecord, firs
         (latest_below (λ j. (pgn_at (pack_of s.now) g.tree j).id ≐ (pgn_in s.now g).id) g.item)) out.new
         result }
 {
-    let found = latest_holder(s, work, g.tree, first, g.item, g.view.id);
-    if !found.given {
+    let Some(earlier) = latest_holder(s, work, g.tree, first, g.item, g.view.id) else {
         return n;
-    }
-    put(out, n, pgn_error(21, 1, g.tree, g.item, 0, found.value))
+    };
+    put(out, n, pgn_error(21, 1, g.tree, g.item, 0, earlier))
 }
 
 fn unique_field_ids(out: &mut [u32], n: usize, s: &[u8], work: &[u32], g: PgnRecord) -> usize
@@ -75,12 +68,10 @@ fn unique_field_ids(out: &mut [u32], n: usize, s: &[u8], work: &[u32], g: PgnRec
 {
     let fields = g.view.fields;
     let mut m = n;
-    let mut k: u32 = 0;
-    while k < fields {
+    for k in 0..fields {
         let id = field_id_of(s, work, g.tree, g.item, g.place, k);
         let j = first_with_id(s, work, g.tree, g.item, g.place, k, id);
-        m = put_if(out, m, j.given, pgn_error(21, 2, g.tree, g.item, k, 0));
-        k += 1;
+        m = put_if(out, m, j.is_some(), pgn_error(21, 2, g.tree, g.item, k, 0));
     }
     m
 }
@@ -131,8 +122,7 @@ pub fn check_unique_ids(
     let first = tree.place;
     let mut m = n;
     let mut p = first;
-    let mut i: u32 = 0;
-    while i < count {
+    for i in 0..count {
         let view = pgn_of(s, work, t, i, p);
         let pgn = PgnRecord {
             tree: t,
@@ -142,7 +132,6 @@ pub fn check_unique_ids(
         };
         m = unique_ids_at(out, m, s, work, pgn, first);
         p = p + 1 + view.fields as usize;
-        i += 1;
     }
     m
 }

@@ -1,20 +1,19 @@
 // R20
-ghost use Rattle.std.specs.Prelude.{◌≡◌, true, not, ◌&&◌, ◌≤◌, ◌<◌, length, ◌==◌};
+ghost use Rattle.std.specs.Prelude.{◌≡◌, true, not, ◌&&◌, ◌≤◌, ◌<◌, length, ◌==◌, Some};
 ghost use Rattle.pack.specs.Notation.{◌≤ᵇ◌};
 ghost use Rattle.pack.specs.Value.{pgns_of, pgn_at};
-ghost use Rattle.pack.specs.Meaning.{optional_number, pack_of};
+ghost use Rattle.pack.specs.Meaning.{pack_of};
 ghost use Rattle.pack.specs.Ready.{Ready, place_of_tree, PgnRecordIs, TreeIs, pgn_in};
 ghost use Rattle.rules.specs.Emit.{Emitted, Fits};
 ghost use Rattle.rules.specs.Search.{latest_below};
 ghost use Rattle.rules.specs.Variants.{has_match, duplicates, in_group, variant_at, group_findings, least_group, check_variants};
-ghost use Rattle.std.proofs.Math.Option.{some};
+ghost use Rattle.std.specs.Bool.{then_some};
 
 use crate::emit::{group_error, pgn_error, put, put_if};
 use crate::match_keys::{duplicates, has_match};
 use crate::searches::{counted, latest, smaller};
 use pack::load::Section;
 use pack::of::pgn_of;
-use pack::optional::OptNumber;
 use pack::pgn::{PgnRecord, PgnView};
 
 // A variant of that number; fallback ones are none.
@@ -27,34 +26,32 @@ fn in_group(g: PgnView, number: u32) -> bool
     g.pgn == number
 }
 
-// No fallback one, of number b or above.
-fn from_number(g: PgnView, b: u64) -> bool
-    ensures { result ≡ (not g.flags.fallback && (b ≤ᵇ g.pgn)) }
+// Its number, if it is no fallback one and of number b or above.
+fn number_from(g: PgnView, b: u64) -> Option<u32>
+    ensures { result ≡ then_some (not g.flags.fallback && (b ≤ᵇ g.pgn)) g.pgn }
 {
     if g.flags.fallback {
-        return false;
+        return None;
     }
-    b <= g.pgn as u64
+    if b <= g.pgn as u64 {
+        return Some(g.pgn);
+    }
+    None
 }
 
 // The least number from b on that has a group.
-fn least_group(s: &[u8], work: &[u32], t: u32, tree: Section, b: u64) -> OptNumber
+fn least_group(s: &[u8], work: &[u32], t: u32, tree: Section, b: u64) -> Option<u32>
     requires { record { ready : Ready s.now work.now; trees : t < 3; pgns : TreeIs (pack_of s.now) t tree } }
-    ensures { optional_number result ≡ least_group t (pgns_of (pack_of s.now) t) b }
+    ensures { result ≡ least_group t (pgns_of (pack_of s.now) t) b }
 {
     let count = tree.count;
-    let mut found = OptNumber {
-        given: false,
-        value: 0,
-    };
+    let mut found = None;
     let mut p = tree.place;
-    let mut i: u32 = 0;
-    while i < count {
+    for i in 0..count {
         let g = pgn_of(s, work, t, i, p);
-        let hit = from_number(g, b);
-        found = smaller(found, hit, g.pgn);
+        let one = number_from(g, b);
+        found = smaller(found, one);
         p = p + 1 + g.fields as usize;
-        i += 1;
     }
     found
 }
@@ -73,20 +70,16 @@ fn duplicate_at(s: &[u8], work: &[u32], h: PgnRecord, g: PgnRecord, number: u32)
 }
 
 // The latest variant before PGN g with its matches. The tree begins at `first`.
-fn latest_duplicate(s: &[u8], work: &[u32], g: PgnRecord, first: usize, number: u32) -> OptNumber
+fn latest_duplicate(s: &[u8], work: &[u32], g: PgnRecord, first: usize, number: u32) -> Option<u32>
     requires { record { pgn : PgnRecordIs s.now work.now g; first : first ≡ place_of_tree (pack_of s.now) g.tree } }
-    ensures { optional_number result ≡ latest_below
+    ensures { result ≡ latest_below
         (λ j. in_group g.tree (pgns_of (pack_of s.now) g.tree) number j && duplicates
         (pgn_at (pack_of s.now) g.tree j) (pgn_in s.now g)) g.item }
 {
     let item = g.item;
-    let mut found = OptNumber {
-        given: false,
-        value: 0,
-    };
+    let mut found = None;
     let mut q = first;
-    let mut j: u32 = 0;
-    while j < item {
+    for j in 0..item {
         let view = pgn_of(s, work, g.tree, j, q);
         let pgn = PgnRecord {
             tree: g.tree,
@@ -97,7 +90,6 @@ fn latest_duplicate(s: &[u8], work: &[u32], g: PgnRecord, first: usize, number: 
         let hit = duplicate_at(s, work, pgn, g, number);
         found = latest(hit, j, found);
         q = q + 1 + view.fields as usize;
-        j += 1;
     }
     found
 }
@@ -123,11 +115,10 @@ fn member_at(
     if !has_match(s, work, g) {
         return n;
     }
-    let found = latest_duplicate(s, work, g, first, number);
-    if !found.given {
+    let Some(earlier) = latest_duplicate(s, work, g, first, number) else {
         return n;
-    }
-    put(out, n, pgn_error(20, 1, g.tree, g.item, 0, found.value))
+    };
+    put(out, n, pgn_error(20, 1, g.tree, g.item, 0, earlier))
 }
 
 // One PGN. Small, so that the many that are not of the group cost no call.
@@ -177,20 +168,19 @@ fn group_findings(
     number: u32,
 ) -> usize
     requires { record {
-      fits : Fits n (group_findings t (pgns_of (pack_of s.now) t) (some number));
+      fits : Fits n (group_findings t (pgns_of (pack_of s.now) t) (Some number));
       ready : Ready s.now work.now;
       trees : t < 3;
       pgns : TreeIs (pack_of s.now) t tree;
     } }
-    ensures { Emitted out.old n (group_findings t (pgns_of (pack_of s.now) t) (some number)) out.new result }
+    ensures { Emitted out.old n (group_findings t (pgns_of (pack_of s.now) t) (Some number)) out.new result }
 {
     let count = tree.count;
     let first = tree.place;
     let mut m = n;
     let mut without: u32 = 0;
     let mut p = first;
-    let mut i: u32 = 0;
-    while i < count {
+    for i in 0..count {
         let view = pgn_of(s, work, t, i, p);
         let pgn = PgnRecord {
             tree: t,
@@ -202,7 +192,6 @@ fn group_findings(
         let hit = matchless_at(s, work, pgn, number);
         without = counted(without, hit);
         p = p + 1 + view.fields as usize;
-        i += 1;
     }
     put_if(out, m, 1 < without, group_error(20, 2, t, number, without))
 }
@@ -227,15 +216,12 @@ pub fn check_variants(
     let count = tree.count;
     let mut m = n;
     let mut b: u64 = 0;
-    let mut r: u32 = 0;
-    while r < count {
-        let number = least_group(s, work, t, tree, b);
-        if !number.given {
+    for r in 0..count {
+        let Some(number) = least_group(s, work, t, tree, b) else {
             return m;
-        }
-        m = group_findings(out, m, s, work, t, tree, number.value);
-        b = number.value as u64 + 1;
-        r += 1;
+        };
+        m = group_findings(out, m, s, work, t, tree, number);
+        b = number as u64 + 1;
     }
     m
 }

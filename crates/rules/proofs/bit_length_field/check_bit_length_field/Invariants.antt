@@ -3,7 +3,7 @@ use Rattle.rules.specs.BitLengthField.{bit_length_field_at}
 use Rattle.rules.specs.declared.Finding.{Finding}
 use Rattle.pack.specs.Meaning.{pack_of}
 use Rattle.pack.specs.Value.{pgn_at, field_at}
-use Prim.Native.Nat.{ℕ, ◌-◌}
+use Prim.Native.Nat.{ℕ}
 use mathlib.Core.List.{List}
 use Rattle.rules.proofs.bit_length_field.check_bit_length_field.Given as goal
 
@@ -14,6 +14,3 @@ of_field s t i k = bit_length_field_at t i (pgn_at (pack_of s) t i) k (field_at 
 abbrev pub invariant-loop-k : goal.invariant-loop-k
 invariant-loop-k l =
     Reporting l.initial.out l.n (of_field l.s l.g.tree l.g.item) l.fields l.k l.out l.m
-
-abbrev pub decreases-loop-k : goal.decreases-loop-k
-decreases-loop-k l = l.fields - l.k

@@ -5,7 +5,6 @@ use Rattle.pack.proofs.Stores.{stored_none, stored_one}
 use Rattle.pack.specs.Placing.{Stored}
 use native.Mathlib.Omega.{arith}
 use Prim.Native.Nat.{ℕ, ◌+◌, ◌<◌}
-use mathlib.Core.Path.{refl, ◌∙◌}
 use mathlib.Core.List.{List}
 use Rattle.rules.proofs.bytes_out.put_bytes.Goals as goal
 
@@ -14,27 +13,22 @@ turn : (w : List ℕ) (p : ℕ) (bytes w' : List ℕ) (q i : ℕ) → i < length
     → Stored w p (take (i + 1) bytes) (set w' q (get_or bytes i 0)) (q + 1)
 turn w p bytes w' q i h a = rw (add-one i, take-suc bytes i 0 h) (stored_one a (get_or bytes i 0))
 
-pub loop-i-init : goal.loop-i-init
-loop-i-init c =
-    record { turns = omega (arith, c); length = refl; reached = omega (arith, c); stored = stored_none c.args.out.now c.args.at }
+pub loop-b-init : goal.loop-b-init
+loop-b-init c =
+    record { reached = omega (arith, c); stored = stored_none c.args.out.now c.args.at }
 
 pub overflow_add-end : goal.overflow_add-end
 overflow_add-end c =
-    omega (arith, c.loop-i.invariant.reached, c.loop-i-test.true, c.requires)
+    omega (arith, c.loop-b.invariant.reached, c.loop-b-test.true, c.requires)
 
-pub loop-i-preserved : goal.loop-i-preserved
-loop-i-preserved c =
+pub loop-b-preserved : goal.loop-b-preserved
+loop-b-preserved c =
     record {
-      turns = omega (arith, c.loop-i-test.true);
-      length = c.put_byte.auto.out ∙ c.loop-i.invariant.length;
-      reached = omega (arith, c.loop-i.invariant.reached);
+      reached = omega (arith, c.loop-b.invariant.reached);
       stored = rw c.put_byte.ensures
-          (turn c.args.out.now c.args.at c.args.bytes.now c.loop-i.out c.loop-i.end c.loop-i.i c.loop-i-test.true c.loop-i.invariant.stored);
+          (turn c.args.out.now c.args.at c.args.bytes.now c.loop-b.out c.loop-b.end c.loop-b.b-index c.loop-b-test.true c.loop-b.invariant.stored);
     }
-
-pub shape_of-out : goal.shape_of-out
-shape_of-out c = c.loop-i.invariant.length
 
 pub returns : goal.returns
 returns c =
-    rw (take_all c.loop-i.i c.args.bytes.now c.loop-i-test.false) at c.loop-i.invariant.stored
+    rw (take_all c.loop-b.b-index c.args.bytes.now c.loop-b-test.false) at c.loop-b.invariant.stored

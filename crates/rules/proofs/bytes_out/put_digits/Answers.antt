@@ -7,7 +7,7 @@ use borrow.Author.Rules.{rules}
 use native.Mathlib.Omega.{arith}
 use Prim.Native.Nat.{ℕ, suc, ◌+◌, ◌-◌, ◌/◌, ◌%◌, ◌≤◌, ◌<◌}
 use mathlib.Core.List.{List, [], ◌∷◌, ◌++◌}
-use mathlib.Core.Path.{◌≡◌, refl, sym, ◌∙◌, ap}
+use mathlib.Core.Path.{◌≡◌, sym, ◌∙◌, ap}
 use Rattle.rules.proofs.bytes_out.put_digits.Goals as goal
 
 -- the digits from the lowest back
@@ -48,22 +48,15 @@ whole w at places i n v w' h enough left s =
 
 pub loop-i-init : goal.loop-i-init
 loop-i-init c =
-    record { turns = omega arith; length = refl; to_come = begun c.args.out.now c.args.at c.args.places c.args.n }
+    begun c.args.out.now c.args.at c.args.places c.args.n
 
 pub loop-i-preserved : goal.loop-i-preserved
 loop-i-preserved c =
-    record {
-      turns = omega (arith, c.loop-i-test.true);
-      length = c.put_byte.auto.out ∙ c.loop-i.invariant.length;
-      to_come = rw c.put_byte.ensures (sym
-          (turn c.loop-i.out c.args.at c.args.places c.loop-i.i c.loop-i.v c.lowest.result c.loop-i-test.true c.lowest.ensures)
-          ∙ c.loop-i.invariant.to_come);
-    }
-
-pub shape_of-out : goal.shape_of-out
-shape_of-out c = c.loop-i.invariant.length
+    rw c.put_byte.ensures (sym
+    (turn c.loop-i.out c.args.at c.args.places c.loop-i.i c.loop-i.v c.lowest.result c.loop-i-test.true c.lowest.ensures)
+    ∙ c.loop-i.invariant)
 
 pub returns : goal.returns
 returns c =
     whole c.args.out.now c.args.at c.args.places c.loop-i.i c.args.n c.loop-i.v c.loop-i.out (search rules) c.requires.enough
-    c.loop-i-test.false c.loop-i.invariant.to_come
+    c.loop-i-test.false c.loop-i.invariant

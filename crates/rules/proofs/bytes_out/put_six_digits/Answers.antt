@@ -17,11 +17,11 @@ six w at n places w' r e s = let zeros : places - length (digits n) ≡ 6 - leng
 pub put_digits-requires : goal.put_digits-requires
 put_digits-requires c =
     record {
-      enough = omega (arith, c.at_least-places.ensures, c.digit_count.ensures);
-      end = omega (arith, c.at_least-places.ensures, c.digit_count.ensures, ten_digits c.args.n, c.requires);
+      enough = omega (arith, c.max-places.ensures, c.digit_count.ensures);
+      end = omega (arith, c.max-places.ensures, c.digit_count.ensures, ten_digits c.args.n, c.requires);
     }
 
 pub returns : goal.returns
 returns c =
-    let places : c.at_least-places.result ≡ max (length (digits c.args.n)) 6 = omega (arith, c.at_least-places.ensures, c.digit_count.ensures) in
-    six c.args.out.now c.args.at c.args.n c.at_least-places.result _ _ places c.put_digits.ensures
+    let places : c.max-places.result ≡ max (length (digits c.args.n)) 6 = omega (arith, c.max-places.ensures, c.digit_count.ensures) in
+    six c.args.out.now c.args.at c.args.n c.max-places.result _ _ places c.put_digits.ensures

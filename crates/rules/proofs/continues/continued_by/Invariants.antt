@@ -4,7 +4,7 @@ use Rattle.pack.specs.Meaning.{pack_of}
 use Rattle.pack.specs.Items.{bytes_of}
 use Rattle.pack.specs.Value.{pgn_at, field_at}
 use mathlib.Core.Bool.{Bool}
-use Prim.Native.Nat.{ℕ, ◌-◌, ◌≤◌}
+use Prim.Native.Nat.{ℕ, ◌≤◌}
 use mathlib.Core.Path.{◌≡◌}
 use mathlib.Core.List.{List}
 use Rattle.rules.proofs.continues.continued_by.Given as goal
@@ -20,6 +20,3 @@ invariant-loop-k l =
       few : l.count ≤ l.k;
       count : l.count ≡ count_below (continuing l.s l.g.tree l.g.item (bytes_of l.s l.id)) l.k;
     }
-
-abbrev pub decreases-loop-k : goal.decreases-loop-k
-decreases-loop-k l = l.fields - l.k

@@ -2,7 +2,7 @@ use Rattle.pack.specs.Meaning.{pack_of}
 use Rattle.pack.specs.Value.{Pgn, pgn_at, set_place}
 use Rattle.rules.specs.Continues.{holds_order}
 use Rattle.rules.specs.Search.{latest_below}
-use Prim.Native.Nat.{ℕ, ◌+◌, ◌≤◌}
+use Prim.Native.Nat.{ℕ, ◌+◌}
 use mathlib.Core.Bool.{Bool}
 use mathlib.Core.Path.{◌≡◌}
 use lib.ListN.{length}
@@ -14,11 +14,5 @@ at_place p k j = holds_order (set_place p j) (k + 1)
 
 abbrev pub invariant-loop-j : goal.invariant-loop-j
 invariant-loop-j l =
-    record {
-      turns : l.j ≤ l.g.view.places;
-      left : latest_below (at_place (pgn_at (pack_of l.s) l.g.tree l.g.item) l.k) (length (pgn_at (pack_of l.s) l.g.tree l.g.item).sets)
-          ≡ latest_below (at_place (pgn_at (pack_of l.s) l.g.tree l.g.item) l.k) l.j;
-    }
-
-abbrev pub decreases-loop-j : goal.decreases-loop-j
-decreases-loop-j l = l.j
+    latest_below (at_place (pgn_at (pack_of l.s) l.g.tree l.g.item) l.k) (length (pgn_at (pack_of l.s) l.g.tree l.g.item).sets)
+    ≡ latest_below (at_place (pgn_at (pack_of l.s) l.g.tree l.g.item) l.k) l.j

@@ -1,4 +1,4 @@
-use Rattle.rules.proofs.Emits.{fits_turn, reporting_none, reporting_turn}
+use Rattle.rules.proofs.Emits.{fits_turn, reporting_turn}
 use Rattle.rules.specs.Texts.{DYNAMIC_FIELD_KEY}
 use Rattle.rules.specs.Search.{any_below}
 use Rattle.rules.specs.DynamicLength.{length_source, have_length_source, check_dynamic_length}
@@ -12,34 +12,18 @@ use Rattle.pack.specs.declared.field.FieldView.{FieldView}
 use Prim.Native.Nat.{ℕ, suc}
 use native.Mathlib.Omega.{arith}
 use native.Mathlib.Numerals.{add-one}
-use mathlib.Core.Path.{◌≡◌, refl, ap}
+use mathlib.Core.Path.{◌≡◌, ap}
 use mathlib.Core.List.{List}
-use lib.ListN.{length, get_or}
+use lib.ListN.{get_or}
 use Rattle.rules.proofs.dynamic_length.check_dynamic_length.Invariants.{of_field, source}
 use Rattle.rules.proofs.dynamic_length.check_dynamic_length.Goals as goal
 
 -- a turn of the search for a length source
-found : (s : List ℕ) (t i k : ℕ) (v : FieldView) (root : List ℕ) (old new : Bool) → field_meaning s v ≡ field_at (pgn_at (pack_of s) t i) k
+found : (s : List ℕ) (t i k : ℕ) (v : FieldView) (root : List ℕ) (old one : Bool) → field_meaning s v ≡ field_at (pgn_at (pack_of s) t i) k
     → root ≡ (get_or (pack_of s).fieldtypes v.ft no_field_type).root_name → old ≡ any_below (source s t i) k
-    → new ≡ (old || (v.flags.dynamic || (root ≐ DYNAMIC_FIELD_KEY))) → new ≡ any_below (source s t i) (suc k)
+    → one ≡ (v.flags.dynamic || (root ≐ DYNAMIC_FIELD_KEY)) → (old || one) ≡ any_below (source s t i) (suc k)
 unfolding length_source
-found s t i k v root old new is r o n = rw (n, o, r, ← is)
-
-pub loop-k-init : goal.loop-k-init
-loop-k-init c = record { reporting = reporting_none _ _ _ _; have = refl }
-
-pub field_of-f-requires : goal.field_of-f-requires
-field_of-f-requires c =
-    record { at = c.requires.pgn.at; field = omega (arith, c.requires.pgn.is.fields) }
-
-pub root_of-root-requires : goal.root_of-root-requires
-root_of-root-requires c =
-    record {
-      ready = c.requires.pgn.at.ready;
-      type = (let e : c.field_of-f.result.ft ≡ (field_at (pgn_at (pack_of c.args.s.now) c.args.g.tree c.args.g.item) c.loop-k.k).ft =
-          ap (λ (F : Field). F.ft) c.field_of-f.ensures in
-          omega (arith, e, field_ft_law c.requires.pgn.at c.loop-k.k (omega (arith, c.loop-k-test.true, c.requires.pgn.is.fields))));
-    }
+found s t i k v root old one is r o n = rw (n, o, r, ← is)
 
 pub dynamic_length_at-m-requires : goal.dynamic_length_at-m-requires
 unfolding check_dynamic_length have_length_source
@@ -54,12 +38,8 @@ dynamic_length_at-m-requires c =
       root = (rw (← c.field_of-f.ensures) c.root_of-root.ensures);
       have = found s t i c.loop-k.k c.field_of-f.result (bytes_of s c.root_of-root.result) c.loop-k.have _ c.field_of-f.ensures c.root_of-root.ensures
           c.loop-k.invariant.have
-          c.have_length_source-have.ensures;
+          c.length_source-have.ensures;
     }
-
-pub overflow_add-k : goal.overflow_add-k
-overflow_add-k c =
-    omega (arith, c.struct_known-1.given)
 
 pub loop-k-preserved : goal.loop-k-preserved
 loop-k-preserved c =
@@ -69,12 +49,14 @@ loop-k-preserved c =
     record {
       reporting = reporting_turn c.loop-k.invariant.reporting (omega (arith, c)) c.dynamic_length_at-m.ensures;
       have = (rw (add-one c.loop-k.k) (found s t i c.loop-k.k c.field_of-f.result (bytes_of s c.root_of-root.result) c.loop-k.have _ c.field_of-f.ensures
-          c.root_of-root.ensures c.loop-k.invariant.have c.have_length_source-have.ensures));
+          c.root_of-root.ensures c.loop-k.invariant.have c.length_source-have.ensures));
     }
 
-pub returns : goal.returns
-unfolding check_dynamic_length
-returns c =
-    let e : c.loop-k.k ≡ length (pgn_at (pack_of c.args.s.now) c.args.g.tree c.args.g.item).fields =
-    omega (arith, c.requires.pgn.is.fields) in
-    rw (← e) c.loop-k.invariant.reporting.emitted
+pub root_of-root-requires : goal.root_of-root-requires
+root_of-root-requires c =
+    record {
+      ready = c.requires.pgn.at.ready;
+      type = (let e : c.field_of-f.result.ft ≡ (field_at (pgn_at (pack_of c.args.s.now) c.args.g.tree c.args.g.item) c.loop-k.k).ft =
+          ap (λ (F : Field). F.ft) c.field_of-f.ensures in
+          omega (arith, e, field_ft_law c.requires.pgn.at c.loop-k.k (omega (arith, c.loop-k-test.true, c.requires.pgn.is.fields))));
+    }

@@ -5,7 +5,7 @@ use Rattle.rules.specs.declared.Finding.{Finding}
 use mathlib.Core.Bool.{Bool}
 use Rattle.pack.specs.Value.{pgn_at, field_at}
 use Rattle.pack.specs.Meaning.{pack_of}
-use Prim.Native.Nat.{ℕ, ◌-◌}
+use Prim.Native.Nat.{ℕ}
 use mathlib.Core.Path.{◌≡◌}
 use mathlib.Core.List.{List}
 use Rattle.rules.proofs.dynamic_length.check_dynamic_length.Given as goal
@@ -22,6 +22,3 @@ invariant-loop-k l =
       reporting : Reporting l.initial.out l.n (of_field l.s l.g.tree l.g.item) l.g.view.fields l.k l.out l.m;
       have : l.have ≡ any_below (source l.s l.g.tree l.g.item) l.k;
     }
-
-abbrev pub decreases-loop-k : goal.decreases-loop-k
-decreases-loop-k l = l.g.view.fields - l.k

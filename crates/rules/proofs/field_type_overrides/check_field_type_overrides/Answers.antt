@@ -1,20 +1,12 @@
-use Rattle.rules.proofs.Emits.{fits_turn, reporting_none, reporting_turn}
+use Rattle.rules.proofs.Emits.{fits_turn, reporting_turn}
 use Rattle.rules.specs.FieldTypeOverrides.{check_field_type_overrides}
 use Rattle.pack.proofs.Positions.{field_ft_law}
 use Rattle.pack.specs.Value.{Field, pgn_at, field_at}
 use Rattle.pack.specs.Meaning.{pack_of}
 use native.Mathlib.Omega.{arith}
 use mathlib.Core.Path.{◌≡◌, ap}
-use lib.ListN.{length}
 use Rattle.rules.proofs.field_type_overrides.check_field_type_overrides.Invariants.{of_field}
 use Rattle.rules.proofs.field_type_overrides.check_field_type_overrides.Goals as goal
-
-pub loop-k-init : goal.loop-k-init
-loop-k-init c = reporting_none _ _ _ _
-
-pub field_of-f-requires : goal.field_of-f-requires
-field_of-f-requires c =
-    record { at = c.requires.pgn.at; field = omega (arith, c.requires.pgn.is.fields) }
 
 pub overrides_at-m-requires : goal.overrides_at-m-requires
 unfolding check_field_type_overrides
@@ -32,17 +24,6 @@ overrides_at-m-requires c =
           omega (arith, e, field_ft_law c.requires.pgn.at c.loop-k.k (omega (arith, c.loop-k-test.true, c.requires.pgn.is.fields))));
     }
 
-pub overflow_add-k : goal.overflow_add-k
-overflow_add-k c =
-    omega (arith, c.struct_known-1.given)
-
 pub loop-k-preserved : goal.loop-k-preserved
 loop-k-preserved c =
     reporting_turn c.loop-k.invariant (omega (arith, c)) c.overrides_at-m.ensures
-
-pub returns : goal.returns
-unfolding check_field_type_overrides
-returns c =
-    let e : c.loop-k.k ≡ length (pgn_at (pack_of c.args.s.now) c.args.g.tree c.args.g.item).fields =
-    omega (arith, c.requires.pgn.is.fields) in
-    rw (← e) c.loop-k.invariant.emitted

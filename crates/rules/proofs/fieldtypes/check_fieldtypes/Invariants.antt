@@ -3,7 +3,7 @@ use Rattle.rules.specs.Fieldtypes.{fieldtype_at}
 use Rattle.rules.specs.declared.Finding.{Finding}
 use Rattle.pack.specs.Value.{no_field_type}
 use Rattle.pack.specs.Meaning.{pack_of}
-use Prim.Native.Nat.{ℕ, ◌-◌}
+use Prim.Native.Nat.{ℕ}
 use mathlib.Core.List.{List}
 use lib.ListN.{get_or}
 use Rattle.rules.proofs.fieldtypes.check_fieldtypes.Given as goal
@@ -14,6 +14,3 @@ of_type s i = fieldtype_at i (get_or (pack_of s).fieldtypes i no_field_type)
 abbrev pub invariant-loop-i : goal.invariant-loop-i
 invariant-loop-i l =
     Reporting l.initial.out l.n (of_type l.s) l.types l.i l.out l.m
-
-abbrev pub decreases-loop-i : goal.decreases-loop-i
-decreases-loop-i l = l.types - l.i

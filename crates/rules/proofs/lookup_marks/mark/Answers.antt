@@ -1,5 +1,5 @@
 use Rattle.rules.proofs.Marking.{marked_first, marked_next, marked_all}
-use Rattle.rules.proofs.Sizes.{at_lookup, entries_few, lookups_few}
+use Rattle.rules.proofs.Sizes.{at_lookup, entries_few}
 use Rattle.pack.proofs.Positions.{lookup_place_next}
 use Rattle.pack.specs.Value.{Lookup}
 use Rattle.pack.specs.Items.{bytes_of}
@@ -13,9 +13,7 @@ pub loop-l-init : goal.loop-l-init
 loop-l-init c =
     let s = c.args.s.now in
     record {
-      turns = omega (arith, c);
       place = c.requires.lookups.place;
-      length = refl;
       marked = marked_first (pack_of s) c.args.marks.now (λ n. bytes_of s c.args.name ≐ n);
     }
 
@@ -23,9 +21,9 @@ pub lookup_of-v-requires : goal.lookup_of-v-requires
 lookup_of-v-requires c =
     (at_lookup c.requires.ready c.requires.lookups.count c.loop-l.invariant.place c.loop-l-test.true)
 
-pub mark_if-requires : goal.mark_if-requires
-mark_if-requires c =
-    omega (arith, c.loop-l-test.true, c.loop-l.invariant.length, c.requires.marks, c.requires.lookups.count)
+pub bounds-marks-l : goal.bounds-marks-l
+bounds-marks-l c =
+    omega (arith, c.loop-l-test.true, c.loop-l.auto.marks, c.requires.marks, c.requires.lookups.count)
 
 pub overflow_add-p : goal.overflow_add-p
 overflow_add-p c =
@@ -39,25 +37,16 @@ pub overflow_add-p-in-loop-l : goal.overflow_add-p-in-loop-l
 overflow_add-p-in-loop-l c =
     omega (arith, entries_few (at_lookup c.requires.ready c.requires.lookups.count c.loop-l.invariant.place c.loop-l-test.true), c.lookup_of-v.ensures.entries)
 
-pub overflow_add-l : goal.overflow_add-l
-overflow_add-l c =
-    omega (arith, lookups_few (at_lookup c.requires.ready c.requires.lookups.count c.loop-l.invariant.place c.loop-l-test.true))
-
 pub loop-l-preserved : goal.loop-l-preserved
 loop-l-preserved c =
     let s = c.args.s.now in
     record {
-      turns = omega (arith, c);
       place = omega (arith, lookup_place_next (pack_of s) c.loop-l.l, c.lookup_of-v.ensures.entries, c.loop-l.invariant.place);
-      length = c.mark_if.auto.marks ∙ c.loop-l.invariant.length;
-      marked = marked_next c.same_text-hit.result c.loop-l.invariant.marked
-          (omega (arith, c.loop-l-test.true, c.loop-l.invariant.length, c.requires.marks, c.requires.lookups.count))
-          (c.same_text-hit.ensures ∙ ap (λ (L : Lookup). bytes_of s c.args.name ≐ L.name) c.lookup_of-v.ensures.means) c.mark_if.ensures;
+      marked = marked_next c.same_text.result c.loop-l.invariant.marked
+          (omega (arith, c.loop-l-test.true, c.loop-l.auto.marks, c.requires.marks, c.requires.lookups.count))
+          (c.same_text.ensures ∙ ap (λ (L : Lookup). bytes_of s c.args.name ≐ L.name) c.lookup_of-v.ensures.means) refl;
     }
-
-pub shape_of-marks : goal.shape_of-marks
-shape_of-marks c = c.loop-l.invariant.length
 
 pub returns : goal.returns
 returns c =
-    marked_all (omega (arith, c.requires.lookups.count, c.loop-l.invariant.turns, c.loop-l-test.false)) c.loop-l.invariant.marked
+    marked_all (omega (arith, c.requires.lookups.count, c.loop-l-test.false)) c.loop-l.invariant.marked

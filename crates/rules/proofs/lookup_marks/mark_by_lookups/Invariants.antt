@@ -1,11 +1,10 @@
 use Rattle.rules.specs.Marks.{Marked}
 use Rattle.rules.specs.LookupWiring.{referenced_by_lookup}
 use Rattle.rules.specs.Search.{any_below}
-use Prim.Native.Nat.{ℕ, ◌-◌, ◌≤◌}
+use Prim.Native.Nat.{ℕ}
 use mathlib.Core.Path.{◌≡◌}
 use mathlib.Core.Bool.{Bool}
 use mathlib.Core.List.{List}
-use lib.ListN.{length}
 use Rattle.pack.specs.Ready.{place_of_lookup}
 use Rattle.pack.specs.Meaning.{pack_of}
 use Rattle.pack.specs.Value.{lookup_at}
@@ -18,11 +17,6 @@ has s name l = referenced_by_lookup name (lookup_at (pack_of s).lookups l)
 abbrev pub invariant-loop-l : goal.invariant-loop-l
 invariant-loop-l l =
     record {
-      turns : l.l ≤ l.count;
       place : l.p ≡ place_of_lookup (pack_of l.s) l.l;
-      length : length l.marks ≡ length l.initial.marks;
       marked : Marked (pack_of l.s) l.initial.marks (λ n. any_below (has l.s n) l.l) l.marks;
     }
-
-abbrev pub decreases-loop-l : goal.decreases-loop-l
-decreases-loop-l l = l.count - l.l

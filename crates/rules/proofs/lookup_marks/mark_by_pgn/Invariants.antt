@@ -3,11 +3,9 @@ use Rattle.rules.specs.LookupWiring.{ref_is}
 use Rattle.rules.specs.Search.{any_below}
 use Rattle.pack.specs.Value.{pgn_at, field_at}
 use Rattle.pack.specs.Meaning.{pack_of}
-use Prim.Native.Nat.{ℕ, ◌-◌, ◌≤◌}
-use mathlib.Core.Path.{◌≡◌}
+use Prim.Native.Nat.{ℕ}
 use mathlib.Core.Bool.{Bool}
 use mathlib.Core.List.{List}
-use lib.ListN.{length}
 use Rattle.rules.proofs.lookup_marks.mark_by_pgn.Given as goal
 
 -- whether field k refers to the name
@@ -15,12 +13,4 @@ abbrev pub refers : List ℕ → ℕ → ℕ → List ℕ → ℕ → Bool
 refers s t i name k = ref_is (field_at (pgn_at (pack_of s) t i) k).reference name
 
 abbrev pub invariant-loop-k : goal.invariant-loop-k
-invariant-loop-k l =
-    record {
-      turns : l.k ≤ l.fields;
-      length : length l.marks ≡ length l.initial.marks;
-      marked : Marked (pack_of l.s) l.initial.marks (λ n. any_below (refers l.s l.g.tree l.g.item n) l.k) l.marks;
-    }
-
-abbrev pub decreases-loop-k : goal.decreases-loop-k
-decreases-loop-k l = l.fields - l.k
+invariant-loop-k l = Marked (pack_of l.s) l.initial.marks (λ n. any_below (refers l.s l.g.tree l.g.item n) l.k) l.marks

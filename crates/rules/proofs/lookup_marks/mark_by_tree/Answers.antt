@@ -1,10 +1,10 @@
 use Rattle.rules.proofs.Marking.{marked_none, marked_as, marked_turn}
-use Rattle.rules.proofs.Sizes.{at_pgn, fields_few, pgns_few}
+use Rattle.rules.proofs.Sizes.{at_pgn, fields_few}
 use Rattle.rules.specs.LookupWiring.{referenced_by_tree}
 use Rattle.rules.specs.Search.{any_below}
 use Rattle.pack.proofs.Positions.{pgn_place_next}
 use native.Mathlib.Omega.{arith}
-use mathlib.Core.Path.{◌≡◌, refl, ◌∙◌, ap}
+use mathlib.Core.Path.{◌≡◌, ap}
 use lib.ListN.{length}
 use Rattle.pack.specs.Meaning.{pack_of}
 use Rattle.pack.specs.Value.{pgns_of}
@@ -14,9 +14,7 @@ use Rattle.rules.proofs.lookup_marks.mark_by_tree.Goals as goal
 pub loop-i-init : goal.loop-i-init
 loop-i-init c =
     record {
-      turns = omega (arith, c);
       place = omega (arith, c.requires.pgns.place);
-      length = refl;
       marked = marked_none (pack_of c.args.s.now) c.args.marks.now;
     }
 
@@ -27,7 +25,7 @@ pgn_of-view-requires c =
 pub mark_by_pgn-requires : goal.mark_by_pgn-requires
 mark_by_pgn-requires c =
     record {
-      marks = omega (arith, c.loop-i.invariant.length, c.requires.marks);
+      marks = omega (arith, c.loop-i.auto.marks, c.requires.marks);
       pgn = record {
         at = (at_pgn c.requires.ready c.requires.trees (omega (arith, c.requires.pgns.count)) c.loop-i-test.true c.loop-i.invariant.place);
         is = c.pgn_of-view.ensures;
@@ -55,27 +53,18 @@ overflow_add-p-in-loop-i c =
       c.pgn_of-view.ensures.fields,
     )
 
-pub overflow_add-i : goal.overflow_add-i
-overflow_add-i c =
-    omega (arith, pgns_few (at_pgn c.requires.ready c.requires.trees (omega (arith, c.requires.pgns.count)) c.loop-i-test.true c.loop-i.invariant.place))
-
 pub loop-i-preserved : goal.loop-i-preserved
 loop-i-preserved c =
     let s = c.args.s.now in let t = c.args.t in
     record {
-      turns = omega (arith, c);
       place = omega (arith, pgn_place_next (pack_of s) t c.loop-i.i, c.pgn_of-view.ensures.fields, c.loop-i.invariant.place);
-      length = c.mark_by_pgn.auto.marks ∙ c.loop-i.invariant.length;
       marked = marked_turn (has s t) c.loop-i.i c.loop-i.invariant.marked c.mark_by_pgn.ensures;
     }
-
-pub shape_of-marks : goal.shape_of-marks
-shape_of-marks c = c.loop-i.invariant.length
 
 pub returns : goal.returns
 unfolding referenced_by_tree
 returns c =
     let s = c.args.s.now in let t = c.args.t in
-    let q : c.loop-i.i ≡ length (pgns_of (pack_of s) t) = omega (arith, c.requires.pgns.count, c.loop-i.invariant.turns, c.loop-i-test.false) in
+    let q : c.loop-i.i ≡ length (pgns_of (pack_of s) t) = omega (arith, c.requires.pgns.count, c.loop-i-test.false) in
     marked_as (λ n. any_below (has s t n) c.loop-i.i) (λ n. referenced_by_tree (pack_of s) n t) (λ n. ap (any_below (has s t n)) q)
     c.loop-i.invariant.marked

@@ -2,11 +2,10 @@ use Rattle.rules.specs.Marks.{Marked}
 use Rattle.rules.specs.LookupWiring.{referenced_by_pgn}
 use Rattle.rules.specs.Search.{any_below}
 use Rattle.pack.specs.Ready.{place_of_pgn}
-use Prim.Native.Nat.{ℕ, ◌-◌, ◌≤◌}
+use Prim.Native.Nat.{ℕ}
 use mathlib.Core.Path.{◌≡◌}
 use mathlib.Core.Bool.{Bool}
 use mathlib.Core.List.{List}
-use lib.ListN.{length}
 use Rattle.pack.specs.Meaning.{pack_of}
 use Rattle.pack.specs.Value.{pgn_at}
 use Rattle.rules.proofs.lookup_marks.mark_by_tree.Given as goal
@@ -18,11 +17,6 @@ has s t name i = referenced_by_pgn name (pgn_at (pack_of s) t i)
 abbrev pub invariant-loop-i : goal.invariant-loop-i
 invariant-loop-i l =
     record {
-      turns : l.i ≤ l.count;
       place : l.p ≡ place_of_pgn (pack_of l.s) l.t l.i;
-      length : length l.marks ≡ length l.initial.marks;
       marked : Marked (pack_of l.s) l.initial.marks (λ n. any_below (has l.s l.t n) l.i) l.marks;
     }
-
-abbrev pub decreases-loop-i : goal.decreases-loop-i
-decreases-loop-i l = l.count - l.i

@@ -2,44 +2,33 @@ use Rattle.rules.proofs.Marking.{marked_none, marked_as, marked_turn}
 use Rattle.rules.proofs.Sections.{at_tree}
 use Rattle.rules.specs.Search.{any_below}
 use native.Mathlib.Omega.{arith}
-use mathlib.Core.Path.{◌≡◌, refl, ◌∙◌, ap}
+use mathlib.Core.Path.{◌≡◌, ap}
 use Rattle.pack.specs.Meaning.{pack_of}
 use Rattle.rules.proofs.lookup_marks.mark_by_trees.Invariants.{has}
 use Rattle.rules.proofs.lookup_marks.mark_by_trees.Goals as goal
 
 pub loop-t-init : goal.loop-t-init
 loop-t-init c =
-    record { turns = omega (arith, c); length = refl; marked = marked_none (pack_of c.args.s.now) c.args.marks.now }
+    marked_none (pack_of c.args.s.now) c.args.marks.now
 
 pub mark_by_tree-requires : goal.mark_by_tree-requires
 mark_by_tree-requires c =
     let a = at_tree (pack_of c.args.s.now) c.args.index c.requires.index c.loop-t.t c.loop-t-test.true c.of_tree.result
     c.section-tree.result c.of_tree.ensures c.section-tree.ensures in
     record {
-      marks = omega (arith, c.loop-t.invariant.length, c.requires.marks);
+      marks = omega (arith, c.loop-t.auto.marks, c.requires.marks);
       ready = c.requires.ready;
       lookups = c.requires.index.lookups;
       trees = c.loop-t-test.true;
       pgns = a;
     }
 
-pub overflow_add-t : goal.overflow_add-t
-overflow_add-t c =
-    omega (arith, c.loop-t-test.true)
-
 pub loop-t-preserved : goal.loop-t-preserved
 loop-t-preserved c =
-    record {
-      turns = omega (arith, c);
-      length = c.mark_by_tree.auto.marks ∙ c.loop-t.invariant.length;
-      marked = marked_turn (has c.args.s.now) c.loop-t.t c.loop-t.invariant.marked c.mark_by_tree.ensures;
-    }
-
-pub shape_of-marks : goal.shape_of-marks
-shape_of-marks c = c.loop-t.invariant.length
+    marked_turn (has c.args.s.now) c.loop-t.t c.loop-t.invariant c.mark_by_tree.ensures
 
 pub returns : goal.returns
 returns c =
     let s = c.args.s.now in
-    let q : c.loop-t.t ≡ 3 = omega (arith, c.loop-t.invariant.turns, c.loop-t-test.false) in
-    marked_as (λ n. any_below (has s n) c.loop-t.t) (λ n. any_below (has s n) 3) (λ n. ap (any_below (has s n)) q) c.loop-t.invariant.marked
+    let q : c.loop-t.t ≡ 3 = omega (arith, c.loop-t-test.false) in
+    marked_as (λ n. any_below (has s n) c.loop-t.t) (λ n. any_below (has s n) 3) (λ n. ap (any_below (has s n)) q) c.loop-t.invariant

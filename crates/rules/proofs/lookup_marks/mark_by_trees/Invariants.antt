@@ -1,11 +1,9 @@
 use Rattle.rules.specs.Marks.{Marked}
 use Rattle.rules.specs.LookupWiring.{referenced_by_tree}
 use Rattle.rules.specs.Search.{any_below}
-use Prim.Native.Nat.{ℕ, ◌-◌, ◌≤◌}
-use mathlib.Core.Path.{◌≡◌}
+use Prim.Native.Nat.{ℕ}
 use mathlib.Core.Bool.{Bool}
 use mathlib.Core.List.{List}
-use lib.ListN.{length}
 use Rattle.pack.specs.Meaning.{pack_of}
 use Rattle.rules.proofs.lookup_marks.mark_by_trees.Given as goal
 
@@ -14,12 +12,4 @@ abbrev pub has : List ℕ → List ℕ → ℕ → Bool
 has s name t = referenced_by_tree (pack_of s) name t
 
 abbrev pub invariant-loop-t : goal.invariant-loop-t
-invariant-loop-t l =
-    record {
-      turns : l.t ≤ 3;
-      length : length l.marks ≡ length l.initial.marks;
-      marked : Marked (pack_of l.s) l.initial.marks (λ n. any_below (has l.s n) l.t) l.marks;
-    }
-
-abbrev pub decreases-loop-t : goal.decreases-loop-t
-decreases-loop-t l = 3 - l.t
+invariant-loop-t l = Marked (pack_of l.s) l.initial.marks (λ n. any_below (has l.s n) l.t) l.marks

@@ -1,19 +1,11 @@
-use Rattle.rules.proofs.Sizes.{at_lookup, entries_few, lookups_few}
+use Rattle.rules.proofs.Sizes.{at_lookup, entries_few}
 use Rattle.pack.proofs.Positions.{lookup_place_next}
-use Rattle.rules.proofs.Emits.{fits_turn, reporting_none, reporting_turn}
+use Rattle.rules.proofs.Emits.{fits_turn, reporting_turn}
 use Rattle.pack.specs.Meaning.{pack_of}
 use native.Mathlib.Omega.{arith}
 use mathlib.Core.Path.{◌≡◌}
 use Rattle.rules.proofs.lookup_names.check_lookup_names.Invariants.{of_lookup}
 use Rattle.rules.proofs.lookup_names.check_lookup_names.Goals as goal
-
-pub loop-l-init : goal.loop-l-init
-loop-l-init c =
-    record { reporting = reporting_none _ _ _ _; place = c.requires.lookups.place }
-
-pub lookup_of-view-requires : goal.lookup_of-view-requires
-lookup_of-view-requires c =
-    (at_lookup c.requires.ready c.requires.lookups.count c.loop-l.invariant.place c.loop-l-test.true)
 
 pub lookup_names_of-m-requires : goal.lookup_names_of-m-requires
 lookup_names_of-m-requires c =
@@ -30,14 +22,6 @@ pub overflow_add-p : goal.overflow_add-p
 overflow_add-p c =
     omega (arith, entries_few (at_lookup c.requires.ready c.requires.lookups.count c.loop-l.invariant.place c.loop-l-test.true))
 
-pub overflow_cast-p : goal.overflow_cast-p
-overflow_cast-p c =
-    omega (
-      arith,
-      entries_few (at_lookup c.requires.ready c.requires.lookups.count c.loop-l.invariant.place c.loop-l-test.true),
-      c.lookup_of-view.ensures.entries,
-    )
-
 pub overflow_add-p-in-loop-l : goal.overflow_add-p-in-loop-l
 overflow_add-p-in-loop-l c =
     omega (
@@ -46,10 +30,6 @@ overflow_add-p-in-loop-l c =
       c.lookup_of-view.ensures.entries,
     )
 
-pub overflow_add-l : goal.overflow_add-l
-overflow_add-l c =
-    omega (arith, lookups_few (at_lookup c.requires.ready c.requires.lookups.count c.loop-l.invariant.place c.loop-l-test.true))
-
 pub loop-l-preserved : goal.loop-l-preserved
 loop-l-preserved c =
     let s = c.args.s.now in
@@ -57,9 +37,6 @@ loop-l-preserved c =
       reporting = reporting_turn c.loop-l.invariant.reporting (omega (arith, c)) c.lookup_names_of-m.ensures;
       place = omega (arith, lookup_place_next (pack_of s) c.loop-l.l, c.lookup_of-view.ensures.entries, c.loop-l.invariant.place);
     }
-
-pub shape_of-out : goal.shape_of-out
-shape_of-out c = c.loop-l.invariant.reporting.emitted.length
 
 pub returns : goal.returns
 returns c =

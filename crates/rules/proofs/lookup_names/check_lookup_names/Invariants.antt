@@ -4,7 +4,7 @@ use Rattle.pack.specs.Ready.{place_of_lookup}
 use Rattle.rules.specs.declared.Finding.{Finding}
 use Rattle.pack.specs.Meaning.{pack_of}
 use Rattle.pack.specs.Value.{lookup_at}
-use Prim.Native.Nat.{ℕ, ◌-◌}
+use Prim.Native.Nat.{ℕ}
 use mathlib.Core.Path.{◌≡◌}
 use mathlib.Core.List.{List}
 use Rattle.rules.proofs.lookup_names.check_lookup_names.Given as goal
@@ -19,6 +19,3 @@ invariant-loop-l l =
       reporting : Reporting l.initial.out l.n (of_lookup l.s) l.count l.l l.out l.m;
       place : l.p ≡ place_of_lookup (pack_of l.s) l.l;
     }
-
-abbrev pub decreases-loop-l : goal.decreases-loop-l
-decreases-loop-l l = l.count - l.l

@@ -7,9 +7,8 @@ use Rattle.pack.specs.Value.{no_entry, lookup_at}
 use mathlib.Core.Bool.{Bool}
 use Prim.Native.Nat.{ℕ}
 use native.Mathlib.Omega.{arith}
-use mathlib.Core.Path.{◌≡◌, refl, ap, ◌∙◌}
+use mathlib.Core.Path.{◌≡◌, ap, ◌∙◌}
 use mathlib.Core.List.{List}
-use borrow.Author.Rules.{rules}
 use lib.ListN.{get_or}
 use Rattle.rules.proofs.lookup_names.latest_same_name.Invariants.{named}
 use Rattle.rules.proofs.lookup_names.latest_same_name.Goals as goal
@@ -19,13 +18,6 @@ said : (s : List ℕ) (l e d k : ℕ) (a b : EntryView) (r : Bool) → k ≡ (lo
     → entry_meaning s b ≡ get_or (lookup_at (pack_of s).lookups l).entries e no_entry → r ≡ same_name k (entry_meaning s a) (entry_meaning s b)
     → r ≡ named s l e d
 said s l e d k a b r x y z h = h ∙ (λ j. same_name (x j) (y j) (z j))
-
-pub loop-d-init : goal.loop-d-init
-loop-d-init c = record { turns = search rules; found = refl }
-
-pub entry_of-other-requires : goal.entry_of-other-requires
-entry_of-other-requires c =
-    record { at = c.requires.at; kind = c.requires.kind; entry = omega (arith, c.requires.entry, c.loop-d-test.true) }
 
 pub loop-d-preserved : goal.loop-d-preserved
 loop-d-preserved c =

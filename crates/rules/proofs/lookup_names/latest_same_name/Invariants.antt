@@ -1,9 +1,9 @@
 use Rattle.rules.specs.LookupNames.{same_name}
 use Rattle.rules.specs.Search.{latest_below}
-use Rattle.pack.specs.Meaning.{optional_number, pack_of}
+use Rattle.pack.specs.Meaning.{pack_of}
 use Rattle.pack.specs.Value.{no_entry, lookup_at}
 use mathlib.Core.Bool.{Bool}
-use Prim.Native.Nat.{ℕ, ◌-◌, ◌≤◌}
+use Prim.Native.Nat.{ℕ, ◌≤◌}
 use mathlib.Core.Path.{◌≡◌}
 use mathlib.Core.List.{List}
 use lib.ListN.{get_or}
@@ -19,8 +19,5 @@ abbrev pub invariant-loop-d : goal.invariant-loop-d
 invariant-loop-d l =
     record {
       turns : l.d ≤ l.e;
-      found : optional_number l.found ≡ latest_below (named l.s l.l l.e) l.d;
+      found : l.found ≡ latest_below (named l.s l.l l.e) l.d;
     }
-
-abbrev pub decreases-loop-d : goal.decreases-loop-d
-decreases-loop-d l = l.e - l.d

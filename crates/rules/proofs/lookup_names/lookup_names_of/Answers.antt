@@ -1,9 +1,8 @@
-use Rattle.rules.proofs.Sizes.{entries_few}
 use Rattle.rules.specs.LookupNames.{lookup_names_of}
 use Rattle.rules.specs.Texts.{SPN_LOOKUP}
 use Rattle.pack.specs.declared.lookup.LookupView.{LookupView}
 use Rattle.pack.specs.Value.{Lookup, lookup_at}
-use Rattle.rules.proofs.Emits.{emitted_none, fits_turn, reporting_none, reporting_turn}
+use Rattle.rules.proofs.Emits.{emitted_none, fits_turn, reporting_turn}
 use Rattle.pack.specs.Ready.{LookupIs}
 use Rattle.pack.specs.Meaning.{pack_of}
 use Rattle.pack.specs.Items.{bytes_of}
@@ -32,9 +31,6 @@ returns-then-text_is c =
     rw (spns s (lookup_at (pack_of s).lookups l) c.args.l.view c.requires.lookup.is l c.text_is.result c.text_is.ensures
     c.if-text_is.true) (emitted_none c.args.out.now c.args.n)
 
-pub loop-e-init : goal.loop-e-init
-loop-e-init c = reporting_none _ _ _ _
-
 pub same_name_at-m-requires : goal.same_name_at-m-requires
 same_name_at-m-requires c =
     let s = c.args.s.now in
@@ -48,16 +44,9 @@ same_name_at-m-requires c =
       entry = omega (arith, c.requires.lookup.is.entries, c.loop-e-test.true);
     }
 
-pub overflow_add-e : goal.overflow_add-e
-overflow_add-e c =
-    omega (arith, c.loop-e-test.true, c.requires.lookup.is.entries, entries_few c.requires.lookup.at)
-
 pub loop-e-preserved : goal.loop-e-preserved
 loop-e-preserved c =
     reporting_turn c.loop-e.invariant (omega (arith, c)) c.same_name_at-m.ensures
-
-pub shape_of-out : goal.shape_of-out
-shape_of-out c = c.loop-e.invariant.emitted.length
 
 pub returns : goal.returns
 returns c =

@@ -4,7 +4,7 @@ use Rattle.rules.specs.Search.{latest_below}
 use Rattle.pack.specs.Value.{no_entry, Lookup, lookup_at}
 use Rattle.rules.specs.declared.Finding.{Finding}
 use Rattle.pack.specs.Meaning.{pack_of}
-use Prim.Native.Nat.{ℕ, ◌-◌}
+use Prim.Native.Nat.{ℕ}
 use mathlib.Core.List.{List}
 use lib.ListN.{get_or}
 use Rattle.rules.proofs.lookup_names.lookup_names_of.Given as goal
@@ -16,6 +16,3 @@ of_entry L l e = same_name_as l e (latest_below (λ d. same_name L.kind (get_or 
 abbrev pub invariant-loop-e : goal.invariant-loop-e
 invariant-loop-e l =
     Reporting l.initial.out l.n (of_entry (lookup_at (pack_of l.s).lookups l.l.item) l.l.item) l.entries l.e l.out l.m
-
-abbrev pub decreases-loop-e : goal.decreases-loop-e
-decreases-loop-e l = l.entries - l.e

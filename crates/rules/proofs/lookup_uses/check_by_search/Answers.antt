@@ -2,7 +2,7 @@ use Rattle.pack.specs.declared.lookup.LookupView.{LookupView}
 use Rattle.pack.specs.Value.{Lookup, lookup_at}
 use Rattle.pack.specs.Items.{bytes_of}
 use Rattle.pack.proofs.Positions.{lookup_place_next}
-use Rattle.rules.proofs.Sizes.{at_lookup, entries_few, lookups_few}
+use Rattle.rules.proofs.Sizes.{at_lookup, entries_few}
 use Rattle.rules.specs.LookupWiring.{referenced}
 use native.Mathlib.Omega.{arith}
 use Prim.Native.Nat.{ℕ}
@@ -55,10 +55,6 @@ pub overflow_add-p-in-loop-l : goal.overflow_add-p-in-loop-l
 overflow_add-p-in-loop-l c =
     omega
     (arith, entries_few (at_lookup c.requires.ready c.requires.index.lookups.count c.loop-l.invariant.place c.loop-l-test.true), c.lookup_of-v.ensures.entries)
-
-pub overflow_add-l : goal.overflow_add-l
-overflow_add-l c =
-    omega (arith, lookups_few (at_lookup c.requires.ready c.requires.index.lookups.count c.loop-l.invariant.place c.loop-l-test.true))
 
 pub loop-l-preserved : goal.loop-l-preserved
 loop-l-preserved c =

@@ -1,7 +1,7 @@
 use Rattle.rules.specs.Emit.{Reporting}
 use Rattle.pack.specs.Value.{lookup_at}
 use Rattle.rules.specs.LookupWiring.{referenced}
-use Prim.Native.Nat.{ℕ, ◌-◌}
+use Prim.Native.Nat.{ℕ}
 use mathlib.Core.Path.{◌≡◌}
 use mathlib.Core.Bool.{not}
 use mathlib.Core.List.{List}
@@ -21,6 +21,3 @@ invariant-loop-l l =
       reporting : Reporting l.initial.out l.n (of_lookup l.s) l.count l.l l.out l.m;
       place : l.p ≡ place_of_lookup (pack_of l.s) l.l;
     }
-
-abbrev pub decreases-loop-l : goal.decreases-loop-l
-decreases-loop-l l = l.count - l.l

@@ -5,7 +5,6 @@ use Rattle.pack.specs.Meaning.{optional_bytes, entry_meaning, pack_of}
 use Rattle.pack.specs.Items.{bytes_of}
 use Rattle.rules.specs.SearchLaws.{any_turn, any_hit}
 use Rattle.rules.specs.Model.{is_text}
-use borrow.Author.Rules.{rules}
 use native.Mathlib.Omega.{arith}
 use Prim.Native.Nat.{ℕ}
 use mathlib.Core.Path.{◌≡◌, refl, sym, ◌∙◌, ap}
@@ -26,7 +25,7 @@ returns-then-l-ne3 c =
     c.if-l-ne3.true)
 
 pub loop-e-init : goal.loop-e-init
-loop-e-init c = record { turns = search rules; none_yet = refl }
+loop-e-init c = refl
 
 pub entry_of-entry-requires : goal.entry_of-entry-requires
 entry_of-entry-requires c =
@@ -50,16 +49,13 @@ loop-e-preserved c =
     let s = c.args.s.now in let name = c.args.name in
     let l = c.args.l.item in
     let h = said s l (bytes_of s name) c.loop-e.e c.entry_of-entry.result c.is_text.result c.entry_of-entry.ensures c.is_text.ensures in
-    record {
-      turns = omega (arith, c);
-      none_yet = any_turn (nests s l (bytes_of s name)) c.loop-e.e
-          ∙ (rw (c.loop-e.invariant.none_yet, h ∙ c.if-is_text.false));
-    }
+    any_turn (nests s l (bytes_of s name)) c.loop-e.e
+    ∙ (rw (c.loop-e.invariant, h ∙ c.if-is_text.false))
 
 pub returns : goal.returns
 returns c =
     let s = c.args.s.now in let l = c.args.l.item in
     let q : length (lookup_at (pack_of s).lookups l).entries ≡ c.loop-e.e =
-    omega (arith, c.requires.is.entries, c.loop-e.invariant.turns, c.loop-e-test.false) in
+    omega (arith, c.requires.is.entries, c.loop-e-test.false) in
     sym (nesting s (bytes_of s c.args.name) (lookup_at (pack_of s).lookups l) c.args.l.view c.requires.is c.if-l-ne3.false
-    ∙ (rw (q, c.loop-e.invariant.none_yet)))
+    ∙ (rw (q, c.loop-e.invariant)))

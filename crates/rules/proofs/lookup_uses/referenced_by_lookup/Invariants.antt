@@ -3,7 +3,7 @@ use Rattle.pack.specs.Meaning.{pack_of}
 use Rattle.pack.specs.Items.{bytes_of}
 use Rattle.rules.specs.Search.{any_below}
 use Rattle.rules.specs.Model.{is_text}
-use Prim.Native.Nat.{ℕ, ◌-◌, ◌≤◌}
+use Prim.Native.Nat.{ℕ}
 use mathlib.Core.Path.{◌≡◌}
 use mathlib.Core.Bool.{Bool, false}
 use mathlib.Core.List.{List}
@@ -15,11 +15,4 @@ abbrev pub nests : List ℕ → ℕ → List ℕ → ℕ → Bool
 nests s l name e = is_text (get_or (lookup_at (pack_of s).lookups l).entries e no_entry).nested name
 
 abbrev pub invariant-loop-e : goal.invariant-loop-e
-invariant-loop-e l =
-    record {
-      turns : l.e ≤ l.entries;
-      none_yet : any_below (nests l.s l.l.item (bytes_of l.s l.name)) l.e ≡ false;
-    }
-
-abbrev pub decreases-loop-e : goal.decreases-loop-e
-decreases-loop-e l = l.entries - l.e
+invariant-loop-e l = any_below (nests l.s l.l.item (bytes_of l.s l.name)) l.e ≡ false

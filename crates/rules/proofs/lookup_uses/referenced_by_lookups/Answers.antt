@@ -1,8 +1,7 @@
 use Rattle.pack.specs.Items.{bytes_of}
 use Rattle.pack.proofs.Positions.{lookup_place_next}
-use Rattle.rules.proofs.Sizes.{at_lookup, entries_few, lookups_few}
+use Rattle.rules.proofs.Sizes.{at_lookup, entries_few}
 use Rattle.rules.specs.SearchLaws.{any_turn, any_hit}
-use borrow.Author.Rules.{rules}
 use native.Mathlib.Omega.{arith}
 use mathlib.Core.Path.{◌≡◌, refl, sym, ◌∙◌}
 use lib.ListN.{length}
@@ -11,7 +10,7 @@ use Rattle.rules.proofs.lookup_uses.referenced_by_lookups.Invariants.{has}
 use Rattle.rules.proofs.lookup_uses.referenced_by_lookups.Goals as goal
 
 pub loop-l-init : goal.loop-l-init
-loop-l-init c = record { turns = search rules; place = c.requires.lookups.place; none_yet = refl }
+loop-l-init c = record { place = c.requires.lookups.place; none_yet = refl }
 
 pub lookup_of-view-requires : goal.lookup_of-view-requires
 lookup_of-view-requires c =
@@ -50,15 +49,10 @@ overflow_add-p-in-loop-l c =
       c.lookup_of-view.ensures.entries,
     )
 
-pub overflow_add-l : goal.overflow_add-l
-overflow_add-l c =
-    omega (arith, lookups_few (at_lookup c.requires.ready c.requires.lookups.count c.loop-l.invariant.place c.loop-l-test.true))
-
 pub loop-l-preserved : goal.loop-l-preserved
 loop-l-preserved c =
     let s = c.args.s.now in
     record {
-      turns = omega (arith, c);
       place = omega (arith, lookup_place_next (pack_of s) c.loop-l.l, c.lookup_of-view.ensures.entries, c.loop-l.invariant.place);
       none_yet = any_turn (has s (bytes_of s c.args.name)) c.loop-l.l
           ∙ (rw (c.loop-l.invariant.none_yet, sym c.referenced_by_lookup.ensures ∙ c.if-referenced_by_lookup.false));
@@ -67,5 +61,5 @@ loop-l-preserved c =
 pub returns : goal.returns
 returns c =
     let q : length (pack_of c.args.s.now).lookups ≡ c.loop-l.l =
-    omega (arith, c.requires.lookups.count, c.loop-l.invariant.turns, c.loop-l-test.false) in
+    omega (arith, c.requires.lookups.count, c.loop-l-test.false) in
     rw (q, c.loop-l.invariant.none_yet)

@@ -1,7 +1,7 @@
 use Rattle.pack.specs.Items.{bytes_of}
 use Rattle.rules.specs.Search.{any_below}
 use Rattle.rules.specs.LookupWiring.{referenced_by_lookup}
-use Prim.Native.Nat.{ℕ, ◌-◌, ◌≤◌}
+use Prim.Native.Nat.{ℕ}
 use mathlib.Core.Path.{◌≡◌}
 use mathlib.Core.Bool.{Bool, false}
 use mathlib.Core.List.{List}
@@ -17,10 +17,6 @@ has s name l = referenced_by_lookup name (lookup_at (pack_of s).lookups l)
 abbrev pub invariant-loop-l : goal.invariant-loop-l
 invariant-loop-l l =
     record {
-      turns : l.l ≤ l.count;
       place : l.p ≡ place_of_lookup (pack_of l.s) l.l;
       none_yet : any_below (has l.s (bytes_of l.s l.name)) l.l ≡ false;
     }
-
-abbrev pub decreases-loop-l : goal.decreases-loop-l
-decreases-loop-l l = l.count - l.l

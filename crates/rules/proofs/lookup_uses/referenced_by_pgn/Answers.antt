@@ -1,11 +1,9 @@
-use Rattle.rules.proofs.Sizes.{fields_few}
 use Rattle.pack.specs.declared.field.FieldView.{FieldView}
 use Rattle.pack.specs.Meaning.{optional_reference, pack_of, field_meaning}
 use Rattle.pack.specs.Items.{bytes_of}
 use Rattle.pack.specs.Value.{pgn_at, field_at}
 use Rattle.rules.specs.SearchLaws.{any_turn, any_hit}
 use Rattle.rules.specs.LookupWiring.{ref_is, referenced_by_pgn}
-use borrow.Author.Rules.{rules}
 use native.Mathlib.Omega.{arith}
 use Prim.Native.Nat.{ℕ}
 use mathlib.Core.Path.{◌≡◌, refl, sym, ◌∙◌}
@@ -20,7 +18,7 @@ said : (s : List ℕ) (t i : ℕ) (name : List ℕ) (k : ℕ) (v : FieldView) (r
 said s t i name k v r y h = sym (h ∙ (λ j. ref_is (y j).reference name))
 
 pub loop-k-init : goal.loop-k-init
-loop-k-init c = record { turns = search rules; none_yet = refl }
+loop-k-init c = refl
 
 pub field_of-f-requires : goal.field_of-f-requires
 field_of-f-requires c =
@@ -36,25 +34,18 @@ returns-then-ref_is c =
     sym (any_hit (refers s t i (bytes_of s name)) (length (pgn_at (pack_of s) t i).fields) c.loop-k.k (omega (arith, c.requires.is.fields, c.loop-k-test.true))
     (h ∙ c.if-ref_is.true))
 
-pub overflow_add-k : goal.overflow_add-k
-overflow_add-k c =
-    omega (arith, c.loop-k-test.true, c.requires.is.fields, fields_few c.requires.at)
-
 pub loop-k-preserved : goal.loop-k-preserved
 loop-k-preserved c =
     let s = c.args.s.now in let name = c.args.name in
     let t = c.args.g.tree in
     let i = c.args.g.item in
     let h = said s t i (bytes_of s name) c.loop-k.k c.field_of-f.result c.ref_is.result c.field_of-f.ensures c.ref_is.ensures in
-    record {
-      turns = omega (arith, c);
-      none_yet = any_turn (refers s t i (bytes_of s name)) c.loop-k.k
-          ∙ (rw (c.loop-k.invariant.none_yet, h ∙ c.if-ref_is.false));
-    }
+    any_turn (refers s t i (bytes_of s name)) c.loop-k.k
+    ∙ (rw (c.loop-k.invariant, h ∙ c.if-ref_is.false))
 
 pub returns : goal.returns
 unfolding referenced_by_pgn
 returns c =
     let q : length (pgn_at (pack_of c.args.s.now) c.args.g.tree c.args.g.item).fields ≡ c.loop-k.k =
-    omega (arith, c.requires.is.fields, c.loop-k.invariant.turns, c.loop-k-test.false) in
-    rw (q, c.loop-k.invariant.none_yet)
+    omega (arith, c.requires.is.fields, c.loop-k-test.false) in
+    rw (q, c.loop-k.invariant)

@@ -3,7 +3,7 @@ use Rattle.pack.specs.Items.{bytes_of}
 use Rattle.pack.specs.Value.{pgn_at, field_at}
 use Rattle.rules.specs.Search.{any_below}
 use Rattle.rules.specs.LookupWiring.{ref_is}
-use Prim.Native.Nat.{ℕ, ◌-◌, ◌≤◌}
+use Prim.Native.Nat.{ℕ}
 use mathlib.Core.Path.{◌≡◌}
 use mathlib.Core.Bool.{Bool, false}
 use mathlib.Core.List.{List}
@@ -14,11 +14,4 @@ abbrev pub refers : List ℕ → ℕ → ℕ → List ℕ → ℕ → Bool
 refers s t i name k = ref_is (field_at (pgn_at (pack_of s) t i) k).reference name
 
 abbrev pub invariant-loop-k : goal.invariant-loop-k
-invariant-loop-k l =
-    record {
-      turns : l.k ≤ l.fields;
-      none_yet : any_below (refers l.s l.g.tree l.g.item (bytes_of l.s l.name)) l.k ≡ false;
-    }
-
-abbrev pub decreases-loop-k : goal.decreases-loop-k
-decreases-loop-k l = l.fields - l.k
+invariant-loop-k l = any_below (refers l.s l.g.tree l.g.item (bytes_of l.s l.name)) l.k ≡ false

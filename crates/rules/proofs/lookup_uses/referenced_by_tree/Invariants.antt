@@ -2,7 +2,7 @@ use Rattle.pack.specs.Ready.{place_of_pgn}
 use Rattle.pack.specs.Items.{bytes_of}
 use Rattle.rules.specs.Search.{any_below}
 use Rattle.rules.specs.LookupWiring.{referenced_by_pgn}
-use Prim.Native.Nat.{ℕ, ◌-◌, ◌≤◌}
+use Prim.Native.Nat.{ℕ}
 use mathlib.Core.Path.{◌≡◌}
 use mathlib.Core.Bool.{Bool, false}
 use mathlib.Core.List.{List}
@@ -17,10 +17,6 @@ has s t name i = referenced_by_pgn name (pgn_at (pack_of s) t i)
 abbrev pub invariant-loop-i : goal.invariant-loop-i
 invariant-loop-i l =
     record {
-      turns : l.i ≤ l.count;
       place : l.p ≡ place_of_pgn (pack_of l.s) l.t l.i;
       none_yet : any_below (has l.s l.t (bytes_of l.s l.name)) l.i ≡ false;
     }
-
-abbrev pub decreases-loop-i : goal.decreases-loop-i
-decreases-loop-i l = l.count - l.i

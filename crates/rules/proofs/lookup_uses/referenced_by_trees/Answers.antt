@@ -2,7 +2,6 @@ use Rattle.pack.specs.Items.{bytes_of}
 use Rattle.rules.proofs.Sections.{at_tree}
 use Rattle.rules.specs.Search.{any_below}
 use Rattle.rules.specs.SearchLaws.{any_turn, any_hit}
-use borrow.Author.Rules.{rules}
 use native.Mathlib.Omega.{arith}
 use mathlib.Core.Path.{◌≡◌, refl, sym, ◌∙◌, ap}
 use Rattle.pack.specs.Meaning.{pack_of}
@@ -10,7 +9,7 @@ use Rattle.rules.proofs.lookup_uses.referenced_by_trees.Invariants.{has}
 use Rattle.rules.proofs.lookup_uses.referenced_by_trees.Goals as goal
 
 pub loop-t-init : goal.loop-t-init
-loop-t-init c = record { turns = search rules; none_yet = refl }
+loop-t-init c = refl
 
 pub referenced_by_tree-requires : goal.referenced_by_tree-requires
 referenced_by_tree-requires c =
@@ -23,21 +22,14 @@ returns-then-referenced_by_tree c =
     let s = c.args.s.now in
     sym (any_hit (has s (bytes_of s c.args.name)) 3 c.loop-t.t c.loop-t-test.true (sym c.referenced_by_tree.ensures ∙ c.if-referenced_by_tree.true))
 
-pub overflow_add-t : goal.overflow_add-t
-overflow_add-t c =
-    omega (arith, c.loop-t-test.true)
-
 pub loop-t-preserved : goal.loop-t-preserved
 loop-t-preserved c =
     let s = c.args.s.now in
-    record {
-      turns = omega (arith, c);
-      none_yet = any_turn (has s (bytes_of s c.args.name)) c.loop-t.t
-          ∙ (rw (c.loop-t.invariant.none_yet, sym c.referenced_by_tree.ensures ∙ c.if-referenced_by_tree.false));
-    }
+    any_turn (has s (bytes_of s c.args.name)) c.loop-t.t
+    ∙ (rw (c.loop-t.invariant, sym c.referenced_by_tree.ensures ∙ c.if-referenced_by_tree.false))
 
 pub returns : goal.returns
 returns c =
     let s = c.args.s.now in
-    let q : c.loop-t.t ≡ 3 = omega (arith, c.loop-t.invariant.turns, c.loop-t-test.false) in
-    sym (ap (any_below (has s (bytes_of s c.args.name))) (sym q) ∙ c.loop-t.invariant.none_yet)
+    let q : c.loop-t.t ≡ 3 = omega (arith, c.loop-t-test.false) in
+    sym (ap (any_below (has s (bytes_of s c.args.name))) (sym q) ∙ c.loop-t.invariant)

@@ -1,7 +1,7 @@
 use Rattle.pack.specs.Items.{bytes_of}
 use Rattle.rules.specs.Search.{any_below}
 use Rattle.rules.specs.LookupWiring.{referenced_by_tree}
-use Prim.Native.Nat.{ℕ, ◌-◌, ◌≤◌}
+use Prim.Native.Nat.{ℕ}
 use mathlib.Core.Path.{◌≡◌}
 use mathlib.Core.Bool.{Bool, false}
 use mathlib.Core.List.{List}
@@ -13,11 +13,4 @@ abbrev pub has : List ℕ → List ℕ → ℕ → Bool
 has s name t = referenced_by_tree (pack_of s) name t
 
 abbrev pub invariant-loop-t : goal.invariant-loop-t
-invariant-loop-t l =
-    record {
-      turns : l.t ≤ 3;
-      none_yet : any_below (has l.s (bytes_of l.s l.name)) l.t ≡ false;
-    }
-
-abbrev pub decreases-loop-t : goal.decreases-loop-t
-decreases-loop-t l = 3 - l.t
+invariant-loop-t l = any_below (has l.s (bytes_of l.s l.name)) l.t ≡ false

@@ -1,5 +1,5 @@
 use Rattle.rules.specs.Emit.{Reporting}
-use Prim.Native.Nat.{ℕ, ◌-◌}
+use Prim.Native.Nat.{ℕ}
 use mathlib.Core.Bool.{Bool, false, not}
 use mathlib.Core.List.{List}
 use lib.ListN.{get_or}
@@ -14,6 +14,3 @@ of_mark marks l = report_if (not (get_or marks l false)) (lookup_warning 22 1 l 
 abbrev pub invariant-loop-l : goal.invariant-loop-l
 invariant-loop-l l =
     Reporting l.initial.out l.n (of_mark l.marks) l.count l.l l.out l.m
-
-abbrev pub decreases-loop-l : goal.decreases-loop-l
-decreases-loop-l l = l.count - l.l

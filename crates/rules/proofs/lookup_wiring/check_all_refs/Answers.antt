@@ -22,10 +22,6 @@ check_tree_refs-m-requires c =
       pgns = a;
     }
 
-pub overflow_add-t : goal.overflow_add-t
-overflow_add-t c =
-    omega (arith, c.loop-t-test.true)
-
 pub loop-t-preserved : goal.loop-t-preserved
 loop-t-preserved c =
     reporting_turn c.loop-t.invariant (omega (arith, c)) c.check_tree_refs-m.ensures

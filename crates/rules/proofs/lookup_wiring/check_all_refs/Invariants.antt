@@ -1,6 +1,6 @@
 use Rattle.rules.specs.Emit.{Reporting}
 use Rattle.rules.specs.LookupWiring.{check_lookup_refs}
-use Prim.Native.Nat.{ℕ, ◌-◌}
+use Prim.Native.Nat.{ℕ}
 use mathlib.Core.List.{List}
 use lib.ListN.{length}
 use Rattle.pack.specs.Notation.{concat_below}
@@ -16,6 +16,3 @@ of_tree s t = concat_below (λ i. check_lookup_refs (pack_of s).lookups t i (pgn
 abbrev pub invariant-loop-t : goal.invariant-loop-t
 invariant-loop-t l =
     Reporting l.initial.out l.n (of_tree l.s) 3 l.t l.out l.m
-
-abbrev pub decreases-loop-t : goal.decreases-loop-t
-decreases-loop-t l = 3 - l.t

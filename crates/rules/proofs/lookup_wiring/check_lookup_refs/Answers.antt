@@ -1,7 +1,6 @@
 use Rattle.pack.specs.declared.field.FieldView.{FieldView}
 use Rattle.pack.specs.Value.{Lookup, Field, pgn_at, field_at}
 use Rattle.pack.specs.Meaning.{optional_reference, pack_of, field_meaning}
-use Rattle.rules.proofs.Sizes.{fields_few}
 use Rattle.rules.specs.LookupWiring.{lookup_ref_at, check_lookup_refs}
 use native.Mathlib.Omega.{arith}
 use Prim.Native.Nat.{ℕ}
@@ -42,10 +41,6 @@ lookup_ref_at-m-requires c =
       ready = c.requires.pgn.at.ready;
       lookups = c.requires.lookups;
     }
-
-pub overflow_add-k : goal.overflow_add-k
-overflow_add-k c =
-    omega (arith, c.loop-k-test.true, c.requires.pgn.is.fields, fields_few c.requires.pgn.at)
 
 pub loop-k-preserved : goal.loop-k-preserved
 loop-k-preserved c =

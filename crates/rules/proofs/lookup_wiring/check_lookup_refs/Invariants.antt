@@ -1,7 +1,7 @@
 use Rattle.pack.specs.Value.{pgn_at, field_at}
 use Rattle.pack.specs.Meaning.{pack_of}
 use Rattle.rules.specs.LookupWiring.{lookup_ref_at}
-use Prim.Native.Nat.{ℕ, ◌-◌}
+use Prim.Native.Nat.{ℕ}
 use mathlib.Core.List.{List}
 use Rattle.rules.specs.declared.Finding.{Finding}
 use Rattle.rules.specs.Emit.{Reporting}
@@ -14,6 +14,3 @@ of_field s t i k = lookup_ref_at (pack_of s).lookups t i k (field_at (pgn_at (pa
 abbrev pub invariant-loop-k : goal.invariant-loop-k
 invariant-loop-k l =
     Reporting l.initial.out l.n (of_field l.s l.g.tree l.g.item) l.fields l.k l.out l.m
-
-abbrev pub decreases-loop-k : goal.decreases-loop-k
-decreases-loop-k l = l.fields - l.k

@@ -1,5 +1,5 @@
 use Rattle.pack.proofs.Positions.{pgn_place_next}
-use Rattle.rules.proofs.Sizes.{at_pgn, fields_few, pgns_few}
+use Rattle.rules.proofs.Sizes.{at_pgn, fields_few}
 use native.Mathlib.Omega.{arith}
 use mathlib.Core.Path.{◌≡◌}
 use Rattle.pack.specs.Meaning.{pack_of}
@@ -46,10 +46,6 @@ overflow_add-p-in-loop-i c =
       fields_few (at_pgn c.requires.ready c.requires.trees (omega (arith, c.requires.pgns.count)) c.loop-i-test.true c.loop-i.invariant.place),
       c.pgn_of-view.ensures.fields,
     )
-
-pub overflow_add-i : goal.overflow_add-i
-overflow_add-i c =
-    omega (arith, pgns_few (at_pgn c.requires.ready c.requires.trees (omega (arith, c.requires.pgns.count)) c.loop-i-test.true c.loop-i.invariant.place))
 
 pub loop-i-preserved : goal.loop-i-preserved
 loop-i-preserved c =

@@ -20,12 +20,11 @@ abbrev chosen : (lost equal allowed : Bool) → (A B C : Finding) → List Findi
 chosen lost equal allowed A B C = if lost then A ∷ [] else (if not equal && not allowed then B ∷ [] else report_if (not (not equal) && allowed) C)
 
 module _ (s : List ℕ) (t i k l width : ℕ) (f : FieldView) (L : Lookup) (v : LookupView) (is : LookupIs s L v) (w : width ≡ value_bits (field_meaning s f))
-    (lost shared bad : Bool) (x : lost ≡ unreachable L width) (y : shared ≡ ((v.kind == 2) && f.flags.mismatch)) (z : bad ≡ (lost && not shared)) where
+    (lost bad : Bool) (x : lost ≡ unreachable L width) (y : bad ≡ (lost && not ((v.kind == 2) && f.flags.mismatch))) where
   reached : (unreachable L (value_bits (field_meaning s f)) && not ((L.kind == 2) && f.flags.mismatch)) ≡ bad
   reached =
       let p : lost ≡ unreachable L (value_bits (field_meaning s f)) = x ∙ ap (unreachable L) w in
-      let q : shared ≡ ((L.kind == 2) && f.flags.mismatch) = y ∙ ap (λ (M : Lookup). (M.kind == 2) && f.flags.mismatch) is.means in
-      sym (z ∙ (λ j. p j && not (q j)))
+      sym (y ∙ (λ j. p j && not (((is.means j).kind == 2) && f.flags.mismatch)))
 
   by_tests : (equal : Bool) → (width == v.bits) ≡ equal
       → lookup_width_at t i k (field_meaning s f) l L
@@ -55,17 +54,17 @@ put-requires c =
     let s = c.args.s.now in
     let l = c.args.l.item in
     rw (beyond s c.args.g.tree c.args.g.item c.args.k l c.value_bits-width.result c.args.f (lookup_at (pack_of s).lookups l)
-    c.args.l.view c.requires.lookup.is c.value_bits-width.ensures c.unreachable-lost.result c.shares_bits-shared.result c.and_not.result
-    c.unreachable-lost.ensures c.shares_bits-shared.ensures c.and_not.ensures c.if-and_not.true c.pgn_error.result c.pgn_error.ensures) at
+    c.args.l.view c.requires.lookup.is c.value_bits-width.ensures c.unreachable-lost.result c.is_finding.result
+    c.unreachable-lost.ensures c.is_finding.ensures c.if-is_finding.true c.pgn_error.result c.pgn_error.ensures) at
     c.requires.fits
 
-pub returns-then-and_not : goal.returns-then-and_not
-returns-then-and_not c =
+pub returns-then-is_finding : goal.returns-then-is_finding
+returns-then-is_finding c =
     let s = c.args.s.now in
     let l = c.args.l.item in
     rw (beyond s c.args.g.tree c.args.g.item c.args.k l c.value_bits-width.result c.args.f (lookup_at (pack_of s).lookups l)
-    c.args.l.view c.requires.lookup.is c.value_bits-width.ensures c.unreachable-lost.result c.shares_bits-shared.result c.and_not.result
-    c.unreachable-lost.ensures c.shares_bits-shared.ensures c.and_not.ensures c.if-and_not.true c.pgn_error.result c.pgn_error.ensures)
+    c.args.l.view c.requires.lookup.is c.value_bits-width.ensures c.unreachable-lost.result c.is_finding.result
+    c.unreachable-lost.ensures c.is_finding.ensures c.if-is_finding.true c.pgn_error.result c.pgn_error.ensures)
     c.put.ensures
 
 pub put_if-requires : goal.put_if-requires
@@ -73,8 +72,8 @@ put_if-requires c =
     let s = c.args.s.now in
     let l = c.args.l.item in
     rw (other s c.args.g.tree c.args.g.item c.args.k l c.value_bits-width.result c.args.f (lookup_at (pack_of s).lookups l)
-    c.args.l.view c.requires.lookup.is c.value_bits-width.ensures c.unreachable-lost.result c.shares_bits-shared.result c.and_not.result
-    c.unreachable-lost.ensures c.shares_bits-shared.ensures c.and_not.ensures c.if-and_not.false c.if-width-l.true c.pgn_error-then-width-l.result
+    c.args.l.view c.requires.lookup.is c.value_bits-width.ensures c.unreachable-lost.result c.is_finding.result
+    c.unreachable-lost.ensures c.is_finding.ensures c.if-is_finding.false c.if-width-l.true c.pgn_error-then-width-l.result
     c.pgn_error-then-width-l.ensures) at c.requires.fits
 
 pub returns-then-width-l : goal.returns-then-width-l
@@ -82,8 +81,8 @@ returns-then-width-l c =
     let s = c.args.s.now in
     let l = c.args.l.item in
     rw (other s c.args.g.tree c.args.g.item c.args.k l c.value_bits-width.result c.args.f (lookup_at (pack_of s).lookups l)
-    c.args.l.view c.requires.lookup.is c.value_bits-width.ensures c.unreachable-lost.result c.shares_bits-shared.result c.and_not.result
-    c.unreachable-lost.ensures c.shares_bits-shared.ensures c.and_not.ensures c.if-and_not.false c.if-width-l.true c.pgn_error-then-width-l.result
+    c.args.l.view c.requires.lookup.is c.value_bits-width.ensures c.unreachable-lost.result c.is_finding.result
+    c.unreachable-lost.ensures c.is_finding.ensures c.if-is_finding.false c.if-width-l.true c.pgn_error-then-width-l.result
     c.pgn_error-then-width-l.ensures)
     c.put_if.ensures
 
@@ -92,8 +91,8 @@ put_if-requires-2 c =
     let s = c.args.s.now in
     let l = c.args.l.item in
     rw (same s c.args.g.tree c.args.g.item c.args.k l c.value_bits-width.result c.args.f (lookup_at (pack_of s).lookups l)
-    c.args.l.view c.requires.lookup.is c.value_bits-width.ensures c.unreachable-lost.result c.shares_bits-shared.result c.and_not.result
-    c.unreachable-lost.ensures c.shares_bits-shared.ensures c.and_not.ensures c.if-and_not.false c.if-width-l.false c.pgn_warning.result
+    c.args.l.view c.requires.lookup.is c.value_bits-width.ensures c.unreachable-lost.result c.is_finding.result
+    c.unreachable-lost.ensures c.is_finding.ensures c.if-is_finding.false c.if-width-l.false c.pgn_warning.result
     c.pgn_warning.ensures) at c.requires.fits
 
 pub returns : goal.returns
@@ -101,6 +100,6 @@ returns c =
     let s = c.args.s.now in
     let l = c.args.l.item in
     rw (same s c.args.g.tree c.args.g.item c.args.k l c.value_bits-width.result c.args.f (lookup_at (pack_of s).lookups l)
-    c.args.l.view c.requires.lookup.is c.value_bits-width.ensures c.unreachable-lost.result c.shares_bits-shared.result c.and_not.result
-    c.unreachable-lost.ensures c.shares_bits-shared.ensures c.and_not.ensures c.if-and_not.false c.if-width-l.false c.pgn_warning.result c.pgn_warning.ensures)
+    c.args.l.view c.requires.lookup.is c.value_bits-width.ensures c.unreachable-lost.result c.is_finding.result
+    c.unreachable-lost.ensures c.is_finding.ensures c.if-is_finding.false c.if-width-l.false c.pgn_warning.result c.pgn_warning.ensures)
     c.put_if-2.ensures

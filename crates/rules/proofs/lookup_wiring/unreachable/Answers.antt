@@ -1,10 +1,8 @@
-use Rattle.rules.proofs.Sizes.{entries_few}
 use Rattle.pack.specs.declared.entry.EntryView.{EntryView}
 use Rattle.pack.specs.Value.{Lookup, no_entry, lookup_at}
 use Rattle.pack.specs.Meaning.{entry_meaning, pack_of}
 use Rattle.rules.specs.SearchLaws.{any_turn, any_hit}
 use Rattle.rules.specs.LookupWiring.{beyond_width, unreachable}
-use borrow.Author.Rules.{rules}
 use native.Mathlib.Omega.{arith}
 use Prim.Native.Nat.{ℕ}
 use mathlib.Core.Path.{◌≡◌, refl, sym, ◌∙◌, ap}
@@ -19,7 +17,7 @@ said : (s : List ℕ) (l width e k : ℕ) (v : EntryView) (r : Bool) → k ≡ (
 said s l width e k v r x y h = sym (h ∙ (λ j. beyond_width (x j) width (y j).value))
 
 pub loop-e-init : goal.loop-e-init
-loop-e-init c = record { turns = search rules; none_yet = refl }
+loop-e-init c = refl
 
 pub entry_of-entry-requires : goal.entry_of-entry-requires
 entry_of-entry-requires c =
@@ -39,21 +37,17 @@ returns-then-beyond_width c =
     sym (any_hit (beyond s l width) (length (lookup_at (pack_of s).lookups l).entries) c.loop-e.e (omega (arith, c.requires.is.entries, c.loop-e-test.true))
     (h ∙ c.if-beyond_width.true))
 
-pub overflow_add-e : goal.overflow_add-e
-overflow_add-e c =
-    omega (arith, c.loop-e-test.true, c.requires.is.entries, entries_few c.requires.at)
-
 pub loop-e-preserved : goal.loop-e-preserved
 loop-e-preserved c =
     let s = c.args.s.now in let width = c.args.width in
     let l = c.args.l.item in
     let h = said s l width c.loop-e.e c.args.l.view.kind c.entry_of-entry.result c.beyond_width.result
     (ap (λ (L : Lookup). L.kind) c.requires.is.means) c.entry_of-entry.ensures c.beyond_width.ensures in
-    record { turns = omega (arith, c); none_yet = any_turn (beyond s l width) c.loop-e.e ∙ (rw (c.loop-e.invariant.none_yet, h ∙ c.if-beyond_width.false)) }
+    any_turn (beyond s l width) c.loop-e.e ∙ (rw (c.loop-e.invariant, h ∙ c.if-beyond_width.false))
 
 pub returns : goal.returns
 unfolding unreachable
 returns c =
     let q : length (lookup_at (pack_of c.args.s.now).lookups c.args.l.item).entries ≡ c.loop-e.e =
-    omega (arith, c.requires.is.entries, c.loop-e.invariant.turns, c.loop-e-test.false) in
-    rw (q, c.loop-e.invariant.none_yet)
+    omega (arith, c.requires.is.entries, c.loop-e-test.false) in
+    rw (q, c.loop-e.invariant)

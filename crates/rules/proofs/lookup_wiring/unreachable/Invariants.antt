@@ -2,7 +2,7 @@ use Rattle.pack.specs.Value.{no_entry, lookup_at}
 use Rattle.pack.specs.Meaning.{pack_of}
 use Rattle.rules.specs.Search.{any_below}
 use Rattle.rules.specs.LookupWiring.{beyond_width}
-use Prim.Native.Nat.{ℕ, ◌-◌, ◌≤◌}
+use Prim.Native.Nat.{ℕ}
 use mathlib.Core.Path.{◌≡◌}
 use mathlib.Core.Bool.{Bool, false}
 use mathlib.Core.List.{List}
@@ -14,11 +14,4 @@ abbrev pub beyond : List ℕ → ℕ → ℕ → ℕ → Bool
 beyond s l width e = beyond_width (lookup_at (pack_of s).lookups l).kind width (get_or (lookup_at (pack_of s).lookups l).entries e no_entry).value
 
 abbrev pub invariant-loop-e : goal.invariant-loop-e
-invariant-loop-e l =
-    record {
-      turns : l.e ≤ l.entries;
-      none_yet : any_below (beyond l.s l.l.item l.width) l.e ≡ false;
-    }
-
-abbrev pub decreases-loop-e : goal.decreases-loop-e
-decreases-loop-e l = l.entries - l.e
+invariant-loop-e l = any_below (beyond l.s l.l.item l.width) l.e ≡ false

@@ -4,9 +4,9 @@ use Rattle.pack.specs.Meaning.{pack_of}
 use Rattle.pack.specs.Items.{bytes_of}
 use Rattle.pack.specs.Value.{lookup_at}
 use Rattle.pack.specs.Notation.{◌≐◌}
-use mathlib.Core.Option.{none}
+use Rattle.std.specs.Prelude.{None}
 use mathlib.Core.Bool.{Bool}
-use Prim.Native.Nat.{ℕ, ◌-◌, ◌≤◌}
+use Prim.Native.Nat.{ℕ}
 use mathlib.Core.Path.{◌≡◌}
 use mathlib.Core.List.{List}
 use Rattle.rules.proofs.lookups.find_lookup.Given as goal
@@ -18,10 +18,6 @@ named s name l = (lookup_at (pack_of s).lookups l).name ≐ name
 abbrev pub invariant-loop-index : goal.invariant-loop-index
 invariant-loop-index l =
     record {
-      turns : l.index ≤ l.n;
       place : l.place ≡ place_of_lookup (pack_of l.s) l.index;
-      none_yet : first_below (named l.s (bytes_of l.s l.name)) l.index ≡ none;
+      none_yet : first_below (named l.s (bytes_of l.s l.name)) l.index ≡ None;
     }
-
-abbrev pub decreases-loop-index : goal.decreases-loop-index
-decreases-loop-index l = l.n - l.index

@@ -8,6 +8,5 @@ returns c =
     let s = c.args.s.now in
     record {
       came = head_byte s (pgn_in s c.args.g) c.args.key (omega (arith, c.requires.head, c.if-at-ge11.false));
-      field = c.requires.field;
-      head = c.requires.head;
+      next = record { field = c.requires.field; head = c.requires.head };
     }

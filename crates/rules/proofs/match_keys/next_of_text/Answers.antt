@@ -11,8 +11,7 @@ returns-then-b-eq0 c =
       came = text_ended s (pgn_in s c.args.g) c.args.key (omega (arith, c.requires.head, c.requires.written)) c.part-b.result.now
           c.part-b.ensures c.if-b-eq0.true
           ∙ (rw (← c.requires.pgn.is.fields) c.next_piece.ensures.came);
-      field = c.next_piece.ensures.field;
-      head = c.next_piece.ensures.head;
+      next = c.next_piece.ensures.next;
     }
 
 pub returns : goal.returns
@@ -21,6 +20,5 @@ returns c =
     record {
       came = text_byte s (pgn_in s c.args.g) c.args.key (omega (arith, c.requires.head, c.requires.written)) c.part-b.result.now
           c.part-b.ensures c.if-b-eq0.false;
-      field = c.requires.field;
-      head = c.requires.head;
+      next = record { field = c.requires.field; head = c.requires.head };
     }

@@ -1,15 +1,8 @@
 use Rattle.pack.specs.Ready.{pgn_in}
 use Rattle.rules.specs.MatchKeys.{pieces_from}
-use Prim.Native.Nat.{◌-◌, ◌≤◌}
+use Prim.Native.Nat.{◌-◌}
 use mathlib.Core.Path.{◌≡◌}
 use Rattle.rules.proofs.match_keys.next_piece.Given as goal
 
 abbrev pub invariant-loop-k : goal.invariant-loop-k
-invariant-loop-k l =
-    record {
-      turns : l.k ≤ l.fields;
-      rest : pieces_from (pgn_in l.s l.g) l.from (l.fields - l.from) ≡ pieces_from (pgn_in l.s l.g) l.k (l.fields - l.k);
-    }
-
-abbrev pub decreases-loop-k : goal.decreases-loop-k
-decreases-loop-k l = l.fields - l.k
+invariant-loop-k l = pieces_from (pgn_in l.s l.g) l.from (l.fields - l.from) ≡ pieces_from (pgn_in l.s l.g) l.k (l.fields - l.k)

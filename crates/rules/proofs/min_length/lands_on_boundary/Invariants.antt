@@ -2,7 +2,7 @@ use Rattle.std.specs.Prelude.{◌==◌}
 use Rattle.rules.specs.Search.{any_below, sum_below}
 use Rattle.pack.specs.Value.{pgn_at, field_at}
 use Rattle.pack.specs.Meaning.{pack_of}
-use Prim.Native.Nat.{ℕ, suc, ◌-◌, ◌*◌, ◌≤◌}
+use Prim.Native.Nat.{ℕ, suc, ◌*◌, ◌≤◌}
 use mathlib.Core.Path.{◌≡◌}
 use mathlib.Core.List.{List}
 use mathlib.Core.Bool.{Bool, false}
@@ -23,6 +23,3 @@ invariant-loop-k l =
       small : l.bits ≤ l.k * 4294967295;
       none_yet : any_below (ends l.s l.g.tree l.g.item l.least) l.k ≡ false;
     }
-
-abbrev pub decreases-loop-k : goal.decreases-loop-k
-decreases-loop-k l = l.fields - l.k

@@ -1,5 +1,5 @@
 use Rattle.pack.proofs.Positions.{lookup_place_next}
-use Rattle.rules.proofs.Sizes.{at_lookup, entries_few, lookups_few}
+use Rattle.rules.proofs.Sizes.{at_lookup, entries_few}
 use native.Mathlib.Omega.{arith}
 use mathlib.Core.Path.{◌≡◌}
 use Rattle.pack.specs.Meaning.{pack_of}
@@ -46,10 +46,6 @@ overflow_add-p-in-loop-l c =
       entries_few (at_lookup c.requires.ready c.requires.index.lookups.count c.loop-l.invariant.place c.loop-l-test.true),
       c.lookup_of-view.ensures.entries,
     )
-
-pub overflow_add-l : goal.overflow_add-l
-overflow_add-l c =
-    omega (arith, lookups_few (at_lookup c.requires.ready c.requires.index.lookups.count c.loop-l.invariant.place c.loop-l-test.true))
 
 pub loop-l-preserved : goal.loop-l-preserved
 loop-l-preserved c =

@@ -1,6 +1,6 @@
 use Rattle.rules.specs.Emit.{Reporting}
 use Rattle.rules.specs.LookupWiring.{check_nested_refs}
-use Prim.Native.Nat.{ℕ, ◌-◌}
+use Prim.Native.Nat.{ℕ}
 use mathlib.Core.Path.{◌≡◌}
 use mathlib.Core.List.{List}
 use Rattle.pack.specs.Ready.{place_of_lookup}
@@ -19,6 +19,3 @@ invariant-loop-l l =
       reporting : Reporting l.initial.out l.n (of_lookup l.s) l.count l.l l.out l.m;
       place : l.p ≡ place_of_lookup (pack_of l.s) l.l;
     }
-
-abbrev pub decreases-loop-l : goal.decreases-loop-l
-decreases-loop-l l = l.count - l.l

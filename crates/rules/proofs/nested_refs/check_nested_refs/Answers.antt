@@ -4,7 +4,6 @@ use Rattle.pack.specs.declared.lookup.LookupView.{LookupView}
 use Rattle.pack.specs.declared.entry.EntryView.{EntryView}
 use Rattle.pack.specs.Value.{Entry, Lookup, Pack, no_entry, lookup_at}
 use Rattle.pack.specs.Meaning.{entry_meaning, pack_of}
-use Rattle.rules.proofs.Sizes.{entries_few}
 use Rattle.rules.specs.Model.{fieldtypes}
 use Rattle.rules.specs.LookupWiring.{fieldtype_entry_at, check_nested_refs}
 use native.Mathlib.Omega.{arith}
@@ -65,10 +64,6 @@ fieldtype_entry_at-m-requires c =
       ready = c.requires.lookup.at.ready;
       index = c.requires.index;
     }
-
-pub overflow_add-e : goal.overflow_add-e
-overflow_add-e c =
-    omega (arith, c.loop-e-test.true, c.requires.lookup.is.entries, entries_few c.requires.lookup.at)
 
 pub loop-e-preserved : goal.loop-e-preserved
 loop-e-preserved c =

@@ -1,7 +1,7 @@
 use Rattle.pack.specs.Value.{no_entry, lookup_at}
 use Rattle.pack.specs.Meaning.{pack_of}
 use Rattle.rules.specs.LookupWiring.{fieldtype_entry_at}
-use Prim.Native.Nat.{ℕ, ◌-◌}
+use Prim.Native.Nat.{ℕ}
 use mathlib.Core.List.{List}
 use lib.ListN.{get_or}
 use Rattle.rules.specs.declared.Finding.{Finding}
@@ -15,6 +15,3 @@ of_entry s l e = fieldtype_entry_at (pack_of s) l e (get_or (lookup_at (pack_of 
 abbrev pub invariant-loop-e : goal.invariant-loop-e
 invariant-loop-e l =
     Reporting l.initial.out l.n (of_entry l.s l.l.item) l.entries l.e l.out l.m
-
-abbrev pub decreases-loop-e : goal.decreases-loop-e
-decreases-loop-e l = l.entries - l.e

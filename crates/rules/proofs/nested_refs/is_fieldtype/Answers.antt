@@ -4,7 +4,6 @@ use Rattle.pack.specs.Meaning.{type_meaning, pack_of}
 use Rattle.pack.specs.Items.{bytes_of}
 use Rattle.rules.specs.SearchLaws.{any_turn, any_hit}
 use Rattle.rules.specs.LookupWiring.{is_fieldtype}
-use borrow.Author.Rules.{rules}
 use native.Mathlib.Omega.{arith}
 use Prim.Native.Nat.{ℕ}
 use mathlib.Core.Path.{◌≡◌, refl, sym, ◌∙◌}
@@ -20,7 +19,7 @@ said : (s name : List ℕ) (j : ℕ) (v : FieldTypeView) (r : Bool) → type_mea
 said s name j v r y h = sym (h ∙ (λ k. (y k).name ≐ name))
 
 pub loop-j-init : goal.loop-j-init
-loop-j-init c = record { turns = search rules; none_yet = refl }
+loop-j-init c = refl
 
 pub type_of-v-requires : goal.type_of-v-requires
 type_of-v-requires c =
@@ -39,15 +38,12 @@ pub loop-j-preserved : goal.loop-j-preserved
 loop-j-preserved c =
     let s = c.args.s.now in let name = c.args.name in
     let h = said s (bytes_of s name) c.loop-j.j c.type_of-v.result c.same_text.result c.type_of-v.ensures c.same_text.ensures in
-    record {
-      turns = omega (arith, c);
-      none_yet = any_turn (named s (bytes_of s name)) c.loop-j.j
-          ∙ (rw (c.loop-j.invariant.none_yet, h ∙ c.if-same_text.false));
-    }
+    any_turn (named s (bytes_of s name)) c.loop-j.j
+    ∙ (rw (c.loop-j.invariant, h ∙ c.if-same_text.false))
 
 pub returns : goal.returns
 unfolding is_fieldtype
 returns c =
     let q : length (pack_of c.args.s.now).fieldtypes ≡ c.loop-j.j =
-    omega (arith, c.requires.types, c.loop-j.invariant.turns, c.loop-j-test.false) in
-    rw (q, c.loop-j.invariant.none_yet)
+    omega (arith, c.requires.types, c.loop-j-test.false) in
+    rw (q, c.loop-j.invariant)

@@ -2,7 +2,7 @@ use Rattle.pack.specs.Value.{no_field_type}
 use Rattle.pack.specs.Meaning.{pack_of}
 use Rattle.pack.specs.Items.{bytes_of}
 use Rattle.rules.specs.Search.{any_below}
-use Prim.Native.Nat.{ℕ, ◌-◌, ◌≤◌}
+use Prim.Native.Nat.{ℕ}
 use mathlib.Core.Path.{◌≡◌}
 use mathlib.Core.Bool.{Bool, false}
 use mathlib.Core.List.{List}
@@ -15,11 +15,4 @@ abbrev pub named : List ℕ → List ℕ → ℕ → Bool
 named s name j = (get_or (pack_of s).fieldtypes j no_field_type).name ≐ name
 
 abbrev pub invariant-loop-j : goal.invariant-loop-j
-invariant-loop-j l =
-    record {
-      turns : l.j ≤ l.types;
-      none_yet : any_below (named l.s (bytes_of l.s l.name)) l.j ≡ false;
-    }
-
-abbrev pub decreases-loop-j : goal.decreases-loop-j
-decreases-loop-j l = l.types - l.j
+invariant-loop-j l = any_below (named l.s (bytes_of l.s l.name)) l.j ≡ false

@@ -1,45 +1,43 @@
-use Rattle.rules.specs.PgnRange.{Range, ranges_of, find_range}
-use Rattle.pack.specs.Trees.{tree_number}
-use lib.ListN.{drop_of_length-le, length, drop}
-use mathlib.Core.Option.{none, some}
-use mathlib.Core.List.{List, ◌∷◌}
+use Rattle.rules.specs.PgnRange.{find_range}
+use Rattle.rules.specs.Pdu1.{range_of}
+use Rattle.rules.specs.declared.pgn_range.Range.{Range}
+use lib.ListN.{drop_of_length-le, length, get_or, drop}
+use lib.Seq.{drop-cons}
+use Rattle.std.specs.Prelude.{None, Some}
+use mathlib.Core.List.{List, map}
 use Prim.Native.Nat.{ℕ, ◌+◌, ◌≤◌, ◌<◌}
+use native.Mathlib.Numerals.{add-one}
 use native.Mathlib.Omega.{arith}
-use mathlib.Core.Path.{◌≡◌, refl, ◌∙◌}
+use mathlib.Core.Path.{◌≡◌, ◌∙◌}
 use borrow.Author.Tests.{le-leb, lt-leb}
 use Rattle.rules.proofs.pgn_range.find_range.Goals as goal
 
--- a table from range j on
-module _ (rs : List Range) (n j : ℕ) (r : Range) (e : drop j rs ≡ r ∷ drop (j + 1) rs) where
-  hit : n ≤ r.end → find_range (drop j rs) n ≡ some r
+abbrev beyond : Range
+beyond = record { start = 0; end = 0; kind = 0 }
+
+-- a table from row j on
+module _ (rs : List Range) (n j : ℕ) where
+  hit : j < length rs → n ≤ (get_or rs j beyond).end → find_range (map range_of (drop j rs)) n ≡ Some (range_of (get_or rs j beyond))
   unfolding find_range
-  hit h = rw (e, le-leb _ _ h)
+  hit h e = rw (drop-cons rs j beyond h, le-leb _ _ e)
 
-  missed : r.end < n → find_range (drop j rs) n ≡ find_range (drop (j + 1) rs) n
+  missed : j < length rs → (get_or rs j beyond).end < n → find_range (map range_of (drop j rs)) n ≡ find_range (map range_of (drop (j + 1) rs)) n
   unfolding find_range
-  missed h = rw e (rw (lt-leb _ _ h))
+  missed h e = rw (add-one j, drop-cons rs j beyond h, lt-leb _ _ e)
 
-ended : (rs : List Range) (n j : ℕ) → length rs ≤ j → find_range (drop j rs) n ≡ none
-unfolding find_range
-ended rs n j h = let x = drop_of_length-le rs {i = j} h in rw x
-
-pub loop-j-init : goal.loop-j-init
-loop-j-init c = record { table = c.range_count-count.ensures; turns = omega arith; rest = refl }
+  ended : length rs ≤ j → find_range (map range_of (drop j rs)) n ≡ None
+  unfolding find_range
+  ended h = let x = drop_of_length-le rs {i = j} h in rw x
 
 pub returns-then-pgn-range : goal.returns-then-pgn-range
 returns-then-pgn-range c =
-    c.loop-j.invariant.rest
-    ∙ hit (ranges_of (tree_number c.args.protocol)) c.args.pgn c.loop-j.j _ c.range_at-range.ensures c.if-pgn-range.true
+    rw (← c.table-range-items.ensures)
+    (c.loop-range.invariant ∙ hit c.table-range-items.result.now _ c.loop-range.range-index (omega (arith, c)) c.if-pgn-range.true)
 
-pub loop-j-preserved : goal.loop-j-preserved
-loop-j-preserved c =
-    record {
-      table = c.loop-j.invariant.table;
-      turns = omega (arith, c);
-      rest = c.loop-j.invariant.rest
-          ∙ missed (ranges_of (tree_number c.args.protocol)) c.args.pgn c.loop-j.j _ c.range_at-range.ensures c.if-pgn-range.false;
-    }
+pub loop-range-preserved : goal.loop-range-preserved
+loop-range-preserved c = c.loop-range.invariant ∙ missed c.table-range-items.result.now _ c.loop-range.range-index (omega (arith, c)) c.if-pgn-range.false
 
 pub returns : goal.returns
 returns c =
-    c.loop-j.invariant.rest ∙ ended (ranges_of (tree_number c.args.protocol)) c.args.pgn c.loop-j.j (omega (arith, c))
+    rw (← c.table-range-items.ensures)
+    (c.loop-range.invariant ∙ ended c.table-range-items.result.now _ c.loop-range.range-index (omega (arith, c)))

@@ -1,4 +1,4 @@
-use Rattle.rules.proofs.Sizes.{pgns_few, at_pgn, fields_few}
+use Rattle.rules.proofs.Sizes.{at_pgn, fields_few}
 use borrow.Author.Tests.{eq-eqb, ne_eqb}
 use Rattle.pack.specs.Value.{Pgn, pgns_of}
 use Rattle.pack.proofs.Positions.{pgn_place_next}
@@ -13,7 +13,7 @@ use Rattle.rules.proofs.places.has_number.Invariants.{numbered}
 use Rattle.rules.proofs.places.has_number.Goals as goal
 
 pub loop-i-init : goal.loop-i-init
-loop-i-init c = record { turns = omega arith; place = omega (arith, c.requires.pgns.place); none_yet = refl }
+loop-i-init c = record { place = omega (arith, c.requires.pgns.place); none_yet = refl }
 
 pub pgn_of-g-requires : goal.pgn_of-g-requires
 pgn_of-g-requires c =
@@ -46,17 +46,12 @@ overflow_add-p-in-loop-i c =
       c.pgn_of-g.ensures.fields,
     )
 
-pub overflow_add-i : goal.overflow_add-i
-overflow_add-i c =
-    omega (arith, pgns_few (at_pgn c.requires.ready c.requires.trees (omega (arith, c.requires.pgns.count)) c.loop-i-test.true c.loop-i.invariant.place))
-
 pub loop-i-preserved : goal.loop-i-preserved
 loop-i-preserved c =
     let s = c.args.s.now in let t = c.args.t in let number = c.args.number in
     let e : numbered s t number c.loop-i.i ≡ false =
     rw (← ap (λ (G : Pgn). G.pgn) c.pgn_of-g.ensures.means) (ne_eqb c.pgn_of-g.result.pgn number c.if-g-number.false) in
     record {
-      turns = omega (arith, c.loop-i-test.true);
       place = omega (arith, pgn_place_next (pack_of s) t c.loop-i.i, c.pgn_of-g.ensures.fields, c.loop-i.invariant.place);
       none_yet = any_turn (numbered s t number) c.loop-i.i ∙ (rw (c.loop-i.invariant.none_yet, e));
     }
@@ -65,5 +60,5 @@ pub returns : goal.returns
 unfolding has_number
 returns c =
     let e : length (pgns_of (pack_of c.args.s.now) c.args.t) ≡ c.loop-i.i =
-    omega (arith, c.loop-i.invariant.turns, c.loop-i-test.false, c.requires.pgns.count) in
+    omega (arith, c.loop-i-test.false, c.requires.pgns.count) in
     rw e (sym c.loop-i.invariant.none_yet)

@@ -2,7 +2,7 @@ use Rattle.std.specs.Prelude.{◌==◌}
 use Rattle.pack.specs.Value.{pgn_at}
 use Rattle.pack.specs.Ready.{place_of_pgn}
 use Rattle.rules.specs.Search.{any_below}
-use Prim.Native.Nat.{ℕ, ◌-◌, ◌≤◌}
+use Prim.Native.Nat.{ℕ}
 use mathlib.Core.Path.{◌≡◌}
 use mathlib.Core.Bool.{Bool, false}
 use mathlib.Core.List.{List}
@@ -16,10 +16,6 @@ numbered s t number i = (pgn_at (pack_of s) t i).pgn == number
 abbrev pub invariant-loop-i : goal.invariant-loop-i
 invariant-loop-i l =
     record {
-      turns : l.i ≤ l.n;
       place : l.p ≡ place_of_pgn (pack_of l.s) l.t l.i;
       none_yet : any_below (numbered l.s l.t l.number) l.i ≡ false;
     }
-
-abbrev pub decreases-loop-i : goal.decreases-loop-i
-decreases-loop-i l = l.n - l.i

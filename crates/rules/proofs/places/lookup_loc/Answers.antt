@@ -6,7 +6,7 @@ use Rattle.rules.specs.PlaceText.{lookup_loc}
 use native.Mathlib.Omega.{arith}
 use Prim.Native.Nat.{ℕ, ◌<◌}
 use mathlib.Core.Path.{◌≡◌, sym, ◌∙◌, ap}
-use mathlib.Core.Option.{some}
+use Rattle.std.specs.Prelude.{Some}
 use lib.ListN.{length}
 use Rattle.pack.specs.Notation.{◌<ᵇ◌}
 use Rattle.pack.specs.Meaning.{pack_of}
@@ -23,7 +23,7 @@ pub returns-then-not-in_first_tree : goal.returns-then-not-in_first_tree
 returns-then-not-in_first_tree c =
     let e : ((c.args.tree == 0) && (c.args.item <ᵇ length (pack_of c.args.s.now).lookups)) ≡ false =
     rw (← c.requires.lookups.count) (sym c.in_first_tree.ensures ∙ c.if-not-in_first_tree.true) in
-    rw (c.absent.ensures, e)
+    rw e
 
 pub lookup_position-p-requires : goal.lookup_position-p-requires
 lookup_position-p-requires c =
@@ -42,4 +42,4 @@ pub returns : goal.returns
 returns c =
     let e : ((c.args.tree == 0) && (c.args.item <ᵇ length (pack_of c.args.s.now).lookups)) ≡ true =
     rw (← c.requires.lookups.count) (sym c.in_first_tree.ensures ∙ c.if-not-in_first_tree.false) in
-    rw e (ap (λ (x : Bytes). some (lookup_loc x)) c.lookup_name_of-name.ensures)
+    rw e (ap (λ (x : Bytes). Some (lookup_loc x)) c.lookup_name_of-name.ensures)

@@ -13,19 +13,19 @@ there : (s w : List ℕ) (item l p : ℕ) → Ready s w → item < length (pack_
 there s w item l p r h k e = record { ready = r; lookup = omega arith; place = e }
 
 pub loop-l-init : goal.loop-l-init
-loop-l-init c = record { turns = omega arith; place = c.requires.first }
+loop-l-init c = c.requires.first
 
 pub lookup_of-v-requires : goal.lookup_of-v-requires
 lookup_of-v-requires c =
     there c.args.s.now c.args.work.now c.args.item c.loop-l.l c.loop-l.p c.requires.ready c.requires.item
-    c.loop-l-test.true c.loop-l.invariant.place
+    c.loop-l-test.true c.loop-l.invariant
 
 pub overflow_add-p : goal.overflow_add-p
 overflow_add-p c =
     omega (
       arith,
       entries_few (there c.args.s.now c.args.work.now c.args.item c.loop-l.l c.loop-l.p c.requires.ready c.requires.item
-          c.loop-l-test.true c.loop-l.invariant.place),
+          c.loop-l-test.true c.loop-l.invariant),
     )
 
 pub overflow_cast-p : goal.overflow_cast-p
@@ -33,7 +33,7 @@ overflow_cast-p c =
     omega (
       arith,
       entries_few (there c.args.s.now c.args.work.now c.args.item c.loop-l.l c.loop-l.p c.requires.ready c.requires.item
-          c.loop-l-test.true c.loop-l.invariant.place),
+          c.loop-l-test.true c.loop-l.invariant),
       c.lookup_of-v.ensures.entries,
     )
 
@@ -42,18 +42,15 @@ overflow_add-p-in-loop-l c =
     omega (
       arith,
       entries_few (there c.args.s.now c.args.work.now c.args.item c.loop-l.l c.loop-l.p c.requires.ready c.requires.item
-          c.loop-l-test.true c.loop-l.invariant.place),
+          c.loop-l-test.true c.loop-l.invariant),
       c.lookup_of-v.ensures.entries,
     )
 
 pub loop-l-preserved : goal.loop-l-preserved
 loop-l-preserved c =
-    record {
-      turns = omega (arith, c.loop-l-test.true);
-      place = omega (arith, lookup_place_next (pack_of c.args.s.now) c.loop-l.l, c.lookup_of-v.ensures.entries, c.loop-l.invariant.place);
-    }
+    omega (arith, lookup_place_next (pack_of c.args.s.now) c.loop-l.l, c.lookup_of-v.ensures.entries, c.loop-l.invariant)
 
 pub returns : goal.returns
 returns c =
-    let e : c.loop-l.l ≡ c.args.item = omega (arith, c.loop-l.invariant.turns, c.loop-l-test.false) in
-    record { ready = c.requires.ready; lookup = c.requires.item; place = (rw (← e) c.loop-l.invariant.place) }
+    let e : c.loop-l.l ≡ c.args.item = omega (arith, c.loop-l-test.false) in
+    record { ready = c.requires.ready; lookup = c.requires.item; place = (rw (← e) c.loop-l.invariant) }

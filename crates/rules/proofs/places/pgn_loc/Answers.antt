@@ -9,7 +9,7 @@ use native.Mathlib.Omega.{arith}
 use Prim.Native.Nat.{ℕ}
 use mathlib.Core.Path.{◌≡◌, ap}
 use mathlib.Core.List.{List}
-use mathlib.Core.Option.{some}
+use Rattle.std.specs.Prelude.{Some}
 use lib.ListN.{length}
 use Rattle.pack.specs.Ready.{PgnIs}
 use Rattle.pack.specs.Meaning.{pack_of}
@@ -21,7 +21,7 @@ text_is s t G v is = ap (λ (H : Pgn). pgn_loc t H) is.means
 
 pub returns-then-tree-ge-COUNT : goal.returns-then-tree-ge-COUNT
 returns-then-tree-ge-COUNT c =
-    rw (c.absent.ensures, le-ltb c.args.tree 3 c.if-tree-ge-COUNT.true)
+    rw (le-ltb c.args.tree 3 c.if-tree-ge-COUNT.true)
 
 pub returns-then-section-item : goal.returns-then-section-item
 returns-then-section-item c =
@@ -30,7 +30,6 @@ returns-then-section-item c =
     at_tree (pack_of s) c.args.index c.requires.index tree c.if-tree-ge-COUNT.false c.of_tree.result c.section-section.result c.of_tree.ensures
     c.section-section.ensures in
     rw (
-      c.absent-then-section-item.ensures,
       lt-ltb tree 3 c.if-tree-ge-COUNT.false,
       le-ltb c.args.item (length (pgns_of (pack_of s) tree)) (omega (arith, a.count, c.if-section-item.true)),
     )
@@ -48,4 +47,4 @@ returns c =
     at_tree (pack_of s) c.args.index c.requires.index tree c.if-tree-ge-COUNT.false c.of_tree.result c.section-section.result c.of_tree.ensures
     c.section-section.ensures in
     rw (lt-ltb tree 3 c.if-tree-ge-COUNT.false, lt-ltb item (length (pgns_of (pack_of s) tree)) (omega (arith, a.count, c.if-section-item.false)))
-    (ap some (text_is s tree (pgn_at (pack_of s) tree item) c.pgn_of-g.result c.pgn_of-g.ensures))
+    (ap Some (text_is s tree (pgn_at (pack_of s) tree item) c.pgn_of-g.result c.pgn_of-g.ensures))

@@ -3,7 +3,7 @@ use Rattle.pack.specs.Value.{Pgn, pgn_at, set_place}
 use Rattle.rules.specs.declared.Finding.{Finding}
 use Rattle.rules.specs.Emit.{Reporting}
 use Rattle.rules.specs.Repeating.{check_set, set_before}
-use Prim.Native.Nat.{ℕ, ◌+◌, ◌-◌}
+use Prim.Native.Nat.{ℕ, ◌+◌}
 use mathlib.Core.List.{List}
 use mathlib.Core.Path.{◌≡◌}
 use lib.ListN.{length}
@@ -19,6 +19,3 @@ invariant-loop-k l =
       outer : optional_repeating l.outer ≡ set_before (pgn_at (pack_of l.s) l.g.tree l.g.item) l.k;
       reports : Reporting l.initial.out l.n (of_place l.g.tree l.g.item (pgn_at (pack_of l.s) l.g.tree l.g.item)) l.places l.k l.out l.m;
     }
-
-abbrev pub decreases-loop-k : goal.decreases-loop-k
-decreases-loop-k l = l.places - l.k

@@ -1,19 +1,8 @@
-use Rattle.rules.proofs.Emits.{fits_turn, reporting_none, reporting_turn}
+use Rattle.rules.proofs.Emits.{fits_turn, reporting_turn}
 use Rattle.rules.specs.ReservedIds.{check_reserved_ids}
-use Rattle.pack.specs.Meaning.{pack_of}
-use Rattle.pack.specs.Value.{pgn_at}
 use native.Mathlib.Omega.{arith}
-use mathlib.Core.Path.{◌≡◌}
-use lib.ListN.{length}
 use Rattle.rules.proofs.reserved_ids.check_reserved_ids.Invariants.{of_field}
 use Rattle.rules.proofs.reserved_ids.check_reserved_ids.Goals as goal
-
-pub loop-k-init : goal.loop-k-init
-loop-k-init c = reporting_none _ _ _ _
-
-pub field_of-f-requires : goal.field_of-f-requires
-field_of-f-requires c =
-    record { at = c.requires.pgn.at; field = omega (arith, c.requires.pgn.is.fields) }
 
 pub reserved_id_at-m-requires : goal.reserved_id_at-m-requires
 unfolding check_reserved_ids
@@ -24,17 +13,6 @@ reserved_id_at-m-requires c =
       means = c.field_of-f.ensures;
     }
 
-pub overflow_add-k : goal.overflow_add-k
-overflow_add-k c =
-    omega (arith, c.struct_known-1.given)
-
 pub loop-k-preserved : goal.loop-k-preserved
 loop-k-preserved c =
     reporting_turn c.loop-k.invariant (omega (arith, c)) c.reserved_id_at-m.ensures
-
-pub returns : goal.returns
-unfolding check_reserved_ids
-returns c =
-    let e : c.loop-k.k ≡ length (pgn_at (pack_of c.args.s.now) c.args.g.tree c.args.g.item).fields =
-    omega (arith, c.requires.pgn.is.fields) in
-    rw (← e) c.loop-k.invariant.emitted

@@ -3,7 +3,7 @@ use Rattle.rules.specs.SpecialValues.{special_values_at}
 use Rattle.rules.specs.declared.Finding.{Finding}
 use Rattle.pack.specs.Meaning.{pack_of}
 use Rattle.pack.specs.Value.{pgn_at, field_at}
-use Prim.Native.Nat.{ℕ, ◌-◌}
+use Prim.Native.Nat.{ℕ}
 use mathlib.Core.List.{List}
 use Rattle.rules.proofs.special_values.check_special_values.Given as goal
 
@@ -13,6 +13,3 @@ of_field s t i k = special_values_at t i k (field_at (pgn_at (pack_of s) t i) k)
 abbrev pub invariant-loop-k : goal.invariant-loop-k
 invariant-loop-k l =
     Reporting l.initial.out l.n (of_field l.s l.g.tree l.g.item) l.g.view.fields l.k l.out l.m
-
-abbrev pub decreases-loop-k : goal.decreases-loop-k
-decreases-loop-k l = l.g.view.fields - l.k

@@ -1,12 +1,12 @@
 use native.Mathlib.Omega.{arith}
 use Prim.Native.Nat.{ℕ, ◌+◌}
-use mathlib.Core.Path.{◌≡◌, refl, sym, ◌∙◌, ap}
+use mathlib.Core.Path.{◌≡◌, sym, ◌∙◌, ap}
 use mathlib.Core.Bool.{Bool}
 use mathlib.Core.List.{List}
 use lib.ListN.{length}
 use Rattle.pack.specs.Value.{Field, pgn_at, field_at}
 use Rattle.pack.specs.Items.{bytes_of}
-use Rattle.pack.specs.Meaning.{pack_of, field_meaning, optional_number}
+use Rattle.pack.specs.Meaning.{pack_of, field_meaning}
 use Rattle.pack.specs.declared.field.FieldView.{FieldView}
 use Rattle.rules.specs.SearchLaws.{any_turn, any_hit}
 use Rattle.rules.specs.SpnClashes.{other_among, clash_from}
@@ -14,19 +14,8 @@ use Rattle.rules.proofs.spn_clashes.clash_from.Invariants.{hit}
 use Rattle.rules.proofs.spn_clashes.clash_from.Goals as goal
 
 said : (s : List ℕ) (i k : ℕ) (v : FieldView) (r : Bool) → field_meaning s v ≡ field_at (pgn_at (pack_of s) 1 i) k
-    → r ≡ other_among (pack_of s).pgns_j1939 (i + 1) (bytes_of s v.names.name) (optional_number v.authored.spn) → hit s i k ≡ r
+    → r ≡ other_among (pack_of s).pgns_j1939 (i + 1) (bytes_of s v.names.name) v.authored.spn → hit s i k ≡ r
 said s i k v r y e = sym (e ∙ ap (λ (f : Field). other_among (pack_of s).pgns_j1939 (i + 1) f.name f.spn) y)
-
-pub loop-k-init : goal.loop-k-init
-loop-k-init c = record { turns = omega arith; none_yet = refl }
-
-pub field_of-f-requires : goal.field_of-f-requires
-field_of-f-requires c =
-    record { at = c.requires.at; field = omega (arith, c.requires.fields, c.loop-k-test.true) }
-
-pub other_among-requires : goal.other_among-requires
-other_among-requires c =
-    record { ready = c.requires.at.ready; first = c.requires.first; item = c.requires.at.pgn }
 
 pub returns-then-other_among : goal.returns-then-other_among
 unfolding clash_from

@@ -1,28 +1,12 @@
 use native.Mathlib.Omega.{arith}
-use mathlib.Core.Path.{◌≡◌, refl, sym, ◌∙◌}
+use mathlib.Core.Path.{◌≡◌, sym, ◌∙◌}
 use lib.ListN.{length}
 use Rattle.pack.specs.Meaning.{pack_of}
 use Rattle.pack.proofs.Positions.{pgn_place_next}
 use Rattle.rules.specs.SearchLaws.{any_turn, any_hit}
 use Rattle.rules.specs.SpnClashes.{clash_from, may_clash}
-use Rattle.rules.proofs.Sizes.{at_pgn, fields_few, pgns_few}
+use Rattle.rules.proofs.Sizes.{at_pgn, fields_few}
 use Rattle.rules.proofs.spn_clashes.may_clash.Goals as goal
-
-pub loop-i-init : goal.loop-i-init
-loop-i-init c = record { turns = omega arith; place = omega (arith, c.requires.pgns.place); none_yet = refl }
-
-pub pgn_of-g-requires : goal.pgn_of-g-requires
-pgn_of-g-requires c =
-    (at_pgn {t = 1} c.requires.ready (omega (arith, c)) (omega (arith, c.requires.pgns.count)) c.loop-i-test.true c.loop-i.invariant.place)
-
-pub clash_from-requires : goal.clash_from-requires
-clash_from-requires c =
-    record {
-      first = c.requires.pgns.place;
-      at = (at_pgn {t = 1} c.requires.ready (omega (arith, c)) (omega (arith, c.requires.pgns.count)) c.loop-i-test.true
-          c.loop-i.invariant.place);
-      fields = c.pgn_of-g.ensures.fields;
-    }
 
 pub returns-then-clash_from : goal.returns-then-clash_from
 unfolding may_clash
@@ -36,14 +20,6 @@ overflow_add-p c =
     omega
     (arith, fields_few (at_pgn {t = 1} c.requires.ready (omega (arith, c)) (omega (arith, c.requires.pgns.count)) c.loop-i-test.true c.loop-i.invariant.place))
 
-pub overflow_cast-p : goal.overflow_cast-p
-overflow_cast-p c =
-    omega (
-      arith,
-      fields_few (at_pgn {t = 1} c.requires.ready (omega (arith, c)) (omega (arith, c.requires.pgns.count)) c.loop-i-test.true c.loop-i.invariant.place),
-      c.pgn_of-g.ensures.fields,
-    )
-
 pub overflow_add-p-in-loop-i : goal.overflow_add-p-in-loop-i
 overflow_add-p-in-loop-i c =
     omega (
@@ -51,15 +27,6 @@ overflow_add-p-in-loop-i c =
       fields_few (at_pgn {t = 1} c.requires.ready (omega (arith, c)) (omega (arith, c.requires.pgns.count)) c.loop-i-test.true c.loop-i.invariant.place),
       c.pgn_of-g.ensures.fields,
     )
-
-pub overflow_add-i : goal.overflow_add-i
-overflow_add-i c =
-    omega
-    (arith, pgns_few (at_pgn {t = 1} c.requires.ready (omega (arith, c)) (omega (arith, c.requires.pgns.count)) c.loop-i-test.true c.loop-i.invariant.place))
-
-pub loop-i-smaller : goal.loop-i-smaller
-loop-i-smaller c =
-    omega (arith, c.loop-i-test.true)
 
 pub loop-i-preserved : goal.loop-i-preserved
 loop-i-preserved c =

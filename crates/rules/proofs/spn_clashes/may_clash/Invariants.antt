@@ -1,4 +1,4 @@
-use Prim.Native.Nat.{◌-◌, ◌≤◌}
+use Prim.Native.Nat.{◌≤◌}
 use mathlib.Core.Path.{◌≡◌}
 use mathlib.Core.Bool.{false}
 use Rattle.pack.specs.Ready.{place_of_pgn}
@@ -14,6 +14,3 @@ invariant-loop-i l =
       place : l.p ≡ place_of_pgn (pack_of l.s) 1 l.i;
       none_yet : any_below (clash_from (pack_of l.s).pgns_j1939) l.i ≡ false;
     }
-
-abbrev pub decreases-loop-i : goal.decreases-loop-i
-decreases-loop-i l = l.count - l.i

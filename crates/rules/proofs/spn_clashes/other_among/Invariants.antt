@@ -1,4 +1,4 @@
-use Prim.Native.Nat.{ℕ, ◌+◌, ◌-◌, ◌≤◌}
+use Prim.Native.Nat.{ℕ, ◌+◌, ◌≤◌}
 use mathlib.Core.Path.{◌≡◌}
 use mathlib.Core.Bool.{Bool, false}
 use mathlib.Core.List.{List}
@@ -19,8 +19,5 @@ invariant-loop-j l =
     record {
       turns : l.j ≤ l.i + 1;
       place : l.q ≡ place_of_pgn (pack_of l.s) 1 l.j;
-      none_yet : any_below (has l.s (bytes_of l.s l.name) l.spn.value) l.j ≡ false;
+      none_yet : any_below (has l.s (bytes_of l.s l.name) l.spn) l.j ≡ false;
     }
-
-abbrev pub decreases-loop-j : goal.decreases-loop-j
-decreases-loop-j l = l.i + 1 - l.j

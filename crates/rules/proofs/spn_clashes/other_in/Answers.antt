@@ -1,5 +1,5 @@
 use native.Mathlib.Omega.{arith}
-use mathlib.Core.Path.{◌≡◌, refl, sym, ◌∙◌}
+use mathlib.Core.Path.{◌≡◌, sym, ◌∙◌}
 use lib.ListN.{length}
 use Rattle.pack.specs.Value.{pgn_at}
 use Rattle.pack.specs.Items.{bytes_of}
@@ -8,13 +8,6 @@ use Rattle.rules.specs.SearchLaws.{any_turn, any_hit}
 use Rattle.rules.specs.SpnClashes.{other_in}
 use Rattle.rules.proofs.spn_clashes.other_in.Invariants.{other}
 use Rattle.rules.proofs.spn_clashes.other_in.Goals as goal
-
-pub loop-h-init : goal.loop-h-init
-loop-h-init c = record { turns = omega arith; none_yet = refl }
-
-pub other_spn-requires : goal.other_spn-requires
-other_spn-requires c =
-    record { at = c.requires.at; field = omega (arith, c.requires.fields, c.loop-h-test.true) }
 
 pub returns-then-other_spn : goal.returns-then-other_spn
 unfolding other_in

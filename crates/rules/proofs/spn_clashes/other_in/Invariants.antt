@@ -1,4 +1,4 @@
-use Prim.Native.Nat.{ℕ, ◌-◌, ◌≤◌}
+use Prim.Native.Nat.{ℕ, ◌≤◌}
 use mathlib.Core.Path.{◌≡◌}
 use mathlib.Core.Bool.{Bool, false}
 use mathlib.Core.List.{List}
@@ -19,6 +19,3 @@ invariant-loop-h l =
       turns : l.h ≤ l.fields;
       none_yet : any_below (other l.s (bytes_of l.s l.name) l.spn l.j) l.h ≡ false;
     }
-
-abbrev pub decreases-loop-h : goal.decreases-loop-h
-decreases-loop-h l = l.fields - l.h

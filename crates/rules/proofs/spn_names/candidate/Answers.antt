@@ -1,44 +1,21 @@
 use Rattle.pack.proofs.Positions.{pgn_place_next}
-use Rattle.rules.proofs.Sizes.{at_pgn, fields_few, pgns_few}
+use Rattle.rules.proofs.Sizes.{at_pgn, fields_few}
 use Rattle.pack.specs.Items.{bytes_of}
 use Rattle.rules.specs.Namers.{candidate_in, candidate}
 use Rattle.rules.specs.SearchLaws.{max_turn}
 use Rattle.rules.specs.Search.{max_below, larger}
 use native.Mathlib.Omega.{arith}
 use Prim.Native.Nat.{ℕ}
-use mathlib.Core.Path.{◌≡◌, refl, sym, ◌∙◌, ap}
-use mathlib.Core.Option.{Option}
+use mathlib.Core.Path.{◌≡◌, sym, ◌∙◌, ap}
+use Rattle.std.specs.Prelude.{Option}
 use lib.ListN.{length}
-use Rattle.pack.specs.Meaning.{pack_of, optional_number}
+use Rattle.pack.specs.Meaning.{pack_of}
 use Rattle.rules.proofs.spn_names.candidate.Goals as goal
-
-pub loop-i-init : goal.loop-i-init
-loop-i-init c = record { turns = omega arith; place = omega (arith, c.requires.pgns.place); found = refl }
-
-pub pgn_of-g-requires : goal.pgn_of-g-requires
-pgn_of-g-requires c =
-    (at_pgn {t = 1} c.requires.ready (omega (arith, c)) (omega (arith, c.requires.pgns.count)) c.loop-i-test.true c.loop-i.invariant.place)
-
-pub candidate_in-one-requires : goal.candidate_in-one-requires
-candidate_in-one-requires c =
-    record {
-      at = (at_pgn {t = 1} c.requires.ready (omega (arith, c)) (omega (arith, c.requires.pgns.count)) c.loop-i-test.true
-          c.loop-i.invariant.place);
-      fields = c.pgn_of-g.ensures.fields;
-    }
 
 pub overflow_add-p : goal.overflow_add-p
 overflow_add-p c =
     omega
     (arith, fields_few (at_pgn {t = 1} c.requires.ready (omega (arith, c)) (omega (arith, c.requires.pgns.count)) c.loop-i-test.true c.loop-i.invariant.place))
-
-pub overflow_cast-p : goal.overflow_cast-p
-overflow_cast-p c =
-    omega (
-      arith,
-      fields_few (at_pgn {t = 1} c.requires.ready (omega (arith, c)) (omega (arith, c.requires.pgns.count)) c.loop-i-test.true c.loop-i.invariant.place),
-      c.pgn_of-g.ensures.fields,
-    )
 
 pub overflow_add-p-in-loop-i : goal.overflow_add-p-in-loop-i
 overflow_add-p-in-loop-i c =
@@ -48,15 +25,6 @@ overflow_add-p-in-loop-i c =
       c.pgn_of-g.ensures.fields,
     )
 
-pub overflow_add-i : goal.overflow_add-i
-overflow_add-i c =
-    omega
-    (arith, pgns_few (at_pgn {t = 1} c.requires.ready (omega (arith, c)) (omega (arith, c.requires.pgns.count)) c.loop-i-test.true c.loop-i.invariant.place))
-
-pub loop-i-smaller : goal.loop-i-smaller
-loop-i-smaller c =
-    omega (arith, c.loop-i-test.true)
-
 pub loop-i-preserved : goal.loop-i-preserved
 loop-i-preserved c =
     let s = c.args.s.now in
@@ -65,7 +33,7 @@ loop-i-preserved c =
       turns = omega (arith, c.loop-i-test.true);
       place = omega (arith, pgn_place_next (pack_of s) 1 c.loop-i.i, c.pgn_of-g.ensures.fields, c.loop-i.invariant.place);
       found = c.larger-found.ensures
-          ∙ ap (λ (x : Option ℕ). larger x (optional_number c.candidate_in-one.result)) c.loop-i.invariant.found
+          ∙ ap (λ (x : Option ℕ). larger x c.candidate_in-one.result) c.loop-i.invariant.found
           ∙ ap (larger (max_below f c.loop-i.i)) c.candidate_in-one.ensures
           ∙ sym (max_turn f c.loop-i.i);
     }

@@ -4,14 +4,6 @@ use Rattle.rules.proofs.Emits.{emitted_none}
 use Rattle.rules.proofs.SpnClashLaws.{no_clash}
 use Rattle.rules.proofs.spn_names.check_spn_names.Goals as goal
 
-pub may_clash-requires : goal.may_clash-requires
-may_clash-requires c =
-    record { ready = c.requires.ready; pgns = c.requires.pgns }
-
-pub spn_clashes-requires : goal.spn_clashes-requires
-spn_clashes-requires c =
-    c.requires
-
 pub returns-then-may_clash : goal.returns-then-may_clash
 returns-then-may_clash c = c.spn_clashes.ensures
 

@@ -31,14 +31,6 @@ two : (pgns : List Pgn) (earlier spn i j : ℕ) → (pgn_loc 1 (get_or pgns i no
 unfolding clash_at
 two pgns earlier spn i j e F G h k = rw (e, h, k)
 
-pub pgn_of-a-requires : goal.pgn_of-a-requires
-pgn_of-a-requires c =
-    c.requires.other_at
-
-pub pgn_of-b-requires : goal.pgn_of-b-requires
-pgn_of-b-requires c =
-    c.requires.at
-
 pub put-requires : goal.put-requires
 put-requires c =
     let s = c.args.s.now in

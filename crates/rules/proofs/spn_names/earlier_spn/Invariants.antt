@@ -5,8 +5,8 @@ use mathlib.Core.Path.{◌≡◌}
 use Rattle.pack.specs.Meaning.{pack_of}
 use Rattle.rules.proofs.spn_names.earlier_spn.Given as goal
 
-abbrev pub invariant-loop-tree : goal.invariant-loop-tree
-invariant-loop-tree l = upto (pack_of l.s).pgns_j1939 (bytes_of l.s l.name) l.b ≡ earlier_spn (pack_of l.s).pgns_j1939 l.spn
+abbrev pub invariant-loop-found : goal.invariant-loop-found
+invariant-loop-found l = upto (pack_of l.s).pgns_j1939 (bytes_of l.s l.name) l.b ≡ earlier_spn (pack_of l.s).pgns_j1939 l.spn
 
-abbrev pub decreases-loop-tree : goal.decreases-loop-tree
-decreases-loop-tree l = l.b
+abbrev pub decreases-loop-found : goal.decreases-loop-found
+decreases-loop-found l = l.b

@@ -1,12 +1,12 @@
 use Rattle.pack.specs.Ready.{pgn_records_below}
 use Rattle.pack.proofs.Positions.{pgn_place_next}
-use Rattle.rules.proofs.Sizes.{at_pgn, fields_few, pgns_few}
+use Rattle.rules.proofs.Sizes.{at_pgn, fields_few}
 use Rattle.pack.specs.Value.{Pgn}
 use Prim.Native.Nat.{zero, suc, ℕ, ◌≤◌}
 use Rattle.rules.specs.SearchLaws.{sum_turn}
 use Rattle.rules.specs.Search.{sum_below}
 use native.Mathlib.Omega.{arith}
-use mathlib.Core.Path.{◌≡◌, refl, sym, ◌∙◌, ap}
+use mathlib.Core.Path.{◌≡◌, sym, ◌∙◌, ap}
 use mathlib.Core.List.{List}
 use lib.ListN.{length}
 use Rattle.pack.specs.Meaning.{pack_of}
@@ -17,13 +17,6 @@ use Rattle.rules.proofs.spn_names.field_total.Goals as goal
 total_few : (pgns : List Pgn) (i : ℕ) → sum_below (fields_in pgns) i ≤ pgn_records_below pgns i
 total_few pgns zero = omega arith
 total_few pgns (suc i) = omega (arith, total_few pgns i)
-
-pub loop-i-init : goal.loop-i-init
-loop-i-init c = record { turns = omega arith; place = omega (arith, c.requires.pgns.place); total = refl }
-
-pub pgn_of-g-requires : goal.pgn_of-g-requires
-pgn_of-g-requires c =
-    (at_pgn {t = 1} c.requires.ready (omega (arith, c)) (omega (arith, c.requires.pgns.count)) c.loop-i-test.true c.loop-i.invariant.place)
 
 pub overflow_add-total : goal.overflow_add-total
 overflow_add-total c =
@@ -45,14 +38,6 @@ overflow_add-p c =
           c.loop-i.invariant.place),
     )
 
-pub overflow_cast-p : goal.overflow_cast-p
-overflow_cast-p c =
-    omega (
-      arith,
-      fields_few (at_pgn {t = 1} c.requires.ready (omega (arith, c)) (omega (arith, c.requires.pgns.count)) c.loop-i-test.true c.loop-i.invariant.place),
-      c.pgn_of-g.ensures.fields,
-    )
-
 pub overflow_add-p-in-loop-i : goal.overflow_add-p-in-loop-i
 overflow_add-p-in-loop-i c =
     omega (
@@ -60,15 +45,6 @@ overflow_add-p-in-loop-i c =
       fields_few (at_pgn {t = 1} c.requires.ready (omega (arith, c)) (omega (arith, c.requires.pgns.count)) c.loop-i-test.true c.loop-i.invariant.place),
       c.pgn_of-g.ensures.fields,
     )
-
-pub overflow_add-i : goal.overflow_add-i
-overflow_add-i c =
-    omega
-    (arith, pgns_few (at_pgn {t = 1} c.requires.ready (omega (arith, c)) (omega (arith, c.requires.pgns.count)) c.loop-i-test.true c.loop-i.invariant.place))
-
-pub loop-i-smaller : goal.loop-i-smaller
-loop-i-smaller c =
-    omega (arith, c.loop-i-test.true)
 
 pub loop-i-preserved : goal.loop-i-preserved
 loop-i-preserved c =

@@ -1,6 +1,6 @@
 use Rattle.pack.specs.Ready.{place_of_pgn}
 use Rattle.pack.specs.Value.{Pgn, no_pgn}
-use Prim.Native.Nat.{ℕ, ◌-◌, ◌≤◌}
+use Prim.Native.Nat.{ℕ, ◌≤◌}
 use Rattle.rules.specs.Search.{sum_below}
 use mathlib.Core.Path.{◌≡◌}
 use mathlib.Core.List.{List}
@@ -18,6 +18,3 @@ invariant-loop-i l =
       place : l.p ≡ place_of_pgn (pack_of l.s) 1 l.i;
       total : l.total ≡ sum_below (fields_in (pack_of l.s).pgns_j1939) l.i;
     }
-
-abbrev pub decreases-loop-i : goal.decreases-loop-i
-decreases-loop-i l = l.count - l.i

@@ -1,7 +1,7 @@
 use Rattle.rules.specs.Emit.{Reporting}
 use Rattle.rules.specs.SpnNames.{clash_of, least_spn}
 use Rattle.rules.specs.Search.{ranked}
-use Prim.Native.Nat.{ℕ, ◌-◌}
+use Prim.Native.Nat.{ℕ}
 use mathlib.Core.Path.{◌≡◌}
 use mathlib.Core.List.{List}
 use Rattle.pack.specs.Meaning.{pack_of}
@@ -18,6 +18,3 @@ invariant-loop-rank l =
       reporting : Reporting l.initial.out l.n (of_rank l.s) l.total l.rank l.out l.m;
       ranked : ranked (least_spn (pack_of l.s).pgns_j1939) l.rank ≡ least_spn (pack_of l.s).pgns_j1939 l.b;
     }
-
-abbrev pub decreases-loop-rank : goal.decreases-loop-rank
-decreases-loop-rank l = l.total - l.rank

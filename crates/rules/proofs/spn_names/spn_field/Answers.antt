@@ -5,24 +5,17 @@ use Rattle.rules.specs.Search.{first_below}
 use Rattle.rules.specs.SearchLaws.{first_turn, first_hit}
 use native.Mathlib.Omega.{arith}
 use Prim.Native.Nat.{ℕ}
-use mathlib.Core.Path.{◌≡◌, refl, sym, ◌∙◌, ap}
+use mathlib.Core.Path.{◌≡◌, sym, ◌∙◌, ap}
 use mathlib.Core.Bool.{Bool, true, false}
 use mathlib.Core.List.{List}
 use lib.ListN.{length}
-use Rattle.pack.specs.Meaning.{pack_of, field_meaning, optional_number}
+use Rattle.pack.specs.Meaning.{pack_of, field_meaning}
 use Rattle.rules.proofs.spn_names.spn_field.Invariants.{carries}
 use Rattle.rules.proofs.spn_names.spn_field.Goals as goal
 
 told : (s : List ℕ) (spn j k : ℕ) (v : FieldView) (b d : Bool) → field_meaning s v ≡ field_at (pgn_at (pack_of s) 1 j) k
-    → b ≡ is_number (optional_number v.authored.spn) spn → b ≡ d → carries s spn j k ≡ d
+    → b ≡ is_number v.authored.spn spn → b ≡ d → carries s spn j k ≡ d
 told s spn j k v b d is e t = ap (λ (F : Field). is_number F.spn spn) (sym is) ∙ sym e ∙ t
-
-pub loop-k-init : goal.loop-k-init
-loop-k-init c = record { turns = omega arith; none_yet = refl }
-
-pub field_of-f-requires : goal.field_of-f-requires
-field_of-f-requires c =
-    record { at = c.requires.at; field = omega (arith, c.loop-k-test.true, c.requires.fields) }
 
 pub returns-then-is_number : goal.returns-then-is_number
 unfolding spn_field
@@ -31,10 +24,6 @@ returns-then-is_number c =
     sym (first_hit (carries s spn j) (length (pgn_at (pack_of s) 1 j).fields) c.loop-k.k (omega (arith, c.loop-k-test.true, c.requires.fields))
     c.loop-k.invariant.none_yet
     (told s spn j c.loop-k.k c.field_of-f.result c.is_number.result true c.field_of-f.ensures c.is_number.ensures c.if-is_number.true))
-
-pub loop-k-smaller : goal.loop-k-smaller
-loop-k-smaller c =
-    omega (arith, c.loop-k-test.true)
 
 pub loop-k-preserved : goal.loop-k-preserved
 loop-k-preserved c =

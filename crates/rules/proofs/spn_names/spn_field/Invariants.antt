@@ -1,11 +1,11 @@
 use Rattle.pack.specs.Value.{pgn_at, field_at}
 use Rattle.rules.specs.SpnNames.{is_number}
 use Rattle.rules.specs.Search.{first_below}
-use Prim.Native.Nat.{ℕ, ◌-◌, ◌≤◌}
+use Prim.Native.Nat.{ℕ, ◌≤◌}
 use mathlib.Core.Path.{◌≡◌}
 use mathlib.Core.Bool.{Bool}
 use mathlib.Core.List.{List}
-use mathlib.Core.Option.{none}
+use Rattle.std.specs.Prelude.{None}
 use Rattle.pack.specs.Meaning.{pack_of}
 use Rattle.rules.proofs.spn_names.spn_field.Given as goal
 
@@ -17,8 +17,5 @@ abbrev pub invariant-loop-k : goal.invariant-loop-k
 invariant-loop-k l =
     record {
       turns : l.k ≤ l.fields;
-      none_yet : first_below (carries l.s l.spn l.j) l.k ≡ none;
+      none_yet : first_below (carries l.s l.spn l.j) l.k ≡ None;
     }
-
-abbrev pub decreases-loop-k : goal.decreases-loop-k
-decreases-loop-k l = l.fields - l.k

@@ -1,6 +1,6 @@
 use Rattle.pack.specs.Ready.{place_of_pgn}
 use Rattle.rules.specs.Namers.{NamesAmong}
-use Prim.Native.Nat.{◌-◌, ◌≤◌}
+use Prim.Native.Nat.{◌≤◌}
 use mathlib.Core.Path.{◌≡◌}
 use Rattle.pack.specs.Meaning.{pack_of}
 use Rattle.rules.proofs.spn_names.spn_pgn.Given as goal
@@ -12,6 +12,3 @@ invariant-loop-j l =
       place : l.p ≡ place_of_pgn (pack_of l.s) 1 l.j;
       names : NamesAmong l.s l.work l.spn l.j l.best;
     }
-
-abbrev pub decreases-loop-j : goal.decreases-loop-j
-decreases-loop-j l = l.count - l.j

@@ -4,16 +4,9 @@ use mathlib.Core.Path.{◌≡◌}
 use lib.ListN.{length}
 use Rattle.pack.specs.Meaning.{pack_of}
 use Rattle.pack.specs.Value.{pgn_at}
-use Rattle.rules.proofs.Emits.{fits_turn, reporting_none, reporting_turn}
+use Rattle.rules.proofs.Emits.{fits_turn, reporting_turn}
 use Rattle.rules.proofs.spns.check_scalings.Invariants.{of_field}
 use Rattle.rules.proofs.spns.check_scalings.Goals as goal
-
-pub loop-k-init : goal.loop-k-init
-loop-k-init c = reporting_none _ _ _ _
-
-pub field_of-f-requires : goal.field_of-f-requires
-field_of-f-requires c =
-    record { at = c.requires.at; field = omega (arith, c.loop-k-test.true, c.requires.is.fields) }
 
 pub spn_at-m-requires : goal.spn_at-m-requires
 unfolding check_scalings
@@ -27,10 +20,6 @@ spn_at-m-requires c =
       field = omega (arith, c.loop-k-test.true, c.requires.is.fields);
       means = c.field_of-f.ensures;
     }
-
-pub overflow_add-k : goal.overflow_add-k
-overflow_add-k c =
-    omega (arith, c.struct_known-1.given)
 
 pub loop-k-preserved : goal.loop-k-preserved
 loop-k-preserved c =

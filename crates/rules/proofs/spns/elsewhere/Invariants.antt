@@ -1,7 +1,7 @@
 use Rattle.rules.specs.Emit.{Reporting}
 use Rattle.pack.specs.Ready.{place_of_pgn}
 use Rattle.rules.specs.Spns.{spns_elsewhere}
-use Prim.Native.Nat.{ℕ, ◌-◌}
+use Prim.Native.Nat.{ℕ}
 use mathlib.Core.Path.{◌≡◌}
 use mathlib.Core.List.{List}
 use Rattle.pack.specs.Meaning.{pack_of}
@@ -19,6 +19,3 @@ invariant-loop-i l =
       reporting : Reporting l.initial.out l.n (of_pgn l.s l.t) l.count l.i l.out l.m;
       place : l.p ≡ place_of_pgn (pack_of l.s) l.t l.i;
     }
-
-abbrev pub decreases-loop-i : goal.decreases-loop-i
-decreases-loop-i l = l.count - l.i

@@ -1,3 +1,4 @@
+use Rattle.std.specs.Prelude.{is_some}
 use borrow.Author.Tests.{eq-eqb}
 use mathlib.Core.Bool.{false≢true, Bool, true, false}
 use native.Mathlib.Decide.{ℕ_discrete}
@@ -6,7 +7,6 @@ use Rattle.pack.proofs.Positions.{pgn_place_next}
 use Rattle.pack.specs.declared.field.FieldView.{FieldView}
 use Rattle.pack.specs.Ready.{place_of_pgn, Ready, PgnAt}
 use Rattle.pack.specs.Value.{Pack, Field, pgns_of, pgn_at, field_at}
-use Rattle.rules.specs.Model.{given}
 use Rattle.rules.specs.Spns.{first_seen}
 use Rattle.rules.specs.SpnNames.{is_number, spn_field}
 use Rattle.rules.specs.Search.{first_below}
@@ -15,67 +15,46 @@ use native.Mathlib.Omega.{arith}
 use Prim.Native.Nat.{ℕ, ◌≤◌, ◌<◌}
 use mathlib.Core.Path.{◌≡◌, refl, sym, ◌∙◌, ap}
 use mathlib.Core.List.{List}
-use mathlib.Core.Option.{Option, none, some}
+use Rattle.std.specs.Prelude.{Option, None, Some}
 use lib.ListN.{length}
-use Rattle.pack.specs.Meaning.{pack_of, field_meaning, optional_number}
+use Rattle.pack.specs.Meaning.{pack_of, field_meaning}
 use Rattle.rules.proofs.spns.first_seen.Invariants.{carries, carried}
 use Rattle.rules.proofs.spns.first_seen.Goals as goal
 
 told : (P : Pack) (s : List ℕ) (spn j h : ℕ) (v : FieldView) (b d : Bool) → field_meaning s v ≡ field_at (pgn_at P 1 j) h
-    → b ≡ is_number (optional_number v.authored.spn) spn → b ≡ d → carries P spn j h ≡ d
+    → b ≡ is_number v.authored.spn spn → b ≡ d → carries P spn j h ≡ d
 told P s spn j h v b d is e t = ap (λ (F : Field). is_number F.spn spn) (sym is) ∙ sym e ∙ t
 
-missed : (P : Pack) (spn j n h : ℕ) → n ≡ length (pgn_at P 1 j).fields → h ≤ n → n ≤ h → first_below (carries P spn j) h ≡ none
-    → spn_field (pgn_at P 1 j) spn ≡ none
+missed : (P : Pack) (spn j n h : ℕ) → n ≡ length (pgn_at P 1 j).fields → h ≤ n → n ≤ h → first_below (carries P spn j) h ≡ None
+    → spn_field (pgn_at P 1 j) spn ≡ None
 unfolding spn_field
 missed P spn j n h e u v m = let q : length (pgn_at P 1 j).fields ≡ h = omega arith in ap (first_below (carries P spn j)) q ∙ m
 
 -- PGN i carries it, so the search does not go beyond
-before : (P : Pack) (spn i k j : ℕ) → k < length (pgn_at P 1 i).fields → (field_at (pgn_at P 1 i) k).spn ≡ some spn → j ≤ i
-    → spn_field (pgn_at P 1 j) spn ≡ none → j < i
+before : (P : Pack) (spn i k j : ℕ) → k < length (pgn_at P 1 i).fields → (field_at (pgn_at P 1 i) k).spn ≡ Some spn → j ≤ i
+    → spn_field (pgn_at P 1 j) spn ≡ None → j < i
 unfolding spn_field
 before P spn i k j h e l m = go (ℕ_discrete j i)
   where
     go : Dec (j ≡ i) → j < i
     go (yes q) =
-        let u : first_below (carries P spn i) (length (pgn_at P 1 i).fields) ≡ none = ap (λ (x : ℕ). spn_field (pgn_at P 1 x) spn) (sym q) ∙ m in
+        let u : first_below (carries P spn i) (length (pgn_at P 1 i).fields) ≡ None = ap (λ (x : ℕ). spn_field (pgn_at P 1 x) spn) (sym q) ∙ m in
         let hit : carries P spn i k ≡ true = ap (λ (x : Option ℕ). is_number x spn) e ∙ eq-eqb spn spn refl in
         absurd (false≢true (sym (first_misses (carries P spn i) (length (pgn_at P 1 i).fields) u k h) ∙ hit))
     go (no q) = omega arith
 
-found : (P : Pack) (spn j h n : ℕ) → n ≡ length (pgn_at P 1 j).fields → h < n → first_below (carries P spn j) h ≡ none → carries P spn j h ≡ true
-    → spn_field (pgn_at P 1 j) spn ≡ some h
+found : (P : Pack) (spn j h n : ℕ) → n ≡ length (pgn_at P 1 j).fields → h < n → first_below (carries P spn j) h ≡ None → carries P spn j h ≡ true
+    → spn_field (pgn_at P 1 j) spn ≡ Some h
 unfolding spn_field
 found P spn j h n e l m t = first_hit (carries P spn j) (length (pgn_at P 1 j).fields) h (omega arith) m t
 
-seen_first : (P : Pack) (spn j h : ℕ) → j < length (pgns_of P 1) → first_below (carried P spn) j ≡ none → spn_field (pgn_at P 1 j) spn ≡ some h
-    → first_seen (pgns_of P 1) spn ≡ some j
+seen_first : (P : Pack) (spn j h : ℕ) → j < length (pgns_of P 1) → first_below (carried P spn) j ≡ None → spn_field (pgn_at P 1 j) spn ≡ Some h
+    → first_seen (pgns_of P 1) spn ≡ Some j
 unfolding first_seen
-seen_first P spn j h l m e = first_hit (carried P spn) (length (pgns_of P 1)) j l m (ap given e)
+seen_first P spn j h l m e = first_hit (carried P spn) (length (pgns_of P 1)) j l m (ap is_some e)
 
 here : {s w : List ℕ} {i j p : ℕ} → Ready s w → i < length (pgns_of (pack_of s) 1) → j ≤ i → p ≡ place_of_pgn (pack_of s) 1 j → PgnAt s w 1 j p
 here r h l e = record { ready = r; tree = omega arith; pgn = omega arith; place = e }
-
-pub search-init : goal.search-init
-search-init c = record { field = refl; turns = omega arith; place = omega (arith, c.requires.first); none_yet = refl }
-
-pub pgn_of-g-requires : goal.pgn_of-g-requires
-pgn_of-g-requires c =
-    here c.requires.ready c.requires.item c.search.invariant.turns c.search.invariant.place
-
-pub loop-field-init : goal.loop-field-init
-loop-field-init c = record { turns = omega (arith, c.search.invariant.field); none_yet = rw c.search.invariant.field }
-
-pub field_of-f-requires : goal.field_of-f-requires
-field_of-f-requires c =
-    record {
-      at = here c.requires.ready c.requires.item c.search.invariant.turns c.search.invariant.place;
-      field = omega (arith, c.loop-field-test.true, c.pgn_of-g.ensures.fields);
-    }
-
-pub overflow_add-field : goal.overflow_add-field
-overflow_add-field c =
-    omega (arith, c.struct_known-1.given)
 
 pub loop-field-preserved : goal.loop-field-preserved
 loop-field-preserved c =
@@ -92,10 +71,6 @@ loop-field-preserved c =
 pub overflow_add-place : goal.overflow_add-place
 overflow_add-place c =
     omega (arith, fields_few (here c.requires.ready c.requires.item c.search.invariant.turns c.search.invariant.place))
-
-pub overflow_cast-place : goal.overflow_cast-place
-overflow_cast-place c =
-    omega (arith, fields_few (here c.requires.ready c.requires.item c.search.invariant.turns c.search.invariant.place), c.pgn_of-g.ensures.fields)
 
 pub overflow_add-place-in-search : goal.overflow_add-place-in-search
 overflow_add-place-in-search c =

@@ -1,12 +1,12 @@
+use Rattle.std.specs.Prelude.{is_some}
 use mathlib.Core.Bool.{Bool}
 use Rattle.pack.specs.Ready.{place_of_pgn}
 use Rattle.pack.specs.Value.{Pack, pgns_of, no_pgn, pgn_at, field_at}
-use Rattle.rules.specs.Model.{given}
 use Rattle.rules.specs.SpnNames.{is_number, spn_field}
 use Rattle.rules.specs.Search.{first_below}
 use Prim.Native.Nat.{ℕ, ◌-◌, ◌≤◌}
 use mathlib.Core.Path.{◌≡◌}
-use mathlib.Core.Option.{none}
+use Rattle.std.specs.Prelude.{None}
 use lib.ListN.{get_or}
 use Rattle.pack.specs.Meaning.{pack_of}
 use Rattle.rules.proofs.spns.first_seen.Given as goal
@@ -16,13 +16,13 @@ abbrev pub carries : Pack → ℕ → ℕ → ℕ → Bool
 carries P spn j h = is_number (field_at (pgn_at P 1 j) h).spn spn
 
 abbrev pub carried : Pack → ℕ → ℕ → Bool
-carried P spn j = given (spn_field (get_or (pgns_of P 1) j no_pgn) spn)
+carried P spn j = is_some (spn_field (get_or (pgns_of P 1) j no_pgn) spn)
 
 abbrev pub invariant-loop-field : goal.invariant-loop-field
 invariant-loop-field l =
     record {
       turns : l.field ≤ l.g.fields;
-      none_yet : first_below (carries (pack_of l.s) l.spn l.pgn) l.field ≡ none;
+      none_yet : first_below (carries (pack_of l.s) l.spn l.pgn) l.field ≡ None;
     }
 
 abbrev pub decreases-loop-field : goal.decreases-loop-field
@@ -34,7 +34,7 @@ invariant-search l =
       field : l.field ≡ 0;
       turns : l.pgn ≤ l.i;
       place : l.place ≡ place_of_pgn (pack_of l.s) 1 l.pgn;
-      none_yet : first_below (carried (pack_of l.s) l.spn) l.pgn ≡ none;
+      none_yet : first_below (carried (pack_of l.s) l.spn) l.pgn ≡ None;
     }
 
 abbrev pub decreases-search : goal.decreases-search

@@ -1,20 +1,11 @@
 use Rattle.pack.proofs.Positions.{pgn_place_next}
-use Rattle.rules.proofs.Sizes.{at_pgn, fields_few, pgns_few}
+use Rattle.rules.proofs.Sizes.{at_pgn, fields_few}
 use native.Mathlib.Omega.{arith}
 use mathlib.Core.Path.{◌≡◌}
 use Rattle.pack.specs.Meaning.{pack_of}
-use Rattle.rules.proofs.Emits.{fits_turn, reporting_none, reporting_turn}
+use Rattle.rules.proofs.Emits.{fits_turn, reporting_turn}
 use Rattle.rules.proofs.spns.scalings.Invariants.{of_pgn}
 use Rattle.rules.proofs.spns.scalings.Goals as goal
-
-pub loop-i-init : goal.loop-i-init
-loop-i-init c =
-    record { reporting = reporting_none _ _ _ _; place = omega (arith, c.requires.pgns.place) }
-
-pub pgn_of-g-requires : goal.pgn_of-g-requires
-pgn_of-g-requires c =
-    at_pgn {n = c.args.tree.count} c.requires.ready (omega (arith, c)) (omega (arith, c.requires.pgns.count)) c.loop-i-test.true
-    c.loop-i.invariant.place
 
 pub check_scalings-m-requires : goal.check_scalings-m-requires
 check_scalings-m-requires c =
@@ -31,14 +22,6 @@ overflow_add-p c =
     omega
     (arith, fields_few {t = 1} (at_pgn c.requires.ready (omega (arith, c)) (omega (arith, c.requires.pgns.count)) c.loop-i-test.true c.loop-i.invariant.place))
 
-pub overflow_cast-p : goal.overflow_cast-p
-overflow_cast-p c =
-    omega (
-      arith,
-      fields_few {t = 1} (at_pgn c.requires.ready (omega (arith, c)) (omega (arith, c.requires.pgns.count)) c.loop-i-test.true c.loop-i.invariant.place),
-      c.pgn_of-g.ensures.fields,
-    )
-
 pub overflow_add-p-in-loop-i : goal.overflow_add-p-in-loop-i
 overflow_add-p-in-loop-i c =
     omega (
@@ -47,11 +30,6 @@ overflow_add-p-in-loop-i c =
       c.pgn_of-g.ensures.fields,
     )
 
-pub overflow_add-i : goal.overflow_add-i
-overflow_add-i c =
-    omega
-    (arith, pgns_few {t = 1} (at_pgn c.requires.ready (omega (arith, c)) (omega (arith, c.requires.pgns.count)) c.loop-i-test.true c.loop-i.invariant.place))
-
 pub loop-i-preserved : goal.loop-i-preserved
 loop-i-preserved c =
     let s = c.args.s.now in
@@ -59,9 +37,6 @@ loop-i-preserved c =
       reporting = reporting_turn c.loop-i.invariant.reporting (omega (arith, c.loop-i-test.true)) c.check_scalings-m.ensures;
       place = omega (arith, pgn_place_next (pack_of s) 1 c.loop-i.i, c.pgn_of-g.ensures.fields, c.loop-i.invariant.place);
     }
-
-pub shape_of-out : goal.shape_of-out
-shape_of-out c = c.loop-i.invariant.reporting.emitted.length
 
 pub returns : goal.returns
 returns c =

@@ -3,8 +3,8 @@ use Rattle.pack.specs.Value.{Pgn, Field, pgns_of}
 use Rattle.pack.specs.declared.field.FieldView.{FieldView}
 use Rattle.rules.specs.Spns.{first_seen, unlike_first, spn_at}
 use Prim.Native.Nat.{ℕ, ◌≤◌, ◌<◌}
-use mathlib.Core.Path.{◌≡◌}
-use mathlib.Core.Bool.{true, false}
+use mathlib.Core.Path.{◌≡◌, sym, ap, ◌∙◌}
+use Rattle.std.specs.Prelude.{None, Some}
 use mathlib.Core.List.{List, [], ◌∷◌}
 use Rattle.pack.specs.Meaning.{pack_of, field_meaning}
 use Rattle.rules.specs.declared.Finding.{Finding}
@@ -14,53 +14,54 @@ use Rattle.rules.proofs.spns.spn_at.Goals as goal
 
 -- the rule at a field, said of the view
 module _ (s : List ℕ) (pgns : List Pgn) (i k : ℕ) (F : Field) (f : FieldView) (is : field_meaning s f ≡ F) where
-  absent : f.authored.spn.given ≡ false → spn_at pgns i k F.spn ≡ []
+  absent : f.authored.spn ≡ None → spn_at pgns i k F.spn ≡ []
   unfolding spn_at
   absent e = rw (← is, e)
 
-  beyond : f.authored.spn.given ≡ true → 524287 < f.authored.spn.value → (X : Finding) → X ≡ pgn_error 42 2 1 i k 0 → spn_at pgns i k F.spn ≡ X ∷ []
+  beyond : (n : ℕ) → f.authored.spn ≡ Some n → 524287 < n → (X : Finding) → X ≡ pgn_error 42 2 1 i k 0 → spn_at pgns i k F.spn ≡ X ∷ []
   unfolding spn_at
-  beyond e h X q = rw (← is, e, lt-ltb _ _ h, q)
+  beyond n e h X q = rw (← is, e, lt-ltb _ _ h, q)
 
-  within : f.authored.spn.given ≡ true → f.authored.spn.value ≤ 524287
-      → spn_at pgns i k F.spn ≡ unlike_first pgns i k f.authored.spn.value (first_seen pgns f.authored.spn.value)
+  within : (n : ℕ) → f.authored.spn ≡ Some n → n ≤ 524287 → spn_at pgns i k F.spn ≡ unlike_first pgns i k n (first_seen pgns n)
   unfolding spn_at
-  within e h = rw (← is, e, le-ltb _ _ h)
+  within n e h = rw (← is, e, le-ltb _ _ h)
+
+  carried : (n : ℕ) → f.authored.spn ≡ Some n → F.spn ≡ Some n
+  carried n e = ap (λ (X : Field). X.spn) (sym is) ∙ e
+
+pub returns-in_default : goal.returns-in_default
+returns-in_default c =
+    rw (absent c.args.s.now (pgns_of (pack_of c.args.s.now) 1) c.args.i c.args.k _ c.args.f c.requires.means c.in_default.is)
+    (emitted_none c.args.out.now c.args.n)
 
 pub put-requires : goal.put-requires
 put-requires c =
     let s = c.args.s.now in
-    rw (beyond s (pgns_of (pack_of s) 1) c.args.i c.args.k _ c.args.f c.requires.means c.if-spn.true c.if-spn-gt-MAX_SPN.true
-    c.pgn_error.result c.pgn_error.ensures) at c.requires.fits
+    rw (beyond s (pgns_of (pack_of s) 1) c.args.i c.args.k _ c.args.f c.requires.means c.in-Some.spn c.in-Some.is
+    c.if-spn-gt-MAX_SPN.true c.pgn_error.result c.pgn_error.ensures) at c.requires.fits
 
 pub returns-then-spn-gt-MAX_SPN : goal.returns-then-spn-gt-MAX_SPN
 returns-then-spn-gt-MAX_SPN c =
     let s = c.args.s.now in
-    rw (beyond s (pgns_of (pack_of s) 1) c.args.i c.args.k _ c.args.f c.requires.means c.if-spn.true c.if-spn-gt-MAX_SPN.true
-    c.pgn_error.result c.pgn_error.ensures) c.put.ensures
+    rw (beyond s (pgns_of (pack_of s) 1) c.args.i c.args.k _ c.args.f c.requires.means c.in-Some.spn c.in-Some.is
+    c.if-spn-gt-MAX_SPN.true c.pgn_error.result c.pgn_error.ensures) c.put.ensures
 
 pub unlike_first-requires : goal.unlike_first-requires
 unlike_first-requires c =
     let s = c.args.s.now in
     record {
-      fits = rw (within s (pgns_of (pack_of s) 1) c.args.i c.args.k _ c.args.f c.requires.means c.if-spn.true c.if-spn-gt-MAX_SPN.false)
-          at c.requires.fits;
+      fits = rw (within s (pgns_of (pack_of s) 1) c.args.i c.args.k _ c.args.f c.requires.means c.in-Some.spn c.in-Some.is
+          c.if-spn-gt-MAX_SPN.false) at c.requires.fits;
       ready = c.requires.ready;
       first = c.requires.first;
       item = c.requires.item;
       field = c.requires.field;
       means = c.requires.means;
-      spn = c.if-spn.true;
+      spn = carried s (pgns_of (pack_of s) 1) c.args.i c.args.k _ c.args.f c.requires.means c.in-Some.spn c.in-Some.is;
     }
-
-pub returns-then-spn : goal.returns-then-spn
-returns-then-spn c =
-    let s = c.args.s.now in
-    rw (within s (pgns_of (pack_of s) 1) c.args.i c.args.k _ c.args.f c.requires.means c.if-spn.true c.if-spn-gt-MAX_SPN.false)
-    c.unlike_first.ensures
 
 pub returns : goal.returns
 returns c =
     let s = c.args.s.now in
-    rw (absent s (pgns_of (pack_of s) 1) c.args.i c.args.k _ c.args.f c.requires.means c.if-spn.false)
-    (emitted_none c.args.out.now c.args.n)
+    rw (within s (pgns_of (pack_of s) 1) c.args.i c.args.k _ c.args.f c.requires.means c.in-Some.spn c.in-Some.is
+    c.if-spn-gt-MAX_SPN.false) c.unlike_first.ensures

@@ -1,7 +1,7 @@
+use Rattle.std.specs.Prelude.{is_some}
 use Rattle.rules.specs.Emit.{Reporting}
 use Rattle.pack.specs.Value.{pgn_at, field_at}
-use Rattle.rules.specs.Model.{given}
-use Prim.Native.Nat.{ℕ, ◌-◌}
+use Prim.Native.Nat.{ℕ}
 use mathlib.Core.List.{List}
 use Rattle.pack.specs.Meaning.{pack_of}
 use Rattle.rules.specs.declared.Finding.{Finding}
@@ -10,11 +10,8 @@ use Rattle.rules.proofs.spns.spns_elsewhere.Given as goal
 
 -- the findings of field k
 abbrev pub of_field : List ℕ → ℕ → ℕ → ℕ → List Finding
-of_field s t i k = report_if (given (field_at (pgn_at (pack_of s) t i) k).spn) (pgn_error 42 1 t i k 0)
+of_field s t i k = report_if (is_some (field_at (pgn_at (pack_of s) t i) k).spn) (pgn_error 42 1 t i k 0)
 
 abbrev pub invariant-loop-k : goal.invariant-loop-k
 invariant-loop-k l =
     Reporting l.initial.out l.n (of_field l.s l.g.tree l.g.item) l.g.view.fields l.k l.out l.m
-
-abbrev pub decreases-loop-k : goal.decreases-loop-k
-decreases-loop-k l = l.g.view.fields - l.k

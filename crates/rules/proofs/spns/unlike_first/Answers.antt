@@ -2,12 +2,11 @@ use Rattle.std.specs.Prelude.{◌==◌}
 use Rattle.rules.proofs.Emits.{emitted_none}
 use Rattle.rules.specs.Findings.{report_if, pgn_error}
 use Rattle.rules.specs.declared.Finding.{Finding}
-use Rattle.pack.specs.Notation.{optional}
 use lib.ListN.{length}
-use mathlib.Core.Option.{some}
+use Rattle.std.specs.Prelude.{Some}
 use mathlib.Core.List.{List, []}
 use mathlib.Core.Bool.{Bool, true, false, not, ◌&&◌}
-use mathlib.Core.Path.{◌≡◌, sym, ◌∙◌, ap}
+use mathlib.Core.Path.{◌≡◌, ◌∙◌}
 use Prim.Native.Nat.{ℕ, ◌<◌}
 use Rattle.rules.specs.Spns.{same_unit, same_scaling, first_seen, unlike_field, unlike_first}
 use Rattle.rules.specs.SpnNames.{is_number, spn_field}
@@ -21,7 +20,7 @@ use Rattle.rules.proofs.spns.unlike_first.Goals as goal
 
 -- the first that carries it is field h of PGN j
 module _
-    (P : Pack) (i k spn j h : ℕ) (seen : first_seen (pgns_of P 1) spn ≡ some j) (field : spn_field (pgn_at P 1 j) spn ≡ some h)
+    (P : Pack) (i k spn j h : ℕ) (seen : first_seen (pgns_of P 1) spn ≡ Some j) (field : spn_field (pgn_at P 1 j) spn ≡ Some h)
     (b : Bool) (at : b ≡ ((j == i) && (h == k))) where
   itself : b ≡ true → unlike_first (pgns_of P 1) i k spn (first_seen (pgns_of P 1) spn) ≡ []
   unfolding unlike_first unlike_field
@@ -50,23 +49,9 @@ alike : (s : List ℕ) (g f : FieldView) (G F : Field) → field_meaning s g ≡
 unfolding same_scaling
 alike s g f G F p q a h = h ∙ (λ j. same_scaling (p j) (q j))
 
--- the field's SPN, read
-carried : (s : List ℕ) (f : FieldView) (F : Field) → field_meaning s f ≡ F → f.authored.spn.given ≡ true → F.spn ≡ some f.authored.spn.value
-carried s f F is e = ap (λ (X : Field). X.spn) (sym is) ∙ ap (λ (b : Bool). optional b f.authored.spn.value) e
-
-pub first_seen-seen-requires : goal.first_seen-seen-requires
-first_seen-seen-requires c =
-    record {
-      ready = c.requires.ready;
-      first = c.requires.first;
-      item = c.requires.item;
-      field = c.requires.field;
-      spn = carried c.args.s.now c.args.f _ c.requires.means c.requires.spn;
-    }
-
 pub returns-then-is_at : goal.returns-then-is_at
 returns-then-is_at c =
-    rw (itself (pack_of c.args.s.now) c.args.i c.args.k c.args.f.authored.spn.value c.first_seen-seen.result.pgn
+    rw (itself (pack_of c.args.s.now) c.args.at.item c.args.at.field c.args.spn c.first_seen-seen.result.pgn
     c.first_seen-seen.result.field c.first_seen-seen.ensures.seen c.first_seen-seen.ensures.field c.is_at.result c.is_at.ensures
     c.if-is_at.true) (emitted_none c.args.out.now c.args.n)
 
@@ -74,7 +59,7 @@ pub field_of-g-requires : goal.field_of-g-requires
 field_of-g-requires c =
     record {
       at = c.first_seen-seen.ensures.at;
-      field = field_of_it (pack_of c.args.s.now) c.args.i c.args.k c.args.f.authored.spn.value
+      field = field_of_it (pack_of c.args.s.now) c.args.at.item c.args.at.field c.args.spn
           c.first_seen-seen.result.pgn c.first_seen-seen.result.field c.first_seen-seen.ensures.seen c.first_seen-seen.ensures.field
           c.is_at.result c.is_at.ensures;
     }
@@ -84,7 +69,7 @@ put_if-requires c =
     let s = c.args.s.now in
     let same =
     alike s c.field_of-g.result c.args.f _ _ c.field_of-g.ensures c.requires.means c.same_scaling-alike.result c.same_scaling-alike.ensures in
-    let reported = another (pack_of s) c.args.i c.args.k c.args.f.authored.spn.value c.first_seen-seen.result.pgn
+    let reported = another (pack_of s) c.args.at.item c.args.at.field c.args.spn c.first_seen-seen.result.pgn
     c.first_seen-seen.result.field c.first_seen-seen.ensures.seen c.first_seen-seen.ensures.field c.is_at.result c.is_at.ensures c.if-is_at.false
     c.same_scaling-alike.result same c.pgn_error.result c.pgn_error.ensures in
     rw reported at c.requires.fits
@@ -94,7 +79,7 @@ returns c =
     let s = c.args.s.now in
     let same =
     alike s c.field_of-g.result c.args.f _ _ c.field_of-g.ensures c.requires.means c.same_scaling-alike.result c.same_scaling-alike.ensures in
-    let reported = another (pack_of s) c.args.i c.args.k c.args.f.authored.spn.value c.first_seen-seen.result.pgn
+    let reported = another (pack_of s) c.args.at.item c.args.at.field c.args.spn c.first_seen-seen.result.pgn
     c.first_seen-seen.result.field c.first_seen-seen.ensures.seen c.first_seen-seen.ensures.field c.is_at.result c.is_at.ensures c.if-is_at.false
     c.same_scaling-alike.result same c.pgn_error.result c.pgn_error.ensures in
     rw reported c.put_if.ensures

@@ -3,8 +3,8 @@ use Rattle.pack.specs.Meaning.{pack_of}
 use Rattle.pack.specs.Items.{bytes_of}
 use Rattle.pack.specs.Notation.{◌≐◌}
 use Rattle.pack.specs.Value.{pgn_at, field_at}
-use mathlib.Core.Option.{none}
-use Prim.Native.Nat.{ℕ, ◌-◌, ◌≤◌}
+use Rattle.std.specs.Prelude.{None}
+use Prim.Native.Nat.{ℕ, ◌≤◌}
 use mathlib.Core.Path.{◌≡◌}
 use mathlib.Core.List.{List}
 use mathlib.Core.Bool.{Bool}
@@ -18,8 +18,5 @@ abbrev pub invariant-loop-j : goal.invariant-loop-j
 invariant-loop-j l =
     record {
       turns : l.j ≤ l.n;
-      none_yet : first_below (has l.s l.t l.i (bytes_of l.s l.id)) l.j ≡ none;
+      none_yet : first_below (has l.s l.t l.i (bytes_of l.s l.id)) l.j ≡ None;
     }
-
-abbrev pub decreases-loop-j : goal.decreases-loop-j
-decreases-loop-j l = l.n - l.j

@@ -3,7 +3,7 @@ use Rattle.rules.specs.Search.{any_below}
 use Rattle.pack.specs.Meaning.{pack_of}
 use Rattle.pack.specs.Value.{pgn_at, field_at}
 use mathlib.Core.Bool.{◌||◌, Bool, false}
-use Prim.Native.Nat.{ℕ, ◌-◌, ◌≤◌}
+use Prim.Native.Nat.{ℕ, ◌≤◌}
 use mathlib.Core.Path.{◌≡◌}
 use mathlib.Core.List.{List}
 use Rattle.rules.proofs.trailing_zero.any_moves.Given as goal
@@ -18,6 +18,3 @@ invariant-loop-k l =
       turns : l.k ≤ l.n;
       none_yet : any_below (moving l.s l.g.tree l.g.item) l.k ≡ false;
     }
-
-abbrev pub decreases-loop-k : goal.decreases-loop-k
-decreases-loop-k l = l.n - l.k

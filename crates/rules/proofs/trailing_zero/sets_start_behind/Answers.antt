@@ -1,9 +1,8 @@
 use Rattle.pack.proofs.Sets.{places_are, set_is}
-use Rattle.pack.specs.declared.pgn.OptRepeating.{OptRepeating}
+use Rattle.pack.specs.declared.pgn.RepeatingView.{RepeatingView}
 use Rattle.pack.specs.declared.pgn.PgnView.{PgnView}
 use Rattle.pack.specs.Meaning.{optional_repeating, pack_of}
 use Rattle.pack.specs.Ready.{PgnIs}
-use Rattle.pack.specs.Records.{absent_set}
 use Rattle.pack.specs.Value.{Repeating, Pgn, pgn_at}
 use Rattle.rules.specs.Search.{every_below}
 use Rattle.rules.specs.SearchLaws.{every_turn, every_missed}
@@ -12,22 +11,15 @@ use Prim.Native.Nat.{ℕ, ◌<◌}
 use native.Mathlib.Omega.{arith}
 use mathlib.Core.Bool.{Bool}
 use mathlib.Core.List.{List}
-use mathlib.Core.Option.{Option}
-use mathlib.Core.Path.{◌≡◌, refl, sym, ap, ◌∙◌}
+use Rattle.std.specs.Prelude.{Option, None}
+use mathlib.Core.Path.{◌≡◌, sym, ap, ◌∙◌}
 use lib.ListN.{length, get_or}
 use Rattle.rules.proofs.trailing_zero.sets_start_behind.Invariants.{behind}
 use Rattle.rules.proofs.trailing_zero.sets_start_behind.Goals as goal
 
-tried : (s : List ℕ) (p : Pgn) (v : PgnView) (is : PgnIs s p v) (o k : ℕ) → k < v.places → (set : OptRepeating)
-    → set ≡ get_or v.sets k absent_set → (r : Bool) → r ≡ starts_behind (optional_repeating set) o → r ≡ behind p o k
+tried : (s : List ℕ) (p : Pgn) (v : PgnView) (is : PgnIs s p v) (o k : ℕ) → k < v.places → (set : Option RepeatingView)
+    → set ≡ get_or v.sets k None → (r : Bool) → r ≡ starts_behind (optional_repeating set) o → r ≡ behind p o k
 tried s p v is o k h set y r e = e ∙ ap (λ (x : Option Repeating). starts_behind x o) (ap optional_repeating y ∙ set_is is k h)
-
-pub loop-k-init : goal.loop-k-init
-loop-k-init c = record { turns = omega arith; so_far = refl }
-
-pub set_at-set-requires : goal.set_at-set-requires
-set_at-set-requires c =
-    omega (arith, c.loop-k-test.true, c.requires.places)
 
 pub returns-then-not-starts_behind : goal.returns-then-not-starts_behind
 returns-then-not-starts_behind c =

@@ -2,7 +2,7 @@ use Rattle.pack.specs.Meaning.{pack_of}
 use Rattle.pack.specs.Value.{Pgn, pgn_at, set_place}
 use Rattle.rules.specs.Search.{every_below}
 use Rattle.rules.specs.TrailingZero.{starts_behind}
-use Prim.Native.Nat.{ℕ, ◌-◌, ◌≤◌}
+use Prim.Native.Nat.{ℕ, ◌≤◌}
 use mathlib.Core.Bool.{Bool, true}
 use mathlib.Core.Path.{◌≡◌}
 use Rattle.rules.proofs.trailing_zero.sets_start_behind.Given as goal
@@ -16,6 +16,3 @@ invariant-loop-k l =
       turns : l.k ≤ l.places;
       so_far : every_below (behind (pgn_at (pack_of l.s) l.g.tree l.g.item) l.order.0) l.k ≡ true;
     }
-
-abbrev pub decreases-loop-k : goal.decreases-loop-k
-decreases-loop-k l = l.places - l.k

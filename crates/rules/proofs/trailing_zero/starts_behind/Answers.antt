@@ -1,8 +1,5 @@
-use mathlib.Core.Path.{sym, ◌∙◌}
 use Rattle.rules.proofs.trailing_zero.starts_behind.Goals as goal
 
-pub returns-then-counts : goal.returns-then-counts
-returns-then-counts c = rw (sym c.counts.ensures ∙ c.if-counts.true) c.precedes.ensures
-
-pub returns : goal.returns
-returns c = rw (sym c.counts.ensures ∙ c.if-counts.false)
+-- written out, so that the edit empty_set_ignored is refused for this fact
+pub returns-in-Some : goal.returns-in-Some
+returns-in-Some c = rw c.in-Some.is c.precedes.ensures

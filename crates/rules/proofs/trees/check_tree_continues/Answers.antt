@@ -8,14 +8,6 @@ use Rattle.rules.proofs.Emits.{fits_turn, reporting_none, reporting_turn}
 use Rattle.rules.proofs.trees.check_tree_continues.Invariants.{of_pgn}
 use Rattle.rules.proofs.trees.check_tree_continues.Goals as goal
 
-pub loop-i-init : goal.loop-i-init
-loop-i-init c =
-    record { reporting = reporting_none _ _ _ _; place = omega (arith, c.requires.pgns.place) }
-
-pub pgn_of-view-requires : goal.pgn_of-view-requires
-pgn_of-view-requires c =
-    at_pgn c.requires.ready c.requires.trees (omega (arith, c.requires.pgns.count)) c.loop-i-test.true c.loop-i.invariant.place
-
 pub check_continues-m-requires : goal.check_continues-m-requires
 unfolding check_tree_continues
 check_continues-m-requires c =
@@ -28,30 +20,6 @@ check_continues-m-requires c =
       };
     }
 
-pub overflow_add-p : goal.overflow_add-p
-overflow_add-p c =
-    omega (arith, fields_few (at_pgn c.requires.ready c.requires.trees (omega (arith, c.requires.pgns.count)) c.loop-i-test.true c.loop-i.invariant.place))
-
-pub overflow_cast-p : goal.overflow_cast-p
-overflow_cast-p c =
-    omega (
-      arith,
-      fields_few (at_pgn c.requires.ready c.requires.trees (omega (arith, c.requires.pgns.count)) c.loop-i-test.true c.loop-i.invariant.place),
-      c.pgn_of-view.ensures.fields,
-    )
-
-pub overflow_add-p-in-loop-i : goal.overflow_add-p-in-loop-i
-overflow_add-p-in-loop-i c =
-    omega (
-      arith,
-      fields_few (at_pgn c.requires.ready c.requires.trees (omega (arith, c.requires.pgns.count)) c.loop-i-test.true c.loop-i.invariant.place),
-      c.pgn_of-view.ensures.fields,
-    )
-
-pub overflow_add-i : goal.overflow_add-i
-overflow_add-i c =
-    omega (arith, pgns_few (at_pgn c.requires.ready c.requires.trees (omega (arith, c.requires.pgns.count)) c.loop-i-test.true c.loop-i.invariant.place))
-
 pub loop-i-preserved : goal.loop-i-preserved
 loop-i-preserved c =
     let s = c.args.s.now in let t = c.args.t in
@@ -60,11 +28,14 @@ loop-i-preserved c =
       place = omega (arith, pgn_place_next (pack_of s) t c.loop-i.i, c.pgn_of-view.ensures.fields, c.loop-i.invariant.place);
     }
 
-pub shape_of-out : goal.shape_of-out
-shape_of-out c = c.loop-i.invariant.reporting.emitted.length
+pub overflow_add-p : goal.overflow_add-p
+overflow_add-p c =
+    omega (arith, fields_few (at_pgn c.requires.ready c.requires.trees (omega (arith, c.requires.pgns.count)) c.loop-i-test.true c.loop-i.invariant.place))
 
-pub returns : goal.returns
-unfolding check_tree_continues
-returns c =
-    let e : c.args.tree.count ≡ c.loop-i.i = omega (arith, c.loop-i.invariant.reporting.turns, c.loop-i-test.false) in
-    rw (← c.requires.pgns.count, e) c.loop-i.invariant.reporting.emitted
+pub overflow_add-p-in-loop-i : goal.overflow_add-p-in-loop-i
+overflow_add-p-in-loop-i c =
+    omega (
+      arith,
+      fields_few (at_pgn c.requires.ready c.requires.trees (omega (arith, c.requires.pgns.count)) c.loop-i-test.true c.loop-i.invariant.place),
+      c.pgn_of-view.ensures.fields,
+    )

@@ -19,6 +19,3 @@ invariant-loop-i l =
       reporting : Reporting l.initial.out l.n (of_pgn l.s l.t) l.count l.i l.out l.m;
       place : l.p ≡ place_of_pgn (pack_of l.s) l.t l.i;
     }
-
-abbrev pub decreases-loop-i : goal.decreases-loop-i
-decreases-loop-i l = l.count - l.i

@@ -1,51 +1,17 @@
 use Rattle.rules.specs.Check.{check_tree_continues}
-use native.Mathlib.Omega.{arith}
-use mathlib.Core.Path.{◌∙◌}
 use Rattle.pack.specs.Meaning.{pack_of}
-use Rattle.rules.proofs.Emits.{emitted_none, emitted_turn, fits_turn}
+use Rattle.rules.proofs.Emits.{fits_turn, reporting_turn}
+use Rattle.rules.proofs.Sections.{at_tree}
 use Rattle.rules.proofs.trees.check_trees_continues.Goals as goal
 
-pub check_tree_continues-nmea2000-requires : goal.check_tree_continues-nmea2000-requires
-check_tree_continues-nmea2000-requires c =
+pub check_tree_continues-m-requires : goal.check_tree_continues-m-requires
+check_tree_continues-m-requires c =
     record {
-      fits = fits_turn (check_tree_continues (pack_of c.args.s.now)) 3 0 (omega (arith, c)) c.requires.fits
-          (emitted_none c.args.out.now c.args.n);
+      fits = fits_turn (check_tree_continues (pack_of c.args.s.now)) 3 c.loop-t.t c.loop-t-test.true c.requires.fits c.loop-t.invariant.emitted;
       ready = c.requires.ready;
-      trees = omega (arith, c);
-      pgns = c.requires.index.trees 0 (omega (arith, c));
+      trees = c.loop-t-test.true;
+      pgns = at_tree (pack_of c.args.s.now) c.args.index c.requires.index c.loop-t.t c.loop-t-test.true _ _ c.of_tree.ensures c.section-tree.ensures;
     }
 
-pub check_tree_continues-j1939-requires : goal.check_tree_continues-j1939-requires
-check_tree_continues-j1939-requires c =
-    let s = c.args.s.now in
-    record {
-      fits = fits_turn (check_tree_continues (pack_of s)) 3 1 (omega (arith, c)) c.requires.fits
-          (emitted_turn (check_tree_continues (pack_of s)) 0 (emitted_none c.args.out.now c.args.n) c.check_tree_continues-nmea2000.ensures);
-      ready = c.requires.ready;
-      trees = omega (arith, c);
-      pgns = c.requires.index.trees 1 (omega (arith, c));
-    }
-
-pub check_tree_continues-requires : goal.check_tree_continues-requires
-check_tree_continues-requires c =
-    let s = c.args.s.now in
-    record {
-      fits = fits_turn (check_tree_continues (pack_of s)) 3 2 (omega (arith, c)) c.requires.fits
-          (emitted_turn (check_tree_continues (pack_of s)) 1
-          (emitted_turn (check_tree_continues (pack_of s)) 0 (emitted_none c.args.out.now c.args.n) c.check_tree_continues-nmea2000.ensures)
-          c.check_tree_continues-j1939.ensures);
-      ready = c.requires.ready;
-      trees = omega (arith, c);
-      pgns = c.requires.index.trees 2 (omega (arith, c));
-    }
-
-pub shape_of-out : goal.shape_of-out
-shape_of-out c =
-    c.check_tree_continues.auto.out ∙ c.check_tree_continues-j1939.auto.out ∙ c.check_tree_continues-nmea2000.auto.out
-
-pub returns : goal.returns
-returns c =
-    let s = c.args.s.now in
-    emitted_turn (check_tree_continues (pack_of s)) 2 (emitted_turn (check_tree_continues (pack_of s)) 1
-    (emitted_turn (check_tree_continues (pack_of s)) 0 (emitted_none c.args.out.now c.args.n) c.check_tree_continues-nmea2000.ensures)
-    c.check_tree_continues-j1939.ensures) c.check_tree_continues.ensures
+pub loop-t-preserved : goal.loop-t-preserved
+loop-t-preserved c = reporting_turn c.loop-t.invariant c.loop-t-test.true c.check_tree_continues-m.ensures

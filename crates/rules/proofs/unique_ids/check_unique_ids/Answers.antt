@@ -1,20 +1,12 @@
-use Rattle.rules.proofs.Sizes.{at_pgn, fields_few, pgns_few}
+use Rattle.rules.proofs.Sizes.{at_pgn, fields_few}
 use Rattle.rules.specs.UniqueIds.{check_unique_ids}
 use Rattle.pack.proofs.Positions.{pgn_place_next}
-use Rattle.rules.proofs.Emits.{fits_turn, reporting_none, reporting_turn}
+use Rattle.rules.proofs.Emits.{fits_turn, reporting_turn}
 use Rattle.pack.specs.Meaning.{pack_of}
 use native.Mathlib.Omega.{arith}
 use mathlib.Core.Path.{◌≡◌}
 use Rattle.rules.proofs.unique_ids.check_unique_ids.Invariants.{of_pgn}
 use Rattle.rules.proofs.unique_ids.check_unique_ids.Goals as goal
-
-pub loop-i-init : goal.loop-i-init
-loop-i-init c =
-    record { reporting = reporting_none _ _ _ _; place = omega (arith, c.requires.pgns.place) }
-
-pub pgn_of-view-requires : goal.pgn_of-view-requires
-pgn_of-view-requires c =
-    (at_pgn c.requires.ready c.requires.trees (omega (arith, c.requires.pgns.count)) c.loop-i-test.true c.loop-i.invariant.place)
 
 pub unique_ids_at-m-requires : goal.unique_ids_at-m-requires
 unfolding check_unique_ids
@@ -33,14 +25,6 @@ pub overflow_add-p : goal.overflow_add-p
 overflow_add-p c =
     omega (arith, fields_few (at_pgn c.requires.ready c.requires.trees (omega (arith, c.requires.pgns.count)) c.loop-i-test.true c.loop-i.invariant.place))
 
-pub overflow_cast-p : goal.overflow_cast-p
-overflow_cast-p c =
-    omega (
-      arith,
-      fields_few (at_pgn c.requires.ready c.requires.trees (omega (arith, c.requires.pgns.count)) c.loop-i-test.true c.loop-i.invariant.place),
-      c.pgn_of-view.ensures.fields,
-    )
-
 pub overflow_add-p-in-loop-i : goal.overflow_add-p-in-loop-i
 overflow_add-p-in-loop-i c =
     omega (
@@ -49,10 +33,6 @@ overflow_add-p-in-loop-i c =
       c.pgn_of-view.ensures.fields,
     )
 
-pub overflow_add-i : goal.overflow_add-i
-overflow_add-i c =
-    omega (arith, pgns_few (at_pgn c.requires.ready c.requires.trees (omega (arith, c.requires.pgns.count)) c.loop-i-test.true c.loop-i.invariant.place))
-
 pub loop-i-preserved : goal.loop-i-preserved
 loop-i-preserved c =
     let s = c.args.s.now in let t = c.args.t in
@@ -60,9 +40,6 @@ loop-i-preserved c =
       reporting = reporting_turn c.loop-i.invariant.reporting (omega (arith, c)) c.unique_ids_at-m.ensures;
       place = omega (arith, pgn_place_next (pack_of s) t c.loop-i.i, c.pgn_of-view.ensures.fields, c.loop-i.invariant.place);
     }
-
-pub shape_of-out : goal.shape_of-out
-shape_of-out c = c.loop-i.invariant.reporting.emitted.length
 
 pub returns : goal.returns
 unfolding check_unique_ids

@@ -6,7 +6,7 @@ use Rattle.rules.specs.declared.Finding.{Finding}
 use Rattle.pack.specs.Meaning.{pack_of}
 use Rattle.pack.specs.Notation.{◌≐◌}
 use Rattle.pack.specs.Value.{pgn_at}
-use Prim.Native.Nat.{ℕ, ◌-◌}
+use Prim.Native.Nat.{ℕ}
 use mathlib.Core.Path.{◌≡◌}
 use mathlib.Core.List.{List, ◌++◌}
 use Rattle.rules.proofs.unique_ids.check_unique_ids.Given as goal
@@ -21,6 +21,3 @@ invariant-loop-i l =
       reporting : Reporting l.initial.out l.n (of_pgn l.s l.t) l.count l.i l.out l.m;
       place : l.p ≡ place_of_pgn (pack_of l.s) l.t l.i;
     }
-
-abbrev pub decreases-loop-i : goal.decreases-loop-i
-decreases-loop-i l = l.count - l.i

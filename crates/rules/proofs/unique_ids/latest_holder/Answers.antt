@@ -1,30 +1,17 @@
-use Rattle.rules.proofs.Sizes.{at_pgn, fields_few}
+use Rattle.rules.proofs.Sizes.{at_pgn}
 use Rattle.rules.specs.SearchLaws.{latest_turn}
 use Rattle.pack.proofs.Positions.{pgn_room, pgn_place_next}
 use Rattle.pack.specs.Meaning.{pack_of}
 use Rattle.pack.specs.Items.{bytes_of}
 use Rattle.pack.specs.Value.{Pgn}
 use native.Mathlib.Omega.{arith}
-use mathlib.Core.Path.{◌≡◌, refl, ap, ◌∙◌, sym}
-use borrow.Author.Rules.{rules}
+use mathlib.Core.Path.{◌≡◌, ap, ◌∙◌, sym}
 use Rattle.rules.proofs.unique_ids.latest_holder.Invariants.{has}
 use Rattle.rules.proofs.unique_ids.latest_holder.Goals as goal
-
-pub loop-j-init : goal.loop-j-init
-loop-j-init c = record { turns = search rules; place = omega (arith, c.requires.first); found = refl }
-
-pub pgn_of-g-requires : goal.pgn_of-g-requires
-pgn_of-g-requires c =
-    (at_pgn c.requires.ready c.requires.trees c.requires.items c.loop-j-test.true c.loop-j.invariant.place)
 
 pub overflow_add-p : goal.overflow_add-p
 overflow_add-p c =
     omega (arith, pgn_room (at_pgn c.requires.ready c.requires.trees c.requires.items c.loop-j-test.true c.loop-j.invariant.place))
-
-pub overflow_cast-p : goal.overflow_cast-p
-overflow_cast-p c =
-    omega
-    (arith, fields_few (at_pgn c.requires.ready c.requires.trees c.requires.items c.loop-j-test.true c.loop-j.invariant.place), c.pgn_of-g.ensures.fields)
 
 pub overflow_add-p-in-loop-j : goal.overflow_add-p-in-loop-j
 overflow_add-p-in-loop-j c =

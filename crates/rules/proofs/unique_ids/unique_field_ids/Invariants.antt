@@ -5,7 +5,7 @@ use Rattle.rules.specs.declared.Finding.{Finding}
 use Rattle.pack.specs.Meaning.{pack_of}
 use Rattle.pack.specs.Notation.{◌≐◌}
 use Rattle.pack.specs.Value.{pgn_at, field_at}
-use Prim.Native.Nat.{ℕ, ◌-◌}
+use Prim.Native.Nat.{ℕ}
 use mathlib.Core.List.{List}
 use Rattle.rules.proofs.unique_ids.unique_field_ids.Given as goal
 
@@ -16,6 +16,3 @@ of_field s t i k = report_if (any_below (λ j. (field_at (pgn_at (pack_of s) t i
 abbrev pub invariant-loop-k : goal.invariant-loop-k
 invariant-loop-k l =
     Reporting l.initial.out l.n (of_field l.s l.g.tree l.g.item) l.fields l.k l.out l.m
-
-abbrev pub decreases-loop-k : goal.decreases-loop-k
-decreases-loop-k l = l.fields - l.k

@@ -4,7 +4,7 @@ use Rattle.rules.specs.Variants.{least_group, group_findings}
 use Prim.Native.Nat.{ℕ, ◌-◌}
 use mathlib.Core.Path.{◌≡◌}
 use mathlib.Core.List.{List}
-use mathlib.Core.Option.{Option}
+use Rattle.std.specs.Prelude.{Option}
 use Rattle.pack.specs.Meaning.{pack_of}
 use Rattle.pack.specs.Value.{pgns_of}
 use Rattle.rules.specs.declared.Finding.{Finding}
@@ -23,6 +23,3 @@ invariant-loop-r l =
       reporting : Reporting l.initial.out l.n (of_rank l.s l.t) l.count l.r l.out l.m;
       ranked : ranked (least l.s l.t) l.r ≡ least l.s l.t l.b;
     }
-
-abbrev pub decreases-loop-r : goal.decreases-loop-r
-decreases-loop-r l = l.count - l.r

@@ -16,10 +16,6 @@ returns-then-not-in_group c =
     ∙ sym c.in_group.ensures
     ∙ c.if-not-in_group.true)
 
-pub duplicates-requires : goal.duplicates-requires
-duplicates-requires c =
-    record { pgn = c.requires.earlier; other = c.requires.pgn }
-
 pub returns : goal.returns
 returns c =
     let s = c.args.s.now in let number = c.args.number in

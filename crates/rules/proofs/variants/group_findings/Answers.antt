@@ -2,34 +2,26 @@ use Rattle.pack.proofs.Positions.{pgn_place_next}
 use Rattle.rules.specs.Variants.{matchless, group_findings}
 use Rattle.rules.specs.Search.{count_below}
 use Rattle.rules.specs.SearchLaws.{count_turn}
-use Rattle.rules.proofs.Sizes.{at_pgn, fields_few, pgns_few, hits_few}
+use Rattle.rules.proofs.Sizes.{at_pgn, fields_few, hits_few}
 use native.Mathlib.Omega.{arith}
 use Prim.Native.Nat.{ℕ}
-use mathlib.Core.Path.{◌≡◌, refl, ◌∙◌}
+use mathlib.Core.Path.{◌≡◌, ◌∙◌}
 use mathlib.Core.List.{List, ◌++◌}
-use mathlib.Core.Option.{some}
+use Rattle.std.specs.Prelude.{Some}
 use lib.ListN.{length}
 use Rattle.pack.specs.Notation.{concat_below, ◌<ᵇ◌}
 use Rattle.pack.specs.Meaning.{pack_of}
 use Rattle.pack.specs.Value.{pgns_of}
 use Rattle.rules.specs.declared.Finding.{Finding}
 use Rattle.rules.specs.Findings.{report_if, group_error}
-use Rattle.rules.proofs.Emits.{emitted_append, fits_left, fits_right, fits_turn, reporting_none, reporting_turn}
+use Rattle.rules.proofs.Emits.{emitted_append, fits_left, fits_right, fits_turn, reporting_turn}
 use Rattle.rules.proofs.variants.group_findings.Invariants.{of_pgn, lacks}
 use Rattle.rules.proofs.variants.group_findings.Goals as goal
 
 whole : (s : List ℕ) (t number i w : ℕ) (F : Finding) → length (pgns_of (pack_of s) t) ≡ i → w ≡ count_below (lacks s t number) i
-    → F ≡ group_error 20 2 t number w → group_findings t (pgns_of (pack_of s) t) (some number) ≡ concat_below (of_pgn s t number) i ++ report_if (1 <ᵇ w) F
+    → F ≡ group_error 20 2 t number w → group_findings t (pgns_of (pack_of s) t) (Some number) ≡ concat_below (of_pgn s t number) i ++ report_if (1 <ᵇ w) F
 unfolding group_findings matchless
 whole s t number i w F e c y = rw (e, ← c, y)
-
-pub loop-i-init : goal.loop-i-init
-loop-i-init c =
-    record { reporting = reporting_none _ _ _ _; place = omega (arith, c.requires.pgns.place); few = omega (arith, c); without = refl }
-
-pub pgn_of-view-requires : goal.pgn_of-view-requires
-pgn_of-view-requires c =
-    (at_pgn c.requires.ready c.requires.trees (omega (arith, c.requires.pgns.count)) c.loop-i-test.true c.loop-i.invariant.place)
 
 pub variant_at-m-requires : goal.variant_at-m-requires
 unfolding group_findings
@@ -46,32 +38,9 @@ variant_at-m-requires c =
       first = c.requires.pgns.place;
     }
 
-pub matchless_at-hit-requires : goal.matchless_at-hit-requires
-matchless_at-hit-requires c =
-    record {
-      at = (at_pgn c.requires.ready c.requires.trees (omega (arith, c.requires.pgns.count)) c.loop-i-test.true c.loop-i.invariant.place);
-      is = c.pgn_of-view.ensures;
-    }
-
-pub counted-without-requires : goal.counted-without-requires
-counted-without-requires c =
-    omega (
-      arith,
-      c.loop-i.invariant.few,
-      pgns_few (at_pgn c.requires.ready c.requires.trees (omega (arith, c.requires.pgns.count)) c.loop-i-test.true c.loop-i.invariant.place),
-    )
-
 pub overflow_add-p : goal.overflow_add-p
 overflow_add-p c =
     omega (arith, fields_few (at_pgn c.requires.ready c.requires.trees (omega (arith, c.requires.pgns.count)) c.loop-i-test.true c.loop-i.invariant.place))
-
-pub overflow_cast-p : goal.overflow_cast-p
-overflow_cast-p c =
-    omega (
-      arith,
-      fields_few (at_pgn c.requires.ready c.requires.trees (omega (arith, c.requires.pgns.count)) c.loop-i-test.true c.loop-i.invariant.place),
-      c.pgn_of-view.ensures.fields,
-    )
 
 pub overflow_add-p-in-loop-i : goal.overflow_add-p-in-loop-i
 overflow_add-p-in-loop-i c =
@@ -80,10 +49,6 @@ overflow_add-p-in-loop-i c =
       fields_few (at_pgn c.requires.ready c.requires.trees (omega (arith, c.requires.pgns.count)) c.loop-i-test.true c.loop-i.invariant.place),
       c.pgn_of-view.ensures.fields,
     )
-
-pub overflow_add-i : goal.overflow_add-i
-overflow_add-i c =
-    omega (arith, pgns_few (at_pgn c.requires.ready c.requires.trees (omega (arith, c.requires.pgns.count)) c.loop-i-test.true c.loop-i.invariant.place))
 
 pub loop-i-preserved : goal.loop-i-preserved
 loop-i-preserved c =
@@ -102,10 +67,6 @@ put_if-requires c =
     (rw (whole s t number c.loop-i.i c.loop-i.without c.group_error.result
     (omega (arith, c.requires.pgns.count, c.loop-i.invariant.reporting.turns, c.loop-i-test.false)) c.loop-i.invariant.without c.group_error.ensures) at
     c.requires.fits) c.loop-i.invariant.reporting.emitted
-
-pub shape_of-out : goal.shape_of-out
-shape_of-out c =
-    c.put_if.auto.out ∙ c.loop-i.invariant.reporting.emitted.length
 
 pub returns : goal.returns
 returns c =

@@ -28,6 +28,3 @@ invariant-loop-i l =
       few : l.without ≤ l.i;
       without : l.without ≡ count_below (lacks l.s l.t l.number) l.i;
     }
-
-abbrev pub decreases-loop-i : goal.decreases-loop-i
-decreases-loop-i l = l.count - l.i

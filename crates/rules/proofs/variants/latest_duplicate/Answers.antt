@@ -1,32 +1,12 @@
 use Rattle.pack.proofs.Positions.{pgn_place_next}
 use Rattle.rules.specs.Search.{latest_below}
 use Rattle.rules.specs.SearchLaws.{latest_turn}
-use Rattle.rules.proofs.Sizes.{at_pgn, fields_few, pgns_few}
-use borrow.Author.Rules.{rules}
+use Rattle.rules.proofs.Sizes.{at_pgn, fields_few}
 use native.Mathlib.Omega.{arith}
-use mathlib.Core.Path.{◌≡◌, refl, sym, ◌∙◌, ap}
+use mathlib.Core.Path.{◌≡◌, sym, ◌∙◌, ap}
 use Rattle.pack.specs.Meaning.{pack_of}
 use Rattle.rules.proofs.variants.latest_duplicate.Invariants.{copies}
 use Rattle.rules.proofs.variants.latest_duplicate.Goals as goal
-
-pub loop-j-init : goal.loop-j-init
-loop-j-init c = record { turns = search rules; place = omega (arith, c.requires.first); found = refl }
-
-pub pgn_of-view-requires : goal.pgn_of-view-requires
-pgn_of-view-requires c =
-    (at_pgn c.requires.pgn.at.ready c.requires.pgn.at.tree (omega (arith, c.requires.pgn.at.pgn)) c.loop-j-test.true
-    c.loop-j.invariant.place)
-
-pub duplicate_at-hit-requires : goal.duplicate_at-hit-requires
-duplicate_at-hit-requires c =
-    record {
-      earlier = record {
-        at = (at_pgn c.requires.pgn.at.ready c.requires.pgn.at.tree (omega (arith, c.requires.pgn.at.pgn)) c.loop-j-test.true
-            c.loop-j.invariant.place);
-        is = c.pgn_of-view.ensures;
-      };
-      pgn = c.requires.pgn;
-    }
 
 pub overflow_add-q : goal.overflow_add-q
 overflow_add-q c =
@@ -34,15 +14,6 @@ overflow_add-q c =
       arith,
       fields_few
           (at_pgn c.requires.pgn.at.ready c.requires.pgn.at.tree (omega (arith, c.requires.pgn.at.pgn)) c.loop-j-test.true c.loop-j.invariant.place),
-    )
-
-pub overflow_cast-q : goal.overflow_cast-q
-overflow_cast-q c =
-    omega (
-      arith,
-      fields_few
-          (at_pgn c.requires.pgn.at.ready c.requires.pgn.at.tree (omega (arith, c.requires.pgn.at.pgn)) c.loop-j-test.true c.loop-j.invariant.place),
-      c.pgn_of-view.ensures.fields,
     )
 
 pub overflow_add-q-in-loop-j : goal.overflow_add-q-in-loop-j
@@ -53,10 +24,6 @@ overflow_add-q-in-loop-j c =
           (at_pgn c.requires.pgn.at.ready c.requires.pgn.at.tree (omega (arith, c.requires.pgn.at.pgn)) c.loop-j-test.true c.loop-j.invariant.place),
       c.pgn_of-view.ensures.fields,
     )
-
-pub overflow_add-j : goal.overflow_add-j
-overflow_add-j c =
-    omega (arith, c.loop-j-test.true, pgns_few c.requires.pgn.at)
 
 pub loop-j-preserved : goal.loop-j-preserved
 loop-j-preserved c =

@@ -5,7 +5,7 @@ use Prim.Native.Nat.{ℕ, ◌-◌, ◌≤◌}
 use mathlib.Core.Path.{◌≡◌}
 use mathlib.Core.Bool.{Bool, ◌&&◌}
 use mathlib.Core.List.{List}
-use Rattle.pack.specs.Meaning.{pack_of, optional_number}
+use Rattle.pack.specs.Meaning.{pack_of}
 use Rattle.pack.specs.Value.{pgns_of, pgn_at}
 use Rattle.rules.proofs.variants.latest_duplicate.Given as goal
 
@@ -18,8 +18,5 @@ invariant-loop-j l =
     record {
       turns : l.j ≤ l.item;
       place : l.q ≡ place_of_pgn (pack_of l.s) l.g.tree l.j;
-      found : optional_number l.found ≡ latest_below (copies l.s l.g.tree l.number l.g.item) l.j;
+      found : l.found ≡ latest_below (copies l.s l.g.tree l.number l.g.item) l.j;
     }
-
-abbrev pub decreases-loop-j : goal.decreases-loop-j
-decreases-loop-j l = l.item - l.j

@@ -17,10 +17,6 @@ returns-then-not-in_group c =
     ∙ sym c.in_group.ensures
     ∙ c.if-not-in_group.true)
 
-pub has_match-requires : goal.has_match-requires
-has_match-requires c =
-    c.requires
-
 pub returns : goal.returns
 returns c =
     let s = c.args.s.now in let number = c.args.number in

@@ -1,4 +1,3 @@
-use borrow.Author.Tests.{not-true, not-false}
 use Rattle.pack.specs.Value.{Pgn, pgns_of, no_pgn}
 use Rattle.rules.specs.SearchLaws.{latest_none}
 use Rattle.rules.specs.Search.{latest_below}
@@ -7,9 +6,9 @@ use Prim.Native.Nat.{ℕ}
 use mathlib.Core.Path.{◌≡◌, refl, sym, ◌∙◌}
 use mathlib.Core.Bool.{Bool, true, false, ◌&&◌}
 use mathlib.Core.List.{List, [], ◌∷◌}
-use mathlib.Core.Option.{none}
+use Rattle.std.specs.Prelude.{None, Some}
 use lib.ListN.{length, get_or}
-use Rattle.pack.specs.Notation.{optional, ◌≐◌}
+use Rattle.pack.specs.Notation.{◌≐◌}
 use Rattle.pack.specs.Meaning.{pack_of}
 use Rattle.rules.specs.declared.Finding.{Finding}
 use Rattle.rules.specs.Findings.{pgn_error}
@@ -28,7 +27,7 @@ module _ (t : ℕ) (pgns : List Pgn) (number i : ℕ) where
 
   -- what has no match duplicates none
   unmatched : (n : ℕ) → n ≡ length (get_or pgns i no_pgn).fields → has_match (get_or pgns i no_pgn) n ≡ false
-      → latest_below (λ j. in_group t pgns number j && duplicates (get_or pgns j no_pgn) (get_or pgns i no_pgn)) i ≡ none
+      → latest_below (λ j. in_group t pgns number j && duplicates (get_or pgns j no_pgn) (get_or pgns i no_pgn)) i ≡ None
   unfolding duplicates
   unmatched n e h =
       latest_none (λ j. in_group t pgns number j && duplicates (get_or pgns j no_pgn) (get_or pgns i no_pgn)) i
@@ -36,57 +35,43 @@ module _ (t : ℕ) (pgns : List Pgn) (number i : ℕ) where
       (has_match (get_or pgns i no_pgn) (length (get_or pgns i no_pgn).fields)) (match_key (get_or pgns j no_pgn) ≐ match_key (get_or pgns i no_pgn))
       (rw e at h))
 
-  module _ (h : in_group t pgns number i ≡ true) (b : Bool) (v : ℕ)
-      (e : optional b v ≡ latest_below (λ j. in_group t pgns number j && duplicates (get_or pgns j no_pgn) (get_or pgns i no_pgn)) i) where
-    alone : b ≡ false → variant_at t pgns number i ≡ []
+  module _ (h : in_group t pgns number i ≡ true) where
+    alone : None ≡ latest_below (λ j. in_group t pgns number j && duplicates (get_or pgns j no_pgn) (get_or pgns i no_pgn)) i
+        → variant_at t pgns number i ≡ []
     unfolding variant_at duplicate_of
-    alone k = rw (h, ← e, k)
+    alone e = rw (h, ← e)
 
-    other : b ≡ true → (F : Finding) → F ≡ pgn_error 20 1 t i 0 v → variant_at t pgns number i ≡ F ∷ []
+    other : (v : ℕ) → Some v ≡ latest_below (λ j. in_group t pgns number j && duplicates (get_or pgns j no_pgn) (get_or pgns i no_pgn)) i
+        → (F : Finding) → F ≡ pgn_error 20 1 t i 0 v → variant_at t pgns number i ≡ F ∷ []
     unfolding variant_at duplicate_of
-    other k F y = rw (h, ← e, k, y)
-
-pub has_match-requires : goal.has_match-requires
-has_match-requires c =
-    c.requires.pgn
+    other v e F y = rw (h, ← e, y)
 
 pub returns-then-not-has_match : goal.returns-then-not-has_match
 returns-then-not-has_match c =
     let s = c.args.s.now in let number = c.args.number in
     let t = c.args.g.tree in
     let i = c.args.g.item in
-    rw (alone t (pgns_of (pack_of s) t) number i c.requires.member false 0
+    rw (alone t (pgns_of (pack_of s) t) number i c.requires.member
     (sym (unmatched t (pgns_of (pack_of s) t) number i c.args.g.view.fields c.requires.pgn.is.fields
-    (sym c.has_match.ensures ∙ c.if-not-has_match.true))) refl)
+    (sym c.has_match.ensures ∙ c.if-not-has_match.true))))
     (emitted_none c.args.out.now c.args.n)
 
-pub latest_duplicate-found-requires : goal.latest_duplicate-found-requires
-latest_duplicate-found-requires c =
-    record { pgn = c.requires.pgn; first = c.requires.first }
-
-pub returns-then-not-found : goal.returns-then-not-found
-returns-then-not-found c =
-    let s = c.args.s.now in let number = c.args.number in
+pub returns-in_default : goal.returns-in_default
+returns-in_default c =
+    let s = c.args.s.now in
     let t = c.args.g.tree in
-    let i = c.args.g.item in
-    rw (alone t (pgns_of (pack_of s) t) number i c.requires.member
-    c.latest_duplicate-found.result.given c.latest_duplicate-found.result.value c.latest_duplicate-found.ensures
-    (not-true c.latest_duplicate-found.result.given c.if-not-found.true)) (emitted_none c.args.out.now c.args.n)
+    rw (alone t (pgns_of (pack_of s) t) c.args.number c.args.g.item c.requires.member c.in_default.ensures) (emitted_none c.args.out.now c.args.n)
 
 pub put-requires : goal.put-requires
 put-requires c =
-    let s = c.args.s.now in let number = c.args.number in
+    let s = c.args.s.now in
     let t = c.args.g.tree in
-    let i = c.args.g.item in
-    rw (other t (pgns_of (pack_of s) t) number i c.requires.member
-    c.latest_duplicate-found.result.given c.latest_duplicate-found.result.value c.latest_duplicate-found.ensures
-    (not-false c.latest_duplicate-found.result.given c.if-not-found.false) c.pgn_error.result c.pgn_error.ensures) at c.requires.fits
+    rw (other t (pgns_of (pack_of s) t) c.args.number c.args.g.item c.requires.member c.in-Some.earlier c.in-Some.ensures c.pgn_error.result
+    c.pgn_error.ensures) at c.requires.fits
 
 pub returns : goal.returns
 returns c =
-    let s = c.args.s.now in let number = c.args.number in
+    let s = c.args.s.now in
     let t = c.args.g.tree in
-    let i = c.args.g.item in
-    rw (other t (pgns_of (pack_of s) t) number i c.requires.member c.latest_duplicate-found.result.given c.latest_duplicate-found.result.value
-    c.latest_duplicate-found.ensures (not-false c.latest_duplicate-found.result.given c.if-not-found.false) c.pgn_error.result c.pgn_error.ensures)
-    c.put.ensures
+    rw (other t (pgns_of (pack_of s) t) c.args.number c.args.g.item c.requires.member c.in-Some.earlier c.in-Some.ensures c.pgn_error.result
+    c.pgn_error.ensures) c.put.ensures
