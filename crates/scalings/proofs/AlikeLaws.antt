@@ -1,7 +1,7 @@
 -- What it is to be alike: R42 tests just that; it is symmetric and transitive. It is not reflexive: a field with a NaN is not like itself.
 use Rattle.std.specs.Prelude.{◌==◌}
 use mathlib.Core.Bool.{Bool, true, ◌&&◌, false≢true}
-use mathlib.Core.Option.{Option, none, some}
+use Rattle.std.specs.Prelude.{Option, None, Some}
 use mathlib.Core.Path.{◌≡◌, refl, sym, ap, ◌∙◌}
 use lib.Ieee.{of_bits, binary64}
 use borrow.Author.Tests.{eqb-true, eq-eqb}
@@ -17,14 +17,14 @@ pub both : {a b : Bool} → a ≡ true → b ≡ true → (a && b) ≡ true
 both e h = rw (e, h)
 
 unit_same : (u v : Option Bytes) → same_unit u v ≡ true → u ≡ v
-unit_same none none e = refl
-unit_same none (some v) e = absurd (false≢true e)
-unit_same (some u) none e = absurd (false≢true e)
-unit_same (some u) (some v) e = ap some (same_eq u v e)
+unit_same None None e = refl
+unit_same None (Some v) e = absurd (false≢true e)
+unit_same (Some u) None e = absurd (false≢true e)
+unit_same (Some u) (Some v) e = ap Some (same_eq u v e)
 
 same_unit_self : (u : Option Bytes) → same_unit u u ≡ true
-same_unit_self none = refl
-same_unit_self (some u) = same_refl u
+same_unit_self None = refl
+same_unit_self (Some u) = same_refl u
 
 module _ (f g : Field) where
   pub alike_tested : same_scaling f g ≡ true → Alike f g

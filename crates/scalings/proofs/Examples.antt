@@ -5,7 +5,7 @@ use Prim.Native.Nat.{ℕ}
 use native.Mathlib.Omega.{arith}
 use mathlib.Core.Bool.{Bool, true, false, ◌&&◌, beq, false≢true}
 use mathlib.Core.List.{List, [], ◌∷◌, map}
-use mathlib.Core.Option.{Option, none, some}
+use Rattle.std.specs.Prelude.{Option, None, Some}
 use mathlib.Core.Path.{◌≡◌, refl, sym, ◌∙◌}
 use lib.Ieee.{binary64, of_bits, nan, eq}
 use Rattle.pack.specs.Value.{Bytes, Field, Pgn, Pack, pgn_at, field_at}
@@ -49,10 +49,10 @@ nan_of_two P spn i k j h c d different odd = go (has_cause 42 3 (check P)) refl
 -- ---- packs of J1939 fields
 
 abbrev field : (spn : Option ℕ) (bits resolution offset : ℕ) (unit : Option Bytes) → Field
-field spn bits resolution offset unit = a_field (bytes "a") (bytes "A") NUMBER bits resolution offset unit spn none none none none
+field spn bits resolution offset unit = a_field (bytes "a") (bytes "A") NUMBER bits resolution offset unit spn None None None None
 
 abbrev pgn : List Field → Pgn
-pgn fields = a_pgn 65262 (bytes "a") none fields
+pgn fields = a_pgn 65262 (bytes "a") None fields
 
 -- PGNs of the J1939 tree, beside those of the others
 abbrev beside : (nmea2000 quick : List Pgn) → List (List Field) → Pack
@@ -74,10 +74,10 @@ MINUS_NAN = 0xfff8_0000_0000_0000
 
 -- SPN 247 is engine hours
 abbrev hours : (bits resolution offset : ℕ) (unit : Option Bytes) → Field
-hours = field (some 247)
+hours = field (Some 247)
 
 abbrev wide : (spn bits : ℕ) → Field
-wide spn bits = field (some spn) bits ONE 0 none
+wide spn bits = field (Some spn) bits ONE 0 None
 
 -- ---- the edges: what R42 says of cause 3 in the report
 
@@ -92,13 +92,13 @@ abbrev found_edge : Pack → Edge
 found_edge pack = record { pack = pack; found = true }
 
 abbrev lone_nan : Pack
-lone_nan = j1939 ((hours 32 NAN 0 none ∷ []) ∷ [])
+lone_nan = j1939 ((hours 32 NAN 0 None ∷ []) ∷ [])
 
 abbrev two_nan : Pack
-two_nan = of_one (hours 32 NAN 0 none) (hours 32 NAN 0 none)
+two_nan = of_one (hours 32 NAN 0 None) (hours 32 NAN 0 None)
 
 abbrev two_zeros : Pack
-two_zeros = of_two (hours 32 0 0 none) (hours 32 MINUS_ZERO MINUS_ZERO none)
+two_zeros = of_two (hours 32 0 0 None) (hours 32 MINUS_ZERO MINUS_ZERO None)
 
 abbrev last_spn : Pack
 last_spn = of_two (wide 524287 8) (wide 524287 16)
@@ -109,12 +109,12 @@ beyond = of_two (wide 524288 8) (wide 524288 16)
 abbrev edges : List Edge
 edges =
     silent_edge lone_nan
-    ∷ silent_edge (j1939 ((hours 32 ONE NAN none ∷ []) ∷ []))
+    ∷ silent_edge (j1939 ((hours 32 ONE NAN None ∷ []) ∷ []))
     ∷ found_edge two_nan
-    ∷ found_edge (of_two (hours 32 NAN 0 none) (hours 32 NAN 0 none))
-    ∷ found_edge (of_two (hours 32 ONE NAN none) (hours 32 ONE NAN none))
-    ∷ found_edge (of_two (hours 32 NAN 0 none) (hours 32 MINUS_NAN 0 none))
-    ∷ found_edge (of_two (hours 32 NAN 0 none) (hours 32 ONE 0 none))
+    ∷ found_edge (of_two (hours 32 NAN 0 None) (hours 32 NAN 0 None))
+    ∷ found_edge (of_two (hours 32 ONE NAN None) (hours 32 ONE NAN None))
+    ∷ found_edge (of_two (hours 32 NAN 0 None) (hours 32 MINUS_NAN 0 None))
+    ∷ found_edge (of_two (hours 32 NAN 0 None) (hours 32 ONE 0 None))
     ∷ silent_edge two_zeros
     ∷ found_edge (of_two (wide 0 8) (wide 0 16))
     ∷ found_edge last_spn
@@ -123,16 +123,16 @@ edges =
     ∷ silent_edge (of_one (wide 247 16) (wide 247 16))
     ∷ found_edge (of_one (wide 247 16) (wide 247 32))
     -- each member by itself
-    ∷ found_edge (of_two (hours 16 ONE 0 none) (hours 32 ONE 0 none))
-    ∷ found_edge (of_two (hours 32 0 0 none) (hours 32 ONE 0 none))
-    ∷ found_edge (of_two (hours 32 ONE 0 none) (hours 32 ONE ONE none))
-    ∷ found_edge (of_two (hours 32 ONE 0 (some (bytes "h"))) (hours 32 ONE 0 (some (bytes "s"))))
+    ∷ found_edge (of_two (hours 16 ONE 0 None) (hours 32 ONE 0 None))
+    ∷ found_edge (of_two (hours 32 0 0 None) (hours 32 ONE 0 None))
+    ∷ found_edge (of_two (hours 32 ONE 0 None) (hours 32 ONE ONE None))
+    ∷ found_edge (of_two (hours 32 ONE 0 (Some (bytes "h"))) (hours 32 ONE 0 (Some (bytes "s"))))
     -- a unit that is absent is no empty one
-    ∷ found_edge (of_two (hours 32 ONE 0 none) (hours 32 ONE 0 (some [])))
-    ∷ silent_edge (of_two (hours 32 ONE 0 (some [])) (hours 32 ONE 0 (some [])))
+    ∷ found_edge (of_two (hours 32 ONE 0 None) (hours 32 ONE 0 (Some [])))
+    ∷ silent_edge (of_two (hours 32 ONE 0 (Some [])) (hours 32 ONE 0 (Some [])))
     -- two SPNs; a field without one; a field of another tree
     ∷ silent_edge (of_two (wide 247 16) (wide 248 32))
-    ∷ silent_edge (of_two (wide 247 16) (field none 32 ONE 0 none))
+    ∷ silent_edge (of_two (wide 247 16) (field None 32 ONE 0 None))
     ∷ silent_edge (beside (pgn (wide 247 32 ∷ []) ∷ []) [] ((wide 247 16 ∷ []) ∷ []))
     ∷ silent_edge (beside [] (pgn (wide 247 32 ∷ []) ∷ []) ((wide 247 16 ∷ []) ∷ []))
     -- of three the first is unlike the others, or the third

@@ -1,10 +1,11 @@
 -- What a silent R42 says: its proof over the definitions.
+use Rattle.std.specs.Prelude.{is_some}
 use Rattle.std.specs.Prelude.{◌==◌}
 use Prim.Native.Nat.{ℕ, ◌≤◌, ◌<◌}
 use mathlib.Core.Bool.{Bool, true, false, ◌&&◌, not, false≢true}
 use mathlib.Core.List.{List, ◌++◌}
 use mathlib.Core.Logic.{◌↔◌}
-use mathlib.Core.Option.{Option, none, some}
+use Rattle.std.specs.Prelude.{Option, None, Some}
 use mathlib.Core.Path.{◌≡◌, refl, sym, ap, ◌∙◌}
 use lib.ListN.{length}
 use borrow.Author.Tests.{eqb-true, eq-eqb, le-ltb, ltb-false, not-true}
@@ -13,7 +14,6 @@ use Rattle.pack.specs.Value.{Field, Pgn, Pack, pgns_of, pgn_at, field_at}
 use Rattle.rules.specs.declared.Finding.{Finding}
 use Rattle.rules.specs.Check.{check}
 use Rattle.rules.specs.Findings.{report_if, pgn_error}
-use Rattle.rules.specs.Model.{given}
 use Rattle.rules.specs.SearchLaws.{first_is, first_misses}
 use Rattle.rules.specs.SpnNames.{is_number, spn_field}
 use Rattle.rules.specs.Spns.{MAX_SPN, same_scaling, first_seen, unlike_field, unlike_first, spn_at, spns_elsewhere, check_scalings, check_spns}
@@ -36,8 +36,8 @@ module _ (P : Pack) where
   unfolding spns_elsewhere
   elsewhere_none t =
       none_below 42 3 (λ i. spns_elsewhere t i (pgn_at P t i))
-      (λ i. none_below 42 3 (λ k. report_if (given (field_at (pgn_at P t i) k).spn) (pgn_error 42 1 t i k 0))
-      (λ k. other (given (field_at (pgn_at P t i) k).spn) t i k) (length (pgn_at P t i).fields))
+      (λ i. none_below 42 3 (λ k. report_if (is_some (field_at (pgn_at P t i) k).spn) (pgn_error 42 1 t i k 0))
+      (λ k. other (is_some (field_at (pgn_at P t i) k).spn) t i k) (length (pgn_at P t i).fields))
       (length (pgns_of P t))
     where
       other : (b : Bool) (t i k : ℕ) → has_cause 42 3 (report_if b (pgn_error 42 1 t i k 0)) ≡ false
@@ -58,34 +58,34 @@ module _ (P : Pack) where
   record First (spn : ℕ) : Type 0 where
     pub i : ℕ
     pub k : ℕ
-    pub seen : first_seen j1939 spn ≡ some i
-    pub at : spn_field (pgn_at P 1 i) spn ≡ some k
+    pub seen : first_seen j1939 spn ≡ Some i
+    pub at : spn_field (pgn_at P 1 i) spn ≡ Some k
 
   -- it carries it, and where a field carries it there is a first
   first_carries : (spn : ℕ) (f : First spn) → spn ≤ 524287 → Carries P spn f.i f.k
   unfolding first_seen spn_field
   first_carries spn f few =
-      let a = first_is (λ j. given (spn_field (pgn_at P 1 j) spn)) (length j1939) f.i f.seen in
+      let a = first_is (λ j. is_some (spn_field (pgn_at P 1 j) spn)) (length j1939) f.i f.seen in
       let b = first_is (λ h. is_number (at_field f.i h).spn spn) (length (pgn_at P 1 f.i).fields) f.k f.at in
       record { pgn = a.0; field = b.0; carries = number_is (at_field f.i f.k).spn spn b.1; at_most = few }
 
-  given_is : (o : Option ℕ) → given o ≡ true → (k : ℕ) × (o ≡ some k)
-  given_is none e = absurd (false≢true e)
-  given_is (some k) e = (k, refl)
+  given_is : (o : Option ℕ) → is_some o ≡ true → (k : ℕ) × (o ≡ Some k)
+  given_is None e = absurd (false≢true e)
+  given_is (Some k) e = (k, refl)
 
   first_of : (spn i k : ℕ) → Carries P spn i k → First spn
   unfolding first_seen spn_field
   first_of spn i k c = go (first_seen j1939 spn) refl
     where
-      inside : given (spn_field (pgn_at P 1 i) spn) ≡ true
+      inside : is_some (spn_field (pgn_at P 1 i) spn) ≡ true
       inside =
           first_given (λ h. is_number (at_field i h).spn spn) (length (pgn_at P 1 i).fields) k c.field
           (ap (λ (o : Option ℕ). is_number o spn) c.carries ∙ eq-eqb spn spn refl)
 
       go : (o : Option ℕ) → first_seen j1939 spn ≡ o → First spn
-      go none e = absurd (false≢true (sym (first_misses (λ j. given (spn_field (pgn_at P 1 j) spn)) (length j1939) e i c.pgn) ∙ inside))
-      go (some j) e =
-          let h = given_is (spn_field (pgn_at P 1 j) spn) (first_is (λ j. given (spn_field (pgn_at P 1 j) spn)) (length j1939) j e).1 in
+      go None e = absurd (false≢true (sym (first_misses (λ j. is_some (spn_field (pgn_at P 1 j) spn)) (length j1939) e i c.pgn) ∙ inside))
+      go (Some j) e =
+          let h = given_is (spn_field (pgn_at P 1 j) spn) (first_is (λ j. is_some (spn_field (pgn_at P 1 j) spn)) (length j1939) j e).1 in
           record { i = j; k = h.0; seen = e; at = h.1 }
 
   -- a field beside the first: it is the first, or R42 compares them
@@ -160,8 +160,8 @@ module _ (P : Pack) where
   by_field : (i k : ℕ) → i < length j1939 → k < length (pgn_at P 1 i).fields → (o : Option ℕ) → (at_field i k).spn ≡ o
       → has_cause 42 3 (spn_at j1939 i k o) ≡ true → Unlike P
   unfolding spn_at
-  by_field i k a b none u w = absurd (false≢true w)
-  by_field i k a b (some spn) u w = go (MAX_SPN <ᵇ spn) refl
+  by_field i k a b None u w = absurd (false≢true w)
+  by_field i k a b (Some spn) u w = go (MAX_SPN <ᵇ spn) refl
     where
       go : (beyond : Bool) → (MAX_SPN <ᵇ spn) ≡ beyond → Unlike P
       go true e = absurd (false≢true (rw e at w))
@@ -185,7 +185,7 @@ module _ (P : Pack) where
   abbrev pub Lone : (spn i k : ℕ) → Type 0
   Lone spn i k = (j h : ℕ) → Carries P spn j h → (i ≡ j) × (k ≡ h)
 
-  pub lone_silent : (spn i k : ℕ) → Carries P spn i k → Lone spn i k → has_cause 42 3 (spn_at j1939 i k (some spn)) ≡ false
+  pub lone_silent : (spn i k : ℕ) → Carries P spn i k → Lone spn i k → has_cause 42 3 (spn_at j1939 i k (Some spn)) ≡ false
   lone_silent spn i k c lone =
       let f = first_of spn i k c in
       let e = lone f.i f.k (first_carries spn f c.at_most) in

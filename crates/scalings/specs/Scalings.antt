@@ -1,7 +1,7 @@
 -- Ticket 6, "What a silent R42 says": "Show that R42 has no cause 3 exactly when every two different J1939 fields that R42 does not skip,
 -- with one SPN of at most 524,287, have equal width, resolution, offset and unit as R42 takes them, floats compared as floats."
 use Rattle.std.specs.Prelude.{ℕ, ◌≤◌, ◌<◌, Bool, true, false, ◌&&◌, ◌||◌, List, [], ◌∷◌, ◌↔◌, ◌≡◌, length, ◌==◌}
-use Rattle.std.proofs.Math.Option.{some}
+use Rattle.std.specs.Prelude.{Some}
 use Rattle.pack.specs.Value.{Field, Pack, pgns_of, pgn_at, field_at}
 use Rattle.rules.specs.declared.Finding.{Finding}
 use Rattle.rules.specs.Check.{check}
@@ -13,7 +13,7 @@ use Rattle.rules.specs.Spns.{check_spns}
 pub record Carries (P : Pack) (spn i k : ℕ) : Type 0 where
   pub pgn : i < length (pgns_of P 1)
   pub field : k < length (pgn_at P 1 i).fields
-  pub carries : (field_at (pgn_at P 1 i) k).spn ≡ some spn
+  pub carries : (field_at (pgn_at P 1 i) k).spn ≡ Some spn
   pub at_most : spn ≤ 524287
 
 -- "every two different": at two places, of one PGN or of two, whatever stands there

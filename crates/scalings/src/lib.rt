@@ -31,12 +31,10 @@ fn reports(findings: &[u32], n: usize, rule: u32, cause: u32) -> bool
     requires { 8 * n ≤ length findings.now }
     ensures { result ≡ reports rule cause n findings.now }
 {
-    let mut i = 0;
-    while i < n {
+    for i in 0..n {
         if finding_is(findings, i, rule, cause) {
             return true;
         }
-        i += 1;
     }
     false
 }

@@ -7,6 +7,3 @@ use Rattle.scalings.proofs.reports.Given as goal
 
 abbrev pub invariant-loop-i : goal.invariant-loop-i
 invariant-loop-i l = record { turns : l.i ≤ l.n; none_yet : any_below (finding_is l.rule l.cause l.findings) l.i ≡ false }
-
-abbrev pub decreases-loop-i : goal.decreases-loop-i
-decreases-loop-i l = l.n - l.i
