@@ -4,7 +4,7 @@ use native.Mathlib.Omega.{arith}
 use native.Mathlib.Decide.{ℕ_discrete}
 use mathlib.Core.Path.{◌≡◌, refl, ap, fun_ext}
 use mathlib.Core.List.{List, [], ◌∷◌}
-use mathlib.Core.Option.{Option, none, some}
+use Rattle.std.specs.Prelude.{Option, None, Some}
 use mathlib.Core.Bool.{Bool, true, false}
 use lib.ListN.{length}
 use borrow.Author.Tests.{eq-eqb, ne_eqb}
@@ -16,10 +16,11 @@ use Rattle.walk.specs.Walk.{walk_with, by_visits, Stops}
 use Rattle.walk.specs.ByPlace.{placed, by_place}
 use Rattle.walk.proofs.SetFacts.{Good, good}
 use Rattle.walk.proofs.Position.{standing, visiting, Comes, at_first, another, no_start, entered, passed_over, after_visit, at_field, on_arriving}
+use Rattle.walk.specs.declared.stops.Stop.{Stop}
 
 -- what the walk by place keeps: the latest readings of the countFields
 abbrev pub Readings : Layout → Visits → (ℕ → ℕ) → Type 0
-Readings L h g = (k t : ℕ) → (set_at L k).count_field ≡ some (suc t) → latest h.made t ≡ g k
+Readings L h g = (k t : ℕ) → (set_at L k).count_field ≡ Some (suc t) → latest h.made t ≡ g k
 
 readings_visit : (L : Layout) (h : Visits) (g : ℕ → ℕ) → Readings L h g → (i r : ℕ) → Readings L ((by_visits L).visit h i r) ((by_place L).visit g i r)
 unfolding latest
@@ -40,9 +41,9 @@ module _ (L : Layout) (G : Good L) where
   arrive_same : (p : Place) (h : Visits) (g : ℕ → ℕ) (k : ℕ) → ((t : ℕ) → is_current L p h t ≡ placed L p.order t) → Readings L h g
       → (c : Option ℕ) → (set_at L k).count_field ≡ c → arrive L (by_visits L) p h k c ≡ arrive L (by_place L) p g k c
   unfolding arrive
-  arrive_same p h g k same a none e = refl
-  arrive_same p h g k same a (some zero) e = refl
-  arrive_same p h g k same a (some (suc t)) e = rw (same t, a k t e)
+  arrive_same p h g k same a None e = refl
+  arrive_same p h g k same a (Some zero) e = refl
+  arrive_same p h g k same a (Some (suc t)) e = rw (same t, a k t e)
 
   settle_same : (n : ℕ) (h : Visits) (g : ℕ → ℕ) → Readings L h g → (c : Stand) → Comes L (standing c) h
       → Same L (settle L (by_visits L) n c h) (settle L (by_place L) n c g)
@@ -86,11 +87,11 @@ module _ (L : Layout) (G : Good L) where
       current : (by_visits L).current p h ≡ placed L p.order
       current = fun_ext (at_field L G c)
 
-      go : (t : Option ℕ) → stops (placed L p.order) (pred p.order) r ≡ t
+      go : (t : Option Stop) → stops (placed L p.order) (pred p.order) r ≡ t
           → walk_on L (by_visits L) stops (onward L (by_visits L) p h r) rs ≡ walk_on L (by_place L) stops (onward L (by_place L) p g r) rs
           → walk_on L (by_visits L) stops (due p h) (r ∷ rs) ≡ walk_on L (by_place L) stops (due p g) (r ∷ rs)
-      go (some n) t rec = rw (current, t, walk_on)
-      go none t rec = rw (current, t, walk_on) (ap (visit_then (pred p.order)) rec)
+      go (Some n) t rec = rw (current, t, walk_on)
+      go None t rec = rw (current, t, walk_on) (ap (visit_then (pred p.order)) rec)
 
 pub agree : (L : Layout) (stops : Stops) (rs : List ℕ) → walk_with L (by_visits L) stops rs ≡ walk_with L (by_place L) stops rs
 unfolding walk_with

@@ -5,7 +5,7 @@ use native.Mathlib.Omega.{arith}
 use mathlib.Core.Path.{◌≡◌, refl}
 use mathlib.Core.Bool.{Bool, true, false, ◌&&◌, ◌||◌, false≢true}
 use mathlib.Core.List.{[], ◌∷◌}
-use mathlib.Core.Option.{Option, none, some}
+use Rattle.std.specs.Prelude.{Option, None, Some}
 use lib.ListN.{length}
 use lib.Dec.{ltb, leb, eqb}
 use borrow.Author.Tests.{ltb-true, ltb-false, leb-true, leb-false, eqb-false, lt-ltb, le-leb, ne_eqb}
@@ -25,7 +25,7 @@ Inside outer r = (outer.start < r.start) × (r.start + r.count ≤ outer.start +
 record Silent (fields : ℕ) (outer r : Repeating) : Type 0 where
   low : 1 ≤ r.start
   high : r.start + r.count ≤ suc fields
-  count : (c : ℕ) → r.count_field ≡ some c → (1 ≤ c) × (c < r.start)
+  count : (c : ℕ) → r.count_field ≡ Some c → (1 ≤ c) × (c < r.start)
   nests : r.nested ≡ true → Inside outer r
 
 module _ (t i n : ℕ) where
@@ -37,10 +37,10 @@ module _ (t i n : ℕ) where
       let b = ltb-false fields (r.start - 1 + r.count) (clean_if _ _ refl a.1) in
       (omega arith, omega arith)
 
-  count_field : (start : ℕ) (x : Option ℕ) → Clean (set_count_field t i n start x) → (c : ℕ) → x ≡ some c → (1 ≤ c) × (c < start)
+  count_field : (start : ℕ) (x : Option ℕ) → Clean (set_count_field t i n start x) → (c : ℕ) → x ≡ Some c → (1 ≤ c) × (c < start)
   unfolding set_count_field
-  count_field start none e c q = let z : ◌≡◌ {A = ℕ} 0 1 = cc in absurd (omega arith)
-  count_field start (some cf) e c q =
+  count_field start None e c q = let z : ◌≡◌ {A = ℕ} 0 1 = cc in absurd (omega arith)
+  count_field start (Some cf) e c q =
       let a = clean_if (eqb cf 0 || leb start cf) _ refl e in
       let z = eqb-false cf 0 (or_l _ _ a) in
       let b = leb-false start cf (or_r (eqb cf 0) _ a) in
@@ -49,8 +49,8 @@ module _ (t i n : ℕ) where
 
   nesting : (outer : Option Repeating) (r : Repeating) → Clean (set_nesting t i n outer r) → Inside (set_or_empty outer) r
   unfolding set_nesting
-  nesting none r e = absurd (false≢true e)
-  nesting (some outer) r e = go (ltb outer.start r.start && leb (r.start + r.count) (outer.start + outer.count)) refl
+  nesting None r e = absurd (false≢true e)
+  nesting (Some outer) r e = go (ltb outer.start r.start && leb (r.start + r.count) (outer.start + outer.count)) refl
     where
       go : (b : Bool) → (ltb outer.start r.start && leb (r.start + r.count) (outer.start + outer.count)) ≡ b → Inside outer r
       go true q = (ltb-true _ _ (and_l _ _ q), leb-true _ _ (and_r (ltb outer.start r.start) _ q))
@@ -59,8 +59,8 @@ module _ (t i n : ℕ) where
   silent : (fields : ℕ) (outer x : Option Repeating) → 0 < (set_or_empty x).count → Clean (check_set t i n fields outer x)
       → Silent fields (set_or_empty outer) (set_or_empty x)
   unfolding check_set
-  silent fields outer none l e = absurd (omega arith)
-  silent fields outer (some r) l e =
+  silent fields outer None l e = absurd (omega arith)
+  silent fields outer (Some r) l e =
       let parts = clean_in_turn (set_bounds t i n fields r)
       (set_count_field t i n r.start r.count_field ∷ (if r.nested then set_nesting t i n outer r else []) ∷ [])
       (rw (ne_eqb r.count 0 (λ q. omega arith)) at e) in

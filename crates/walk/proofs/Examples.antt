@@ -4,7 +4,7 @@ use native.Mathlib.Omega.{arith}
 use mathlib.Core.Path.{◌≡◌, refl}
 use mathlib.Core.Bool.{Bool, true, false}
 use mathlib.Core.List.{List, [], ◌∷◌}
-use mathlib.Core.Option.{Option, none, some}
+use Rattle.std.specs.Prelude.{Option, None, Some}
 use lib.ListN.{length}
 use Rattle.pack.specs.Value.{Bytes, FieldType, Entry, Reference, Repeating, Field, Pgn, Pack}
 use Rattle.rules.specs.Model.{target}
@@ -25,6 +25,8 @@ use Rattle.walk.specs.Held.{shares_held, count_field_held, count_fields_held, bi
 use Rattle.walk.specs.HeldReadings.{held_letter, held_widest, widest_count_fields_held, count_field_widest}
 use Rattle.walk.specs.Guarantee.{Unstopped}
 use Rattle.walk.proofs.NoStop.{guarantee}
+use Rattle.walk.specs.declared.stops.Stop.TheVariants.{SetMisplaced, CounterNotCurrent, LookupMissing, MatchUnfit, EntryNamesMissing, LengthNotCurrent}
+use Rattle.walk.specs.declared.stops.Stop.TheVariants.{ContinuedNotCurrent, NoLengthSource, TrailingNotCurrent}
 
 -- A PACK of three field types and one lookup, and fields that ask for something
 abbrev root : Bytes → FieldType
@@ -41,7 +43,7 @@ P = record {
         name = bytes "L";
         kind = 3;
         bits = 8;
-        entries = entry 1 NUMBER none ∷ entry 1 NUMBER (some (bytes "L")) ∷ entry 2 (bytes "X") none ∷ entry 3 NUMBER (some (bytes "Y")) ∷ [];
+        entries = entry 1 NUMBER None ∷ entry 1 NUMBER (Some (bytes "L")) ∷ entry 2 (bytes "X") None ∷ entry 3 NUMBER (Some (bytes "Y")) ∷ [];
       } ∷ [];
   pgns = [];
   pgns_j1939 = [];
@@ -49,8 +51,8 @@ P = record {
 }
 
 abbrev reference : Option Bytes → Option Reference
-reference none = none
-reference (some name) = some (record { kind = 3; name = name })
+reference None = None
+reference (Some name) = Some (record { kind = 3; name = name })
 
 abbrev field : (id type : Bytes) (bits ft : ℕ) (match lookup bit_length_field continues trailing_zero : Option Bytes) → Field
 field id type bits ft match lookup bit_length_field continues trailing_zero =
@@ -68,61 +70,61 @@ field id type bits ft match lookup bit_length_field continues trailing_zero =
       res_bits = bits;
       res_resolution = 0;
       res_offset = 0;
-      res_unit = none;
-      resolution = none;
-      offset = none;
-      spn = none;
+      res_unit = None;
+      resolution = None;
+      offset = None;
+      spn = None;
       continues = continues;
       match = match;
       reference = reference lookup;
-      special_values = none;
+      special_values = None;
       bit_length_field = bit_length_field;
       trailing_zero = trailing_zero;
-      continuation = none;
+      continuation = None;
     }
 
 abbrev a : Field
-a = field (bytes "a") NUMBER 8 0 none none none none none
+a = field (bytes "a") NUMBER 8 0 None None None None None
 
 abbrev b : Field
-b = field (bytes "b") NUMBER 8 0 none none none none none
+b = field (bytes "b") NUMBER 8 0 None None None None None
 
 abbrev c : Field
-c = field (bytes "c") NUMBER 8 0 none none none none none
+c = field (bytes "c") NUMBER 8 0 None None None None None
 
 abbrev d : Field
-d = field (bytes "d") NUMBER 8 0 none none none none none
+d = field (bytes "d") NUMBER 8 0 None None None None None
 
 abbrev e : Field
-e = field (bytes "e") NUMBER 8 0 none none none none none
+e = field (bytes "e") NUMBER 8 0 None None None None None
 
 abbrev f : Field
-f = field (bytes "f") NUMBER 8 0 none none none none none
+f = field (bytes "f") NUMBER 8 0 None None None None None
 
 -- the field z, which wants something
 abbrev z_matches : Bytes → Field
-z_matches m = field (bytes "z") NUMBER 8 0 (some m) none none none none
+z_matches m = field (bytes "z") NUMBER 8 0 (Some m) None None None None
 
 abbrev z_looks_up : Bytes → Field
-z_looks_up l = field (bytes "z") NUMBER 8 0 none (some l) none none none
+z_looks_up l = field (bytes "z") NUMBER 8 0 None (Some l) None None None
 
 abbrev z_as_long_as : Bytes → Field
-z_as_long_as id = field (bytes "z") NUMBER 8 0 none none (some id) none none
+z_as_long_as id = field (bytes "z") NUMBER 8 0 None None (Some id) None None
 
 abbrev z_binary : Field
-z_binary = field (bytes "z") BINARY 0 0 none none (some (bytes "a")) none none
+z_binary = field (bytes "z") BINARY 0 0 None None (Some (bytes "a")) None None
 
 abbrev z_continues : Bytes → Field
-z_continues id = field (bytes "z") NUMBER 8 0 none none none (some id) none
+z_continues id = field (bytes "z") NUMBER 8 0 None None None (Some id) None
 
 abbrev z_ends_by : Bytes → Field
-z_ends_by id = field (bytes "z") NUMBER 8 0 none none none none (some id)
+z_ends_by id = field (bytes "z") NUMBER 8 0 None None None None (Some id)
 
 abbrev key : Field
-key = field (bytes "k") NUMBER 8 1 none none none none none
+key = field (bytes "k") NUMBER 8 1 None None None None None
 
 abbrev value : Field
-value = field (bytes "v") NUMBER 8 2 none none none none none
+value = field (bytes "v") NUMBER 8 2 None None None None None
 
 abbrev with_sets : List (Option Repeating) → List Field → Pgn
 with_sets sets fields =
@@ -134,7 +136,7 @@ with_sets sets fields =
       variable = true;
       missing_company_fields = false;
       length = 8;
-      min_length = none;
+      min_length = None;
       sets = sets;
       fields = fields;
     }
@@ -143,7 +145,7 @@ abbrev pgn : Option Repeating → Option Repeating → List Field → Pgn
 pgn set1 set2 fields = with_sets (set1 ∷ set2 ∷ []) fields
 
 abbrev set : (start count : ℕ) → Option ℕ → Bool → Option Repeating
-set start count count_field nested = some (record { count = count; start = start; count_field = count_field; nested = nested })
+set start count count_field nested = Some (record { count = count; start = start; count_field = count_field; nested = nested })
 
 abbrev answer : End → List ℕ → Answer
 answer x visits = record { ends = x; visits = visits }
@@ -161,7 +163,7 @@ is_held p = held P p
 
 -- THE ENDS. c and d repeat as often as b says
 abbrev counted : Pgn
-counted = pgn (set 3 2 (some 2) false) none (a ∷ b ∷ c ∷ d ∷ e ∷ [])
+counted = pgn (set 3 2 (Some 2) false) None (a ∷ b ∷ c ∷ d ∷ e ∷ [])
 
 twice : run counted (9 ∷ 2 ∷ 1 ∷ 1 ∷ 1 ∷ 1 ∷ 7 ∷ 8 ∷ []) ≡ answer whole (0 ∷ 1 ∷ 2 ∷ 3 ∷ 2 ∷ 3 ∷ 4 ∷ [])
 unfolding run
@@ -179,118 +181,118 @@ nothing_read : run counted [] ≡ answer used_up []
 unfolding run
 nothing_read = refl
 
-no_fields : run (pgn none none []) [] ≡ answer whole []
+no_fields : run (pgn None None []) [] ≡ answer whole []
 unfolding run
 no_fields = refl
 
 -- without countField the passes never end
-endless : run (pgn (set 2 2 none false) none (a ∷ b ∷ c ∷ d ∷ [])) (0 ∷ 0 ∷ 0 ∷ 0 ∷ 0 ∷ 0 ∷ []) ≡ answer used_up (0 ∷ 1 ∷ 2 ∷ 1 ∷ 2 ∷ 1 ∷ [])
+endless : run (pgn (set 2 2 None false) None (a ∷ b ∷ c ∷ d ∷ [])) (0 ∷ 0 ∷ 0 ∷ 0 ∷ 0 ∷ 0 ∷ []) ≡ answer used_up (0 ∷ 1 ∷ 2 ∷ 1 ∷ 2 ∷ 1 ∷ [])
 unfolding run
 endless = refl
 
 -- c, d, e repeat as often as b says; within each of their passes d, e as often as c said
 abbrev nested : Pgn
-nested = pgn (set 3 3 (some 2) false) (set 4 2 (some 3) true) (a ∷ b ∷ c ∷ d ∷ e ∷ f ∷ [])
+nested = pgn (set 3 3 (Some 2) false) (set 4 2 (Some 3) true) (a ∷ b ∷ c ∷ d ∷ e ∷ f ∷ [])
 
 twice_and_not_at_all : run nested (9 ∷ 2 ∷ 2 ∷ 1 ∷ 1 ∷ 1 ∷ 1 ∷ 0 ∷ 5 ∷ 8 ∷ []) ≡ answer whole (0 ∷ 1 ∷ 2 ∷ 3 ∷ 4 ∷ 3 ∷ 4 ∷ 2 ∷ 5 ∷ [])
 unfolding run
 twice_and_not_at_all = refl
 
 -- STOP 1: start 0; past the fields; a nested set 1; a nested set 2 that is not inside
-start_0 : run (pgn (set 0 1 none false) none (a ∷ b ∷ [])) (1 ∷ []) ≡ answer (stop 1) []
+start_0 : run (pgn (set 0 1 None false) None (a ∷ b ∷ [])) (1 ∷ []) ≡ answer (stop SetMisplaced) []
 unfolding run
 start_0 = refl
 
-past_the_fields : run (pgn (set 2 2 none false) none (a ∷ b ∷ [])) (1 ∷ []) ≡ answer (stop 1) []
+past_the_fields : run (pgn (set 2 2 None false) None (a ∷ b ∷ [])) (1 ∷ []) ≡ answer (stop SetMisplaced) []
 unfolding run
 past_the_fields = refl
 
-nested_set_1 : run (pgn (set 1 2 none true) none (a ∷ b ∷ [])) (1 ∷ []) ≡ answer (stop 1) []
+nested_set_1 : run (pgn (set 1 2 None true) None (a ∷ b ∷ [])) (1 ∷ []) ≡ answer (stop SetMisplaced) []
 unfolding run
 nested_set_1 = refl
 
-nested_at_the_start : run (pgn (set 1 2 none false) (set 1 1 none true) (a ∷ b ∷ [])) (1 ∷ []) ≡ answer (stop 1) []
+nested_at_the_start : run (pgn (set 1 2 None false) (set 1 1 None true) (a ∷ b ∷ [])) (1 ∷ []) ≡ answer (stop SetMisplaced) []
 unfolding run
 nested_at_the_start = refl
 
 -- but not for empty sets
-empty_sets : run (pgn (set 0 0 none true) (set 9 0 none true) (a ∷ b ∷ [])) (1 ∷ 2 ∷ []) ≡ answer whole (0 ∷ 1 ∷ [])
+empty_sets : run (pgn (set 0 0 None true) (set 9 0 None true) (a ∷ b ∷ [])) (1 ∷ 2 ∷ []) ≡ answer whole (0 ∷ 1 ∷ [])
 unfolding run
 empty_sets = refl
 
 -- STOP 2: the countField is no field, or lies in a set that has been left; it comes before "used up"
-count_0 : run (pgn (set 1 1 (some 0) false) none (a ∷ [])) [] ≡ answer (stop 2) []
+count_0 : run (pgn (set 1 1 (Some 0) false) None (a ∷ [])) [] ≡ answer (stop CounterNotCurrent) []
 unfolding run
 count_0 = refl
 
-count_in_a_left_set : run (pgn (set 2 1 (some 1) false) (set 3 1 (some 2) false) (a ∷ b ∷ c ∷ [])) (1 ∷ 1 ∷ 1 ∷ []) ≡ answer (stop 2) (0 ∷ 1 ∷ [])
+count_in_a_left_set : run (pgn (set 2 1 (Some 1) false) (set 3 1 (Some 2) false) (a ∷ b ∷ c ∷ [])) (1 ∷ 1 ∷ 1 ∷ []) ≡ answer (stop CounterNotCurrent) (0 ∷ 1 ∷ [])
 unfolding run
 count_in_a_left_set = refl
 
 -- STOPS 3 to 5
-unknown_lookup : run (pgn none none (a ∷ z_looks_up (bytes "M") ∷ [])) (1 ∷ 1 ∷ []) ≡ answer (stop 3) (0 ∷ [])
+unknown_lookup : run (pgn None None (a ∷ z_looks_up (bytes "M") ∷ [])) (1 ∷ 1 ∷ []) ≡ answer (stop LookupMissing) (0 ∷ [])
 unfolding run
 unknown_lookup = refl
 
 -- but "used up" comes first
-unknown_lookup_unread : run (pgn none none (a ∷ z_looks_up (bytes "M") ∷ [])) (1 ∷ []) ≡ answer used_up (0 ∷ [])
+unknown_lookup_unread : run (pgn None None (a ∷ z_looks_up (bytes "M") ∷ [])) (1 ∷ []) ≡ answer used_up (0 ∷ [])
 unfolding run
 unknown_lookup_unread = refl
 
-wide_match : run (pgn none none (z_matches (bytes "256") ∷ [])) (1 ∷ []) ≡ answer (stop 4) []
+wide_match : run (pgn None None (z_matches (bytes "256") ∷ [])) (1 ∷ []) ≡ answer (stop MatchUnfit) []
 unfolding run
 wide_match = refl
 
-fitting_match : run (pgn none none (z_matches (bytes "+255") ∷ [])) (1 ∷ []) ≡ answer whole (0 ∷ [])
+fitting_match : run (pgn None None (z_matches (bytes "+255") ∷ [])) (1 ∷ []) ≡ answer whole (0 ∷ [])
 unfolding run
 fitting_match = refl
 
-unresolved_match : run (pgn none none (z_matches (bytes "-0") ∷ [])) (1 ∷ []) ≡ answer (stop 4) []
+unresolved_match : run (pgn None None (z_matches (bytes "-0") ∷ [])) (1 ∷ []) ≡ answer (stop MatchUnfit) []
 unfolding run
 unresolved_match = refl
 
-hexadecimal_match : run (pgn none none (z_matches (bytes "0xFf") ∷ [])) (1 ∷ []) ≡ answer whole (0 ∷ [])
+hexadecimal_match : run (pgn None None (z_matches (bytes "0xFf") ∷ [])) (1 ∷ []) ≡ answer whole (0 ∷ [])
 unfolding run
 hexadecimal_match = refl
 
-wide_hexadecimal : run (pgn none none (z_matches (bytes "0X100") ∷ [])) (1 ∷ []) ≡ answer (stop 4) []
+wide_hexadecimal : run (pgn None None (z_matches (bytes "0X100") ∷ [])) (1 ∷ []) ≡ answer (stop MatchUnfit) []
 unfolding run
 wide_hexadecimal = refl
 
-no_hexadecimal : run (pgn none none (z_matches (bytes "0x") ∷ [])) (1 ∷ []) ≡ answer (stop 4) []
+no_hexadecimal : run (pgn None None (z_matches (bytes "0x") ∷ [])) (1 ∷ []) ≡ answer (stop MatchUnfit) []
 unfolding run
 no_hexadecimal = refl
 
-known_entries : run (pgn none none (z_looks_up (bytes "L") ∷ [])) (1 ∷ []) ≡ answer whole (0 ∷ [])
+known_entries : run (pgn None None (z_looks_up (bytes "L") ∷ [])) (1 ∷ []) ≡ answer whole (0 ∷ [])
 unfolding run
 known_entries = refl
 
-unknown_fieldtype : run (pgn none none (z_looks_up (bytes "L") ∷ [])) (2 ∷ []) ≡ answer (stop 5) []
+unknown_fieldtype : run (pgn None None (z_looks_up (bytes "L") ∷ [])) (2 ∷ []) ≡ answer (stop EntryNamesMissing) []
 unfolding run
 unknown_fieldtype = refl
 
-unknown_nested : run (pgn none none (z_looks_up (bytes "L") ∷ [])) (3 ∷ []) ≡ answer (stop 5) []
+unknown_nested : run (pgn None None (z_looks_up (bytes "L") ∷ [])) (3 ∷ []) ≡ answer (stop EntryNamesMissing) []
 unfolding run
 unknown_nested = refl
 
 -- STOPS 6 to 9: the target lies in a set that has been left, or is no field
-length_in_a_left_set : run (pgn (set 2 1 (some 1) false) none (a ∷ b ∷ z_as_long_as (bytes "b") ∷ [])) (1 ∷ 1 ∷ 1 ∷ []) ≡ answer (stop 6) (0 ∷ 1 ∷ [])
+length_in_a_left_set : run (pgn (set 2 1 (Some 1) false) None (a ∷ b ∷ z_as_long_as (bytes "b") ∷ [])) (1 ∷ 1 ∷ 1 ∷ []) ≡ answer (stop LengthNotCurrent) (0 ∷ 1 ∷ [])
 unfolding run
 length_in_a_left_set = refl
 
-continued_in_a_left_set : run (pgn (set 2 1 (some 1) false) none (a ∷ b ∷ z_continues (bytes "b") ∷ [])) (1 ∷ 1 ∷ 1 ∷ []) ≡ answer (stop 7) (0 ∷ 1 ∷ [])
+continued_in_a_left_set : run (pgn (set 2 1 (Some 1) false) None (a ∷ b ∷ z_continues (bytes "b") ∷ [])) (1 ∷ 1 ∷ 1 ∷ []) ≡ answer (stop ContinuedNotCurrent) (0 ∷ 1 ∷ [])
 unfolding run
 continued_in_a_left_set = refl
 
-no_length : run (pgn none none (a ∷ value ∷ [])) (1 ∷ 1 ∷ []) ≡ answer (stop 8) (0 ∷ [])
+no_length : run (pgn None None (a ∷ value ∷ [])) (1 ∷ 1 ∷ []) ≡ answer (stop NoLengthSource) (0 ∷ [])
 unfolding run
 no_length = refl
 
-length_by_key : run (pgn none none (key ∷ value ∷ [])) (1 ∷ 1 ∷ []) ≡ answer whole (0 ∷ 1 ∷ [])
+length_by_key : run (pgn None None (key ∷ value ∷ [])) (1 ∷ 1 ∷ []) ≡ answer whole (0 ∷ 1 ∷ [])
 unfolding run
 length_by_key = refl
 
-no_such_target : run (pgn none none (a ∷ z_ends_by (bytes "b") ∷ [])) (1 ∷ 1 ∷ []) ≡ answer (stop 9) (0 ∷ [])
+no_such_target : run (pgn None None (a ∷ z_ends_by (bytes "b") ∷ [])) (1 ∷ 1 ∷ []) ≡ answer (stop TrailingNotCurrent) (0 ∷ [])
 unfolding run
 no_such_target = refl
 
@@ -307,12 +309,12 @@ nested_held : held Q nested ≡ true
 unfolding is_held
 nested_held = refl
 
-not_held : is_held (pgn (set 2 1 (some 1) false) none (a ∷ b ∷ z_as_long_as (bytes "b") ∷ [])) ≡ false
+not_held : is_held (pgn (set 2 1 (Some 1) false) None (a ∷ b ∷ z_as_long_as (bytes "b") ∷ [])) ≡ false
 unfolding is_held
 not_held = refl
 
 -- to the letter: the countField of an empty set too
-not_held_empty : is_held (pgn (set 1 1 none false) (set 0 0 (some 1) false) (a ∷ [])) ≡ false
+not_held_empty : is_held (pgn (set 1 1 None false) (set 0 0 (Some 1) false) (a ∷ [])) ≡ false
 unfolding is_held
 not_held_empty = refl
 
@@ -338,7 +340,7 @@ walk_alone p readings = walk (alone p) p readings
 
 -- held, and R05's cause 3 is all that is found: stop 2
 abbrev late : Pgn
-late = pgn (set 2 1 (some 3) false) none (a ∷ b ∷ c ∷ [])
+late = pgn (set 2 1 (Some 3) false) None (a ∷ b ∷ c ∷ [])
 
 late_found : check (alone late) ≡ pgn_error 5 3 0 0 1 0 ∷ []
 unfolding computed
@@ -348,19 +350,19 @@ late_conditions : conditions late ≡ true ∷ true ∷ true ∷ true ∷ []
 unfolding conditions
 late_conditions = refl
 
-late_stops : walk_alone late (1 ∷ []) ≡ answer (stop 2) (0 ∷ [])
+late_stops : walk_alone late (1 ∷ []) ≡ answer (stop CounterNotCurrent) (0 ∷ [])
 unfolding walk_alone
 late_stops = refl
 
 -- By the letter held, since set 2 is nested and its countField lies in set 1; but set 2 holds it too. R05's cause 3 is all that is found.
 abbrev counted_inside : Pgn
-counted_inside = pgn (set 1 3 none false) (set 2 2 (some 3) true) (a ∷ b ∷ c ∷ [])
+counted_inside = pgn (set 1 3 None false) (set 2 2 (Some 3) true) (a ∷ b ∷ c ∷ [])
 
 counted_inside_found : check (alone counted_inside) ≡ pgn_error 5 3 0 0 2 0 ∷ []
 unfolding computed
 counted_inside_found = refl
 
-counted_inside_stops : walk_alone counted_inside (1 ∷ []) ≡ answer (stop 2) (0 ∷ [])
+counted_inside_stops : walk_alone counted_inside (1 ∷ []) ≡ answer (stop CounterNotCurrent) (0 ∷ [])
 unfolding walk_alone
 counted_inside_stops = refl
 
@@ -376,7 +378,7 @@ counted_inside_readings = refl
 
 -- held, and R15's cause 4 is all that is found: stop 6
 abbrev ahead : Pgn
-ahead = pgn none none (z_binary ∷ a ∷ [])
+ahead = pgn None None (z_binary ∷ a ∷ [])
 
 ahead_found : check (alone ahead) ≡ pgn_error 15 4 0 0 0 1 ∷ []
 unfolding computed
@@ -386,13 +388,13 @@ ahead_conditions : conditions ahead ≡ true ∷ true ∷ true ∷ true ∷ []
 unfolding conditions
 ahead_conditions = refl
 
-ahead_stops : walk_alone ahead (1 ∷ []) ≡ answer (stop 6) []
+ahead_stops : walk_alone ahead (1 ∷ []) ≡ answer (stop LengthNotCurrent) []
 unfolding walk_alone
 ahead_stops = refl
 
 -- held, and R43's cause 1 is all that is found: stop 7
 abbrev continued_ahead : Pgn
-continued_ahead = pgn none none (z_continues (bytes "a") ∷ a ∷ [])
+continued_ahead = pgn None None (z_continues (bytes "a") ∷ a ∷ [])
 
 continued_ahead_found : check (alone continued_ahead) ≡ pgn_error 43 1 0 0 0 0 ∷ []
 unfolding computed
@@ -402,13 +404,13 @@ continued_ahead_conditions : conditions continued_ahead ≡ true ∷ true ∷ tr
 unfolding conditions
 continued_ahead_conditions = refl
 
-continued_ahead_stops : walk_alone continued_ahead (1 ∷ []) ≡ answer (stop 7) []
+continued_ahead_stops : walk_alone continued_ahead (1 ∷ []) ≡ answer (stop ContinuedNotCurrent) []
 unfolding walk_alone
 continued_ahead_stops = refl
 
 -- no error, but the sets share an order: stop 1
 abbrev sharing : Pgn
-sharing = pgn (set 1 2 none false) (set 2 1 none false) (a ∷ b ∷ [])
+sharing = pgn (set 1 2 None false) (set 2 1 None false) (a ∷ b ∷ [])
 
 sharing_clean : without_error (check (alone sharing)) ≡ true
 unfolding computed
@@ -418,13 +420,13 @@ sharing_conditions : conditions sharing ≡ false ∷ true ∷ true ∷ true ∷
 unfolding conditions
 sharing_conditions = refl
 
-sharing_stops : walk_alone sharing ([]) ≡ answer (stop 1) []
+sharing_stops : walk_alone sharing ([]) ≡ answer (stop SetMisplaced) []
 unfolding walk_alone
 sharing_stops = refl
 
 -- no error, but the countField lies in a set that has been left: stop 2
 abbrev counted_before : Pgn
-counted_before = pgn (set 2 1 (some 1) false) (set 3 1 (some 2) false) (a ∷ b ∷ c ∷ [])
+counted_before = pgn (set 2 1 (Some 1) false) (set 3 1 (Some 2) false) (a ∷ b ∷ c ∷ [])
 
 counted_before_clean : without_error (check (alone counted_before)) ≡ true
 unfolding computed
@@ -434,7 +436,7 @@ counted_before_conditions : conditions counted_before ≡ true ∷ false ∷ tru
 unfolding conditions
 counted_before_conditions = refl
 
-counted_before_stops : walk_alone counted_before (1 ∷ 1 ∷ []) ≡ answer (stop 2) (0 ∷ 1 ∷ [])
+counted_before_stops : walk_alone counted_before (1 ∷ 1 ∷ []) ≡ answer (stop CounterNotCurrent) (0 ∷ 1 ∷ [])
 unfolding walk_alone
 counted_before_stops = refl
 
@@ -469,7 +471,7 @@ a_bits = record {
 }
 
 abbrev as_long_as_before : Pgn
-as_long_as_before = pgn (set 2 1 (some 1) false) none (b ∷ a_bits ∷ z_binary ∷ [])
+as_long_as_before = pgn (set 2 1 (Some 1) false) None (b ∷ a_bits ∷ z_binary ∷ [])
 
 as_long_as_before_clean : without_error (check (alone as_long_as_before)) ≡ true
 unfolding computed
@@ -479,13 +481,13 @@ as_long_as_before_conditions : conditions as_long_as_before ≡ true ∷ true �
 unfolding conditions
 as_long_as_before_conditions = refl
 
-as_long_as_before_stops : walk_alone as_long_as_before (1 ∷ 1 ∷ 1 ∷ []) ≡ answer (stop 6) (0 ∷ 1 ∷ [])
+as_long_as_before_stops : walk_alone as_long_as_before (1 ∷ 1 ∷ 1 ∷ []) ≡ answer (stop LengthNotCurrent) (0 ∷ 1 ∷ [])
 unfolding walk_alone
 as_long_as_before_stops = refl
 
 -- no error, but the DYNAMIC_FIELD_KEY lies in a set that has been left: stop 8
 abbrev keyed_before : Pgn
-keyed_before = pgn (set 2 1 (some 1) false) none (a ∷ key ∷ value ∷ [])
+keyed_before = pgn (set 2 1 (Some 1) false) None (a ∷ key ∷ value ∷ [])
 
 keyed_before_clean : without_error (check (alone keyed_before)) ≡ true
 unfolding computed
@@ -495,7 +497,7 @@ keyed_before_conditions : conditions keyed_before ≡ true ∷ true ∷ true ∷
 unfolding conditions
 keyed_before_conditions = refl
 
-keyed_before_stops : walk_alone keyed_before (1 ∷ 1 ∷ 1 ∷ []) ≡ answer (stop 8) (0 ∷ 1 ∷ [])
+keyed_before_stops : walk_alone keyed_before (1 ∷ 1 ∷ 1 ∷ []) ≡ answer (stop NoLengthSource) (0 ∷ 1 ∷ [])
 unfolding walk_alone
 keyed_before_stops = refl
 
@@ -512,37 +514,37 @@ abbrev three : Layout
 three = record {
   fields = a ∷ b ∷ c ∷ d ∷ e ∷ f ∷ [];
   sets =
-      record { count = 5; start = 2; count_field = none; nested = false }
-      ∷ record { count = 3; start = 4; count_field = some 3; nested = true }
-      ∷ record { count = 1; start = 6; count_field = some 4; nested = true }
+      record { count = 5; start = 2; count_field = None; nested = false }
+      ∷ record { count = 3; start = 4; count_field = Some 3; nested = true }
+      ∷ record { count = 1; start = 6; count_field = Some 4; nested = true }
       ∷ [];
 }
 
 three_deep :
-    walk_with three (by_visits three) (λ current i r. none) (0 ∷ 0 ∷ 0 ∷ 0 ∷ 1 ∷ 2 ∷ 0 ∷ 9 ∷ 9 ∷ 7 ∷ [])
+    walk_with three (by_visits three) (λ current i r. None) (0 ∷ 0 ∷ 0 ∷ 0 ∷ 1 ∷ 2 ∷ 0 ∷ 9 ∷ 9 ∷ 7 ∷ [])
     ≡ answer used_up (0 ∷ 1 ∷ 2 ∷ 1 ∷ 2 ∷ 3 ∷ 4 ∷ 5 ∷ 5 ∷ 1 ∷ [])
 unfolding run
 three_deep = refl
 
 -- the same of a PGN, which no pack of version 1 says: a counts the passes of b to e, b those of c and d, and the third is given
 abbrev of_three : Option Repeating → Pgn
-of_three third = with_sets (set 2 4 (some 1) false ∷ set 3 2 (some 2) true ∷ third ∷ []) (a ∷ b ∷ c ∷ d ∷ e ∷ [])
+of_three third = with_sets (set 2 4 (Some 1) false ∷ set 3 2 (Some 2) true ∷ third ∷ []) (a ∷ b ∷ c ∷ d ∷ e ∷ [])
 
 -- c counts the passes of d
-three_held : is_held (of_three (set 4 1 (some 3) true)) ≡ true
+three_held : is_held (of_three (set 4 1 (Some 3) true)) ≡ true
 unfolding is_held
 three_held = refl
 
-three_counted : run (of_three (set 4 1 (some 3) true)) (1 ∷ 2 ∷ 2 ∷ 7 ∷ 7 ∷ 0 ∷ 9 ∷ 9 ∷ []) ≡ answer whole (0 ∷ 1 ∷ 2 ∷ 3 ∷ 3 ∷ 2 ∷ 4 ∷ [])
+three_counted : run (of_three (set 4 1 (Some 3) true)) (1 ∷ 2 ∷ 2 ∷ 7 ∷ 7 ∷ 0 ∷ 9 ∷ 9 ∷ []) ≡ answer whole (0 ∷ 1 ∷ 2 ∷ 3 ∷ 3 ∷ 2 ∷ 4 ∷ [])
 unfolding run
 three_counted = refl
 
 -- the third set ends behind the second
-three_misplaced : run (of_three (set 4 2 (some 3) true)) (1 ∷ []) ≡ answer (stop 1) []
+three_misplaced : run (of_three (set 4 2 (Some 3) true)) (1 ∷ []) ≡ answer (stop SetMisplaced) []
 unfolding run
 three_misplaced = refl
 
 -- its countField lies in it
-three_not_held : is_held (of_three (set 4 1 (some 4) true)) ≡ false
+three_not_held : is_held (of_three (set 4 1 (Some 4) true)) ≡ false
 unfolding is_held
 three_not_held = refl

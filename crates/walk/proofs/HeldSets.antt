@@ -3,7 +3,7 @@ use Prim.Native.Nat.{ℕ, zero, suc, ◌≤◌, ◌<◌}
 use native.Mathlib.Omega.{arith}
 use mathlib.Core.Path.{◌≡◌, refl, ap}
 use mathlib.Core.Bool.{Bool, true, false, not, ◌||◌}
-use mathlib.Core.Option.{Option, none, some}
+use Rattle.std.specs.Prelude.{Option, None, Some}
 use lib.ListN.{length}
 use lib.Dec.{eqb}
 use borrow.Author.Tests.{ltb-true, eqb-true, not-true, lt-ltb, le-ltb, le-leb, ne_eqb}
@@ -19,7 +19,7 @@ use Rattle.rules.specs.Search.{every_below}
 pub record Fits (L : Layout) (k : ℕ) : Type 0 where
   pub low : 1 ≤ start L k
   pub high : end L k ≤ suc (length L.fields)
-  pub count : (c : ℕ) → (set_at L k).count_field ≡ some c → (1 ≤ c) × (c < start L k)
+  pub count : (c : ℕ) → (set_at L k).count_field ≡ Some c → (1 ≤ c) × (c < start L k)
   pub nests : (set_at L k).nested ≡ true → inside_previous L k ≡ true
 
 module _ (L : Layout) (fit : (k o : ℕ) → Holds L k o → Fits L k) (shares : shares_held L ≡ true) where
@@ -65,10 +65,10 @@ module _ (L : Layout) (fit : (k o : ℕ) → Holds L k o → Fits L k) (shares :
           imp_e (nonempty L k) _ asked (lt-ltb 0 (set_at L k).count (omega arith))
 
       go : (x : Option ℕ) → (set_at L k).count_field ≡ x → Count_placed L (start L k) x
-      go none q = tt
-      go (some zero) q = omega (arith, (fit k (start L k) h).count 0 q)
-      go (some (suc t)) q =
-          let g : count_field_widest L k (some (suc t)) ≡ true = rw q at is_widest in
+      go None q = tt
+      go (Some zero) q = omega (arith, (fit k (start L k) h).count 0 q)
+      go (Some (suc t)) q =
+          let g : count_field_widest L k (Some (suc t)) ≡ true = rw q at is_widest in
           let f = fit k (start L k) h in
           let before : suc t < start L k = (f.count (suc t) q).1 in
           placed_i L (start L k) t before (λ j holding.

@@ -5,7 +5,7 @@ use native.Mathlib.Omega.{arith}
 use mathlib.Core.Path.{◌≡◌, refl, sym, ◌∙◌}
 use mathlib.Core.Bool.{Bool, true, false, not, ◌&&◌, ◌||◌, false≢true}
 use mathlib.Core.List.{List}
-use mathlib.Core.Option.{Option, none, some}
+use Rattle.std.specs.Prelude.{Option, None, Some}
 use lib.ListN.{length}
 use lib.Dec.{ltb, leb, eqb}
 use Rattle.pack.specs.Meaning.{pack_of}
@@ -30,8 +30,8 @@ or_left false b e = absurd (false≢true e)
 -- what `held` asks
 held_one : (L : Layout) (k : ℕ) (x : Option ℕ) → count_field_held L k x ≡ true → count_field_widest L k x ≡ true
 unfolding count_field_held count_field_widest
-held_one L k none e = refl
-held_one L k (some c) e =
+held_one L k None e = refl
+held_one L k (Some c) e =
     every_i (λ j. not (field_in L j c) || may_hold L j k) (length L.sets) (λ j l. imp_i (field_in L j c) (may_hold L j k) (λ lies. may j l lies))
   where
     may : (j : ℕ) → j < length L.sets → field_in L j c ≡ true → may_hold L j k ≡ true
@@ -41,8 +41,8 @@ held_one L k (some c) e =
         or_left (eqb j k || nested_in L j k) _ (or_right (eqb j k) _ nests)
 
 letter_where_nested : (L : Layout) (k : ℕ) (x : Option ℕ) → count_field_letter L k x ≡ true → count_field_where_nested L k x ≡ true
-letter_where_nested L k none e = refl
-letter_where_nested L k (some c) e = go (in_no_set L c) ((set_at L 1).nested && holds L 0 c) e
+letter_where_nested L k None e = refl
+letter_where_nested L k (Some c) e = go (in_no_set L c) ((set_at L 1).nested && holds L 0 c) e
   where
     go : (outside inside : Bool) → (outside || eqb k 1 && inside) ≡ true → (outside || inside) ≡ true
     go true inside e = refl
@@ -63,8 +63,8 @@ module _ (L : Layout) (two : length L.sets ≤ 2) where
 
   where_nested_one : (k : ℕ) → k < length L.sets → (x : Option ℕ) → count_field_where_nested L k x ≡ true → count_field_widest L k x ≡ true
   unfolding count_field_widest
-  where_nested_one k m none e = refl
-  where_nested_one k m (some c) e = every_i (λ j. not (field_in L j c) || may_hold L j k) (length L.sets)
+  where_nested_one k m None e = refl
+  where_nested_one k m (Some c) e = every_i (λ j. not (field_in L j c) || may_hold L j k) (length L.sets)
       (λ j l. imp_i (field_in L j c) (may_hold L j k) (λ lies. may j l (and_r (ltb 0 c && leb c (length L.fields)) _ lies)))
     where
       may : (j : ℕ) → j < length L.sets → holds L j c ≡ true → may_hold L j k ≡ true

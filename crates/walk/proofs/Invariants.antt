@@ -4,7 +4,7 @@ use native.Mathlib.Omega.{arith}
 use native.Mathlib.Decide.{ℕ_discrete}
 use mathlib.Core.Path.{◌≡◌, refl, sym, subst, ◌∙◌}
 use mathlib.Core.List.{List, [], ◌∷◌}
-use mathlib.Core.Option.{Option, none, some}
+use Rattle.std.specs.Prelude.{Option, None, Some}
 use mathlib.Core.Bool.{Bool, true, false, ◌&&◌, ◌||◌, false≢true}
 use lib.ListN.{length}
 use lib.Dec.{ltb, eqb}
@@ -89,8 +89,8 @@ module _ (L : Layout) (p : Place) (h : Visits) (law : Law L p h) where
       go j (no q) = rw (other j q) (law.early j)
 
   -- set k is left
-  law_leave : (k : ℕ) → Law L (goto_with p p.order k none) h
-  law_leave k = law_set k p.order none h.begun (λ j n. refl) (law.early k)
+  law_leave : (k : ℕ) → Law L (goto_with p p.order k None) h
+  law_leave k = law_set k p.order None h.begun (λ j n. refl) (law.early k)
       (λ t a b e. false≢true e) (λ t a e s. false≢true e) (λ t n l. l) (λ t n l. l)
 
   -- a pass of set k begins, here or visit_then one that ends here
@@ -200,10 +200,10 @@ arrives_f L p k e a q = not-false (present (p.left k)) (rw (lt-ltb 0 (set_at L k
 
 -- a set that is arrived at is entered
 pub entering : (L : Layout) (p : Place) (h : Visits) → Law L p h → (k : ℕ) (x : Rest) → Arriving L p k
-    → Law L (goto_with p p.order k (some x)) ((by_visits L).begin h k)
+    → Law L (goto_with p p.order k (Some x)) ((by_visits L).begin h k)
 entering L p h law k x a =
-    subst (λ (o : ℕ). Law L (goto_with p o k (some x)) ((by_visits L).begin h k)) a.starts
-    (law_begin L p h law k (some x) (omega (arith, a.starts)) (omega (arith, a.starts)))
+    subst (λ (o : ℕ). Law L (goto_with p o k (Some x)) ((by_visits L).begin h k)) a.starts
+    (law_begin L p h law k (Some x) (omega (arith, a.starts)) (omega (arith, a.starts)))
 
 -- the passes that end here are closed
 module _ (L : Layout) (w : ℕ) (p : Place) (m : Moved L w 0 p) where
@@ -225,12 +225,12 @@ module _ (L : Layout) (G : Good L) (w : ℕ) (p : Place) (m : Moved L w 0 p) (hi
     high = high;
   }
 
-  pub due_enter : (k : ℕ) (x : Rest) → Arriving L p k → Due L (goto_with p p.order k (some x))
+  pub due_enter : (k : ℕ) (x : Rest) → Arriving L p k → Due L (goto_with p p.order k (Some x))
   due_enter k x v = record {
     holding = λ j a. go j a (ℕ_discrete j k);
     held = λ j a. tri j k
-        (λ l. let i = G.inside j k p.order l a hk in kept p p.order k (some x) j (λ r. omega arith) (still L w p m j (omega (arith, v.starts)) a))
-        (λ r. put_in p p.order k (some x) j refl r)
+        (λ l. let i = G.inside j k p.order l a hk in kept p p.order k (Some x) j (λ r. omega arith) (still L w p m j (omega (arith, v.starts)) a))
+        (λ r. put_in p p.order k (Some x) j refl r)
         (λ l. let i = G.inside k j p.order l hk a in absurd (omega arith));
     low = omega (arith, m.ahead);
     high = high;
@@ -239,9 +239,9 @@ module _ (L : Layout) (G : Good L) (w : ℕ) (p : Place) (m : Moved L w 0 p) (hi
       hk : Holds L k p.order
       hk = omega (arith, v.full, v.starts)
 
-      go : (j : ℕ) → Present (goto_with p p.order k (some x)) j → Dec (j ≡ k) → Holds L j p.order
+      go : (j : ℕ) → Present (goto_with p p.order k (Some x)) j → Dec (j ≡ k) → Holds L j p.order
       go j a (yes r) = rw r hk
-      go j a (no r) = now L w p m j (was p p.order k (some x) j a r)
+      go j a (no r) = now L w p m j (was p p.order k (Some x) j a r)
 
   pub moved_over : (k : ℕ) → Arriving L p k → Moved L w (length L.sets) (goto p (end L k))
   moved_over k v =
@@ -293,41 +293,41 @@ module _ (L : Layout) (G : Good L) (w : ℕ) (h : Visits) where
       go j e l (yes q) = let n' = n (rw q at e) in let u = m.upto k (rw q at e) in rw q (omega arith)
       go j e l (no q) = m.done j e (omega arith)
 
-  moved_leave : (k : ℕ) (p : Place) → Moved L w (suc k) p → p.order ≡ end L k → Moved L w k (goto_with p p.order k none)
+  moved_leave : (k : ℕ) (p : Place) → Moved L w (suc k) p → p.order ≡ end L k → Moved L w k (goto_with p p.order k None)
   moved_leave k p m q = record {
     ahead = m.ahead;
     from = λ j e. m.from j (old j e);
     upto = λ j e. m.upto j (old j e);
-    done = λ j e l. let n = not_out p p.order k none j refl e in m.done j (old j e) (omega arith);
-    stay = λ j a b. kept p p.order k none j (λ r. let u = rw r at b in omega arith) (m.stay j a b);
-    todo = λ j a b l. kept p p.order k none j (λ r. omega arith) (m.todo j a b (omega arith));
+    done = λ j e l. let n = not_out p p.order k None j refl e in m.done j (old j e) (omega arith);
+    stay = λ j a b. kept p p.order k None j (λ r. let u = rw r at b in omega arith) (m.stay j a b);
+    todo = λ j a b l. kept p p.order k None j (λ r. omega arith) (m.todo j a b (omega arith));
     clear = m.clear;
   }
     where
-      old : (j : ℕ) → Present (goto_with p p.order k none) j → Present p j
-      old j e = was p p.order k none j e (not_out p p.order k none j refl e)
+      old : (j : ℕ) → Present (goto_with p p.order k None) j → Present p j
+      old j e = was p p.order k None j e (not_out p p.order k None j refl e)
 
-  due_again : (k : ℕ) (p : Place) (x : Rest) → Moved L w (suc k) p → p.order ≡ end L k → Present p k → Due L (goto_with p (start L k) k (some x))
+  due_again : (k : ℕ) (p : Place) (x : Rest) → Moved L w (suc k) p → p.order ≡ end L k → Present p k → Due L (goto_with p (start L k) k (Some x))
   due_again k p x m q e = let hk : Holds L k w = (m.from k e, omega (arith, m.ahead)) in record {
     holding = λ j a. tri j k
-        (λ l. let b = was p (start L k) k (some x) j a (λ r. omega arith) in
+        (λ l. let b = was p (start L k) k (Some x) j a (λ r. omega arith) in
         let i = G.inside j k w l (m.from j b, omega (arith, m.ahead, m.upto j b)) hk in
         omega arith)
         (λ r. rw r (omega arith))
-        (λ l. let b = was p (start L k) k (some x) j a (λ r. omega arith) in
+        (λ l. let b = was p (start L k) k (Some x) j a (λ r. omega arith) in
         let i = G.inside k j w l hk (m.from j b, omega (arith, m.ahead, m.upto j b)) in absurd (omega (arith, m.done j b l)));
     held = λ j a. tri j k
-        (λ l. let i = G.inside j k (start L k) l a (omega arith) in kept p (start L k) k (some x) j (λ r. omega arith)
+        (λ l. let i = G.inside j k (start L k) l a (omega arith) in kept p (start L k) k (Some x) j (λ r. omega arith)
         (m.todo j (omega arith) (omega arith) (omega arith)))
-        (λ r. put_in p (start L k) k (some x) j refl r)
+        (λ r. put_in p (start L k) k (Some x) j refl r)
         (λ l. let i = G.inside k j (start L k) l (omega arith) a in absurd (omega arith));
     low = G.low k w hk;
     high = omega (arith, G.high k w hk);
   }
 
   again_ok : (k : ℕ) (p : Place) (x : Rest) → Moved L w (suc k) p → Law L p h → p.order ≡ end L k → Present p k
-      → Stood L w h (again k (goto_with p (start L k) k (some x)))
-  again_ok k p x m law q e = (due_again k p x m q e, law_begin L p h law k (some x) (omega arith) (omega arith))
+      → Stood L w h (again k (goto_with p (start L k) k (Some x)))
+  again_ok k p x m law q e = (due_again k p x m q e, law_begin L p h law k (Some x) (omega arith) (omega arith))
 
   look_ok : (k : ℕ) (p : Place) → Moved L w 0 p → p.order ≤ length L.fields → Law L p h
       → ((j : ℕ) → k ≤ j → j < length L.sets → arrives L p j ≡ false) → Stood L w h (look L k p)
@@ -352,10 +352,10 @@ module _ (L : Layout) (G : Good L) (w : ℕ) (h : Visits) where
       go : (b : Bool) (x : Option Rest) → eqb p.order (end L k) ≡ b → p.left k ≡ x → ((q : Place) → Moved L w k q → Law L q h → Stood L w h (close L k q))
           → Stood L w h (close L (suc k) p)
       go false x e f rec = rw (e, close) (rec p (moved_stay k p m (λ a q. eqb-false _ _ e q)) law)
-      go true none e f rec = rw (e, f, close) (rec p (moved_stay k p m (λ a q. false≢true (rw f at a))) law)
-      go true (some endless) e f rec = rw (e, f, close) (again_ok k p endless m law (eqb-true _ _ e) (rw f))
-      go true (some (more zero)) e f rec = rw (e, f, close) (rec _ (moved_leave k p m (eqb-true _ _ e)) (law_leave L p h law k))
-      go true (some (more (suc n))) e f rec = rw (e, f, close) (again_ok k p (more n) m law (eqb-true _ _ e) (rw f))
+      go true None e f rec = rw (e, f, close) (rec p (moved_stay k p m (λ a q. false≢true (rw f at a))) law)
+      go true (Some endless) e f rec = rw (e, f, close) (again_ok k p endless m law (eqb-true _ _ e) (rw f))
+      go true (Some (more zero)) e f rec = rw (e, f, close) (rec _ (moved_leave k p m (eqb-true _ _ e)) (law_leave L p h law k))
+      go true (Some (more (suc n))) e f rec = rw (e, f, close) (again_ok k p (more n) m law (eqb-true _ _ e) (rw f))
 
   pub stand_ok : (p : Place) → Moved L w (length L.sets) p → Law L p h → Stood L w h (stand L p)
   unfolding stand

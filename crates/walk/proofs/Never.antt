@@ -3,7 +3,7 @@ use Prim.Native.Nat.{ℕ, zero, suc, pred, ◌≤◌, ◌<◌}
 use native.Mathlib.Omega.{arith}
 use mathlib.Core.Path.{◌≡◌, refl, ap}
 use mathlib.Core.List.{List, [], ◌∷◌}
-use mathlib.Core.Option.{Option, none, some}
+use Rattle.std.specs.Prelude.{Option, None, Some}
 use mathlib.Core.Bool.{Bool, true, false}
 use lib.ListN.{length, get_or}
 use Rattle.pack.specs.Value.{no_field}
@@ -16,6 +16,7 @@ use Rattle.walk.specs.ByPlace.{placed, by_place}
 use Rattle.walk.proofs.SetFacts.{Holds, Good, good}
 use Rattle.walk.proofs.Position.{due_order, arriving_at}
 use Rattle.walk.proofs.Agree.{Same, both_past, both_halted, both_due, next_same, first_same, agree}
+use Rattle.walk.specs.declared.stops.Stop.{Stop}
 
 -- HOW MANY VISITS, of any walk over n readings
 pub record Counted (a : Answer) (n : ℕ) : Type 0 where
@@ -32,10 +33,10 @@ module _ (L : Layout) {M : Type 0} (m : Memory M) (stops : Stops) where
   on_counted (r ∷ rs) halted = record { at_most = omega arith; exact = λ q. cc }
   on_counted (r ∷ rs) (due p h) = go (stops (m.current p h) (pred p.order) r) refl (on_counted rs (onward L m p h r))
     where
-      go : (t : Option ℕ) → stops (m.current p h) (pred p.order) r ≡ t → Counted (walk_on L m stops (onward L m p h r) rs) (length rs)
+      go : (t : Option Stop) → stops (m.current p h) (pred p.order) r ≡ t → Counted (walk_on L m stops (onward L m p h r) rs) (length rs)
           → Counted (walk_on L m stops (due p h) (r ∷ rs)) (suc (length rs))
-      go (some n) t c = rw (t, walk_on) (record { at_most = omega arith; exact = λ q. cc })
-      go none t c = rw (t, walk_on) (record { at_most = omega (arith, c.at_most); exact = λ f. ap suc (c.exact f) })
+      go (Some n) t c = rw (t, walk_on) (record { at_most = omega arith; exact = λ q. cc })
+      go None t c = rw (t, walk_on) (record { at_most = omega (arith, c.at_most); exact = λ f. ap suc (c.exact f) })
 
   pub walk_counted : (rs : List ℕ) → Counted (walk_with L m stops rs) (length rs)
   unfolding walk_with
@@ -53,27 +54,27 @@ Runs (stop n) = ⊥
 
 -- SOUND: by the place alone, no field stops whatever is read, and a set's countField is current at its start.
 abbrev pub Count_placed : Layout → ℕ → Option ℕ → Type 0
-Count_placed L o none = Unit {0}
-Count_placed L o (some zero) = ⊥
-Count_placed L o (some (suc t)) = placed L o t ≡ true
+Count_placed L o None = Unit {0}
+Count_placed L o (Some zero) = ⊥
+Count_placed L o (Some (suc t)) = placed L o t ≡ true
 
 pub record Sound (L : Layout) (stops : Stops) : Type 0 where
   pub laid : stop_1 L ≡ false
-  pub fields : (i r : ℕ) → i < length L.fields → stops (placed L (suc i)) i r ≡ none
+  pub fields : (i r : ℕ) → i < length L.fields → stops (placed L (suc i)) i r ≡ None
   pub counts : (k : ℕ) → Holds L k (start L k) → Count_placed L (start L k) (set_at L k).count_field
 
 module _ (L : Layout) (stops : Stops) (S : Sound L stops) where
   G : Good L
   G = good L S.laid
 
-  at_order : (i o r : ℕ) → suc i ≡ o → o ≤ length L.fields → stops (placed L o) i r ≡ none
+  at_order : (i o r : ℕ) → suc i ≡ o → o ≤ length L.fields → stops (placed L o) i r ≡ None
   at_order i o r q l = rw (← q) (S.fields i r (omega arith))
 
   answers : (p : Place) (g : ℕ → ℕ) (k : ℕ) (c : Option ℕ) → Count_placed L p.order c → arrive L (by_place L) p g k c ≡ not_current → ⊥
   unfolding arrive
-  answers p g k none e f = let z : ◌≡◌ {A = ℕ} 0 1 = cc in omega arith
-  answers p g k (some zero) e f = e
-  answers p g k (some (suc t)) e f = go (passes (get_or L.fields t no_field) (g k)) (rw e at f)
+  answers p g k None e f = let z : ◌≡◌ {A = ℕ} 0 1 = cc in omega arith
+  answers p g k (Some zero) e f = e
+  answers p g k (Some (suc t)) e f = go (passes (get_or L.fields t no_field) (g k)) (rw e at f)
     where
       go : (n : ℕ) → counted true n ≡ not_current → ⊥
       go zero f = let z : ◌≡◌ {A = ℕ} 0 1 = cc in omega arith

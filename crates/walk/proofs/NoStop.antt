@@ -4,7 +4,7 @@ use native.Mathlib.Omega.{arith}
 use mathlib.Core.Path.{◌≡◌, refl}
 use mathlib.Core.Bool.{Bool, true, false, ◌&&◌}
 use mathlib.Core.List.{List}
-use mathlib.Core.Option.{none, some}
+use Rattle.std.specs.Prelude.{None, Some}
 use lib.ListN.{length}
 use borrow.Author.Tests.{lt-ltb}
 use Rattle.pack.specs.Value.{Bytes, Pgn, Pack, pgns_of, pgn_at, field_at}
@@ -61,7 +61,7 @@ module _ (P : Pack) (t i : ℕ) (p : Pgn) (q : Quiet P t i p) (h : held_widest P
   laid = past_stop_1 (layout p) fit held_4.0
 
   -- stop 6's target is held
-  bits_held : (k : ℕ) → k < length p.fields → (id : Bytes) (j : ℕ) → (field_at p k).bit_length_field ≡ some id → target p id ≡ some j
+  bits_held : (k : ℕ) → k < length p.fields → (id : Bytes) (j : ℕ) → (field_at p k).bit_length_field ≡ Some id → target p id ≡ Some j
       → sets_hold (layout p) (suc j) (suc k) ≡ true
   unfolding bit_length_held
   bits_held k l id j a b = let e = every_e (λ k. bit_length_held p k) (length p.fields) held_4.2 k l in rw (bit_length_held, a, b) at e
@@ -78,7 +78,7 @@ module _ (P : Pack) (t i : ℕ) (p : Pgn) (q : Quiet P t i p) (h : held_widest P
       current_source : ℕ → Bool
       current_source j = length_source P.fieldtypes (field_at p j) && placed (layout p) (suc k) j
 
-  no_stop_at : (k r : ℕ) → k < length p.fields → stop_at P p (placed (layout p) (suc k)) k r ≡ none
+  no_stop_at : (k r : ℕ) → k < length p.fields → stop_at P p (placed (layout p) (suc k)) k r ≡ None
   unfolding stop_at check_lookup_refs check_match_values check_bit_length_field check_continues check_trailing_zero_is_digit
   no_stop_at k r l =
       let n = length p.fields in

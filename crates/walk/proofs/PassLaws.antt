@@ -2,15 +2,13 @@
 use Rattle.std.specs.Prelude.{◌==◌}
 use Prim.Native.Nat.{ℕ, zero, suc, ◌+◌, ◌-◌, ◌≤◌, ◌<◌}
 use native.Mathlib.Omega.{arith}
-use native.Mathlib.Numerals.{add-one}
 use native.Mathlib.Nat.{zero-add, suc-add}
 use mathlib.Core.Path.{◌≡◌, refl, sym, ap, ◌∙◌}
 use mathlib.Core.Bool.{Bool, true, false, not, ◌&&◌}
 use mathlib.Core.List.{List}
-use mathlib.Core.Option.{Option, none, some}
+use Rattle.std.specs.Prelude.{Option, None, Some}
 use lib.ListN.{length, get_or-eq_default}
 use borrow.Author.Tests.{ne_eqb, lt-ltb, le-ltb}
-use Rattle.pack.specs.Notation.{optional}
 use Rattle.walk.specs.Layout.{Layout, no_set, set_at, end}
 use Rattle.walk.specs.Passes.{Rest, endless, more, Place, present, goto, goto_with, arrives, Stand, again, arrived, ready, beyond, look, Turn}
 use Rattle.walk.specs.Passes.{goes_on, leaves, begins, turn, close, stand}
@@ -21,7 +19,7 @@ use Rattle.walk.specs.State.{left_of, left_at, with_left, place_of, memory_of, s
 use Rattle.pack.specs.declared.protocol.FieldOrder.{FieldOrder}
 use Rattle.walk.specs.declared.sets.Set.{Set}
 use Rattle.walk.specs.declared.sets.Sets.{Sets}
-use Rattle.walk.specs.declared.passes.Left.{Left}
+use Rattle.walk.specs.declared.passes.Further.{Further}
 use Rattle.walk.specs.declared.passes.Settling.{Settling}
 use Rattle.walk.specs.declared.passes.Round.{Round}
 use Rattle.walk.proofs.PassNumbers.{place_put, memory_kept}
@@ -31,31 +29,18 @@ use Rattle.walk.specs.declared.passes.Standing.{Standing}
 use Rattle.walk.specs.declared.passes.Standing.TheVariants as standing
 use Rattle.walk.proofs.Rounds.{ends_ahead}
 
-pub present_of : (b : Bool) (x : Rest) → present (optional b x) ≡ b
-present_of true x = refl
-present_of false x = refl
-
--- of a pass that ends, with passes left after it
-pub turn_more : (n : ℕ) → (n ≡ 0 → ⊥) → begins (more (n - 1)) ≡ turn true (some (more n))
-turn_more zero h = absurd (h refl)
-turn_more (suc n) h = let e : suc n - 1 ≡ n = omega arith in rw e
-
-pub counted_more : (n : ℕ) → (n ≡ 0 → ⊥) → enter (more (n - 1)) ≡ counted true n
-counted_more zero h = absurd (h refl)
-counted_more (suc n) h = let e : suc n - 1 ≡ n = omega arith in rw e
-
 -- on arriving, with a countField
-pub arrive_at : (L : Layout) (p : Place) (o : ℕ) → p.order ≡ o → (g : ℕ → ℕ) (k count : ℕ) → g k ≡ count → (m : Option ℕ) (n : ℕ) → m ≡ some n → (n ≡ 0 → ⊥)
+pub arrive_at : (L : Layout) (p : Place) (o : ℕ) → p.order ≡ o → (g : ℕ → ℕ) (k count : ℕ) → g k ≡ count → (m : Option ℕ) (n : ℕ) → m ≡ Some n → (n ≡ 0 → ⊥)
     → (b : Bool) → b ≡ placed L o (n - 1) → counted b count ≡ arrive L (by_place L) p g k m
 unfolding arrive
 arrive_at L p o po g k count gc m zero e z b h = absurd (z refl)
 arrive_at L p o po g k count gc m (suc t) e z b h = let d : suc t - 1 ≡ t = omega arith in rw (e, po, gc, h, d, arrive)
 
-pub arrive_not_current : (L : Layout) (p : Place) (g : ℕ → ℕ) (k : ℕ) (m : Option ℕ) → m ≡ some 0 → not_current ≡ arrive L (by_place L) p g k m
+pub arrive_not_current : (L : Layout) (p : Place) (g : ℕ → ℕ) (k : ℕ) (m : Option ℕ) → m ≡ Some 0 → not_current ≡ arrive L (by_place L) p g k m
 unfolding arrive
 arrive_not_current L p g k m e = rw (e, arrive)
 
-pub arrive_endless : (L : Layout) (p : Place) (g : ℕ → ℕ) (k : ℕ) (m : Option ℕ) → m ≡ none → enter endless ≡ arrive L (by_place L) p g k m
+pub arrive_endless : (L : Layout) (p : Place) (g : ℕ → ℕ) (k : ℕ) (m : Option ℕ) → m ≡ None → enter endless ≡ arrive L (by_place L) p g k m
 unfolding arrive
 arrive_endless L p g k m e = rw (e, arrive)
 
@@ -70,7 +55,7 @@ module _ (L : Layout) (p : Place) (g : ℕ → ℕ) (k : ℕ) (x : Arrival) (c :
   unfolding settle
   round_over e q h = rw (← ec, ← ex, e, h, settle)
 
-  pub round_enter : (y : Rest) → x ≡ enter y → (q : Place) → q ≡ goto_with p p.order k (some y) → due q g ≡ settle L (by_place L) (suc n) (arrived k p) g
+  pub round_enter : (y : Rest) → x ≡ enter y → (q : Place) → q ≡ goto_with p p.order k (Some y) → due q g ≡ settle L (by_place L) (suc n) (arrived k p) g
   unfolding settle
   round_enter y e q h = rw (← ec, ← ex, e, h, settle)
 
@@ -90,9 +75,9 @@ module _ (L : Layout) (g : ℕ → ℕ) (n : ℕ) (c : Stand) where
 
 -- the rounds
 module _ (L : Layout) (g : ℕ → ℕ) where
-  pub rounds_first : (p : Place) (n : ℕ) → n ≡ length L.fields → settle L (by_place L) (n + 1) (stand L p) g ≡ settled L (by_place L) p g
+  pub rounds_first : (p : Place) (n : ℕ) → n ≡ suc (length L.fields) → settle L (by_place L) n (stand L p) g ≡ settled L (by_place L) p g
   unfolding settled
-  rounds_first p n e = rw (e, add-one)
+  rounds_first p n e = rw e
 
   pub rounds_none : (c : Stand) (B : Settled (ℕ → ℕ)) (n : ℕ) → n ≤ 0 → settle L (by_place L) n c g ≡ B → past ≡ B
   unfolding settle
@@ -118,11 +103,11 @@ module _ (L : Layout) (k : ℕ) {set : Set} (is : SetIs (set_at L k) set) (p : P
   unfolding close
   pass_goes_on e = rw (← turns, e, close)
 
-  pass_leaves : x ≡ leaves → close L (suc k) p ≡ close L k (goto_with p p.order k none)
+  pass_leaves : x ≡ leaves → close L (suc k) p ≡ close L k (goto_with p p.order k None)
   unfolding close
   pass_leaves e = rw (← turns, e, close)
 
-  pub pass_begins : (y : Rest) → x ≡ begins y → close L (suc k) p ≡ again k (goto_with p set.start.0 k (some y))
+  pub pass_begins : (y : Rest) → x ≡ begins y → close L (suc k) p ≡ again k (goto_with p set.start.0 k (Some y))
   unfolding close
   pass_begins y e = rw (← turns, e, is.start, close)
 
@@ -206,7 +191,7 @@ module _ {L : Layout} {v : Sets} (a : SetsAre L v) where
       not_there false x = refl
 
 -- what comes of set k's pass, in numbers: l is what is left of it, x its turn
-module _ (L : Layout) (k : ℕ) (set : Set) (is : SetIs (set_at L k) set) (o : ℕ) (w : List ℕ) (l : Left) (el : l ≡ left_at w k) (x : Turn)
+module _ (L : Layout) (k : ℕ) (set : Set) (is : SetIs (set_at L k) set) (o : ℕ) (w : List ℕ) (l : Option Further) (el : l ≡ left_at w k) (x : Turn)
     (ex : x ≡ turn (o == set.end.0) (left_of l)) where
   turned : x ≡ turn (o == set.end.0) (left_of (left_at w k))
   turned = rw el at ex
@@ -214,24 +199,24 @@ module _ (L : Layout) (k : ℕ) (set : Set) (is : SetIs (set_at L k) set) (o : �
   pub closes_on : x ≡ goes_on → close L (suc k) (place_of o w) ≡ close L k (place_of o w)
   closes_on e = pass_goes_on L k is (place_of o w) x turned e
 
-  module _ (room : length w ≡ 16) (low : k < 4) (v : Left) (w' : List ℕ) (ew : w' ≡ with_left w k v) where
-    pub closes_left : x ≡ leaves → left_of v ≡ none → close L (suc k) (place_of o w) ≡ close L k (place_of o w')
+  module _ (room : length w ≡ 16) (low : k < 4) (v : Option Further) (w' : List ℕ) (ew : w' ≡ with_left w k v) where
+    pub closes_left : x ≡ leaves → left_of v ≡ None → close L (suc k) (place_of o w) ≡ close L k (place_of o w')
     closes_left e n =
         pass_leaves L k is (place_of o w) x turned e
         ∙ ap (close L k) (sym (ap (place_of o) ew ∙ place_put w room k low v o o ∙ ap (goto_with (place_of o w) o k) n))
 
-    pub closes_again : (y : Rest) → x ≡ begins y → left_of v ≡ some y → close L (suc k) (place_of o w) ≡ again k (place_of set.start.0 w')
+    pub closes_again : (y : Rest) → x ≡ begins y → left_of v ≡ Some y → close L (suc k) (place_of o w) ≡ again k (place_of set.start.0 w')
     closes_again y e n =
         let start = set.start.0 in
         pass_begins L k is (place_of o w) x turned y e
         ∙ ap (again k) (sym (ap (place_of start) ew ∙ place_put w room k low v start o ∙ ap (goto_with (place_of o w) start k) n))
 
 -- a pass is put for set k
-pub entered : (w w' : List ℕ) → length w ≡ 16 → (k : ℕ) → k < 4 → (v : Left) → w' ≡ with_left w k v → (y : Rest) → left_of v ≡ some y → (o : ℕ)
-    → place_of o w' ≡ goto_with (place_of o w) o k (some y)
+pub entered : (w w' : List ℕ) → length w ≡ 16 → (k : ℕ) → k < 4 → (v : Option Further) → w' ≡ with_left w k v → (y : Rest) → left_of v ≡ Some y → (o : ℕ)
+    → place_of o w' ≡ goto_with (place_of o w) o k (Some y)
 entered w w' room k low v ew y n o = ap (place_of o) ew ∙ place_put w room k low v o o ∙ ap (goto_with (place_of o w) o k) n
 
-pub kept_memory : (w w' : List ℕ) → length w ≡ 16 → (k : ℕ) → k < 4 → (v : Left) → w' ≡ with_left w k v → memory_of w' ≡ memory_of w
+pub kept_memory : (w w' : List ℕ) → length w ≡ 16 → (k : ℕ) → k < 4 → (v : Option Further) → w' ≡ with_left w k v → memory_of w' ≡ memory_of w
 kept_memory w w' room k low v ew = ap memory_of ew ∙ memory_kept w room k low v
 
 -- the passes of the sets below k, one set further down

@@ -1,32 +1,33 @@
 -- Runs: visits within a stretch, from a set's pass into the next, and how they follow one another.
 use Rattle.std.specs.Prelude.{◌==◌}
-use Prim.Native.Nat.{ℕ, zero, suc, pred, ◌+◌, ◌*◌, ◌-◌, ◌≤◌, ◌<◌}
+use Prim.Native.Nat.{ℕ, zero, suc, pred, ◌+◌, ◌-◌, ◌≤◌, ◌<◌}
 use native.Mathlib.Omega.{arith}
 use native.Mathlib.Numerals.{add-one}
 use native.Mathlib.Decide.{ℕ_discrete, dec_lt}
 use mathlib.Core.Path.{◌≡◌, refl, sym, ap, subst, ◌∙◌, fun_ext}
 use mathlib.Core.Bool.{Bool, true, false, ◌||◌}
-use mathlib.Core.Option.{none, some}
+use Rattle.std.specs.Prelude.{Option, None, Some}
 use mathlib.Core.List.{List}
 use lib.ListN.{length, get_or, set, length-set, get_or-eq_default}
-use lib.Seq.{set-get_or}
-use borrow.Author.Tests.{eq-eqb, eqb-true, ne_eqb}
+use borrow.Author.Tests.{eq-eqb, eqb-true}
 use Rattle.pack.specs.Meaning.{opt_order}
 use Rattle.rules.specs.SearchLaws.{below_suc}
 use Rattle.walk.specs.SetsOf.{SetsAre, value_at}
 use Rattle.walk.specs.Layout.{Layout, no_set}
-use Rattle.walk.specs.Passes.{endless, more, Place, goto, goto_with, ready, again, turn, close, stand}
+use Rattle.walk.specs.Passes.{Place, goto, goto_with, ready, again, turn, begins, close, stand}
 use Rattle.walk.specs.Walk.{Stops, Settled, due, settled, onward}
 use Rattle.walk.specs.ByPlace.{placed, by_place, counts}
 use Rattle.walk.specs.Runs.{edge, PlainAt, EndsBehind, written, Turns, RunsTo}
-use Rattle.walk.specs.State.{left_of, left_at, with_left, place_of, memory_of, settled_of}
+use Rattle.walk.specs.State.{rest_of, left_of, left_at, with_left, place_of, memory_of, settled_of}
 use Rattle.walk.specs.Steps.{Run, no_step, then_step}
 use Rattle.walk.specs.StopParts.{lets_pass}
-use Rattle.walk.specs.declared.passes.Left.{Left}
+use Rattle.walk.specs.declared.passes.Further.{Further}
 use Rattle.walk.specs.declared.passes.Settling.{Settling}
+use Rattle.walk.specs.declared.passes.Settling.TheVariants.{Due}
+use Rattle.pack.specs.declared.protocol.FieldOrder.{FieldOrder}
 use Rattle.walk.specs.declared.stretches.Ending.{Ending}
 use Rattle.walk.specs.declared.sets.Sets.{Sets}
-use Rattle.walk.proofs.PassLaws.{turn_more, round_ready, round_again, pass_begins, close_four, close_skip, closed_look, look_none, look_four}
+use Rattle.walk.proofs.PassLaws.{round_ready, round_again, pass_begins, close_four, close_skip, closed_look, look_none, look_four}
 use Rattle.walk.proofs.PassLaws.{entered, kept_memory}
 use Rattle.walk.proofs.Tests.{or_l, or_r}
 use Rattle.walk.proofs.Walks.{step_visits}
@@ -85,12 +86,12 @@ module _ {L : Layout} {v : Sets} (a : SetsAre L v) where
       let left = left_of (left_at w k) in
       let n : 3 - k + suc k ≡ 4 = omega (arith, low) in
       let at_end = eq-eqb (suc o) (value_at v k).end.0 ends in
-      let stands : stand L behind ≡ again k (goto_with behind start k (some t.rest)) =
+      let stands : stand L behind ≡ again k (goto_with behind start k (Some t.rest)) =
       sym (close_four a behind (omega arith))
       ∙ ap (λ (i : ℕ). close L i behind) (sym n)
       ∙ close_skip a behind (suc k) (3 - k) (λ j l m. elsewhere j (omega (arith, l)) (omega (arith, m, low)))
       ∙ pass_begins L k (a.set k) behind (turn (suc o == (value_at v k).end.0) left) refl t.rest (ap (λ (b : Bool). turn b left) at_end ∙ t.begins) in
-      sym (round_again L (memory_of w) (length L.fields) (stand L behind) k (goto_with behind start k (some t.rest)) (sym stands))
+      sym (round_again L (memory_of w) (length L.fields) (stand L behind) k (goto_with behind start k (Some t.rest)) (sym stands))
       ∙ ap (λ (q : Place). due q (memory_of w)) (sym (t.place start))
       ∙ ap (due (place_of start w')) (sym t.memory)
 
@@ -102,50 +103,15 @@ pass_onward a o x b w w' t r =
     ∙ begins_again a o w w' x.set b.set b.end b.last t
     ∙ ap (λ (n : ℕ). due (place_of n w') (memory_of w')) (sym b.start)
 
--- another pass of set k begins: of endless ones nothing changes, else one less is left
-module _ (w : List ℕ) (room : length w ≡ 16) (k : ℕ) (low : k < 4) (l : Left) (el : l ≡ left_at w k) (here : l.present ≡ 1) where
-  pub turns_endless : l.further.endless ≡ 1 → Turns w k w
-  turns_endless e = record {
-    rest = endless;
-    begins = ap (turn true) left;
-    place = entered w w room k low (left_at w k) (sym same) endless left;
-    memory = refl;
-  }
-    where
-      of : left_of l ≡ some endless
-      of = rw (here, e)
-
-      left : left_of (left_at w k) ≡ some endless
-      left = ap left_of (sym el) ∙ of
-
-      same : with_left w k (left_at w k) ≡ w
-      same = rw (set-get_or w (4 * k) 0, set-get_or w (4 * k + 1) 0, set-get_or w (4 * k + 2) 0)
-
-  abbrev fewer : Left
-  fewer = record { present = get_or w (4 * k) 0; further = record { endless = get_or w (4 * k + 1) 0; more = l.further.more - 1 } }
-
-  pub turns_more : (l.further.endless ≡ 1 → ⊥) → (l.further.more ≡ 0 → ⊥) → (w' : List ℕ) → w' ≡ set w (4 * k + 2) (l.further.more - 1) → Turns w k w'
-  turns_more e z w' ew = record {
-    rest = more (l.further.more - 1);
-    begins = ap (turn true) left ∙ sym (turn_more l.further.more z);
-    place = entered w w' room k low fewer same (more (l.further.more - 1)) fewer_left;
-    memory = kept_memory w w' room k low fewer same;
-  }
-    where
-      present : get_or w (4 * k) 0 ≡ 1
-      present = ap (λ (x : Left). x.present) (sym el) ∙ here
-
-      ending : (get_or w (4 * k + 1) 0 == 1) ≡ false
-      ending = ne_eqb (get_or w (4 * k + 1) 0) 1 (λ h. e (ap (λ (x : Left). x.further.endless) el ∙ h))
-
-      left : left_of (left_at w k) ≡ some (more l.further.more)
-      left = rw (present, ending, el)
-
-      fewer_left : left_of fewer ≡ some (more (l.further.more - 1))
-      fewer_left = rw (present, ending)
-
-      same : w' ≡ with_left w k fewer
-      same = ew ∙ (rw (set-get_or w (4 * k) 0, set-get_or w (4 * k + 1) 0))
+-- another pass of set k begins, with y left after it
+pub turns_again : (w : List ℕ) → length w ≡ 16 → (k : ℕ) → k < 4 → (x : Option Further) → x ≡ left_at w k → (f : Further) → x ≡ Some f → (y : Further)
+    → begins (rest_of y) ≡ turn true (Some (rest_of f)) → (w' : List ℕ) → w' ≡ with_left w k (Some y) → Turns w k w'
+turns_again w room k low x ex f ef y turned w' ew = record {
+  rest = rest_of y;
+  begins = ap (λ (v : Option Further). turn true (left_of v)) (sym ex ∙ ef) ∙ sym turned;
+  place = entered w w' room k low (Some y) ew (rest_of y) refl;
+  memory = kept_memory w w' room k low (Some y) ew;
+}
 
 -- set k ends behind the order o, and no later one does
 pub ends_behind : (v : Sets) (o k : ℕ) → k < 4 → (next : ℕ) → next ≡ o + 1 → (next == (value_at v k).end.0) ≡ true
@@ -168,23 +134,12 @@ ends_behind v o k low next en ends elsewhere uncounted x ek first within start =
 pub below_next : (Q : ℕ → Type 0) {n : ℕ} → ((i : ℕ) → i < n → Q i) → Q n → (i : ℕ) → i < n + 1 → Q i
 below_next Q {n} below last i l = below_suc i n (omega (arith, l)) (below i) (λ e. subst Q (sym e) last)
 
--- and what holds from n on and of the one before n holds from there on
-pub from_before : (Q : ℕ → Type 0) (n : ℕ) → ((j : ℕ) → n ≤ j → j < 4 → Q j) → Q (n - 1) → (j : ℕ) → n - 1 ≤ j → j < 4 → Q j
-from_before Q n above first j l m = go (ℕ_discrete (n - 1) j)
-  where
-    go : Dec (n - 1 ≡ j) → Q j
-    go (yes e) = subst Q e first
-    go (no e) = above j (omega (arith, l, e)) m
-
 -- the orders behind plain ones are the PGN's
 pub plain_within : (v : Sets) (o k : ℕ) → o ≤ v.fields → ((j : ℕ) → j < k → PlainAt v (o + j)) → o + k ≤ v.fields
 plain_within v o zero low plain = omega (arith, low)
 plain_within v o (suc k) low plain = omega (arith, (plain k (omega arith)).low)
 
 -- ---- what is written
-
-pub written_next : (w : List ℕ) (m k n : ℕ) → written w m k (n + 1) ≡ set (written w m k n) (m + n) (k + n)
-written_next w m k n = rw (add-one n)
 
 pub length_written : (w : List ℕ) (m k n : ℕ) → length (written w m k n) ≡ length w
 length_written w m k zero = refl
@@ -199,7 +154,7 @@ module _ {v : Sets} {marks bad readings b : List ℕ} {n o : ℕ} {w : List ℕ}
   module _ {b' : List ℕ} {m : ℕ} (t : ℕ) (w' : List ℕ) (R : RunsTo v marks bad readings b n o w b' m t w') (one : 1 ≤ t) where
     -- so many visits within a stretch
     module _ (L : Layout) (a : SetsAre L v) (stops : Stops)
-        (harm : (k reading : ℕ) → lets_pass marks bad k reading ≡ true → stops (placed L (suc k)) k reading ≡ none) where
+        (harm : (k reading : ℕ) → lets_pass marks bad k reading ≡ true → stops (placed L (suc k)) k reading ≡ None) where
       straight : (k : ℕ) → m + k ≤ length readings → ((j : ℕ) → j < k → PlainAt v (t + j))
           → ((j : ℕ) → j < k → lets_pass marks bad (t - 1 + j) (get_or readings (m + j) 0) ≡ true)
           → Run L stops readings b n (due (place_of o w) (memory_of w)) (written b' m (t - 1) k) (m + k) (due (place_of (t + k) w') (memory_of w'))
@@ -210,7 +165,7 @@ module _ {v : Sets} {marks bad readings b : List ℕ} {n o : ℕ} {w : List ℕ}
           let before = straight k (omega (arith, few)) (λ j l. plain j (omega (arith, l))) (λ j l. passing j (omega (arith, l))) in
           rw (e₁, e₂)
           (then_step before (omega (arith, few)) (t - 1 + k) (due (place_of (suc (t + k)) w') (memory_of w'))
-          (step_visits L stops (place_of (t + k) w') (memory_of w') (get_or readings (m + k) 0) (t - 1 + k) (omega (arith, one)) (omega (arith, one)) 0
+          (step_visits L stops (place_of (t + k) w') (memory_of w') (get_or readings (m + k) 0) (t - 1 + k) (omega (arith, one)) (omega (arith, one))
           (sym (harm (t - 1 + k) (get_or readings (m + k) 0) (passing k (omega arith)))) refl
           (due (place_of (suc (t + k)) w') (memory_of w'))
           (sym (plain_onward a (place_of (t + k) w') (t + k) (plain k (omega arith)) (memory_of w') (get_or readings (m + k) 0)))))
@@ -225,7 +180,7 @@ module _ {v : Sets} {marks bad readings b : List ℕ} {n o : ℕ} {w : List ℕ}
         → RunsTo v marks bad readings b n o w (set b' m (t - 1)) (m + 1) u w''
     runs_turn low passing u w'' to = record {
       run = λ L a stops harm. then_step (R.run L a stops harm) low (t - 1) (due (place_of u w'') (memory_of w''))
-          (step_visits L stops (place_of t w') (memory_of w') (get_or readings m 0) (t - 1) refl one 0
+          (step_visits L stops (place_of t w') (memory_of w') (get_or readings m 0) (t - 1) refl one
           (sym (harm (t - 1) (get_or readings m 0) passing)) refl (due (place_of u w'') (memory_of w'')) (sym (to L a (get_or readings m 0))));
     }
 
@@ -237,10 +192,3 @@ run_then R (then_step S low k d e) = then_step (run_then R S) low k d e
 pub runs_then : {v : Sets} {marks bad readings b b' b'' : List ℕ} {n m l o t u : ℕ} {w w' w'' : List ℕ}
     → RunsTo v marks bad readings b n o w b' m t w' → RunsTo v marks bad readings b' m t w' b'' l u w'' → RunsTo v marks bad readings b n o w b'' l u w''
 runs_then R S = record { run = λ L a stops harm. run_then (R.run L a stops harm) (S.run L a stops harm) }
-
--- from where a field is due
-pub run_told : {L : Layout} {stops : Stops} {readings b b' : List ℕ} {n m : ℕ} (x y : Settling) (w w' : List ℕ) (q : ℕ) → x.due ≡ true
-    → settled_of y w' ≡ due (place_of q w') (memory_of w')
-    → Run L stops readings b n (due (place_of x.order.0 w) (memory_of w)) b' m (due (place_of q w') (memory_of w'))
-    → Run L stops readings b n (settled_of x w) b' m (settled_of y w')
-run_told x y w w' q d e R = rw (d, e) R

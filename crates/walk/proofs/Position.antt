@@ -4,7 +4,7 @@ use Prim.Native.Nat.{ℕ, zero, suc, pred, ◌≤◌, ◌<◌}
 use native.Mathlib.Omega.{arith}
 use mathlib.Core.Path.{◌≡◌, refl}
 use mathlib.Core.Bool.{false, ◌&&◌}
-use mathlib.Core.Option.{some}
+use Rattle.std.specs.Prelude.{Some}
 use lib.ListN.{length}
 use lib.Dec.{ltb}
 use borrow.Author.Tests.{ltb-true, lt-ltb}
@@ -29,7 +29,7 @@ pub data Comes (L : Layout) : Moment → Visits → Type 0 where
   another : {k : ℕ} {p : Place} {h : Visits} → Comes L (standing (again k p)) h → Comes L (visiting p) ((by_visits L).begin h k)
   no_start : {p : Place} {h : Visits} → Comes L (standing (ready p)) h → Comes L (visiting p) h
   entered : {k : ℕ} {p : Place} {h : Visits} (x : Rest) → Comes L (standing (arrived k p)) h
-      → Comes L (visiting (goto_with p p.order k (some x))) ((by_visits L).begin h k)
+      → Comes L (visiting (goto_with p p.order k (Some x))) ((by_visits L).begin h k)
   passed_over : {k : ℕ} {p : Place} {h : Visits} → Comes L (standing (arrived k p)) h → Comes L (standing (stand L (goto p (end L k)))) h
   after_visit : {p : Place} {h : Visits} (r : ℕ) → Comes L (visiting p) h
       → Comes L (standing (stand L (goto p (suc p.order)))) ((by_visits L).visit h (pred p.order) r)

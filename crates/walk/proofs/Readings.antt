@@ -6,23 +6,25 @@ use native.Mathlib.Omega.{arith}
 use mathlib.Core.Path.{◌≡◌, refl, sym, ap, ◌∙◌}
 use mathlib.Core.Bool.{Bool, true, false, not, ◌&&◌, ◌||◌, false≢true}
 use mathlib.Core.List.{List}
-use mathlib.Core.Option.{Option, none, some}
+use Rattle.std.specs.Prelude.{Option, None, Some}
 use lib.Dec.{ltb}
 use lib.ListN.{length, get_or, set, replicate, length-set, get_or-eq_default}
 use lib.Seq.{set_out, get_or-set_same, get_or-set_other}
-use borrow.Author.Tests.{ltb-true, ltb-false, leb-true, eqb-true, not-true, lt-ltb, le-ltb, eq-eqb}
+use borrow.Author.Tests.{ltb-true, ltb-false, leb-true, eqb-true, not-true, eq-eqb}
 use Rattle.pack.specs.Notation.{◌<ᵇ◌, ◌≤ᵇ◌}
 use Rattle.pack.specs.Meaning.{pack_of}
 use Rattle.pack.specs.Value.{Entry, Pgn, Pack, field_at, lookup_at, entry_at}
 use Rattle.rules.specs.Model.{lookup_ref}
 use Rattle.rules.specs.SearchLaws.{any_turn, any_hit, below_suc}
 use Rattle.walk.proofs.Parts.{any_same}
-use Rattle.walk.proofs.Tests.{and_l, and_r, and_none, none_below, tri}
+use Rattle.walk.proofs.Tests.{and_l, and_r, none_below, tri}
 use Rattle.walk.specs.ByPlace.{placed}
 use Rattle.walk.specs.Layout.{layout}
 use Rattle.walk.specs.StopParts.{Named, OnlyByReading, SameBut, Collected, Remembered, among, lets_pass}
 use Rattle.walk.specs.Stops.{names_missing, entries_name_missing, stop_at}
 use Rattle.walk.specs.declared.stops.FieldtypeLookup.{FieldtypeLookup}
+use Rattle.walk.specs.declared.stops.Stop.{Stop}
+use Rattle.walk.specs.declared.stops.Stop.TheVariants.{EntryNamesMissing}
 
 -- ---- what a mark says
 
@@ -37,14 +39,6 @@ passes_few m bad k reading e =
 passes_not : (m : ℕ) (bad : List ℕ) (k reading : ℕ) → mark_passes m bad k reading ≡ true → among bad (4 * k) (m - 1) reading ≡ false
 passes_not m bad k reading e =
     not-true (among bad (4 * k) (m - 1) reading) (and_r ((0 <ᵇ m) && (m <ᵇ 6)) (not (among bad (4 * k) (m - 1) reading)) e)
-
-pub known_passes : (m : ℕ) (bad : List ℕ) (k reading : ℕ) → 0 < m → m < 6 → mark_passes m bad k reading ≡ not (among bad (4 * k) (m - 1) reading)
-known_passes m bad k reading h l = rw (lt-ltb 0 m h, lt-ltb m 6 l)
-
-pub others_pass_none : (m : ℕ) (bad : List ℕ) (k reading : ℕ) → 6 ≤ m → mark_passes m bad k reading ≡ false
-others_pass_none m bad k reading h =
-    ap (λ (b : Bool). (0 <ᵇ m) && b && not (among bad (4 * k) (m - 1) reading)) (le-ltb m 6 h)
-    ∙ ap (λ (b : Bool). b && not (among bad (4 * k) (m - 1) reading)) (and_none (0 <ᵇ m))
 
 pub free_passes : (marks bad : List ℕ) (k reading : ℕ) → get_or marks k 0 ≡ 1 → lets_pass marks bad k reading ≡ true
 free_passes marks bad k reading e = ap (λ (m : ℕ). mark_passes m bad k reading) e
@@ -84,13 +78,13 @@ module _ {bad bad' : List ℕ} {k : ℕ} (same : SameBut (4 * k) bad bad') (j : 
 
 -- the mark m at field k, whose places alone have changed, is right if what it lets pass does not stop
 pub remembered_marked : {P : Pack} {p : Pgn} {marks bad bad' : List ℕ} (k m : ℕ) → Remembered P p marks bad → SameBut (4 * k) bad bad'
-    → ((reading : ℕ) → mark_passes m bad' k reading ≡ true → stop_at P p (placed (layout p) (suc k)) k reading ≡ none)
+    → ((reading : ℕ) → mark_passes m bad' k reading ≡ true → stop_at P p (placed (layout p) (suc k)) k reading ≡ None)
     → Remembered P p (set marks k m) bad'
 remembered_marked {P} {p} {marks} {bad} {bad'} k m r same f =
     record { never = λ j reading h. go j reading (ℕ_discrete j k) h }
   where
     own : (reading : ℕ) (b : Bool) → ltb k (length marks) ≡ b → mark_passes (get_or (set marks k m) k 0) bad' k reading ≡ true
-        → stop_at P p (placed (layout p) (suc k)) k reading ≡ none
+        → stop_at P p (placed (layout p) (suc k)) k reading ≡ None
     own reading true e h =
         f reading (sym (ap (λ (x : ℕ). mark_passes x bad' k reading) (get_or-set_same marks k m 0 (ltb-true k (length marks) e))) ∙ h)
     own reading false e h =
@@ -99,7 +93,7 @@ remembered_marked {P} {p} {marks} {bad} {bad'} k m r same f =
         absurd (false≢true (sym (ap (λ (x : ℕ). mark_passes x bad' k reading) z) ∙ h))
 
     go : (j reading : ℕ) → Dec (j ≡ k) → mark_passes (get_or (set marks k m) j 0) bad' j reading ≡ true
-        → stop_at P p (placed (layout p) (suc j)) j reading ≡ none
+        → stop_at P p (placed (layout p) (suc j)) j reading ≡ None
     go j reading (yes d) h = let h' = rw d at h in rw d (own reading (ltb k (length marks)) refl h')
     go j reading (no d) h =
         r.never j reading (same_passes same j d (get_or marks j 0) reading
@@ -177,25 +171,25 @@ collected_none P es at bad = record { few = omega arith; others = same_all at ba
 
 -- ---- what a field that stops by its reading alone lets pass
 
-module _ {s w : List ℕ} {p : Pgn} {k : ℕ} {v : FieldtypeLookup} (N : Named s w (lookup_ref (field_at p k)) v) (O : OnlyByReading (pack_of s) p k) where
-  abbrev stops : ℕ → Option ℕ
-  stops reading = stop_at (pack_of s) p (placed (layout p) (suc k)) k reading
-
-  abbrev entries : List Entry
-  entries = (lookup_at (pack_of s).lookups v.index).entries
-
+module _ {s w : List ℕ} {p : Pgn} {k : ℕ} (O : OnlyByReading (pack_of s) p k) where
   -- every reading, if it names no fieldtype lookup
-  pub none_without : v.given ≡ false → (reading : ℕ) → stops reading ≡ none
-  none_without g reading = O.only reading ∙ ap (λ (b : Bool). if b then some 5 else none) (N.none g reading)
+  pub none_without : Named s w (lookup_ref (field_at p k)) None → (reading : ℕ) → stop_at (pack_of s) p (placed (layout p) (suc k)) k reading ≡ None
+  none_without N reading = O.only reading ∙ ap (λ (b : Bool). if b then Some EntryNamesMissing else None) (N.decide reading)
 
-  module _ (g : v.given ≡ true) where
+  module _ {l : FieldtypeLookup} (N : Named s w (lookup_ref (field_at p k)) (Some l)) where
+    abbrev stops : ℕ → Option Stop
+    stops reading = stop_at (pack_of s) p (placed (layout p) (suc k)) k reading
+
+    abbrev entries : List Entry
+    entries = (lookup_at (pack_of s).lookups l.index).entries
+
     -- every reading but the values of the entries that name something missing
     pub none_else : (bad : List ℕ) (at n : ℕ)
         → ((i : ℕ) → i < length entries → names_missing (pack_of s) (entry_at entries i) ≡ true → among bad at n (entry_at entries i).value ≡ true)
-        → (reading : ℕ) → among bad at n reading ≡ false → stops reading ≡ none
+        → (reading : ℕ) → among bad at n reading ≡ false → stops reading ≡ None
     unfolding entries_name_missing
     none_else bad at n kept reading missed =
-        O.only reading ∙ ap (λ (b : Bool). if b then some 5 else none) (N.decide g reading ∙ none_below _ (length entries) (λ i h.
+        O.only reading ∙ ap (λ (b : Bool). if b then Some EntryNamesMissing else None) (N.decide reading ∙ none_below _ (length entries) (λ i h.
         go i h ((entry_at entries i).value == reading) (names_missing (pack_of s) (entry_at entries i)) refl refl))
       where
         go : (i : ℕ) → i < length entries → (a b : Bool) → ((entry_at entries i).value == reading) ≡ a → names_missing (pack_of s) (entry_at entries i) ≡ b
@@ -208,15 +202,15 @@ module _ {s w : List ℕ} {p : Pgn} {k : ℕ} {v : FieldtypeLookup} (N : Named s
     -- so the mark by the number of values is right
     pub none_passed : {bad bad' : List ℕ} {n : ℕ} (e m : ℕ) → Collected (pack_of s) entries e (4 * k) bad bad' n → e ≡ length entries
         → m ≡ (if n == 0 then 1 else (if 4 * k + 4 ≤ᵇ length bad' then n + 1 else 6))
-        → (reading : ℕ) → mark_passes m bad' k reading ≡ true → stops reading ≡ none
+        → (reading : ℕ) → mark_passes m bad' k reading ≡ true → stops reading ≡ None
     none_passed {bad} {bad'} {n} e m c whole is reading h =
         go (n == 0) (4 * k + 4 ≤ᵇ length bad') refl refl (sym (ap (λ (x : ℕ). mark_passes x bad' k reading) is) ∙ h)
       where
-        all : n < 5 → (0 < n → 4 * k + 4 ≤ length bad') → among bad' (4 * k) n reading ≡ false → stops reading ≡ none
+        all : n < 5 → (0 < n → 4 * k + 4 ≤ length bad') → among bad' (4 * k) n reading ≡ false → stops reading ≡ None
         all few room missed = none_else bad' (4 * k) n (λ i l. c.kept few room i (omega (arith, l, whole))) reading missed
 
         go : (a b : Bool) → (n == 0) ≡ a → (4 * k + 4 ≤ᵇ length bad') ≡ b → mark_passes (if a then 1 else (if b then n + 1 else 6)) bad' k reading ≡ true
-            → stops reading ≡ none
+            → stops reading ≡ None
         go true b x y z =
             let q = eqb-true n 0 x in
             all (omega (arith, q)) (λ l. absurd (omega (arith, l, q))) (ap (λ (i : ℕ). among bad' (4 * k) i reading) q)

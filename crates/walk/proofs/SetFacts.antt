@@ -5,7 +5,7 @@ use native.Mathlib.Decide.{dec_lt}
 use mathlib.Core.Path.{◌≡◌, refl, sym, ap, ◌∙◌}
 use mathlib.Core.Bool.{Bool, true, false, not, ◌||◌, false≢true}
 use mathlib.Core.List.{List, [], ◌∷◌}
-use mathlib.Core.Option.{none}
+use Rattle.std.specs.Prelude.{None}
 use lib.ListN.{length, get_or-eq_default}
 use lib.Dec.{ltb, leb, eqb}
 use borrow.Author.Tests.{ltb-true, ltb-false, leb-true, eqb-true, eqb-false, not-false, lt-ltb, le-leb}
@@ -32,7 +32,7 @@ module _ (p : Pgn) where
       go (yes l) = getD_tab (λ k. set_or_empty (set_place p k)) no_set (length p.sets) k l
       go (no l) =
           get_or-eq_default (layout p).sets no_set (omega (arith, layout_length))
-          ∙ ap set_or_empty (sym (get_or-eq_default p.sets none (omega arith)))
+          ∙ ap set_or_empty (sym (get_or-eq_default p.sets None (omega arith)))
 
 -- version 1: of a PGN of a pack, set 1 stands at 0 and set 2 at 1, and there is no other
 pub layout_of_pack : (s : List ℕ) (t i : ℕ) → t < 3 → i < length (pgns_of (pack_of s) t)

@@ -5,16 +5,17 @@ use native.Mathlib.Numerals.{add-one}
 use native.Mathlib.Decide.{dec_lt}
 use mathlib.Core.Path.{◌≡◌, refl, sym, ap, ◌∙◌}
 use mathlib.Core.Bool.{Bool, true, false, not, ◌&&◌, ◌||◌, false≢true}
+use Rattle.std.specs.Prelude.{◌==◌}
 use mathlib.Core.List.{[], ◌∷◌}
-use mathlib.Core.Option.{Option, none, some}
+use Rattle.std.specs.Prelude.{Option, None, Some}
 use lib.ListN.{length, get_or-eq_default}
 use lib.Dec.{ltb}
-use borrow.Author.Tests.{ltb-true, ltb-false, lt-ltb, le-ltb, eq-eqb, ne_eqb}
+use borrow.Author.Tests.{ltb-true, ltb-false, lt-ltb, le-ltb, ne_eqb}
 use Rattle.pack.specs.Meaning.{opt_order}
 use Rattle.pack.specs.Notation.{◌<ᵇ◌, ◌≤ᵇ◌}
 use Rattle.pack.specs.Value.{Repeating, Pgn, set_place}
 use Rattle.rules.specs.Search.{any_below, every_below}
-use Rattle.rules.specs.SearchLaws.{any_hit, every_missed, or_right}
+use Rattle.rules.specs.SearchLaws.{any_hit, every_missed}
 use Rattle.walk.specs.Layout.{Layout, layout, no_set, set_or_empty, set_at, start, end, nonempty, holds, sets_hold, share, nested_in, inside_previous}
 use Rattle.walk.specs.Layout.{misplaced, clash, stop_1}
 use Rattle.walk.specs.Held.{shares_held, count_field_held, count_fields_held}
@@ -83,15 +84,9 @@ module _ (L : Layout) (k : ℕ) (past : length L.sets ≤ k) where
   none_clash j = rw none_at (rw (and_none (nonempty L j)))
 
 -- nothing comes before set 0
-pub nested_none : (L : Layout) (j k : ℕ) → k ≤ 0 → nested_in L j k ≡ false
+pub nested_none : (L : Layout) (j : ℕ) → nested_in L j 0 ≡ false
 unfolding nested_in
-nested_none L j zero h = refl
-nested_none L j (suc k) h = absurd (omega arith)
-
-pub inside_none : (L : Layout) (k : ℕ) → k ≤ 0 → inside_previous L k ≡ false
-unfolding inside_previous
-inside_none L zero h = refl
-inside_none L (suc k) h = absurd (omega arith)
+nested_none L j = refl
 
 -- ---- set k by its value
 
@@ -106,9 +101,6 @@ module _ {L : Layout} {v : Sets} (a : SetsAre L v) (k : ℕ) where
   unfolding misplaced
   misplaced_at = rw nonempty_at (rw ((a.set k).start, (a.set k).end, (a.set k).nested, a.fields))
 
-  pub misplaced_by : (inside r : Bool) → inside ≡ inside_previous L k → r ≡ set_misplaced (value_at v k) v.fields inside → r ≡ misplaced L k
-  misplaced_by inside r e h = h ∙ ap (set_misplaced (value_at v k) v.fields) e ∙ sym misplaced_at
-
 module _ {L : Layout} {v : Sets} (a : SetsAre L v) where
   pub share_at : (j k : ℕ) → share L j k ≡ sets_share (value_at v j) (value_at v k)
   unfolding share
@@ -118,43 +110,18 @@ module _ {L : Layout} {v : Sets} (a : SetsAre L v) where
   unfolding clash
   clash_at j k = rw (share_at j k)
 
-  pub clash_shared : (j k : ℕ) (s n : Bool) → s ≡ sets_share (value_at v j) (value_at v k) → s ≡ true → n ≡ nested_in L j k → not n ≡ clash L j k
-  clash_shared j k s n e h q = rw (clash_at j k, ← e, h) (ap not q)
-
-  pub clash_apart : (j k : ℕ) (s : Bool) → s ≡ sets_share (value_at v j) (value_at v k) → s ≡ false → false ≡ clash L j k
-  clash_apart j k s e h = rw (clash_at j k, ← e, h)
-
-  pub inside_at : (k : ℕ) → 0 < k → inside_previous L k ≡ set_inside (value_at v k) (value_at v (k - 1))
+  pub inside_by : (k : ℕ) → inside_previous L k ≡ (not (k == 0) && set_inside (value_at v k) (value_at v (k - 1)))
   unfolding inside_previous
-  inside_at zero h = absurd (omega arith)
-  inside_at (suc k) h =
+  inside_by zero = refl
+  inside_by (suc k) =
       let d : suc k - 1 ≡ k = omega arith in
-      rw (d, (a.set k).start, (a.set k).end, (a.set (suc k)).start, (a.set (suc k)).end)
+      rw (ne_eqb (suc k) 0 (λ e. omega (arith, e)), d, (a.set k).start, (a.set k).end, (a.set (suc k)).start, (a.set (suc k)).end)
 
   -- nested in set j, from the marks
-  pub not_nested : (j k : ℕ) → (value_at v k).nested ≡ false → nested_in L j k ≡ false
+  pub nested_next : (j k : ℕ) → 0 < k → nested_in L j k ≡ ((value_at v (k - 1 + 1)).nested && ((j == k - 1) || nested_in L j (k - 1)))
   unfolding nested_in
-  not_nested j zero e = refl
-  not_nested j (suc k) e = rw (sym (a.set (suc k)).nested ∙ e)
-
-  pub nested_next : (j k : ℕ) → 0 < k → (value_at v k).nested ≡ true → k - 1 ≡ j → nested_in L j k ≡ true
-  unfolding nested_in
-  nested_next j zero h e q = absurd (omega arith)
-  nested_next j (suc k) h e q = rw (sym (a.set (suc k)).nested ∙ e, eq-eqb j k (omega arith))
-
-  pub nested_further : (j k : ℕ) → 0 < k → (value_at v k).nested ≡ true → (k - 1 ≡ j → ⊥) → nested_in L j k ≡ nested_in L j (k - 1)
-  unfolding nested_in
-  nested_further j zero h e q = absurd (omega arith)
-  nested_further j (suc k) h e q =
-      let d : suc k - 1 ≡ k = omega arith in
-      rw (d, sym (a.set (suc k)).nested ∙ e, ne_eqb j k (λ x. q (omega (arith, x))))
-
-  -- where set j holds the order o, set k is nested in it: by two answers
-  pub nested_holding : (j k o : ℕ) (h r : Bool) → h ≡ in_set (value_at v j) o → h ≡ true → r ≡ nested_in L j k → r ≡ (not (holds L j o) || nested_in L j k)
-  nested_holding j k o h r e t q = rw (holds_at a j o, ← e, t) q
-
-  pub nested_apart : (j k o : ℕ) (h : Bool) → h ≡ in_set (value_at v j) o → h ≡ false → true ≡ (not (holds L j o) || nested_in L j k)
-  nested_apart j k o h e t = rw (holds_at a j o, ← e, t)
+  nested_next j zero h = absurd (omega arith)
+  nested_next j (suc k) h = let d : suc k - 1 ≡ k = omega arith in rw (d, add-one k, (a.set (suc k)).nested)
 
   -- ---- all sets
 
@@ -176,17 +143,13 @@ module _ {L : Layout} {v : Sets} (a : SetsAre L v) where
   passed : (k : ℕ) → length L.sets ≤ k → (misplaced L k || any_below (λ j. clash L j k) k) ≡ false
   passed k p = or_i _ _ (none_misplaced L k p) (no_clashes k p)
 
-  pub stop_misplaced : (k : ℕ) → misplaced L k ≡ true → stop_1 L ≡ true
+  pub stop_met : (k : ℕ) → (misplaced L k || any_below (λ j. clash L j k) k) ≡ true → stop_1 L ≡ true
   unfolding stop_1
-  stop_misplaced k e = any_met _ (length L.sets) passed k (rw e)
+  stop_met = any_met _ (length L.sets) passed
 
-  pub stop_clashes : (k : ℕ) → any_below (λ j. clash L j k) k ≡ true → stop_1 L ≡ true
+  pub stop_none : ((k : ℕ) → k < 4 → (misplaced L k || any_below (λ j. clash L j k) k) ≡ false) → stop_1 L ≡ false
   unfolding stop_1
-  stop_clashes k e = any_met _ (length L.sets) passed k (or_right (misplaced L k) _ e)
-
-  pub stop_none : ((k : ℕ) → k < 4 → misplaced L k ≡ false) → ((k : ℕ) → k < 4 → any_below (λ j. clash L j k) k ≡ false) → stop_1 L ≡ false
-  unfolding stop_1
-  stop_none m c = none_below _ (length L.sets) (λ k l. let h : k < 4 = omega (arith, a.few) in or_i _ _ (m k h) (c k h))
+  stop_none h = none_below _ (length L.sets) (λ k l. h k (omega (arith, a.few)))
 
   -- ---- held
 
@@ -201,11 +164,11 @@ module _ {L : Layout} {v : Sets} (a : SetsAre L v) where
   unfolding shares_held
   shares_all h = every_i _ (length L.sets) (λ k l. apart k false (h k (omega (arith, a.few))))
 
-  pub count_miss : (k c j : ℕ) → (not (holds L j c) || nested_in L j k) ≡ false → count_field_held L k (some c) ≡ false
+  pub count_miss : (k c j : ℕ) → (not (holds L j c) || nested_in L j k) ≡ false → count_field_held L k (Some c) ≡ false
   unfolding count_field_held
   count_miss k c j e = every_miss _ (length L.sets) (λ j p. rw (holds_none L j p c)) j e
 
-  pub count_all : (k c : ℕ) → ((j : ℕ) → j < 4 → (not (holds L j c) || nested_in L j k) ≡ true) → count_field_held L k (some c) ≡ true
+  pub count_all : (k c : ℕ) → ((j : ℕ) → j < 4 → (not (holds L j c) || nested_in L j k) ≡ true) → count_field_held L k (Some c) ≡ true
   unfolding count_field_held
   count_all k c h = every_i _ (length L.sets) (λ j l. h j (omega (arith, a.few)))
 
@@ -214,7 +177,7 @@ module _ {L : Layout} {v : Sets} (a : SetsAre L v) where
       → count_field_held L k (set_at L k).count_field ≡ count_field_held L k o
   count_by k o e = ap (count_field_held L k) (sym (a.set k).counter ∙ e)
 
-  pub count_none : (k : ℕ) → count_field_held L k none ≡ true
+  pub count_none : (k : ℕ) → count_field_held L k None ≡ true
   unfolding count_field_held
   count_none k = refl
 
@@ -234,7 +197,7 @@ module _ {L : Layout} {v : Sets} (a : SetsAre L v) where
 module _ (p : Pgn) (few : length p.sets ≤ 4) (a b c d : Set) (n : ℕ) (fields : n ≡ length p.fields) where
   beyond : (k : ℕ) → SetIs (set_or_empty (set_place p (suc (suc (suc (suc k)))))) empty_set
   beyond k =
-      rw (get_or-eq_default p.sets none {n = suc (suc (suc (suc k)))} (omega arith)) (record { start = refl; end = refl; counter = refl; nested = refl })
+      rw (get_or-eq_default p.sets None {n = suc (suc (suc (suc k)))} (omega arith)) (record { start = refl; end = refl; counter = refl; nested = refl })
 
   pub four_sets : SetIs (set_or_empty (set_place p 0)) a → SetIs (set_or_empty (set_place p 1)) b → SetIs (set_or_empty (set_place p 2)) c
       → SetIs (set_or_empty (set_place p 3)) d → SetsAre (layout p) (record { fields = n; sets = a ∷ b ∷ c ∷ d ∷ [] })

@@ -4,7 +4,7 @@ use native.Mathlib.Omega.{arith}
 use native.Mathlib.Decide.{ℕ_discrete}
 use mathlib.Core.Path.{◌≡◌, refl, sym, ap, ◌∙◌}
 use mathlib.Core.Bool.{Bool, true, false, not, ◌&&◌, ◌||◌, false≢true}
-use mathlib.Core.Option.{some}
+use Rattle.std.specs.Prelude.{Some}
 use lib.Dec.{ltb, leb}
 use borrow.Author.Tests.{ltb-true, ltb-false, le-leb, lt-leb, eq-eqb, ne_eqb}
 use Rattle.rules.specs.SearchLaws.{below_suc}
@@ -69,13 +69,6 @@ bool_eq true b f g = sym (f refl)
 bool_eq false true f g = g refl
 bool_eq false false f g = refl
 
-pub leb_not : (a b : ℕ) → leb a b ≡ not (ltb b a)
-leb_not a b = go (ltb b a) refl
-  where
-    go : (t : Bool) → ltb b a ≡ t → leb a b ≡ not t
-    go true e = lt-leb a b (ltb-true b a e)
-    go false e = le-leb a b (ltb-false b a e)
-
 -- for all, and for some, below a number
 pub every_e : (f : ℕ → Bool) (n : ℕ) → every_below f n ≡ true → (k : ℕ) → k < n → f k ≡ true
 every_e f zero e k h = absurd (omega arith)
@@ -94,23 +87,23 @@ none_below f zero h = refl
 none_below f (suc n) h = or_i (any_below f n) _ (none_below f n (λ k l. h k (omega arith))) (h n (omega arith))
 
 -- which one, where there is one
-pub record Some (f : ℕ → Bool) (n : ℕ) : Type 0 where
+pub record Hit (f : ℕ → Bool) (n : ℕ) : Type 0 where
   pub at : ℕ
   pub low : at < n
   pub has : f at ≡ true
 
-pub any_e : (f : ℕ → Bool) (n : ℕ) → any_below f n ≡ true → Some f n
+pub any_e : (f : ℕ → Bool) (n : ℕ) → any_below f n ≡ true → Hit f n
 any_e f zero e = absurd (false≢true e)
 any_e f (suc n) e = go (any_below f n) refl (any_e f n)
   where
-    go : (b : Bool) → any_below f n ≡ b → (any_below f n ≡ true → Some f n) → Some f (suc n)
+    go : (b : Bool) → any_below f n ≡ b → (any_below f n ≡ true → Hit f n) → Hit f (suc n)
     go true q r = let s = r q in record { at = s.at; low = omega (arith, s.low); has = s.has }
     go false q r = record { at = n; low = omega arith; has = rw q at e }
 
 -- the latest one, not below one that is known
 pub record Latest (f : ℕ → Bool) (n k : ℕ) : Type 0 where
   pub at : ℕ
-  pub is : latest_below f n ≡ some at
+  pub is : latest_below f n ≡ Some at
   pub from : k ≤ at
 
 pub latest_from : (f : ℕ → Bool) (n k : ℕ) → k < n → f k ≡ true → Latest f n k

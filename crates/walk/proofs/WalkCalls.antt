@@ -4,7 +4,7 @@ use native.Mathlib.Omega.{arith}
 use mathlib.Core.Path.{◌≡◌, refl, sym, ap, subst, ◌∙◌}
 use mathlib.Core.Bool.{Bool, true, false}
 use mathlib.Core.List.{List}
-use mathlib.Core.Option.{Option, none, some}
+use Rattle.std.specs.Prelude.{Option, None, Some, Result, Ok, Err}
 use lib.ListN.{length}
 use borrow.Author.Tests.{le-leb, lt-leb}
 use Rattle.pack.specs.Load.{Answer as Numbers, loaded, work_after}
@@ -26,8 +26,6 @@ use Rattle.walk.specs.WalkCall.{walk_tells, Walks}
 use Rattle.walk.specs.WalkCall.{held_judged, held_told, held_answer, held_tell, held_tells, TellsHeld}
 use Rattle.walk.specs.declared.named.FoundPgn.{FoundPgn}
 use Rattle.walk.specs.declared.named.PgnPlace.{PgnPlace}
-use Rattle.walk.specs.declared.named.NamedPgn.{NamedPgn}
-use Rattle.walk.specs.declared.named.NamedPgn.TheVariants as naming
 use Rattle.walk.specs.declared.walk.Walked.{Walked}
 use Rattle.walk.specs.declared.walk.Walked.TheVariants.{Refused}
 use Rattle.walk.specs.declared.walk.HeldAnswer.{HeldAnswer}
@@ -38,24 +36,13 @@ pub record Judges (n : ℕ) (A : Answer) (w : List ℕ) (r : Walked) (w' : List 
   pub answer : r ≡ judged true n (length w) A
   pub out : w' ≡ visits_left (judged true n (length w) A) A.visits w
 
-module _ (n : ℕ) (A : Answer) (w : List ℕ) where
-  pub too_short : length w < n → Judges n A w (Refused (Visits n)) w
-  too_short l = record { answer = rw (lt-leb n (length w) l); out = rw (lt-leb n (length w) l) }
-
-  pub is_walked : n ≤ length w → (r : Walked) (w' : List ℕ) → Told A w w' r → Judges n A w r w'
-  is_walked l r w' t = record { answer = rw (le-leb n (length w) l) t.answer; out = rw (le-leb n (length w) l) t.out }
-
 -- ---- naming a PGN
 
-not_found : (r : Refusal) (f : PgnPlace) → naming.Refused r ≡ naming.Found f → ⊥
+not_found : (r : Refusal) (f : PgnPlace) → ◌≡◌ {A = Result PgnPlace Refusal} (Err r) (Ok f) → ⊥
 not_found r f q = let e = ap refusal_of q in let z : ◌≡◌ {A = ℕ} 0 1 = cc in omega arith
 
-abbrev found_in : PgnPlace → NamedPgn → PgnPlace
-found_in d (naming.Refused r) = d
-found_in d (naming.Found f) = f
-
 module _ (s w : List ℕ) (t i : ℕ) (x : Option Refusal) where
-  pub named_refused : (r : Refusal) → some r ≡ x → NamedIs s w t i x (naming.Refused r)
+  pub named_refused : (r : Refusal) → Some r ≡ x → NamedIs s w t i x (Err r)
   named_refused r e = record {
     refusal = e;
     tree = λ f q. absurd (not_found r f q);
@@ -63,20 +50,12 @@ module _ (s w : List ℕ) (t i : ℕ) (x : Option Refusal) where
     found = λ f q. absurd (not_found r f q);
   }
 
-  pub named_found : (f : PgnPlace) → none ≡ x → f.tree ≡ t → f.pgn ≡ i → IsPlaced s w f → NamedIs s w t i x (naming.Found f)
-  named_found f e tree pgn found = record {
-    refusal = e;
-    tree = λ g q. subst (λ (h : PgnPlace). h.tree ≡ t) (ap (found_in f) q) tree;
-    pgn = λ g q. subst (λ (h : PgnPlace). h.pgn ≡ i) (ap (found_in f) q) pgn;
-    found = λ g q. subst (λ (h : PgnPlace). IsPlaced s w h) (ap (found_in f) q) found;
-  }
-
 module _ (s : List ℕ) (m t i : ℕ) where
-  pub refused_by_load : (r : Refusal) → loaded s m ≡ load.Refused r → some r ≡ naming_refusal s m t i
+  pub refused_by_load : (r : Refusal) → loaded s m ≡ load.Refused r → Some r ≡ naming_refusal s m t i
   unfolding naming_refusal
   refused_by_load r e = rw (naming_refusal, e)
 
-  pub named_loaded : (w : List ℕ) (x : Index) → loaded s m ≡ load.Accepted x → (r : NamedPgn)
+  pub named_loaded : (w : List ℕ) (x : Index) → loaded s m ≡ load.Accepted x → (r : Result PgnPlace Refusal)
       → NamedIs s w t i (absence (in_pack (pack_of s) t i)) r → NamedIs s w t i (naming_refusal s m t i) r
   unfolding naming_refusal
   named_loaded w x e r n = rw (naming_refusal, e) n
@@ -84,12 +63,12 @@ module _ (s : List ℕ) (m t i : ℕ) where
 -- ---- the calls, by what naming the PGN answers
 
 abbrev after_naming : Option Refusal → Walked → Walked
-after_naming none a = a
-after_naming (some r) a = Refused r
+after_naming None a = a
+after_naming (Some r) a = Refused r
 
 abbrev held_after_naming : Option Refusal → Bool → HeldAnswer
-held_after_naming none h = held-case.Held h
-held_after_naming (some r) h = held-case.Refused r
+held_after_naming None h = held-case.Held h
+held_after_naming (Some r) h = held-case.Refused r
 
 pub record Answers (s : List ℕ) (m t i : ℕ) (readings w : List ℕ) (r : Walked) (w' : List ℕ) : Type 0 where
   pub answer : r ≡ walked s m t i readings (length w)
@@ -118,22 +97,22 @@ module _ (s : List ℕ) (m t i : ℕ) where
       go (load.Accepted x) e false q = rw (e, q, held_told, naming_refusal)
 
   -- n is what naming the PGN answered
-  module _ (w₀ : List ℕ) (n : NamedPgn) (named : NamedIs s w₀ t i (naming_refusal s m t i) n) where
-    refused : (r : Refusal) → n ≡ naming.Refused r → naming_refusal s m t i ≡ some r
+  module _ (w₀ : List ℕ) (n : Result PgnPlace Refusal) (named : NamedIs s w₀ t i (naming_refusal s m t i) n) where
+    refused : (r : Refusal) → n ≡ Err r → naming_refusal s m t i ≡ Some r
     refused r e = sym named.refusal ∙ ap refusal_of e
 
-    is_found : (f : PgnPlace) → n ≡ naming.Found f → naming_refusal s m t i ≡ none
+    is_found : (f : PgnPlace) → n ≡ Ok f → naming_refusal s m t i ≡ None
     is_found f e = sym named.refusal ∙ ap refusal_of e
 
-    pub walk_refused : (r : Refusal) → n ≡ naming.Refused r → (readings w : List ℕ) → Answers s m t i readings w (Refused r) w
+    pub walk_refused : (r : Refusal) → n ≡ Err r → (readings w : List ℕ) → Answers s m t i readings w (Refused r) w
     unfolding visits_after
     walk_refused r e readings w = record { answer = rw (walk_named, refused r e); out = rw (walk_named, refused r e) }
 
-    pub held_refused : (r : Refusal) → n ≡ naming.Refused r → held-case.Refused r ≡ held_told s m t i
+    pub held_refused : (r : Refusal) → n ≡ Err r → held-case.Refused r ≡ held_told s m t i
     held_refused r e = rw (held_named, refused r e)
 
     -- f is the PGN at that place
-    module _ (at : PgnPlace) (e : n ≡ naming.Found at) (f : FoundPgn) (same_tree : f.tree ≡ at.tree) (same_pgn : f.pgn ≡ at.pgn) where
+    module _ (at : PgnPlace) (e : n ≡ Ok at) (f : FoundPgn) (same_tree : f.tree ≡ at.tree) (same_pgn : f.pgn ≡ at.pgn) where
       tree : f.tree ≡ t
       tree = same_tree ∙ named.tree at e
 

@@ -1,13 +1,12 @@
 -- The walk's loop: what it has made of the walk by now, one step, and its ends.
-use Rattle.std.specs.Prelude.{if◌then◌else◌}
 use Rattle.walk.specs.declared.walk.End.{End as Ending}
-use Prim.Native.Nat.{ℕ, zero, suc, pred, ◌+◌, ◌-◌, ◌≤◌, ◌<◌}
+use Prim.Native.Nat.{ℕ, suc, pred, ◌+◌, ◌-◌, ◌≤◌, ◌<◌}
 use native.Mathlib.Omega.{arith}
 use native.Mathlib.Numerals.{add-one}
 use mathlib.Core.Path.{◌≡◌, refl, sym, ap, subst, ◌∙◌, fun_ext}
-use mathlib.Core.Bool.{Bool, true, false}
+use mathlib.Core.Bool.{true, false}
 use mathlib.Core.List.{List, [], ◌∷◌, ◌++◌}
-use mathlib.Core.Option.{Option, none, some}
+use Rattle.std.specs.Prelude.{Option, None, Some}
 use lib.ListN.{length, get_or, set, drop, drop_of_length-le, length-append}
 use lib.Seq.{drop-cons}
 use Rattle.pack.specs.Load.{over}
@@ -21,10 +20,13 @@ use Rattle.walk.specs.Walk.{Stops, Settled, past, halted, due, settled, onward, 
 use Rattle.walk.specs.ByPlace.{placed, by_place}
 use Rattle.walk.specs.State.{left_of, left_at, place_of, memory_of, settled_of}
 use Rattle.walk.specs.Steps.{end_of, Stepped, ended, visited, one_step, Run, no_step, then_step, used, Within}
-use Rattle.walk.specs.StopParts.{stop_number}
 use Rattle.walk.specs.Stops.{stop_at}
 use Rattle.walk.specs.WalkCall.{ending, Told}
 use Rattle.walk.specs.declared.passes.Settling.{Settling}
+use Rattle.walk.specs.declared.passes.Settling.TheVariants.{Due}
+use Rattle.pack.specs.declared.protocol.FieldOrder.{FieldOrder}
+use Rattle.walk.specs.declared.stops.Stop.{Stop as Reason}
+use Rattle.walk.specs.declared.stops.Stop.TheVariants.{SetMisplaced}
 use Rattle.walk.specs.declared.walk.End.TheVariants.{Whole, UsedUp, Stop}
 use Rattle.walk.specs.declared.walk.Walked.TheVariants.{Ended}
 use Rattle.walk.proofs.SetFacts.{Good, good}
@@ -46,45 +48,24 @@ end_back Whole = refl
 end_back UsedUp = refl
 end_back (Stop n) = refl
 
-pub stop_is : (n : ℕ) → (n ≡ 0 → ⊥) → stop_number n ≡ some n
-stop_is zero h = absurd (h refl)
-stop_is (suc n) h = refl
+module _ (L : Layout) (stops : Stops) (p : Place) (g : ℕ → ℕ) (r k : ℕ) (ek : k ≡ p.order - 1) (low : 1 ≤ p.order) {o : Option Reason}
+    (eo : o ≡ stops (placed L (suc k)) k r) where
+  here : o ≡ stops (placed L p.order) (pred p.order) r
+  here = let a : suc k ≡ p.order = omega arith in let b : k ≡ pred p.order = omega arith in rw (← b, ← a) eo
 
-module _ (L : Layout) (stops : Stops) (p : Place) (g : ℕ → ℕ) (r k : ℕ) (ek : k ≡ p.order - 1) (low : 1 ≤ p.order) (n : ℕ)
-    (en : stop_number n ≡ stops (placed L (suc k)) k r) where
-  here : stop_number n ≡ stops (placed L p.order) (pred p.order) r
-  here = let a : suc k ≡ p.order = omega arith in let b : k ≡ pred p.order = omega arith in rw (← b, ← a) en
-
-  pub step_stops : (n ≡ 0 → ⊥) → ended (stop n) ≡ one_step L stops (due p g) r
+  pub step_stops : {n : Reason} → o ≡ Some n → ended (stop n) ≡ one_step L stops (due p g) r
   unfolding one_step
-  step_stops z = rw (← here, stop_is n z, one_step)
+  step_stops z = rw (← here, z, one_step)
 
-  pub step_visits : n ≡ 0 → (d : Settled (ℕ → ℕ)) → d ≡ onward L (by_place L) p g r → visited k d ≡ one_step L stops (due p g) r
+  pub step_visits : o ≡ None → (d : Settled (ℕ → ℕ)) → d ≡ onward L (by_place L) p g r → visited k d ≡ one_step L stops (due p g) r
   unfolding one_step
   step_visits z d e = let b : k ≡ pred p.order = omega arith in rw (← here, z, e, ← b, one_step)
 
-pub step_finished : (L : Layout) (stops : Stops) (v : Settling) (w : List ℕ) (r : ℕ) → v.due ≡ false → (e : Ending) → e ≡ (if v.halted then Stop 2 else Whole)
-    → ended (end_of e) ≡ one_step L stops (settled_of v w) r
-unfolding one_step
-step_finished L stops v w r d e h = go v.halted refl
-  where
-    go : (b : Bool) → v.halted ≡ b → ended (end_of e) ≡ one_step L stops (settled_of v w) r
-    go true x = rw (h, d, x, one_step)
-    go false x = rw (h, d, x, one_step)
-
-pub used_finished : (v : Settling) (w : List ℕ) → v.due ≡ false → (if v.halted then Stop 2 else Whole) ≡ ending (used (settled_of v w))
-used_finished v w d = go v.halted refl
-  where
-    go : (b : Bool) → v.halted ≡ b → (if v.halted then Stop 2 else Whole) ≡ ending (used (settled_of v w))
-    go true x = rw (d, x)
-    go false x = rw (d, x)
-
-pub due_within : (L : Layout) (v : Settling) (w : List ℕ) → v.due ≡ true → Within L (settled_of v w)
-    → (1 ≤ v.order.0) × (v.order.0 ≤ length L.fields)
-due_within L v w d h = rw d at h
+pub due_within : (L : Layout) (v : Settling) (w : List ℕ) (o : FieldOrder) → v ≡ Due o → Within L (settled_of v w) → (1 ≤ o.0) × (o.0 ≤ length L.fields)
+due_within L v w o e h = rw e at h
 
 -- no set has a present pass, and no countField a reading
-pub begins_at : (L : Layout) (w : List ℕ) → ((k : ℕ) → left_of (left_at w k) ≡ none) → ((k : ℕ) → memory_of w k ≡ 0) → (o : ℕ) → o ≡ 1
+pub begins_at : (L : Layout) (w : List ℕ) → ((k : ℕ) → left_of (left_at w k) ≡ None) → ((k : ℕ) → memory_of w k ≡ 0) → (o : ℕ) → o ≡ 1
     → settled L (by_place L) (place_of o w) (memory_of w) ≡ settled L (by_place L) first (by_place L).fresh
 begins_at L w left latest o q =
     ap (λ (n : ℕ). settled L (by_place L) (place_of n w) (memory_of w)) q
@@ -115,10 +96,10 @@ module _ (L : Layout) (stops : Stops) where
   step_law halted r rs = refl
   step_law (due p g) r rs = go (stops (placed L p.order) (pred p.order) r) refl
     where
-      go : (t : Option ℕ) → stops (placed L p.order) (pred p.order) r ≡ t
+      go : (t : Option Reason) → stops (placed L p.order) (pred p.order) r ≡ t
           → walk_on L (by_place L) stops (due p g) (r ∷ rs) ≡ answer_of rs (one_step L stops (due p g) r)
-      go (some n) e = rw (e, walk_on, one_step)
-      go none e = rw (e, walk_on, one_step)
+      go (Some n) e = rw (e, walk_on, one_step)
+      go None e = rw (e, walk_on, one_step)
 
   abbrev Next : Stepped → Type 0
   Next (ended e) = Unit {0}
@@ -130,9 +111,9 @@ module _ (L : Layout) (stops : Stops) where
   next_law G r x c (both_halted g m e) = tt
   next_law G r x c (both_due {p = p} {h = h} {g = g} m a) = go (stops (placed L p.order) (pred p.order) r) refl
     where
-      go : (t : Option ℕ) → stops (placed L p.order) (pred p.order) r ≡ t → Next (one_step L stops (due p g) r)
-      go (some n) e = rw (e, one_step) tt
-      go none e = rw (e, one_step) (onward L (by_visits L) p h r, next_same L G p h g r m a)
+      go : (t : Option Reason) → stops (placed L p.order) (pred p.order) r ≡ t → Next (one_step L stops (due p g) r)
+      go (Some n) e = rw (e, one_step) tt
+      go None e = rw (e, one_step) (onward L (by_visits L) p h r, next_same L G p h g r m a)
 
 within_same : (L : Layout) → Good L → (x : Settled Visits) (c : Settled (ℕ → ℕ)) → Same L x c → Within L c
 within_same L G x c both_past = tt
@@ -188,7 +169,7 @@ start_history P p readings e c h = rw h (record {
   same = first_same (layout p) (good (layout p) e);
 })
 
-pub stopped_1 : (P : Pack) (p : Pgn) (readings w : List ℕ) → stop_1 (layout p) ≡ true → Told (walk P p readings) w w (Ended (Stop 1) 0)
+pub stopped_1 : (P : Pack) (p : Pgn) (readings w : List ℕ) → stop_1 (layout p) ≡ true → Told (walk P p readings) w w (Ended (Stop SetMisplaced) 0)
 unfolding walk walk_with
 stopped_1 P p readings w e = rw (walk, walk_with, e) (record { answer = refl; out = refl })
 

@@ -1,6 +1,6 @@
 -- The walk as code can keep it: by the place alone, and for each set the latest reading of its countField. It is the same walk (`agree`).
 use Rattle.std.specs.Prelude.{ℕ, suc, Bool, false, ◌&&◌, ◌==◌, if◌then◌else◌}
-use Rattle.std.proofs.Math.Option.{Option, none, some}
+use Rattle.std.specs.Prelude.{Option, None, Some}
 use Rattle.pack.specs.Notation.{◌<ᵇ◌}
 use Rattle.walk.specs.Layout.{Layout, set_at, sets_hold}
 use Rattle.walk.specs.Walk.{Memory}
@@ -11,8 +11,8 @@ placed L o t = (suc t <ᵇ o) && sets_hold L (suc t) o
 
 -- the field t is the countField c
 abbrev pub counts : Option ℕ → ℕ → Bool
-counts none t = false
-counts (some c) t = c == suc t
+counts None t = false
+counts (Some c) t = c == suc t
 
 abbrev pub by_place : Layout → Memory (ℕ → ℕ)
 by_place L = record {

@@ -1,7 +1,7 @@
 -- Other readings than `held`'s of "a countField lies in no nonempty set, or in set 1 for a nested set 2". Demand 3 is claimed under the
 -- widest; every other one here, and `held`, implies it of the PGNs of a pack (proofs/HeldWidest.antt).
 use Rattle.std.specs.Prelude.{ℕ, Bool, true, not, ◌&&◌, ◌||◌, length, ◌==◌}
-use Rattle.std.proofs.Math.Option.{Option, none, some}
+use Rattle.std.specs.Prelude.{Option, None, Some}
 use Rattle.pack.specs.Notation.{◌<ᵇ◌, ◌≤ᵇ◌}
 use Rattle.pack.specs.Value.{Pgn, Pack}
 use Rattle.rules.specs.Search.{any_below, every_below}
@@ -21,13 +21,13 @@ in_no_set L c = not (any_below (λ j. holds L j c) (length L.sets))
 
 -- by the letter: "or in set 1 for a nested set 2", whatever else it lies in
 abbrev pub count_field_letter : Layout → ℕ → Option ℕ → Bool
-count_field_letter L k none = true
-count_field_letter L k (some c) = in_no_set L c || (k == 1) && ((set_at L 1).nested && holds L 0 c)
+count_field_letter L k None = true
+count_field_letter L k (Some c) = in_no_set L c || (k == 1) && ((set_at L 1).nested && holds L 0 c)
 
 -- "for a nested set 2" as "where set 2 is nested": set 1's countField may lie there too
 abbrev pub count_field_where_nested : Layout → ℕ → Option ℕ → Bool
-count_field_where_nested L k none = true
-count_field_where_nested L k (some c) = in_no_set L c || (set_at L 1).nested && holds L 0 c
+count_field_where_nested L k None = true
+count_field_where_nested L k (Some c) = in_no_set L c || (set_at L 1).nested && holds L 0 c
 
 -- THE WIDEST, of nonempty sets only: a countField that is a field lies in no nonempty set but its own, unless set 2 is nested
 abbrev pub field_in : Layout → (j c : ℕ) → Bool
@@ -37,8 +37,8 @@ abbrev pub may_hold : Layout → (j k : ℕ) → Bool
 may_hold L j k = (j == k) || nested_in L j k || nested_in L k j
 
 unfoldable pub count_field_widest : Layout → ℕ → Option ℕ → Bool
-count_field_widest L k none = true
-count_field_widest L k (some c) = every_below (λ j. not (field_in L j c) || may_hold L j k) (length L.sets)
+count_field_widest L k None = true
+count_field_widest L k (Some c) = every_below (λ j. not (field_in L j c) || may_hold L j k) (length L.sets)
 
 unfoldable pub widest_count_fields_held : Layout → Bool
 widest_count_fields_held L = of_nonempty_sets count_field_widest L

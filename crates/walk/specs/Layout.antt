@@ -1,7 +1,7 @@
 -- What the walk sees of a PGN: its fields, and its repeating sets one after the other.
 -- "A field's index runs from 0 and its order from 1; sets and countField use orders": the field of index t has the order suc t.
 use Rattle.std.specs.Prelude.{ℕ, zero, suc, ◌+◌, Bool, false, not, ◌&&◌, ◌||◌, List, length, get_or, ◌==◌}
-use Rattle.std.proofs.Math.Option.{Option, none, some}
+use Rattle.std.specs.Prelude.{Option, None, Some}
 use Rattle.pack.specs.Notation.{◌<ᵇ◌, ◌≤ᵇ◌, tab}
 use Rattle.pack.specs.Value.{Field, Repeating, Pgn, set_place}
 use Rattle.rules.specs.Search.{any_below, every_below}
@@ -12,11 +12,11 @@ pub record Layout : Type 0 where
 
 -- A set that is absent, or past the last one: it is empty.
 abbrev pub no_set : Repeating
-no_set = record { count = 0; start = 0; count_field = none; nested = false }
+no_set = record { count = 0; start = 0; count_field = None; nested = false }
 
 abbrev pub set_or_empty : Option Repeating → Repeating
-set_or_empty none = no_set
-set_or_empty (some s) = s
+set_or_empty None = no_set
+set_or_empty (Some s) = s
 
 -- "two optional sets": the places one after the other, an absent one as an empty set.
 abbrev pub layout : Pgn → Layout

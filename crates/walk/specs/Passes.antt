@@ -1,6 +1,6 @@
 -- Where a walk stands between two visits, by the passes of the sets (document 01, "The walk"): which pass ends, which set is arrived at.
 use Rattle.std.specs.Prelude.{ℕ, zero, suc, Bool, true, false, not, ◌&&◌, length, ◌==◌, if◌then◌else◌}
-use Rattle.std.proofs.Math.Option.{Option, none, some}
+use Rattle.std.specs.Prelude.{Option, None, Some}
 use Rattle.pack.specs.Notation.{◌<ᵇ◌}
 use Rattle.pack.specs.Value.{Field}
 use Rattle.walk.specs.Layout.{Layout, start, end, nonempty}
@@ -21,11 +21,11 @@ pub record Place : Type 0 where
 
 -- "Fields go by order", from 1
 abbrev pub first : Place
-first = record { order = 1; left = λ k. none }
+first = record { order = 1; left = λ k. None }
 
 abbrev pub present : Option Rest → Bool
-present none = false
-present (some x) = true
+present None = false
+present (Some x) = true
 
 -- f but for k, where it is x
 unfoldable pub put : {A : Type 0} → (ℕ → A) → ℕ → A → ℕ → A
@@ -62,18 +62,18 @@ pub data Turn : Type 0 where
 -- whether the pass ends here, and what is left after it
 abbrev pub turn : Bool → Option Rest → Turn
 turn false x = goes_on
-turn true none = goes_on
-turn true (some endless) = begins endless
-turn true (some (more zero)) = leaves
-turn true (some (more (suc n))) = begins (more n)
+turn true None = goes_on
+turn true (Some endless) = begins endless
+turn true (Some (more zero)) = leaves
+turn true (Some (more (suc n))) = begins (more n)
 
 -- The passes of the sets below k that end here are closed, the innermost set (the last) first.
 unfoldable pub close : Layout → ℕ → Place → Stand
 close L zero p = elim (length L.fields <ᵇ p.order) [ true ↦ beyond | false ↦ look L (length L.sets) p ]
 close L (suc k) p = elim (turn (p.order == end L k) (p.left k)) [
   | goes_on ↦ close L k p
-  | leaves ↦ close L k (goto_with p p.order k none)
-  | begins x ↦ again k (goto_with p (start L k) k (some x))
+  | leaves ↦ close L k (goto_with p p.order k None)
+  | begins x ↦ again k (goto_with p (start L k) k (Some x))
 ]
 
 unfoldable pub stand : Layout → Place → Stand

@@ -1,6 +1,6 @@
 -- What a run of visits goes by: orders of which each leads to the next, the passes that are left, and the visits that are written.
 use Rattle.std.specs.Prelude.{ℕ, zero, suc, ◌+◌, ◌-◌, ◌≤◌, ◌<◌, ◌≡◌, Bool, true, false, ◌||◌, List, length, get_or, set, ◌==◌}
-use Rattle.std.proofs.Math.Option.{none, some}
+use Rattle.std.specs.Prelude.{None, Some}
 use Rattle.pack.specs.Meaning.{opt_order}
 use Rattle.walk.specs.ByPlace.{placed, counts}
 use Rattle.walk.specs.Layout.{Layout}
@@ -10,6 +10,7 @@ use Rattle.walk.specs.State.{left_of, left_at, place_of, memory_of}
 use Rattle.walk.specs.Steps.{Run}
 use Rattle.walk.specs.StopParts.{lets_pass}
 use Rattle.walk.specs.Walk.{Stops, due}
+use Rattle.pack.specs.declared.protocol.FieldOrder.{FieldOrder}
 use Rattle.walk.specs.declared.sets.Set.{Set}
 use Rattle.walk.specs.declared.sets.Sets.{Sets}
 use Rattle.walk.specs.declared.stretches.Stretch.{Stretch}
@@ -39,7 +40,7 @@ pub record EndsBehind (v : Sets) (o : ℕ) (x : Ending) : Type 0 where
 pub record Straight (v : Sets) (x : Stretch) : Type 0 where
   pub within : x.to.0 ≤ v.fields
   pub plain : (o : ℕ) → x.from.0 ≤ o → o < x.to.0 → PlainAt v o
-  pub ending : x.ending.given ≡ true → EndsBehind v x.to.0 x.ending
+  pub ending : (e : Ending) → x.ending ≡ Some e → EndsBehind v x.to.0 e
 
 -- What is so of a stretch whatever the sets are: its orders are orders, and its set one of the four with a first order; of a free one each
 -- field is marked to stop at no reading.
@@ -47,8 +48,8 @@ pub record Sound (marks : List ℕ) (x : Stretch) : Type 0 where
   pub first : 1 ≤ x.from.0
   pub order : x.from.0 ≤ x.to.0
   pub free : x.free ≡ true → (o : ℕ) → x.from.0 ≤ o → o < x.to.0 → get_or marks (o - 1) 0 ≡ 1
-  pub set : x.ending.given ≡ true → x.ending.set < 4
-  pub start : x.ending.given ≡ true → 1 ≤ x.ending.start.0
+  pub set : (e : Ending) → x.ending ≡ Some e → e.set < 4
+  pub start : (e : Ending) → x.ending ≡ Some e → 1 ≤ e.start.0
 
 -- n visits, of field k and those that follow it, written from m on
 abbrev pub written : List ℕ → (m k n : ℕ) → List ℕ
@@ -59,20 +60,22 @@ written v m k (suc n) = set (written v m k n) (m + n) (k + n)
 pub record Turns (w : List ℕ) (k : ℕ) (w' : List ℕ) : Type 0 where
   pub rest : Rest
   pub begins : turn true (left_of (left_at w k)) ≡ begins rest
-  pub place : (o : ℕ) → place_of o w' ≡ goto_with (place_of o w) o k (some rest)
+  pub place : (o : ℕ) → place_of o w' ≡ goto_with (place_of o w) o k (Some rest)
   pub memory : memory_of w' ≡ memory_of w
 
 -- The stretch ends at the order o with a set; the visit there with the next reading is let pass, and another pass of the set begins behind it.
-pub record PassesOn (marks bad readings : List ℕ) (x : Stretch) (m o : ℕ) (w w' : List ℕ) : Type 0 where
+pub record PassesOn (marks bad readings : List ℕ) (x : Stretch) (m o : ℕ) (w : List ℕ) (first : FieldOrder) (w' : List ℕ) : Type 0 where
   pub read : m < length readings
   pub at : o ≡ x.to.0
-  pub ending : x.ending.given ≡ true
+  pub by : Ending
+  pub ending : x.ending ≡ Some by
+  pub start : first ≡ by.start
   pub passing : lets_pass marks bad (o - 1) (get_or readings m 0) ≡ true
-  pub turns : Turns w x.ending.set w'
+  pub turns : Turns w by.set w'
 
 -- What the memory lets pass does not stop, and so these visits are made: from the order o with the numbers w of the passes to o' with w', the
 -- visit buffer b being b' then.
 pub record RunsTo (v : Sets) (marks bad readings b : List ℕ) (n o : ℕ) (w b' : List ℕ) (m o' : ℕ) (w' : List ℕ) : Type 0 where
   pub run : (L : Layout) → SetsAre L v → (stops : Stops)
-      → ((k reading : ℕ) → lets_pass marks bad k reading ≡ true → stops (placed L (suc k)) k reading ≡ none)
+      → ((k reading : ℕ) → lets_pass marks bad k reading ≡ true → stops (placed L (suc k)) k reading ≡ None)
       → Run L stops readings b n (due (place_of o w) (memory_of w)) b' m (due (place_of o' w') (memory_of w'))

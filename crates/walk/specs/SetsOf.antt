@@ -1,5 +1,5 @@
 -- What the values of the repeating sets are: a set's, and those of a layout.
-use Rattle.std.specs.Prelude.{ℕ, suc, ◌+◌, ◌≤◌, ◌≡◌, Bool, false, not, ◌&&◌, ◌||◌, length, get_or, ◌==◌}
+use Rattle.std.specs.Prelude.{None, ℕ, suc, ◌+◌, ◌≤◌, ◌≡◌, Bool, false, not, ◌&&◌, ◌||◌, length, get_or, ◌==◌}
 use Rattle.pack.specs.Meaning.{opt_order}
 use Rattle.pack.specs.Notation.{◌<ᵇ◌, ◌≤ᵇ◌}
 use Rattle.pack.specs.Value.{Repeating}
@@ -16,7 +16,7 @@ pub record SetIs (R : Repeating) (v : Set) : Type 0 where
 -- what stands beyond the last set: it is empty
 abbrev pub empty_set : Set
 empty_set =
-    record { start = record { 0 = 0 }; end = record { 0 = 0 }; counter = record { given = false; order = record { 0 = 0 } }; nested = false }
+    record { start = record { 0 = 0 }; end = record { 0 = 0 }; counter = None; nested = false }
 
 -- set k
 abbrev pub value_at : Sets → ℕ → Set

@@ -1,13 +1,14 @@
 -- What the numbers and values mean that the code of the walk keeps: of each set what is left, and its countField's latest reading. No history.
+use Rattle.std.specs.Bool.{then_some}
 use Rattle.std.specs.Prelude.{ℕ, ◌+◌, ◌*◌, List, get_or, set, ◌==◌, if◌then◌else◌}
-use Rattle.std.proofs.Math.Option.{Option}
-use Rattle.pack.specs.Notation.{optional}
+use Rattle.std.specs.Option.{option_map}
+use Rattle.std.specs.Prelude.{Option, None, Some}
 use Rattle.walk.specs.Layout.{Layout}
 use Rattle.walk.specs.Passes.{Rest, endless, more, Place, Stand, again, arrived, ready, beyond, Turn, goes_on, leaves, begins, stand}
 use Rattle.walk.specs.Walk.{Arrival, not_current, over, enter, Settled, past, halted, due, settle}
 use Rattle.walk.specs.ByPlace.{by_place}
 use Rattle.walk.specs.declared.passes.Further.{Further}
-use Rattle.walk.specs.declared.passes.Left.{Left}
+use Rattle.walk.specs.declared.passes.Further.TheVariants as further
 use Rattle.walk.specs.declared.passes.Turning.{Turning}
 use Rattle.walk.specs.declared.passes.Turning.TheVariants as turning
 use Rattle.walk.specs.declared.passes.Standing.{Standing}
@@ -17,21 +18,29 @@ use Rattle.walk.specs.declared.passes.Arriving.TheVariants as arriving
 use Rattle.walk.specs.declared.passes.Round.{Round}
 use Rattle.walk.specs.declared.passes.Round.TheVariants as round
 use Rattle.walk.specs.declared.passes.Settling.{Settling}
+use Rattle.walk.specs.declared.passes.Settling.TheVariants as settling
 
 abbrev pub rest_of : Further → Rest
-rest_of v = if v.endless == 1 then endless else more v.more
+rest_of further.Endless = endless
+rest_of (further.More n) = more n
 
-abbrev pub left_of : Left → Option Rest
-left_of v = optional (v.present == 1) (rest_of v.further)
+abbrev pub left_of : Option Further → Option Rest
+left_of v = option_map rest_of v
 
 -- THE NUMBERS OF THE PASSES: of set k four from place 4 k on, what is left of it and the latest reading of its countField. Beyond them all is 0.
-abbrev pub left_at : List ℕ → ℕ → Left
+-- What is left of it are three: 1 where it has a present pass, 1 where its passes never end, else how many more.
+abbrev pub left_at : List ℕ → ℕ → Option Further
 left_at w k =
-    record { present = get_or w (4 * k) 0; further = record { endless = get_or w (4 * k + 1) 0; more = get_or w (4 * k + 2) 0 } }
+    then_some (get_or w (4 * k) 0 == 1) (if get_or w (4 * k + 1) 0 == 1 then further.Endless else further.More (get_or w (4 * k + 2) 0))
+
+abbrev pub with_numbers : List ℕ → (k x y z : ℕ) → List ℕ
+with_numbers w k x y z = set (set (set w (4 * k) x) (4 * k + 1) y) (4 * k + 2) z
 
 -- what is left of set k is v
-abbrev pub with_left : List ℕ → ℕ → Left → List ℕ
-with_left w k v = set (set (set w (4 * k) v.present) (4 * k + 1) v.further.endless) (4 * k + 2) v.further.more
+abbrev pub with_left : List ℕ → ℕ → Option Further → List ℕ
+with_left w k None = with_numbers w k 0 0 0
+with_left w k (Some further.Endless) = with_numbers w k 1 1 0
+with_left w k (Some (further.More n)) = with_numbers w k 1 0 n
 
 abbrev pub place_of : ℕ → List ℕ → Place
 place_of o w = record { order = o; left = λ k. left_of (left_at w k) }
@@ -65,7 +74,9 @@ arrival_of arriving.Over = over
 arrival_of (arriving.Enter x) = enter (rest_of x)
 
 abbrev pub settled_of : Settling → List ℕ → Settled (ℕ → ℕ)
-settled_of v w = if v.due then due (place_of v.order.0 w) (memory_of w) else (if v.halted then halted else past)
+settled_of (settling.Due o) w = due (place_of o.0 w) (memory_of w)
+settled_of settling.Halted w = halted
+settled_of settling.Past w = past
 
 -- one round of `settle`, with n more to come
 abbrev pub round_of : Layout → ℕ → Round → List ℕ → Settled (ℕ → ℕ)

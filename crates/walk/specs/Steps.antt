@@ -1,10 +1,11 @@
 -- One step of the walk, as the code makes it: with one reading it ends or visits a field.
 use Rattle.std.specs.Prelude.{ℕ, pred, ◌+◌, ◌≤◌, ◌<◌, ◌≡◌, List, length, get_or, set}
-use Rattle.std.proofs.Math.Option.{none, some}
+use Rattle.std.specs.Prelude.{None, Some}
 use Rattle.walk.specs.Layout.{Layout}
 use Rattle.walk.specs.Walk.{Stops, Settled, past, halted, due, settled, onward, End, whole, used_up, stop}
 use Rattle.walk.specs.ByPlace.{placed, by_place}
 use Rattle.walk.specs.State.{place_of, memory_of}
+use Rattle.walk.specs.declared.stops.Stop.TheVariants.{CounterNotCurrent}
 use Rattle.walk.specs.declared.walk.End.{End as Ending}
 use Rattle.walk.specs.declared.walk.End.TheVariants.{Whole, UsedUp, Stop}
 use Rattle.walk.specs.declared.steps.Stepping.{Stepping}
@@ -22,10 +23,10 @@ pub data Stepped : Type 0 where
 
 unfoldable pub one_step : Layout → Stops → Settled (ℕ → ℕ) → (reading : ℕ) → Stepped
 one_step L stops past r = ended whole
-one_step L stops halted r = ended (stop 2)
+one_step L stops halted r = ended (stop CounterNotCurrent)
 one_step L stops (due p g) r = elim (stops (placed L p.order) (pred p.order) r) [
-  | some n ↦ ended (stop n)
-  | none ↦ visited (pred p.order) (onward L (by_place L) p g r)
+  | Some n ↦ ended (stop n)
+  | None ↦ visited (pred p.order) (onward L (by_place L) p g r)
 ]
 
 -- Steps one after the other, each writing its visit: from the buffer v with n visits made at c, to v' with n' at c'.
@@ -37,7 +38,7 @@ pub data Run (L : Layout) (stops : Stops) (readings v : List ℕ) (n : ℕ) (c :
 -- with no reading left
 abbrev pub used : Settled (ℕ → ℕ) → End
 used past = whole
-used halted = stop 2
+used halted = stop CounterNotCurrent
 used (due p g) = used_up
 
 -- what the values mean

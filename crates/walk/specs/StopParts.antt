@@ -1,7 +1,7 @@
 -- The stops 3 to 9 in the parts that code asks for: by the field alone, by its reading, by what is current. Together they are `stop_at`
 -- (proofs/Parts.antt). Below them what code keeps of a field, so as not to ask again.
-use Rattle.std.specs.Prelude.{ℕ, zero, suc, ◌+◌, ◌*◌, ◌-◌, ◌<◌, ◌≤◌, ◌≡◌, Bool, true, false, not, ◌&&◌, List, length, get_or, ◌==◌, if◌then◌else◌}
-use Rattle.std.proofs.Math.Option.{Option, none, some}
+use Rattle.std.specs.Prelude.{ℕ, suc, ◌+◌, ◌*◌, ◌-◌, ◌<◌, ◌≤◌, ◌≡◌, Bool, true, false, not, ◌&&◌, List, length, get_or, ◌==◌, if◌then◌else◌}
+use Rattle.std.specs.Prelude.{Option, None, Some, IfSome}
 use Rattle.pack.specs.Notation.{◌<ᵇ◌}
 use Rattle.pack.specs.Value.{Entry, Reference, Field, Pgn, Pack, field_at, lookup_at, entry_at}
 use Rattle.pack.specs.Meaning.{pack_of}
@@ -10,48 +10,58 @@ use Rattle.rules.specs.DynamicLength.{length_source}
 use Rattle.rules.specs.Model.{lookup_ref}
 use Rattle.rules.specs.Search.{any_below}
 use Rattle.walk.specs.ByPlace.{placed}
-use Rattle.walk.specs.Layout.{layout}
+use Rattle.pack.specs.declared.protocol.FieldIndex.{FieldIndex}
+use Rattle.walk.specs.Layout.{Layout, layout, sets_hold}
 use Rattle.walk.specs.Stops.{lookup_missing, match_unfit, names_missing, entries_name_missing, reference_names_missing, lacks, lacks_length, stop_at}
 use Rattle.walk.specs.declared.stops.FieldtypeLookup.{FieldtypeLookup}
-use Rattle.walk.specs.declared.stops.LengthGiver.{LengthGiver}
-
--- a stop as a number: 0 for none
-abbrev pub stop_number : ℕ → Option ℕ
-stop_number zero = none
-stop_number (suc n) = some (suc n)
+use Rattle.walk.specs.declared.stops.Stop.{Stop}
+use Rattle.walk.specs.declared.stops.Stop.TheVariants.{LookupMissing, MatchUnfit, EntryNamesMissing, LengthNotCurrent}
+use Rattle.walk.specs.declared.stops.Stop.TheVariants.{ContinuedNotCurrent, NoLengthSource, TrailingNotCurrent}
 
 -- 3 and 4
-unfoldable pub field_stop : Pack → Field → Option ℕ
-field_stop P f = if lookup_missing P f then some 3 else (if match_unfit P f then some 4 else none)
+unfoldable pub field_stop : Pack → Field → Option Stop
+field_stop P f = if lookup_missing P f then Some LookupMissing else (if match_unfit P f then Some MatchUnfit else None)
 
--- 5: the fieldtype lookup that a reference names is v, whose entries decide; where there is none no reading stops
-pub record Named (s w : List ℕ) (r : Option Reference) (v : FieldtypeLookup) : Type 0 where
-  pub place : v.given ≡ true → LookupAt s w v.index v.place
-  pub kind : v.given ≡ true → 3 ≡ (lookup_at (pack_of s).lookups v.index).kind
-  pub entries : v.given ≡ true → v.entries ≡ length (lookup_at (pack_of s).lookups v.index).entries
-  pub decide : v.given ≡ true → (reading : ℕ)
-      → reference_names_missing (pack_of s) r reading ≡ entries_name_missing (pack_of s) (lookup_at (pack_of s).lookups v.index).entries reading
-  pub none : v.given ≡ false → (reading : ℕ) → reference_names_missing (pack_of s) r reading ≡ false
+-- v is a fieldtype lookup's: its work position, its kind and the number of its entries
+pub record IsFieldtypeLookup (s w : List ℕ) (v : FieldtypeLookup) : Type 0 where
+  pub place : LookupAt s w v.index v.place
+  pub kind : 3 ≡ (lookup_at (pack_of s).lookups v.index).kind
+  pub entries : v.entries ≡ length (lookup_at (pack_of s).lookups v.index).entries
 
--- 8: the giver v, if there is one, is a length source before field k
-pub record IsSource (P : Pack) (p : Pgn) (k : ℕ) (v : LengthGiver) : Type 0 where
-  pub before : v.given ≡ true → v.field < k
-  pub source : v.given ≡ true → length_source P.fieldtypes (field_at p v.field) ≡ true
+-- an entry of the lookup, if there is one, is for the reading and names something missing
+abbrev pub lookup_names_missing : Pack → Option FieldtypeLookup → (reading : ℕ) → Bool
+lookup_names_missing P None reading = false
+lookup_names_missing P (Some v) reading = entries_name_missing P (lookup_at P.lookups v.index).entries reading
+
+-- 5: the fieldtype lookup that a reference names is r's, if there is one, and its entries decide; where there is none no reading stops
+pub record Named (s w : List ℕ) (r : Option Reference) (l : Option FieldtypeLookup) : Type 0 where
+  pub lookup : IfSome l (λ v. IsFieldtypeLookup s w v)
+  pub decide : (reading : ℕ) → reference_names_missing (pack_of s) r reading ≡ lookup_names_missing (pack_of s) l reading
+
+-- 8: the giver, if there is one, is a length source before field k
+pub record IsSource (P : Pack) (p : Pgn) (k : ℕ) (giver : Option FieldIndex) : Type 0 where
+  pub before : IfSome giver (λ g. g.0 < k)
+  pub source : IfSome giver (λ g. length_source P.fieldtypes (field_at p g.0) ≡ true)
+
+-- there is a giver, and every set that holds it holds field k
+abbrev pub holds_also : Layout → Option FieldIndex → (k : ℕ) → Bool
+holds_also L None k = false
+holds_also L (Some g) k = sets_hold L (suc g.0) (suc k)
 
 -- 6 to 9
-unfoldable pub need_stop : Pack → Pgn → (ℕ → Bool) → ℕ → Option ℕ
+unfoldable pub need_stop : Pack → Pgn → (ℕ → Bool) → ℕ → Option Stop
 need_stop P p current i =
     let f = field_at p i in
-    if lacks p current f.bit_length_field then some 6
-    else (if lacks p current f.continues then some 7
-    else (if lacks_length P p current i then some 8
-    else (if lacks p current f.trailing_zero then some 9
-    else none)))
+    if lacks p current f.bit_length_field then Some LengthNotCurrent
+    else (if lacks p current f.continues then Some ContinuedNotCurrent
+    else (if lacks_length P p current i then Some NoLengthSource
+    else (if lacks p current f.trailing_zero then Some TrailingNotCurrent
+    else None)))
 
 -- field k stops by its reading alone, if at all
 pub record OnlyByReading (P : Pack) (p : Pgn) (k : ℕ) : Type 0 where
   pub only : (reading : ℕ) → stop_at P p (placed (layout p) (suc k)) k reading
-      ≡ (if reference_names_missing P (lookup_ref (field_at p k)) reading then some 5 else none)
+      ≡ (if reference_names_missing P (lookup_ref (field_at p k)) reading then Some EntryNamesMissing else None)
 
 -- the reading is one of the n that are kept from place `at` on
 abbrev pub among : (bad : List ℕ) → (at n reading : ℕ) → Bool
@@ -78,4 +88,4 @@ lets_pass marks bad k reading =
 
 -- it is right: field k does not stop at a reading that it lets pass
 pub record Remembered (P : Pack) (p : Pgn) (marks bad : List ℕ) : Type 0 where
-  pub never : (k reading : ℕ) → lets_pass marks bad k reading ≡ true → stop_at P p (placed (layout p) (suc k)) k reading ≡ none
+  pub never : (k reading : ℕ) → lets_pass marks bad k reading ≡ true → stop_at P p (placed (layout p) (suc k)) k reading ≡ None

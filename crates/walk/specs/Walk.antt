@@ -1,17 +1,19 @@
 -- The walk over a PGN's fields and repeating sets (document 01, "The walk").
 use Rattle.std.specs.Prelude.{ℕ, zero, suc, pred, Bool, true, false, List, [], ◌∷◌, length, get_or}
-use Rattle.std.proofs.Math.Option.{Option, none, some}
+use Rattle.std.specs.Prelude.{Option, None, Some}
 use Rattle.pack.specs.Value.{no_field, Pgn, Pack}
 use Rattle.walk.specs.Layout.{Layout, layout, set_at, end, stop_1}
 use Rattle.walk.specs.Stops.{stop_at}
 use Rattle.walk.specs.Passes.{passes, Rest, endless, more, Place, first, put, goto, goto_with, Stand, again, arrived, ready, beyond, stand}
 use Rattle.walk.specs.Visits.{Visits, latest, is_current}
+use Rattle.walk.specs.declared.stops.Stop.{Stop}
+use Rattle.walk.specs.declared.stops.Stop.TheVariants.{SetMisplaced, CounterNotCurrent}
 
 -- THE ANSWER: "the end and the number of visits, one for each reading taken"; each visit "writes the index".
 pub data End : Type 0 where
   whole : End
   used_up : End
-  stop : ℕ → End
+  stop : Stop → End
 
 pub record Answer : Type 0 where
   pub ends : End
@@ -32,7 +34,7 @@ pub record Memory (M : Type 0) : Type 0 where
   pub current : Place → M → ℕ → Bool  -- is the field t current?
   pub reading : M → ℕ → ℕ → ℕ  -- the latest reading of the field t, which is the countField of set k
 
--- On arriving at a set: its countField is not current (stop 2), it is passed over, or entered.
+-- On arriving at a set: its countField is not current (stop CounterNotCurrent), it is passed over, or entered.
 pub data Arrival : Type 0 where
   not_current : Arrival
   over : Arrival
@@ -50,16 +52,16 @@ pub data Settled (M : Type 0) : Type 0 where
   halted : Settled M  -- stop 2
   due : Place → M → Settled M
 
--- the stops 3 to 9 at a field: given which fields are current, the field, and the reading, the stop's number if it stops
+-- the stops 3 to 9 at a field: given which fields are current, the field, and the reading, the stop if it stops
 abbrev pub Stops : Type 0
-Stops = (ℕ → Bool) → ℕ → ℕ → Option ℕ
+Stops = (ℕ → Bool) → ℕ → ℕ → Option Stop
 
 module _ (L : Layout) {M : Type 0} (m : Memory M) where
   -- "On arriving at a nonempty set, a countField gives the passes: its reading as it is; stop 2 if not current."
   unfoldable pub arrive : Place → M → ℕ → Option ℕ → Arrival
-  arrive p h k none = enter endless
-  arrive p h k (some zero) = not_current
-  arrive p h k (some (suc t)) = counted (m.current p h t) (passes (get_or L.fields t no_field) (m.reading h k t))
+  arrive p h k None = enter endless
+  arrive p h k (Some zero) = not_current
+  arrive p h k (Some (suc t)) = counted (m.current p h t) (passes (get_or L.fields t no_field) (m.reading h k t))
 
   -- Until a field is due. Each set that is passed over takes the order up, so that 1 + fields rounds are enough (`enough`).
   unfoldable pub settle : ℕ → Stand → M → Settled M
@@ -71,7 +73,7 @@ module _ (L : Layout) {M : Type 0} (m : Memory M) where
     | arrived k p ↦ elim (arrive p h k (set_at L k).count_field) [
       | not_current ↦ halted
       | over ↦ settle rounds (stand L (goto p (end L k))) h
-      | enter x ↦ due (goto_with p p.order k (some x)) (m.begin h k)
+      | enter x ↦ due (goto_with p p.order k (Some x)) (m.begin h k)
     ]
   ]
 
@@ -86,22 +88,22 @@ module _ (L : Layout) {M : Type 0} (m : Memory M) where
   -- "A due field with no reading left ends "used up", before stops 3 to 9; passing the last order ends "whole"."
   -- "The stopping field takes no reading."
   unfoldable pub walk_on : Stops → Settled M → List ℕ → Answer
-  walk_on stops c [] = elim c [ past ↦ no_visit whole | halted ↦ no_visit (stop 2) | due p h ↦ no_visit used_up ]
+  walk_on stops c [] = elim c [ past ↦ no_visit whole | halted ↦ no_visit (stop CounterNotCurrent) | due p h ↦ no_visit used_up ]
   walk_on stops c (r ∷ rs) =
       elim c [
         | past ↦ no_visit whole
-        | halted ↦ no_visit (stop 2)
+        | halted ↦ no_visit (stop CounterNotCurrent)
         | due p h ↦
             elim (stops (m.current p h) (pred p.order) r) [
-              | some n ↦ no_visit (stop n)
-              | none ↦ visit_then (pred p.order) (walk_on stops (onward p h r) rs)
+              | Some n ↦ no_visit (stop n)
+              | None ↦ visit_then (pred p.order) (walk_on stops (onward p h r) rs)
             ]
       ]
 
   -- "Stop 1, before any visit"
   unfoldable pub walk_with : Stops → List ℕ → Answer
   walk_with stops rs = elim (stop_1 L) [
-    | true ↦ no_visit (stop 1)
+    | true ↦ no_visit (stop SetMisplaced)
     | false ↦ walk_on stops (settled first m.fresh) rs
   ]
 

@@ -9,6 +9,7 @@ use Rattle.pack.specs.declared.load.Loaded.TheVariants as load
 use Rattle.pack.specs.declared.load.Refusal.TheVariants.{Absent, Visits}
 use Rattle.walk.specs.Walk.{End, whole, used_up, stop, Answer, walk}
 use Rattle.walk.specs.Held.{held}
+use Rattle.walk.specs.Stops.{number_of}
 use Rattle.walk.specs.declared.walk.End.{End as Ending}
 use Rattle.walk.specs.declared.walk.End.TheVariants.{Whole, UsedUp, Stop}
 use Rattle.walk.specs.declared.walk.Walked.{Walked}
@@ -65,13 +66,13 @@ visits_after s m t i readings o = visits_left (walked s m t i readings (length o
 abbrev pub end_number : End → ℕ
 end_number whole = 0
 end_number used_up = 10
-end_number (stop n) = n
+end_number (stop n) = number_of n
 
 -- for each case of the answer its number and values: "the end and the number of visits"
 abbrev pub ending_number : Ending → ℕ
 ending_number Whole = 0
 ending_number UsedUp = 10
-ending_number (Stop n) = n
+ending_number (Stop n) = number_of n
 
 abbrev pub walk_answer : Walked → Numbers
 walk_answer (Refused r) = refusal_answer r

@@ -1,17 +1,18 @@
 // Which PGNs are held.
-ghost use Rattle.std.specs.Prelude.{◌≡◌, true, not, ◌&&◌, ◌||◌, suc, ◌+◌, ◌<◌, length};
+ghost use Rattle.std.specs.Prelude.{◌≡◌, IfSome, is_some, not, ◌&&◌, ◌||◌, suc, ◌<◌, length};
 ghost use Rattle.pack.specs.Meaning.{field_meaning, pack_of};
 ghost use Rattle.pack.specs.Value.{field_at};
 ghost use Rattle.walk.specs.Held.{shares_held, count_field_held, count_fields_held, bit_length_held, dynamic_value_held, held};
-ghost use Rattle.walk.specs.Layout.{Layout, set_at, holds, sets_hold, nested_in};
+ghost use Rattle.rules.specs.DynamicLength.{length_source};
+ghost use Rattle.walk.specs.Layout.{Layout, layout, set_at, holds, sets_hold, nested_in};
 ghost use Rattle.walk.specs.Naming.{IsFound, found_pgn};
 ghost use Rattle.walk.specs.SetsOf.{SetsAre};
-ghost use Rattle.walk.specs.StopParts.{IsSource};
-ghost use Rattle.rules.specs.Search.{every_below};
+ghost use Rattle.walk.specs.StopParts.{IsSource, holds_also};
+ghost use Rattle.rules.specs.Search.{any_below, every_below};
 
 use crate::named::FoundPgn;
 use crate::sets::{Sets, clashes, holds, nested_in, sets_hold};
-use crate::stops::{LengthGiver, NO_GIVER, is_value, length_giver};
+use crate::stops::{is_value, length_giver};
 use pack::field::FieldView;
 use pack::of::field_of;
 use pack::protocol::{FieldIndex, FieldOrder};
@@ -21,12 +22,10 @@ use rules::targets::target;
 fn shares_held(sets: Sets) -> bool
     ensures { (L : Layout) → SetsAre L sets → result ≡ shares_held L }
 {
-    let mut k = 0;
-    while k < 4 {
+    for k in 0..4 {
         if clashes(sets, k) {
             return false;
         }
-        k += 1;
     }
     true
 }
@@ -36,10 +35,7 @@ fn nested_or_apart(sets: Sets, j: usize, k: usize, o: FieldOrder) -> bool
     requires { record { first : j < 4; second : k < 4 } }
     ensures { (L : Layout) → SetsAre L sets → result ≡ (not (holds L j o.0) || nested_in L j k) }
 {
-    if holds(sets.sets[j], o) {
-        return nested_in(sets, j, k);
-    }
-    true
+    !holds(sets.sets[j], o) || nested_in(sets, j, k)
 }
 
 // The countField of set k.
@@ -48,16 +44,13 @@ fn counter_held(sets: Sets, k: usize) -> bool
     ensures { (L : Layout) → SetsAre L sets → result ≡ count_field_held L k (set_at L k).count_field }
 {
     let set = sets.sets[k];
-    let counter = set.counter;
-    if !counter.given {
+    let Some(counter) = set.counter else {
         return true;
-    }
-    let mut j = 0;
-    while j < 4 {
-        if !nested_or_apart(sets, j, k, counter.order) {
+    };
+    for j in 0..4 {
+        if !nested_or_apart(sets, j, k, counter) {
             return false;
         }
-        j += 1;
     }
     true
 }
@@ -66,12 +59,10 @@ fn counter_held(sets: Sets, k: usize) -> bool
 fn count_fields_held(sets: Sets) -> bool
     ensures { (L : Layout) → SetsAre L sets → result ≡ count_fields_held L }
 {
-    let mut k = 0;
-    while k < 4 {
+    for k in 0..4 {
         if !counter_held(sets, k) {
             return false;
         }
-        k += 1;
     }
     true
 }
@@ -85,24 +76,15 @@ fn bit_length_held(s: &[u8], work: &[u32], found: FoundPgn, k: u32, f: FieldView
     } }
     ensures { result ≡ bit_length_held (found_pgn s.now found) k }
 {
-    let id = f.links.length;
-    if !id.given {
+    let Some(id) = f.links.length else {
         return true;
-    }
-    let aim = target(
-        s,
-        work,
-        found.tree,
-        found.pgn,
-        found.place,
-        found.sets.fields,
-        id.text,
-    );
-    if !aim.given {
+    };
+    let fields = found.sets.fields;
+    let Some(aim) = target(s, work, found.tree, found.pgn, found.place, fields, id) else {
         return true;
-    }
+    };
     let own = FieldIndex(k).order();
-    sets_hold(found.sets, FieldIndex(aim.value).order(), own)
+    sets_hold(found.sets, FieldIndex(aim).order(), own)
 }
 
 // "a bitLengthField target's nonempty sets hold its user"
@@ -112,105 +94,83 @@ fn bit_lengths_held(s: &[u8], work: &[u32], found: FoundPgn) -> bool
         (length (found_pgn s.now found).fields) }
 {
     let fields = found.sets.fields;
-    let mut k: u32 = 0;
-    while k < fields {
+    for k in 0..fields {
         let f = field_of(s, work, found.tree, found.pgn, found.place, k);
         if !bit_length_held(s, work, found, k, f) {
             return false;
         }
-        k += 1;
     }
     true
 }
 
 // Whether there is a giver, and its sets hold field k.
-fn still_gives(sets: Sets, giver: LengthGiver, k: u32) -> bool
-    requires { record { giver : giver.given ≡ true → giver.field < 4294967295; field : k < 4294967295 } }
-    ensures { (L : Layout) → SetsAre L sets → result ≡ (giver.given && sets_hold L (suc giver.field) (suc k)) }
+fn still_gives(sets: Sets, giver: Option<FieldIndex>, k: u32) -> bool
+    requires { record { giver : IfSome giver (λ g. g.0 < 4294967295); field : k < 4294967295 } }
+    ensures { (L : Layout) → SetsAre L sets → result ≡ holds_also L giver k }
 {
-    if giver.given {
-        let own = FieldIndex(k).order();
-        return sets_hold(sets, FieldIndex(giver.field).order(), own);
+    match giver {
+        Some(g) => sets_hold(sets, g.order(), FieldIndex(k).order()),
+        None => false,
     }
-    false
 }
 
-// Whether a field is held, and the latest giver by then.
-#[derive(Clone, Copy)]
-struct ValueHeld {
-    held: bool,
-    giver: LengthGiver,
-}
-
-// "each DYNAMIC_FIELD_VALUE has a lower-order dynamicFieldLength or DYNAMIC_FIELD_KEY field whose nonempty sets hold it": then it is never
-// without one that is current. Field k, which is f. The latest giver is asked first: as sets are ranges, a search is then made at most a few
-// times a PGN, and not for each value.
-fn value_held(
+// A giver of field k's length, if there is one. The latest one found is asked first: as sets are ranges, a search is then made at most a few times
+// a PGN, and not for each value.
+fn latest_giver(
     s: &[u8],
     work: &[u32],
     found: FoundPgn,
     k: u32,
-    f: FieldView,
-    giver: LengthGiver,
-) -> ValueHeld
+    giver: Option<FieldIndex>,
+) -> Option<FieldIndex>
     requires { record {
       pgn : IsFound s.now work.now found;
       field : k < length (found_pgn s.now found).fields;
-      means : field_meaning s.now f ≡ field_at (found_pgn s.now found) k;
       source : IsSource (pack_of s.now) (found_pgn s.now found) k giver;
     } }
     ensures { record {
-      held : result.held ≡ dynamic_value_held (pack_of s.now) (found_pgn s.now found) k;
-      source : IsSource (pack_of s.now) (found_pgn s.now found) (k + 1) result.giver;
+      given : is_some result ≡ any_below
+          (λ j. length_source (pack_of s.now).fieldtypes (field_at (found_pgn s.now found) j) && sets_hold
+          (layout (found_pgn s.now found)) (suc j) (suc k)) k;
+      source : IsSource (pack_of s.now) (found_pgn s.now found) k result;
     } }
 {
-    if !is_value(s, work, found, k, f) {
-        return ValueHeld { held: true, giver };
-    }
     if still_gives(found.sets, giver, k) {
-        return ValueHeld { held: true, giver };
+        return giver;
     }
-    let latest = length_giver(s, work, found, k);
-    ValueHeld {
-        held: latest.given,
-        giver: latest,
-    }
+    length_giver(s, work, found, k)
 }
 
-// Whether every field is held so.
+// "each DYNAMIC_FIELD_VALUE has a lower-order dynamicFieldLength or DYNAMIC_FIELD_KEY field whose nonempty sets hold it": then it is never
+// without one that is current.
 fn dynamic_values_held(s: &[u8], work: &[u32], found: FoundPgn) -> bool
     requires { IsFound s.now work.now found }
     ensures { result ≡ every_below (λ k. dynamic_value_held (pack_of s.now) (found_pgn s.now found) k)
         (length (found_pgn s.now found).fields) }
 {
     let fields = found.sets.fields;
-    let mut giver = NO_GIVER;
-    let mut k: u32 = 0;
-    while k < fields {
+    let mut giver = None;
+    for k in 0..fields {
         let f = field_of(s, work, found.tree, found.pgn, found.place, k);
-        let value = value_held(s, work, found, k, f, giver);
-        if !value.held {
+        if !is_value(s, work, found, k, f) {
+            continue;
+        }
+        giver = latest_giver(s, work, found, k, giver);
+        if giver.is_none() {
             return false;
         }
-        giver = value.giver;
-        k += 1;
     }
     true
 }
 
 // Whether the PGN is held.
+#[tactic(auto, unfolding(crate::specs::Held::held))]
 pub fn held_at(s: &[u8], work: &[u32], found: FoundPgn) -> bool
     requires { IsFound s.now work.now found }
     ensures { result ≡ held (pack_of s.now) (found_pgn s.now found) }
 {
-    if !shares_held(found.sets) {
-        return false;
-    }
-    if !count_fields_held(found.sets) {
-        return false;
-    }
-    if !bit_lengths_held(s, work, found) {
-        return false;
-    }
-    dynamic_values_held(s, work, found)
+    shares_held(found.sets)
+        && count_fields_held(found.sets)
+        && bit_lengths_held(s, work, found)
+        && dynamic_values_held(s, work, found)
 }

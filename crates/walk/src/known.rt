@@ -4,17 +4,17 @@
 ghost use Rattle.std.specs.Prelude.{◌≡◌, true, ◌&&◌, suc, ◌+◌, ◌*◌, ◌<◌, ◌≤◌, length, get_or, set, ◌==◌, if◌then◌else◌};
 ghost use Rattle.pack.specs.Meaning.{pack_of};
 ghost use Rattle.pack.specs.Notation.{◌<ᵇ◌, ◌≤ᵇ◌};
-ghost use Rattle.pack.specs.Ready.{LookupAt, IndexIs};
+ghost use Rattle.pack.specs.Ready.{IndexIs};
 ghost use Rattle.pack.specs.Value.{field_at, lookup_at};
 ghost use Rattle.rules.specs.Model.{lookup_ref};
 ghost use Rattle.walk.specs.ByPlace.{placed};
 ghost use Rattle.walk.specs.Layout.{layout};
 ghost use Rattle.walk.specs.Naming.{IsFound, found_pgn};
-ghost use Rattle.walk.specs.StopParts.{Named, OnlyByReading, Collected, Remembered, among, lets_pass, stop_number};
+ghost use Rattle.walk.specs.StopParts.{IsFieldtypeLookup, Named, OnlyByReading, Collected, Remembered, among, lets_pass};
 ghost use Rattle.walk.specs.Stops.{stop_at};
 
 use crate::named::FoundPgn;
-use crate::stops::{FieldtypeLookup, judge, names_missing};
+use crate::stops::{FieldtypeLookup, Stop, judge, names_missing};
 use pack::load::Index;
 use pack::of::entry_of;
 
@@ -29,11 +29,7 @@ const SEEN: u8 = 7;
 fn mark_at(marks: &[u8], k: u32) -> u8
     ensures { result ≡ get_or marks.now k 0 }
 {
-    let at = k as usize;
-    if at < marks.len() {
-        return marks[at];
-    }
-    0
+    marks.get(k as usize).copied().unwrap_or(0)
 }
 
 // Whether field k is known to stop at no reading.
@@ -47,10 +43,7 @@ pub fn is_free(marks: &[u8], k: u32) -> bool
 fn value_at(bad: &[u64], i: usize) -> u64
     ensures { result ≡ get_or bad.now i 0 }
 {
-    if i < bad.len() {
-        return bad[i];
-    }
-    0
+    bad.get(i).copied().unwrap_or(0)
 }
 
 // Whether a reading is among the first n that are kept of field k.
@@ -59,12 +52,10 @@ fn is_bad(bad: &[u64], k: u32, n: usize, reading: u64) -> bool
     ensures { result ≡ among bad.now (4 * k) n reading }
 {
     let at = 4 * k as usize;
-    let mut j: usize = 0;
-    while j < n {
+    for j in 0..n {
         if value_at(bad, at + j) == reading {
             return true;
         }
-        j += 1;
     }
     false
 }
@@ -74,16 +65,7 @@ pub fn lets_pass(marks: &[u8], bad: &[u64], k: u32, reading: u64) -> bool
     ensures { result ≡ lets_pass marks.now bad.now k reading }
 {
     let m = mark_at(marks, k);
-    if m == FREE {
-        return true;
-    }
-    if m == 0 {
-        return false;
-    }
-    if TOO_MANY <= m {
-        return false;
-    }
-    !is_bad(bad, k, m as usize - 1, reading)
+    m == FREE || (0 < m && m < TOO_MANY && !is_bad(bad, k, m as usize - 1, reading))
 }
 
 // The mark m at field k, if there is room.
@@ -133,26 +115,21 @@ fn collect(
     at: usize,
 ) -> usize
     requires { record {
-      place : LookupAt s.now work.now l.index l.place;
-      kind : 3 ≡ (lookup_at (pack_of s.now).lookups l.index).kind;
-      entries : l.entries ≡ length (lookup_at (pack_of s.now).lookups l.index).entries;
+      lookup : IsFieldtypeLookup s.now work.now l;
       small : at ≤ 17179869180;
       index : IndexIs (pack_of s.now) index;
     } }
     ensures { Collected (pack_of s.now) (lookup_at (pack_of s.now).lookups l.index).entries l.entries at
         bad.old bad.new result }
 {
-    let entries = l.entries;
     let mut n: usize = 0;
-    let mut e: u32 = 0;
-    while e < entries {
+    for e in 0..l.entries {
         let entry = entry_of(s, work, l.index, l.place, 3, e);
         let hit = names_missing(s, work, index, entry);
         n = keep(bad, at, n, hit, entry.value);
         if 4 < n {
             return 5;
         }
-        e += 1;
     }
     n
 }
@@ -179,7 +156,7 @@ fn remember(
     marks: &mut [u8],
     bad: &mut [u64],
     k: u32,
-    l: FieldtypeLookup,
+    l: Option<FieldtypeLookup>,
 )
     requires { record {
       pgn : IsFound s.now work.now found;
@@ -189,10 +166,10 @@ fn remember(
     } }
     ensures { Remembered (pack_of s.now) (found_pgn s.now found) marks.new bad.new }
 {
-    if !l.given {
+    let Some(l) = l else {
         mark(marks, k, FREE);
         return;
-    }
+    };
     let m = mark_at(marks, k);
     if m == 0 {
         mark(marks, k, SEEN);
@@ -206,7 +183,7 @@ fn remember(
     mark(marks, k, new);
 }
 
-// The stop at field k of a PGN, with this reading; 0 for none.
+// The stop at field k of a PGN, with this reading.
 pub fn stop_at(
     s: &[u8],
     work: &[u32],
@@ -215,26 +192,26 @@ pub fn stop_at(
     bad: &mut [u64],
     k: u32,
     reading: u64,
-) -> u32
+) -> Option<Stop>
     requires { record {
       pgn : IsFound s.now work.now found;
       remembered : Remembered (pack_of s.now) (found_pgn s.now found) marks.old bad.old;
       field : k < length (found_pgn s.now found).fields;
     } }
     ensures { record {
-      stop : stop_number result ≡ stop_at (pack_of s.now) (found_pgn s.now found)
+      stop : result ≡ stop_at (pack_of s.now) (found_pgn s.now found)
           (placed (layout (found_pgn s.now found)) (suc k)) k reading;
       remembered : Remembered (pack_of s.now) (found_pgn s.now found) marks.new bad.new;
     } }
 {
     if lets_pass(marks, bad, k, reading) {
-        return 0;
+        return None;
     }
-    let judged = judge(s, work, found, k, reading);
-    if judged.stop != 0 {
-        return judged.stop;
+    match judge(s, work, found, k, reading) {
+        Ok(l) => {
+            remember(s, work, found, marks, bad, k, l);
+            None
+        }
+        Err(stop) => Some(stop),
     }
-    let l = judged.lookup;
-    remember(s, work, found, marks, bad, k, l);
-    0
 }

@@ -31,27 +31,20 @@ pub struct FoundPgn {
     pub sets: Sets,
 }
 
-// The PGN that a call names, or the call's refusal.
-#[derive(Clone, Copy)]
-pub enum NamedPgn {
-    Refused(Refusal),
-    Found(PgnPlace),
-}
-
 // The PGN that is named, if it is in the pack: 23.
-fn find_pgn(s: &[u8], work: &[u32], index: Index, tree: u32, pgn: u32) -> NamedPgn
+fn find_pgn(s: &[u8], work: &[u32], index: Index, tree: u32, pgn: u32) -> Result<PgnPlace, Refusal>
     requires { record { ready : Ready s.now work.now; index : IndexIs (pack_of s.now) index } }
     ensures { NamedIs s.now work.now tree pgn (absence (in_pack (pack_of s.now) tree pgn)) result }
 {
     if Protocol::COUNT <= tree as usize {
-        return NamedPgn::Refused(Refusal::Absent);
+        return Err(Refusal::Absent);
     }
     let section = Protocol::of_tree(tree).section(index);
     if section.count <= pgn {
-        return NamedPgn::Refused(Refusal::Absent);
+        return Err(Refusal::Absent);
     }
     let place = pgn_position(s, work, tree, section.place, pgn);
-    NamedPgn::Found(PgnPlace {
+    Ok(PgnPlace {
         index,
         tree,
         pgn,
@@ -77,14 +70,14 @@ pub fn found_pgn(s: &[u8], work: &[u32], at: PgnPlace) -> FoundPgn
 }
 
 // The pack is loaded, and the PGN found: "Input refusals come before these; then 21, 23"
-pub fn named_pgn(pack: &[u8], work: &mut [u32], tree: u32, pgn: u32) -> NamedPgn
+pub fn named_pgn(pack: &[u8], work: &mut [u32], tree: u32, pgn: u32) -> Result<PgnPlace, Refusal>
     ensures { record {
       named : NamedIs pack.now work.new tree pgn (naming_refusal pack.now (length work.old) tree pgn) result;
       work : work.new ≡ work_after pack.now work.old;
     } }
 {
     match load(pack, work) {
-        Loaded::Refused(refusal) => NamedPgn::Refused(refusal),
+        Loaded::Refused(refusal) => Err(refusal),
         Loaded::Accepted(index) => find_pgn(pack, work, index, tree, pgn),
     }
 }

@@ -1,33 +1,26 @@
 // The passes of the sets: which pass ends, which set is arrived at, which field is due. What is left of each set, and the latest reading of its
 // countField, are numbers in a lent array, four a set (specs/State): a value as large, copied at each step, would cost more than the step.
 ghost use Rattle.std.specs.Prelude.{◌≡◌, true, not, ◌&&◌, ℕ, suc, ◌+◌, ◌*◌, ◌-◌, ◌≤◌, ◌<◌, List, length, set, ◌==◌, if◌then◌else◌};
-ghost use Rattle.std.proofs.Math.Option.{none, some};
+ghost use Rattle.std.specs.Prelude.{None, Some};
 ghost use Rattle.rules.specs.Search.{any_below};
 ghost use Rattle.pack.specs.Meaning.{opt_order};
 ghost use Rattle.walk.specs.ByPlace.{by_place, counts};
 ghost use Rattle.walk.specs.Layout.{Layout, set_at};
 ghost use Rattle.walk.specs.Passes.{Place, present, turn, again, arrived, look, close, stand};
 ghost use Rattle.walk.specs.SetsOf.{SetIs, SetsAre, value_at, has_orders};
-ghost use Rattle.walk.specs.State.{rest_of, left_of, left_at, with_left, place_of, memory_of, turn_of, stand_of, arrived_set};
+ghost use Rattle.walk.specs.State.{rest_of, left_of, left_at, with_numbers, with_left, place_of, memory_of, turn_of, stand_of, arrived_set};
 ghost use Rattle.walk.specs.State.{arrival_of, settled_of, round_of, over_order};
 ghost use Rattle.walk.specs.Walk.{arrive, counted, past, halted, due, settle, settled};
 
 use crate::orders::index_of;
 use crate::sets::{Set, Sets, is_nonempty, placed};
-use pack::protocol::{FieldOrder, OptOrder, same_order};
+use pack::protocol::{FieldOrder, same_order};
 
-// What is left of a set's passes after the present one: they never end, or so many. A flag is a number, 1 or 0.
+// What is left of a set's passes after the present one: they never end, or so many. Of a set with no present pass it is an option.
 #[derive(Clone, Copy)]
-pub struct Further {
-    pub endless: u64,
-    pub more: u64,
-}
-
-// The same of a set that may have no present pass.
-#[derive(Clone, Copy)]
-pub struct Left {
-    pub present: u64,
-    pub further: Further,
+pub enum Further {
+    Endless,
+    More(u64),
 }
 
 // What comes of a set's pass.
@@ -58,10 +51,10 @@ pub enum Arriving {
 
 // A field is due at the order; or it is stop 2, or else the last order is passed.
 #[derive(Clone, Copy)]
-pub struct Settling {
-    pub due: bool,
-    pub halted: bool,
-    pub order: FieldOrder,
+pub enum Settling {
+    Due(FieldOrder),
+    Halted,
+    Past,
 }
 
 // One round: settled, or a set is passed over, up to the order behind it.
@@ -72,89 +65,68 @@ pub enum Round {
 }
 
 // What is left of set k.
-pub fn left_at(passes: &[u64], k: usize) -> Left
+pub fn left_at(passes: &[u64], k: usize) -> Option<Further>
     requires { record { set : k < 4; sixteen : length passes.now ≡ 16 } }
     ensures { result ≡ left_at passes.now k }
 {
-    Left {
-        present: passes[4 * k],
-        further: Further {
-            endless: passes[4 * k + 1],
-            more: passes[4 * k + 2],
-        },
+    if passes[4 * k] != 1 {
+        return None;
     }
+    if passes[4 * k + 1] == 1 {
+        return Some(Further::Endless);
+    }
+    Some(Further::More(passes[4 * k + 2]))
 }
 
-fn put_left(passes: &mut [u64], k: usize, left: Left)
+fn put_numbers(passes: &mut [u64], k: usize, present: u64, endless: u64, more: u64)
+    requires { record { set : k < 4; sixteen : length passes.old ≡ 16 } }
+    ensures { passes.new ≡ with_numbers passes.old k present endless more }
+{
+    passes[4 * k] = present;
+    passes[4 * k + 1] = endless;
+    passes[4 * k + 2] = more;
+}
+
+pub fn put_left(passes: &mut [u64], k: usize, left: Option<Further>)
     requires { record { set : k < 4; sixteen : length passes.old ≡ 16 } }
     ensures { passes.new ≡ with_left passes.old k left }
 {
-    passes[4 * k] = left.present;
-    passes[4 * k + 1] = left.further.endless;
-    passes[4 * k + 2] = left.further.more;
+    match left {
+        None => put_numbers(passes, k, 0, 0, 0),
+        Some(Further::Endless) => put_numbers(passes, k, 1, 1, 0),
+        Some(Further::More(more)) => put_numbers(passes, k, 1, 0, more),
+    }
 }
 
 // What comes of a pass that ends.
-fn after(further: Further) -> Turning
-    ensures { turn_of result ≡ turn true (some (rest_of further)) }
+pub fn after(further: Further) -> Turning
+    ensures { turn_of result ≡ turn true (Some (rest_of further)) }
 {
-    if further.endless == 1 {
-        return Turning::Begins(further);
+    match further {
+        Further::Endless => Turning::Begins(further),
+        Further::More(0) => Turning::Leaves,
+        Further::More(more) => Turning::Begins(Further::More(more - 1)),
     }
-    if further.more == 0 {
-        return Turning::Leaves;
-    }
-    let more = further.more - 1;
-    Turning::Begins(Further { endless: 0, more })
 }
 
 // What comes of a set's pass at the order o, where it ends or not.
-fn turn(left: Left, o: FieldOrder, end: FieldOrder) -> Turning
+fn turn(left: Option<Further>, o: FieldOrder, end: FieldOrder) -> Turning
     ensures { turn_of result ≡ turn (o.0 == end.0) (left_of left) }
 {
     if !same_order(o, end) {
         return Turning::GoesOn;
     }
-    if left.present != 1 {
-        return Turning::GoesOn;
-    }
-    after(left.further)
-}
-
-// No present pass.
-fn gone() -> Left
-    ensures { left_of result ≡ none }
-{
-    Left {
-        present: 0,
-        further: Further {
-            endless: 0,
-            more: 0,
-        },
-    }
-}
-
-// A present pass.
-fn pass(further: Further) -> Left
-    ensures { left_of result ≡ some (rest_of further) }
-{
-    Left {
-        present: 1,
-        further,
+    match left {
+        None => Turning::GoesOn,
+        Some(further) => after(further),
     }
 }
 
 // "An empty set is never arrived at."
-fn arrives(set: Set, o: FieldOrder, left: Left) -> bool
+fn arrives(set: Set, o: FieldOrder, left: Option<Further>) -> bool
     ensures { result ≡ (has_orders set && (set.start.0 == o.0) && not (present (left_of left))) }
 {
-    if !is_nonempty(set) {
-        return false;
-    }
-    if !same_order(set.start, o) {
-        return false;
-    }
-    left.present != 1
+    is_nonempty(set) && same_order(set.start, o) && left.is_none()
 }
 
 // The set that is arrived at.
@@ -165,11 +137,8 @@ fn look(sets: Sets, passes: &[u64], o: FieldOrder) -> Standing
       few : arrived_set result < 4;
     } }
 {
-    let mut k = 4;
-    while k > 0 {
-        k -= 1;
-        let set = sets.sets[k];
-        if arrives(set, o, left_at(passes, k)) {
+    for k in (0..4).rev() {
+        if arrives(sets.sets[k], o, left_at(passes, k)) {
             return Standing::Arrived(k);
         }
     }
@@ -188,11 +157,11 @@ fn close(set: Set, passes: &mut [u64], o: FieldOrder, k: usize) -> bool
     match turn(left_at(passes, k), o, set.end) {
         Turning::GoesOn => false,
         Turning::Leaves => {
-            put_left(passes, k, gone());
+            put_left(passes, k, None);
             false
         }
         Turning::Begins(further) => {
-            put_left(passes, k, pass(further));
+            put_left(passes, k, Some(further));
             true
         }
     }
@@ -221,13 +190,13 @@ fn stand(sets: Sets, passes: &mut [u64], o: FieldOrder) -> Standing
       memory : memory_of passes.new ≡ memory_of passes.old;
     } }
 {
-    let mut k = 4;
-    while k > 0 {
-        k -= 1;
+    for k in (0..4).rev() {
         let set = sets.sets[k];
         if close(set, passes, o, k) {
-            let start = set.start;
-            return Standing::Again { set: k, start };
+            return Standing::Again {
+                set: k,
+                start: set.start,
+            };
         }
     }
     closed(sets, passes, o)
@@ -240,52 +209,24 @@ fn passes(count: u64) -> Arriving
     if count == 0 {
         return Arriving::Over;
     }
-    Arriving::Enter(Further {
-        endless: 0,
-        more: count - 1,
-    })
+    Arriving::Enter(Further::More(count - 1))
 }
 
 // "stop 2 if not current"; "Without countField its passes never end."
-fn arrive(sets: Sets, o: FieldOrder, counter: OptOrder, count: u64) -> Arriving
+fn arrive(sets: Sets, o: FieldOrder, counter: Option<FieldOrder>, count: u64) -> Arriving
     ensures { (L : Layout) → SetsAre L sets → (p : Place) → p.order ≡ o.0 → (g : ℕ → ℕ) (k : ℕ) → g k ≡ count
         → arrival_of result ≡ arrive L (by_place L) p g k (opt_order counter) }
 {
-    if !counter.given {
-        return Arriving::Enter(Further {
-            endless: 1,
-            more: 0,
-        });
-    }
-    if counter.order.0 == 0 {
+    let Some(counter) = counter else {
+        return Arriving::Enter(Further::Endless);
+    };
+    if counter.0 == 0 {
         return Arriving::NotCurrent;
     }
-    if placed(sets, o, index_of(counter.order)) {
+    if placed(sets, o, index_of(counter)) {
         return passes(count);
     }
     Arriving::NotCurrent
-}
-
-// A field is due there.
-pub fn due(o: FieldOrder) -> Settling
-    ensures { (w : List ℕ) → settled_of result w ≡ due (place_of o.0 w) (memory_of w) }
-{
-    Settling {
-        due: true,
-        halted: false,
-        order: o,
-    }
-}
-
-// Stop 2, or the last order is passed: the order does not matter.
-fn not_due(halts: bool, o: FieldOrder) -> Settling
-    ensures { (w : List ℕ) → settled_of result w ≡ (if halts then halted else past) }
-{
-    Settling {
-        due: false,
-        halted: halts,
-        order: o,
-    }
 }
 
 // On arriving at set k.
@@ -300,14 +241,11 @@ fn at_set(sets: Sets, passes: &mut [u64], o: FieldOrder, k: usize) -> Round
 {
     let set = sets.sets[k];
     match arrive(sets, o, set.counter, passes[4 * k + 3]) {
-        Arriving::NotCurrent => Round::Settled(not_due(true, o)),
-        Arriving::Over => {
-            let end = set.end;
-            Round::Over(end)
-        }
+        Arriving::NotCurrent => Round::Settled(Settling::Halted),
+        Arriving::Over => Round::Over(set.end),
         Arriving::Enter(further) => {
-            put_left(passes, k, pass(further));
-            Round::Settled(due(o))
+            put_left(passes, k, Some(further));
+            Round::Settled(Settling::Due(o))
         }
     }
 }
@@ -321,10 +259,10 @@ fn settle_once(sets: Sets, passes: &mut [u64], o: FieldOrder) -> Round
     } }
 {
     match stand(sets, passes, o) {
-        Standing::Again { set, start } => Round::Settled(due(start)),
-        Standing::Ready => Round::Settled(due(o)),
+        Standing::Again { set, start } => Round::Settled(Settling::Due(start)),
+        Standing::Ready => Round::Settled(Settling::Due(o)),
         Standing::Arrived(k) => at_set(sets, passes, o, k),
-        Standing::Beyond => Round::Settled(not_due(false, o)),
+        Standing::Beyond => Round::Settled(Settling::Past),
     }
 }
 
@@ -335,26 +273,21 @@ pub fn settle(sets: Sets, passes: &mut [u64], o: FieldOrder) -> Settling
         ≡ settled L (by_place L) (place_of o.0 passes.old) (memory_of passes.old) }
 {
     let mut here = o;
-    let mut rounds = sets.fields as u64 + 1;
-    while rounds > 0 {
+    for _ in 0..sets.fields as u64 + 1 {
         match settle_once(sets, passes, here) {
             Round::Settled(answer) => return answer,
             Round::Over(next) => here = next,
         }
-        rounds -= 1;
     }
-    not_due(false, o)
+    Settling::Past
 }
 
 // Whether the field of the order o is the countField.
-fn is_counter(counter: OptOrder, o: FieldOrder) -> bool
+fn is_counter(counter: Option<FieldOrder>, o: FieldOrder) -> bool
     requires { 1 ≤ o.0 }
     ensures { result ≡ counts (opt_order counter) (o.0 - 1) }
 {
-    if counter.given {
-        return same_order(counter.order, o);
-    }
-    false
+    counter.is_some_and(|own| same_order(own, o))
 }
 
 // Whether it is a set's countField.
@@ -362,19 +295,16 @@ pub fn is_counted(sets: Sets, o: FieldOrder) -> bool
     requires { 1 ≤ o.0 }
     ensures { result ≡ any_below (λ k. counts (opt_order (value_at sets k).counter) (o.0 - 1)) 4 }
 {
-    let mut k = 0;
-    while k < 4 {
-        let set = sets.sets[k];
-        if is_counter(set.counter, o) {
+    for k in 0..4 {
+        if is_counter(sets.sets[k].counter, o) {
             return true;
         }
-        k += 1;
     }
     false
 }
 
 // The latest reading of set k's countField, after a visit at the order o.
-fn count(passes: &mut [u64], k: usize, counter: OptOrder, o: FieldOrder, reading: u64)
+fn count(passes: &mut [u64], k: usize, counter: Option<FieldOrder>, o: FieldOrder, reading: u64)
     requires { record { set : k < 4; first : 1 ≤ o.0; sixteen : length passes.old ≡ 16 } }
     ensures { passes.new
         ≡ (if counts (opt_order counter) (o.0 - 1) then set passes.old (4 * k + 3) reading else passes.old) }
@@ -392,10 +322,7 @@ pub fn visit(sets: Sets, passes: &mut [u64], o: FieldOrder, reading: u64)
       left : (j : ℕ) → left_at passes.new j ≡ left_at passes.old j;
     } }
 {
-    let mut k = 0;
-    while k < 4 {
-        let set = sets.sets[k];
-        count(passes, k, set.counter, o, reading);
-        k += 1;
+    for k in 0..4 {
+        count(passes, k, sets.sets[k].counter, o, reading);
     }
 }

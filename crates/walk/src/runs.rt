@@ -1,11 +1,13 @@
 // Runs: visits one after the other that need no field's record, within stretches and from a set's pass into the next.
-ghost use Rattle.std.specs.Prelude.{◌≡◌, true, false, ℕ, ◌+◌, ◌-◌, ◌≤◌, ◌<◌, length, get_or, set};
+ghost use Rattle.std.specs.Prelude.{◌≡◌, true, false, Some, None, ℕ, ◌+◌, ◌-◌, ◌≤◌, ◌<◌, length, get_or, set};
 ghost use Rattle.walk.specs.Runs.{Straight, Sound, Turns, PassesOn, RunsTo, written};
 ghost use Rattle.walk.specs.StopParts.{lets_pass};
+ghost use Rattle.walk.specs.declared.stretches.Ending.{Ending};
+ghost use Rattle.pack.specs.declared.protocol.FieldOrder.{FieldOrder};
 
 use crate::known::lets_pass;
 use crate::orders::{index_of, later_order};
-use crate::passes::left_at;
+use crate::passes::{Turning, after, left_at, put_left};
 use crate::sets::Sets;
 use crate::stretches::{Stretch, ahead, is_in, stretch_at};
 use pack::protocol::{FieldIndex, FieldOrder, same_order};
@@ -38,10 +40,8 @@ fn write_visits(visits: &mut [u32], m: usize, k: FieldIndex, n: usize)
     requires { record { room : m + n ≤ length visits.old; fields : k.0 + n < 4294967296 } }
     ensures { visits.new ≡ written visits.old m k.0 n }
 {
-    let mut j = 0;
-    while j < n {
+    for j in 0..n {
         write_visit(visits, m + j, FieldIndex(k.0 + j as u32));
-        j += 1;
     }
 }
 
@@ -66,16 +66,14 @@ fn write_passing(
       passing : (j : ℕ) → j < result → lets_pass marks.now bad.now (k.0 + j) (get_or readings.now (m + j) 0) ≡ true;
     } }
 {
-    let mut j = 0;
-    while j < n {
+    for j in 0..n {
         let field = k.0 + j as u32;
         if !lets_pass(marks, bad, field, readings[m + j]) {
             return j;
         }
         write_visit(visits, m + j, FieldIndex(field));
-        j += 1;
     }
-    j
+    n
 }
 
 // The visits from the order o on within a stretch, after m others; and how many these are.
@@ -120,22 +118,20 @@ fn begins(passes: &mut [u64], k: usize) -> bool
       turns : result ≡ true → Turns passes.old k passes.new;
     } }
 {
-    let left = left_at(passes, k);
-    if left.present != 1 {
+    let Some(further) = left_at(passes, k) else {
         return false;
+    };
+    match after(further) {
+        Turning::Begins(further) => {
+            put_left(passes, k, Some(further));
+            true
+        }
+        _ => false,
     }
-    if left.further.endless == 1 {
-        return true;
-    }
-    if left.further.more == 0 {
-        return false;
-    }
-    passes[4 * k + 2] = left.further.more - 1;
-    true
 }
 
 // At the order o, after m visits: whether it ends the stretch with a set, the visit there is known not to stop, and another pass of the set
-// begins behind it, which is counted then.
+// begins behind it, which is counted then: its first order.
 fn pass_on(
     marks: &[u8],
     bad: &[u64],
@@ -144,32 +140,27 @@ fn pass_on(
     o: FieldOrder,
     readings: &[u64],
     m: usize,
-) -> bool
+) -> Option<FieldOrder>
     requires { record {
       first : 1 ≤ o.0;
-      set : stretch.ending.given ≡ true → stretch.ending.set < 4;
+      set : (x : Ending) → stretch.ending ≡ Some x → x.set < 4;
       sixteen : length passes.old ≡ 16;
     } }
     ensures { record {
-      kept : result ≡ false → passes.new ≡ passes.old;
-      passes : result ≡ true → PassesOn marks.now bad.now readings.now stretch m o.0 passes.old passes.new;
+      kept : result ≡ None → passes.new ≡ passes.old;
+      passes : (start : FieldOrder) → result ≡ Some start
+          → PassesOn marks.now bad.now readings.now stretch m o.0 passes.old start passes.new;
     } }
 {
-    if readings.len() <= m {
-        return false;
+    if readings.len() <= m || !same_order(o, stretch.to) {
+        return None;
     }
-    if !same_order(o, stretch.to) {
-        return false;
-    }
-    let ending = stretch.ending;
-    if !ending.given {
-        return false;
-    }
+    let ending = stretch.ending?;
     let k = index_of(o);
     if !lets_pass(marks, bad, k.0, readings[m]) {
-        return false;
+        return None;
     }
-    begins(passes, ending.set)
+    begins(passes, ending.set).then_some(ending.start)
 }
 
 // From the beginning of a stretch, with n visits made: its orders, and from a set's pass into the next as long as it begins among them.
@@ -204,15 +195,15 @@ fn run_stretch(
         let made = leap(marks, bad, stretch, here, readings, visits, m);
         here = later_order(here, made);
         m += made;
-        if !pass_on(marks, bad, passes, stretch, here, readings, m) {
+        let Some(start) = pass_on(marks, bad, passes, stretch, here, readings, m) else {
             return StretchEnd {
                 order: here,
                 visits: m,
                 again: false,
             };
-        }
+        };
         write_visit(visits, m, index_of(here));
-        here = stretch.ending.start;
+        here = start;
         m += 1;
     }
     StretchEnd {
@@ -254,9 +245,8 @@ pub fn run(
         let stretch = stretch_at(sets, marks, here);
         let made = run_stretch(marks, bad, passes, stretch, readings, visits, m);
         if !made.again {
-            let order = made.order;
             return RunEnd {
-                order,
+                order: made.order,
                 visits: made.visits,
             };
         }

@@ -1,5 +1,5 @@
 // The repeating sets of a PGN as values: "sets and countField use orders".
-ghost use Rattle.std.specs.Prelude.{◌≡◌, true, ◌&&◌, ◌||◌, suc, ◌+◌, ◌<◌, ◌==◌};
+ghost use Rattle.std.specs.Prelude.{◌≡◌, IfSome, ◌&&◌, ◌||◌, suc, ◌+◌, ◌<◌, ◌==◌};
 ghost use Rattle.pack.specs.Meaning.{optional_repeating, pack_of};
 ghost use Rattle.pack.specs.Notation.{◌<ᵇ◌};
 ghost use Rattle.pack.specs.Ready.{PgnAt, PgnIs};
@@ -10,16 +10,15 @@ ghost use Rattle.walk.specs.Layout.{Layout, layout, no_set, set_or_empty, sets_h
 ghost use Rattle.walk.specs.SetsOf.{SetIs, SetsAre, has_orders, in_set, holds_both, sets_share, set_misplaced, set_inside};
 
 use crate::named::PgnPlace;
-use pack::pgn::{OptRepeating, PgnView, set_at};
-use pack::protocol::{FieldIndex, FieldOrder, OptOrder, precedes};
-use rules::bools::and_not;
+use pack::pgn::{PgnView, RepeatingView, set_at};
+use pack::protocol::{FieldIndex, FieldOrder, precedes};
 
 // The orders from `start` to before `end`, none in an empty set; and the order of its countField.
 #[derive(Clone, Copy)]
 pub struct Set {
     pub start: FieldOrder,
     pub end: FieldOrder,
-    pub counter: OptOrder,
+    pub counter: Option<FieldOrder>,
     pub nested: bool,
 }
 
@@ -38,31 +37,25 @@ fn no_set() -> Set
     Set {
         start: order,
         end: order,
-        counter: OptOrder {
-            given: false,
-            order,
-        },
+        counter: None,
         nested: false,
     }
 }
 
 // An absent set is empty.
-fn set_of(o: OptRepeating) -> Set
-    requires { o.given ≡ true → o.set.start.0 + o.set.count < 4294967296 }
+fn set_of(o: Option<RepeatingView>) -> Set
+    requires { IfSome o (λ set. set.start.0 + set.count < 4294967296) }
     ensures { SetIs (set_or_empty (optional_repeating o)) result }
 {
-    if o.given {
-        let set = o.set;
-        let start = set.start;
-        let counter = set.counter;
-        return Set {
-            start,
-            end: FieldOrder(start.0 + set.count),
-            counter,
-            nested: set.nested,
-        };
+    let Some(set) = o else {
+        return no_set();
+    };
+    Set {
+        start: set.start,
+        end: FieldOrder(set.start.0 + set.count),
+        counter: set.counter,
+        nested: set.nested,
     }
-    no_set()
 }
 
 // The set at place k; an empty one where the PGN has no such place.
@@ -108,69 +101,50 @@ pub fn is_nonempty(set: Set) -> bool
 pub fn holds(set: Set, o: FieldOrder) -> bool
     ensures { result ≡ in_set set o.0 }
 {
-    if precedes(o, set.start) {
-        return false;
-    }
-    precedes(o, set.end)
+    !precedes(o, set.start) && precedes(o, set.end)
 }
 
 // Whether a set that holds the order a holds the order b.
 fn holds_both(set: Set, a: FieldOrder, b: FieldOrder) -> bool
     ensures { result ≡ holds_both set a.0 b.0 }
 {
-    if holds(set, a) {
-        return holds(set, b);
-    }
-    true
+    !holds(set, a) || holds(set, b)
 }
 
 // Whether every set that holds the order a holds the order b.
 pub fn sets_hold(sets: Sets, a: FieldOrder, b: FieldOrder) -> bool
     ensures { (L : Layout) → SetsAre L sets → result ≡ sets_hold L a.0 b.0 }
 {
-    let mut k = 0;
-    while k < 4 {
+    for k in 0..4 {
         if !holds_both(sets.sets[k], a, b) {
             return false;
         }
-        k += 1;
     }
     true
 }
 
 // Whether the field t comes before the order o, and every set that holds it holds o.
+#[tactic(auto, using(crate::proofs::SetValues::placed_by))]
 pub fn placed(sets: Sets, o: FieldOrder, t: FieldIndex) -> bool
     requires { t.0 < 4294967295 }
     ensures { (L : Layout) → SetsAre L sets → result ≡ placed L o.0 t.0 }
 {
     let own = t.order();
-    if precedes(own, o) {
-        return sets_hold(sets, own, o);
-    }
-    false
+    precedes(own, o) && sets_hold(sets, own, o)
 }
 
 // Whether two sets have an order in common.
 fn overlap(a: Set, b: Set) -> bool
     ensures { result ≡ ((a.start.0 <ᵇ b.end.0) && (b.start.0 <ᵇ a.end.0)) }
 {
-    if precedes(a.start, b.end) {
-        return precedes(b.start, a.end);
-    }
-    false
+    precedes(a.start, b.end) && precedes(b.start, a.end)
 }
 
 // Whether two nonempty sets share an order.
 fn share(a: Set, b: Set) -> bool
     ensures { result ≡ sets_share a b }
 {
-    if !is_nonempty(a) {
-        return false;
-    }
-    if !is_nonempty(b) {
-        return false;
-    }
-    overlap(a, b)
+    is_nonempty(a) && is_nonempty(b) && overlap(a, b)
 }
 
 // Whether set k is nested in set j by the marks: each after j up to k bears one.
@@ -178,12 +152,10 @@ pub fn nested_in(sets: Sets, j: usize, k: usize) -> bool
     requires { k < 4 }
     ensures { (L : Layout) → SetsAre L sets → result ≡ nested_in L j k }
 {
-    let mut inner = k;
-    while inner > 0 {
-        if !sets.sets[inner].nested {
+    for inner in (0..k).rev() {
+        if !sets.sets[inner + 1].nested {
             return false;
         }
-        inner -= 1;
         if inner == j {
             return true;
         }
@@ -196,10 +168,7 @@ fn clash(sets: Sets, j: usize, k: usize) -> bool
     requires { record { first : j < 4; second : k < 4 } }
     ensures { (L : Layout) → SetsAre L sets → result ≡ clash L j k }
 {
-    if share(sets.sets[j], sets.sets[k]) {
-        return !nested_in(sets, j, k);
-    }
-    false
+    share(sets.sets[j], sets.sets[k]) && !nested_in(sets, j, k)
 }
 
 // Whether set k clashes with one before it.
@@ -207,12 +176,10 @@ pub fn clashes(sets: Sets, k: usize) -> bool
     requires { k < 4 }
     ensures { (L : Layout) → SetsAre L sets → result ≡ any_below (λ j. clash L j k) k }
 {
-    let mut j = 0;
-    while j < k {
+    for j in 0..k {
         if clash(sets, j, k) {
             return true;
         }
-        j += 1;
     }
     false
 }
@@ -221,10 +188,7 @@ pub fn clashes(sets: Sets, k: usize) -> bool
 fn out_of_range(set: Set, fields: u32) -> bool
     ensures { result ≡ ((set.start.0 == 0) || (suc fields <ᵇ set.end.0)) }
 {
-    if set.start.0 == 0 {
-        return true;
-    }
-    fields as u64 + 1 < set.end.0 as u64
+    set.start.0 == 0 || fields as u64 + 1 < set.end.0 as u64
 }
 
 // "a nonempty set has start 0, runs past the fields, or is marked nested but is not set 2 .. ending within" set 1: whether it is inside
@@ -232,23 +196,14 @@ fn out_of_range(set: Set, fields: u32) -> bool
 fn set_misplaced(set: Set, fields: u32, inside: bool) -> bool
     ensures { result ≡ set_misplaced set fields inside }
 {
-    if !is_nonempty(set) {
-        return false;
-    }
-    if out_of_range(set, fields) {
-        return true;
-    }
-    and_not(set.nested, inside)
+    is_nonempty(set) && (out_of_range(set, fields) || set.nested && !inside)
 }
 
 // Of two sets: "set 2 starting after set 1's start and ending within it".
 fn lies_inside(set: Set, outer: Set) -> bool
     ensures { result ≡ set_inside set outer }
 {
-    if precedes(outer.start, set.start) {
-        return !precedes(outer.end, set.end);
-    }
-    false
+    precedes(outer.start, set.start) && !precedes(outer.end, set.end)
 }
 
 // Whether set k lies so in the one before it.
@@ -256,13 +211,11 @@ fn inside_previous(sets: Sets, k: usize) -> bool
     requires { k < 4 }
     ensures { (L : Layout) → SetsAre L sets → result ≡ inside_previous L k }
 {
-    if k == 0 {
-        return false;
-    }
-    lies_inside(sets.sets[k], sets.sets[k - 1])
+    k != 0 && lies_inside(sets.sets[k], sets.sets[k - 1])
 }
 
 // STOP 1, of set k.
+#[tactic(auto, using(crate::proofs::SetValues::misplaced_at))]
 fn misplaced(sets: Sets, k: usize) -> bool
     requires { k < 4 }
     ensures { (L : Layout) → SetsAre L sets → result ≡ misplaced L k }
@@ -271,19 +224,22 @@ fn misplaced(sets: Sets, k: usize) -> bool
     set_misplaced(sets.sets[k], sets.fields, inside)
 }
 
+// The same, or it clashes with one before it.
+fn stops(sets: Sets, k: usize) -> bool
+    requires { k < 4 }
+    ensures { (L : Layout) → SetsAre L sets → result ≡ (misplaced L k || any_below (λ j. clash L j k) k) }
+{
+    misplaced(sets, k) || clashes(sets, k)
+}
+
 // STOP 1, before any visit.
 pub fn stop_1(sets: Sets) -> bool
     ensures { (L : Layout) → SetsAre L sets → result ≡ stop_1 L }
 {
-    let mut k = 0;
-    while k < 4 {
-        if misplaced(sets, k) {
+    for k in 0..4 {
+        if stops(sets, k) {
             return true;
         }
-        if clashes(sets, k) {
-            return true;
-        }
-        k += 1;
     }
     false
 }

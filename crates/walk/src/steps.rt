@@ -1,6 +1,6 @@
 // One step of the walk, and several steps in a run.
 ghost use Rattle.std.specs.Prelude.{◌≡◌, true, ℕ, suc, ◌≤◌, ◌<◌, List, length, if◌then◌else◌};
-ghost use Rattle.std.proofs.Math.Option.{none};
+ghost use Rattle.std.specs.Prelude.{None};
 ghost use Rattle.pack.specs.Meaning.{pack_of};
 ghost use Rattle.walk.specs.ByPlace.{placed};
 ghost use Rattle.walk.specs.Layout.{Layout, layout};
@@ -12,14 +12,16 @@ ghost use Rattle.walk.specs.StopParts.{Remembered, lets_pass};
 ghost use Rattle.walk.specs.Stops.{stop_at};
 ghost use Rattle.walk.specs.Walk.{Stops, due};
 ghost use Rattle.walk.specs.WalkCall.{ending};
-ghost use Rattle.walk.specs.declared.walk.End.TheVariants.{Whole, Stop};
+ghost use Rattle.walk.specs.declared.passes.Settling.TheVariants.{Due};
+ghost use Rattle.pack.specs.declared.protocol.FieldOrder.{FieldOrder};
 
 use crate::known::stop_at;
 use crate::named::FoundPgn;
 use crate::orders::{index_of, next_order};
-use crate::passes::{Settling, due, visit};
+use crate::passes::{Settling, visit};
 use crate::runs::run;
 use crate::sets::Sets;
+use crate::stops::Stop;
 use crate::walk::End;
 use pack::protocol::{FieldIndex, FieldOrder};
 
@@ -35,16 +37,6 @@ pub enum Stepping {
 pub struct Ran {
     pub settling: Settling,
     pub visits: usize,
-}
-
-// No field is due any more: stop 2, or the last order is passed.
-fn finished(halted: bool) -> End
-    ensures { result ≡ (if halted then Stop 2 else Whole) }
-{
-    if halted {
-        return End::Stop(2);
-    }
-    End::Whole
 }
 
 // At a due field, with its reading.
@@ -74,8 +66,7 @@ fn step_at(
     } }
 {
     let field = index_of(o);
-    let stop = stop_at(s, work, found, marks, bad, field.0, reading);
-    if stop != 0 {
+    if let Some(stop) = stop_at(s, work, found, marks, bad, field.0, reading) {
         return Stepping::Ended(End::Stop(stop));
     }
     visit(found.sets, passes, o, reading);
@@ -107,20 +98,22 @@ pub fn step(
       remembered : Remembered (pack_of s.now) (found_pgn s.now found) marks.new bad.new;
     } }
 {
-    if settling.due {
-        return step_at(s, work, found, marks, bad, passes, settling.order, reading);
+    match settling {
+        Settling::Due(order) => step_at(s, work, found, marks, bad, passes, order, reading),
+        Settling::Halted => Stepping::Ended(End::Stop(Stop::CounterNotCurrent)),
+        Settling::Past => Stepping::Ended(End::Whole),
     }
-    Stepping::Ended(finished(settling.halted))
 }
 
 // With no reading left: the numbers of the passes do not matter.
 pub fn used(settling: Settling) -> End
     ensures { (w : List ℕ) → result ≡ ending (used (settled_of settling w)) }
 {
-    if settling.due {
-        return End::UsedUp;
+    match settling {
+        Settling::Due(_) => End::UsedUp,
+        Settling::Halted => End::Stop(Stop::CounterNotCurrent),
+        Settling::Past => End::Whole,
     }
-    finished(settling.halted)
 }
 
 // A run from where the walk is, with n visits made.
@@ -135,7 +128,7 @@ pub fn run_on(
     n: usize,
 ) -> Ran
     requires { record {
-      due : settling.due ≡ true → record { first : 1 ≤ settling.order.0; within : settling.order.0 ≤ sets.fields };
+      due : (o : FieldOrder) → settling ≡ Due o → record { first : 1 ≤ o.0; within : o.0 ≤ sets.fields };
       small : sets.fields < 4294967295;
       sixteen : length passes.old ≡ 16;
       read : n ≤ length readings.now;
@@ -145,30 +138,20 @@ pub fn run_on(
       at_least : n ≤ result.visits;
       read : result.visits ≤ length readings.now;
       ran : (L : Layout) → SetsAre L sets → (stops : Stops)
-          → ((k reading : ℕ) → lets_pass marks.now bad.now k reading ≡ true → stops (placed L (suc k)) k reading ≡ none)
+          → ((k reading : ℕ) → lets_pass marks.now bad.now k reading ≡ true → stops (placed L (suc k)) k reading ≡ None)
           → Run L stops readings.now visits.old n (settled_of settling passes.old) visits.new result.visits
           (settled_of result.settling passes.new);
     } }
 {
-    if !settling.due {
+    let Settling::Due(order) = settling else {
         return Ran {
             settling,
             visits: n,
         };
-    }
-    let end = run(
-        sets,
-        marks,
-        bad,
-        passes,
-        settling.order,
-        readings,
-        visits,
-        n,
-    );
-    let next = due(end.order);
+    };
+    let end = run(sets, marks, bad, passes, order, readings, visits, n);
     Ran {
-        settling: next,
+        settling: Settling::Due(end.order),
         visits: end.visits,
     }
 }

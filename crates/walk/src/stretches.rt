@@ -1,5 +1,5 @@
 // Stretches: orders of which each leads to the next, so that visits there do not need the sets' passes.
-ghost use Rattle.std.specs.Prelude.{◌≡◌, true, false, ℕ, ◌+◌, ◌-◌, ◌≤◌, ◌<◌, get_or};
+ghost use Rattle.std.specs.Prelude.{◌≡◌, true, false, Some, None, ℕ, ◌+◌, ◌-◌, ◌≤◌, ◌<◌, get_or};
 ghost use Rattle.pack.specs.Meaning.{opt_order};
 ghost use Rattle.walk.specs.ByPlace.{counts};
 ghost use Rattle.walk.specs.Runs.{edge, PlainAt, EndsBehind, Straight, Sound};
@@ -8,12 +8,11 @@ use crate::known::is_free;
 use crate::orders::{index_of, later_order, next_order};
 use crate::passes::is_counted;
 use crate::sets::{Set, Sets};
-use pack::protocol::{FieldIndex, FieldOrder, OptOrder, precedes, same_order};
+use pack::protocol::{FieldIndex, FieldOrder, precedes, same_order};
 
-// A set whose pass ends behind an order, and its first order; or none.
+// A set whose pass ends behind an order, and its first order.
 #[derive(Clone, Copy)]
 pub struct Ending {
-    pub given: bool,
     pub set: usize,
     pub start: FieldOrder,
 }
@@ -24,7 +23,7 @@ pub struct Stretch {
     pub from: FieldOrder,
     pub to: FieldOrder,
     pub free: bool,
-    pub ending: Ending,
+    pub ending: Option<Ending>,
 }
 
 // So many orders from o on, n at most, that none of them is x.
@@ -34,11 +33,7 @@ fn short_of(n: u32, o: FieldOrder, x: FieldOrder) -> u32
     if precedes(x, o) {
         return n;
     }
-    let before = x.0 - o.0;
-    if before < n {
-        return before;
-    }
-    n
+    n.min(x.0 - o.0)
 }
 
 // So many orders from `next` on that the set begins at none of them, nor ends before it.
@@ -50,27 +45,21 @@ fn short_of_edges(n: u32, next: FieldOrder, set: Set) -> u32
 }
 
 // So many orders from o on that none of them is the countField's.
-fn short_of_counter(n: u32, o: FieldOrder, counter: OptOrder) -> u32
+fn short_of_counter(n: u32, o: FieldOrder, counter: Option<FieldOrder>) -> u32
     requires { 1 ≤ o.0 }
     ensures { record { fewer : result ≤ n; none : (j : ℕ) → j < result → counts (opt_order counter) (o.0 + j - 1) ≡ false } }
 {
-    if counter.given {
-        return short_of(n, o, counter.order);
+    match counter {
+        Some(own) => short_of(n, o, own),
+        None => n,
     }
-    n
 }
 
 // Whether a set has start and end 0 and no countField, as those have that fill up the four.
 fn is_void(set: Set) -> bool
-    ensures { result ≡ true → record { start : set.start.0 ≡ 0; end : set.end.0 ≡ 0; counter : set.counter.given ≡ false } }
+    ensures { result ≡ true → record { start : set.start.0 ≡ 0; end : set.end.0 ≡ 0; counter : set.counter ≡ None } }
 {
-    if set.end.0 != 0 {
-        return false;
-    }
-    if set.start.0 != 0 {
-        return false;
-    }
-    !set.counter.given
+    set.start.0 == 0 && set.end.0 == 0 && set.counter.is_none()
 }
 
 // So many orders from o on that none of them is the countField's, and that the set begins behind none of them, nor ends there.
@@ -99,10 +88,8 @@ fn plain_orders(sets: Sets, o: FieldOrder) -> u32
     }
     let next = next_order(o);
     let mut n = sets.fields - o.0;
-    let mut k = 0;
-    while k < 4 {
+    for k in 0..4 {
         n = short_of_set(n, o, next, sets.sets[k]);
-        k += 1;
     }
     n
 }
@@ -112,62 +99,38 @@ fn all_free(marks: &[u8], k: FieldIndex, n: u32) -> bool
     requires { k.0 + n < 4294967296 }
     ensures { result ≡ true → (j : ℕ) → j < n → get_or marks.now (k.0 + j) 0 ≡ 1 }
 {
-    let mut j: u32 = 0;
-    while j < n {
+    for j in 0..n {
         if !is_free(marks, k.0 + j) {
             return false;
         }
-        j += 1;
     }
     true
 }
 
-// No set ends there.
-fn no_ending() -> Ending
-    ensures { result.given ≡ false }
-{
-    Ending {
-        given: false,
-        set: 0,
-        start: FieldOrder(0),
-    }
-}
-
 // Set k ends; none, if no field has its first order.
-fn ending_of(k: usize, start: FieldOrder, fields: u32) -> Ending
-    ensures { result.given ≡ true → record { set : result.set ≡ k; first : 1 ≤ start.0; within : start.0 ≤ fields; start : result.start.0 ≡ start.0 } }
+fn ending_of(k: usize, start: FieldOrder, fields: u32) -> Option<Ending>
+    ensures { (x : Ending) → result ≡ Some x
+        → record { set : x.set ≡ k; first : 1 ≤ start.0; within : start.0 ≤ fields; start : x.start.0 ≡ start.0 } }
 {
-    if start.0 == 0 {
-        return no_ending();
-    }
-    if fields < start.0 {
-        return no_ending();
-    }
-    Ending {
-        given: true,
-        set: k,
-        start,
-    }
+    (start.0 != 0 && start.0 <= fields).then_some(Ending { set: k, start })
 }
 
 // The set that ends behind the order o, the innermost (the last) of several; none where the field there is a countField.
-fn ending_behind(sets: Sets, o: FieldOrder) -> Ending
+fn ending_behind(sets: Sets, o: FieldOrder) -> Option<Ending>
     requires { record { first : 1 ≤ o.0; small : o.0 < 4294967295 } }
-    ensures { result.given ≡ true → EndsBehind sets o.0 result }
+    ensures { (x : Ending) → result ≡ Some x → EndsBehind sets o.0 x }
 {
     if is_counted(sets, o) {
-        return no_ending();
+        return None;
     }
     let next = next_order(o);
-    let mut k = 4;
-    while k > 0 {
-        k -= 1;
+    for k in (0..4).rev() {
         let set = sets.sets[k];
         if same_order(next, set.end) {
             return ending_of(k, set.start, sets.fields);
         }
     }
-    no_ending()
+    None
 }
 
 // The stretch that begins at the order o.
@@ -194,10 +157,7 @@ pub fn is_in(stretch: Stretch, o: FieldOrder) -> bool
       outside : result ≡ false → stretch.from.0 ≤ o.0 → o.0 ≤ stretch.to.0 → ⊥;
     } }
 {
-    if precedes(o, stretch.from) {
-        return false;
-    }
-    !precedes(stretch.to, o)
+    !precedes(o, stretch.from) && !precedes(stretch.to, o)
 }
 
 // How many visits are made from o to the stretch's end, with so many readings left.
@@ -205,6 +165,5 @@ pub fn ahead(stretch: Stretch, o: FieldOrder, readings: usize) -> usize
     requires { o.0 ≤ stretch.to.0 }
     ensures { record { read : result ≤ readings; within : o.0 + result ≤ stretch.to.0 } }
 {
-    let n = (stretch.to.0 - o.0) as usize;
-    if n < readings { n } else { readings }
+    readings.min((stretch.to.0 - o.0) as usize)
 }

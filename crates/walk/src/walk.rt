@@ -1,6 +1,6 @@
 // The calls `walk` and `held`.
 ghost use Rattle.std.specs.Prelude.{◌≡◌, false, ℕ, ◌≤◌, length};
-ghost use Rattle.std.proofs.Math.Option.{none};
+ghost use Rattle.std.specs.Prelude.{None};
 ghost use Rattle.pack.specs.Meaning.{pack_of};
 ghost use Rattle.walk.specs.Layout.{layout, stop_1};
 ghost use Rattle.walk.specs.Naming.{IsFound, found_pgn, found_walk, found_judged};
@@ -10,19 +10,20 @@ ghost use Rattle.walk.specs.Walk.{walk};
 ghost use Rattle.walk.specs.WalkCall.{Told, visits_left, Walks, TellsHeld};
 
 use crate::held::held_at;
-use crate::named::{FoundPgn, NamedPgn, found_pgn, named_pgn};
+use crate::named::{FoundPgn, found_pgn, named_pgn};
 use crate::orders::first_order;
 use crate::passes::settle;
 use crate::runs::write_visit;
 use crate::sets::stop_1;
 use crate::steps::{Stepping, run_on, step, used};
+pub use crate::stops::Stop;
 use pack::load::Refusal;
 
 #[derive(Clone, Copy)]
 pub enum End {
     Whole,
     UsedUp,
-    Stop(u32),
+    Stop(Stop),
 }
 
 #[derive(Clone, Copy)]
@@ -53,7 +54,7 @@ fn walk_on(
       pgn : IsFound s.now work.now found;
       remembered : Remembered (pack_of s.now) (found_pgn s.now found) marks.old bad.old;
       sixteen : length passes.old ≡ 16;
-      left : (k : ℕ) → left_of (left_at passes.old k) ≡ none;
+      left : (k : ℕ) → left_of (left_at passes.old k) ≡ None;
       latest : (k : ℕ) → memory_of passes.old k ≡ 0;
       no_stop_1 : stop_1 (layout (found_pgn s.now found)) ≡ false;
       room : length readings.now ≤ length visits.old;
@@ -100,7 +101,7 @@ fn walk_at(s: &[u8], work: &[u32], found: FoundPgn, readings: &[u64], visits: &m
 {
     if stop_1(found.sets) {
         return Walked::Ended {
-            end: End::Stop(1),
+            end: End::Stop(Stop::SetMisplaced),
             visits: 0,
         };
     }
@@ -154,10 +155,8 @@ pub fn walk(
         work.new visits.new result }
 {
     match named_pgn(pack, work, tree, pgn) {
-        NamedPgn::Refused(refusal) => Walked::Refused(refusal),
-        NamedPgn::Found(place) => {
-            walk_found(pack, work, found_pgn(pack, work, place), readings, visits)
-        }
+        Err(refusal) => Walked::Refused(refusal),
+        Ok(place) => walk_found(pack, work, found_pgn(pack, work, place), readings, visits),
     }
 }
 
@@ -165,9 +164,7 @@ pub fn held(pack: &[u8], work: &mut [u32], tree: u32, pgn: u32) -> HeldAnswer
     ensures { TellsHeld pack.now tree pgn work.old work.new result }
 {
     match named_pgn(pack, work, tree, pgn) {
-        NamedPgn::Refused(refusal) => HeldAnswer::Refused(refusal),
-        NamedPgn::Found(place) => {
-            HeldAnswer::Held(held_at(pack, work, found_pgn(pack, work, place)))
-        }
+        Err(refusal) => HeldAnswer::Refused(refusal),
+        Ok(place) => HeldAnswer::Held(held_at(pack, work, found_pgn(pack, work, place))),
     }
 }

@@ -1,25 +1,12 @@
 use Rattle.rules.specs.SearchLaws.{every_turn, every_missed}
 use Rattle.walk.specs.Held.{bit_length_held}
-use Rattle.rules.proofs.Sizes.{fields_few}
 use Rattle.rules.specs.Search.{every_below}
-use borrow.Author.Rules.{rules}
 use native.Mathlib.Omega.{arith}
-use mathlib.Core.Path.{◌≡◌, refl, sym, ◌∙◌, ap}
+use mathlib.Core.Path.{◌≡◌, sym, ◌∙◌, ap}
 use lib.ListN.{length}
 use Rattle.pack.specs.Meaning.{pack_of}
 use Rattle.pack.specs.Value.{pgn_at}
 use Rattle.walk.proofs.held.bit_lengths_held.Goals as goal
-
-pub loop-k-init : goal.loop-k-init
-loop-k-init c = record { turns = search rules; so_far = refl }
-
-pub field_of-f-requires : goal.field_of-f-requires
-field_of-f-requires c =
-    record { at = c.requires.place; field = omega (arith, c.requires.sets.fields, c.loop-k-test.true) }
-
-pub bit_length_held-requires : goal.bit_length_held-requires
-bit_length_held-requires c =
-    record { pgn = c.requires; field = omega (arith, c.requires.sets.fields, c.loop-k-test.true); means = c.field_of-f.ensures }
 
 pub returns-then-not-bit_length_held : goal.returns-then-not-bit_length_held
 returns-then-not-bit_length_held c =
@@ -28,14 +15,9 @@ returns-then-not-bit_length_held c =
     (omega (arith, c.requires.sets.fields, c.loop-k-test.true))
     (sym c.bit_length_held.ensures ∙ c.if-not-bit_length_held.true))
 
-pub overflow_add-k : goal.overflow_add-k
-overflow_add-k c =
-    omega (arith, c.loop-k-test.true, c.requires.sets.fields, fields_few c.requires.place)
-
 pub loop-k-preserved : goal.loop-k-preserved
 loop-k-preserved c =
     record {
-      turns = omega (arith, c);
       so_far = every_turn (bit_length_held (pgn_at (pack_of c.args.s.now) c.args.found.tree c.args.found.pgn)) c.loop-k.k
           ∙ (rw c.loop-k.invariant.so_far (sym c.bit_length_held.ensures ∙ c.if-not-bit_length_held.false));
     }
@@ -44,5 +26,5 @@ pub returns : goal.returns
 returns c =
     let s = c.args.s.now in let t = c.args.found.tree in let i = c.args.found.pgn in
     let q : length (pgn_at (pack_of s) t i).fields ≡ c.loop-k.k =
-    omega (arith, c.requires.sets.fields, c.loop-k.invariant.turns, c.loop-k-test.false) in
+    omega (arith, c.requires.sets.fields) in
     sym (ap (every_below (bit_length_held (pgn_at (pack_of s) t i))) q ∙ c.loop-k.invariant.so_far)

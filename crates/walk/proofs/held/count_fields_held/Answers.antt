@@ -8,9 +8,6 @@ use native.Mathlib.Omega.{arith}
 use Prim.Native.Nat.{ℕ}
 use Rattle.walk.proofs.held.count_fields_held.Goals as goal
 
-pub loop-k-init : goal.loop-k-init
-loop-k-init c = record { turns = omega arith; so_far = λ L a j l. absurd (omega (arith, l)) }
-
 pub returns-then-not-counter_held : goal.returns-then-not-counter_held
 returns-then-not-counter_held c =
     λ L a. sym (counts_miss a c.loop-k.k (sym (c.counter_held.ensures L a) ∙ c.if-not-counter_held.true))
@@ -18,10 +15,9 @@ returns-then-not-counter_held c =
 pub loop-k-preserved : goal.loop-k-preserved
 loop-k-preserved c =
     record {
-      turns = omega (arith, c.loop-k-test.true);
       so_far = λ L a. below_next (λ (j : ℕ). count_field_held L j (set_at L j).count_field ≡ true) (c.loop-k.invariant.so_far L a)
           (sym (c.counter_held.ensures L a) ∙ c.if-not-counter_held.false);
     }
 
 pub returns : goal.returns
-returns c = λ L a. sym (counts_all a (λ j l. c.loop-k.invariant.so_far L a j (omega (arith, l, c.loop-k-test.false))))
+returns c = λ L a. sym (counts_all a (λ j l. c.loop-k.invariant.so_far L a j (omega (arith, l))))

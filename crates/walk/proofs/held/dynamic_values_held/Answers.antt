@@ -1,62 +1,47 @@
-use Rattle.rules.specs.SearchLaws.{every_turn, every_missed}
+use Rattle.walk.proofs.Parts.{no_value_held, a_value_held, source_later}
 use Rattle.walk.specs.Held.{dynamic_value_held}
-use Rattle.rules.proofs.Sizes.{fields_few}
+use Rattle.rules.specs.SearchLaws.{every_turn, every_missed}
 use Rattle.rules.specs.Search.{every_below}
 use Rattle.pack.specs.Value.{pgn_at}
-use borrow.Author.Tests.{not-true, not-false}
 use borrow.Author.Rules.{rules}
 use native.Mathlib.Omega.{arith}
-use mathlib.Core.Path.{◌≡◌, refl, sym, ◌∙◌, ap}
-use mathlib.Core.Bool.{false≢true}
+use Rattle.std.specs.Prelude.{is_some}
+use mathlib.Core.Bool.{true, false}
+use mathlib.Core.Path.{◌≡◌, sym, ◌∙◌, ap}
 use lib.ListN.{length}
 use Rattle.pack.specs.Meaning.{pack_of}
 use Rattle.walk.proofs.held.dynamic_values_held.Goals as goal
 
-pub loop-k-init : goal.loop-k-init
-loop-k-init c =
+pub loop-k-preserved-then-not-is_value : goal.loop-k-preserved-then-not-is_value
+loop-k-preserved-then-not-is_value c =
+    let P = pack_of c.args.s.now in let p = pgn_at P c.args.found.tree c.args.found.pgn in let k = c.loop-k.k in
     record {
-      turns = search rules;
-      so_far = refl;
-      source = record { before = λ e. absurd (false≢true e); source = λ e. absurd (false≢true e) };
+      so_far = every_turn (dynamic_value_held P p) k
+          ∙ (rw c.loop-k.invariant.so_far (sym (no_value_held P p k c.is_value.result c.is_value.ensures c.if-not-is_value.true)));
+      source = source_later c.loop-k.giver c.loop-k.invariant.source;
     }
 
-pub field_of-f-requires : goal.field_of-f-requires
-field_of-f-requires c =
-    record { at = c.requires.place; field = omega (arith, c.requires.sets.fields, c.loop-k-test.true) }
-
-pub value_held-value-requires : goal.value_held-value-requires
-value_held-value-requires c =
-    record {
-      pgn = c.requires;
-      field = omega (arith, c.requires.sets.fields, c.loop-k-test.true);
-      means = c.field_of-f.ensures;
-      source = c.loop-k.invariant.source;
-    }
-
-pub returns-then-not-value : goal.returns-then-not-value
-returns-then-not-value c =
-    let s = c.args.s.now in let t = c.args.found.tree in let i = c.args.found.pgn in
-    sym (every_missed (dynamic_value_held (pack_of s) (pgn_at (pack_of s) t i)) (length (pgn_at (pack_of s) t i).fields) c.loop-k.k
-    (omega (arith, c.requires.sets.fields, c.loop-k-test.true))
-    (sym c.value_held-value.ensures.held ∙ not-true c.value_held-value.result.held c.if-not-value.true))
-
-pub overflow_add-k : goal.overflow_add-k
-overflow_add-k c =
-    omega (arith, c.loop-k-test.true, c.requires.sets.fields, fields_few c.requires.place)
+pub returns-then-is_none : goal.returns-then-is_none
+returns-then-is_none c =
+    let P = pack_of c.args.s.now in let p = pgn_at P c.args.found.tree c.args.found.pgn in let k = c.loop-k.k in
+    let g = is_some c.latest_giver-giver.result in
+    let e : g ≡ false = search rules in
+    sym (every_missed (dynamic_value_held P p) (length p.fields) k (omega (arith, c.requires.sets.fields))
+    (sym (a_value_held P p k c.is_value.result c.is_value.ensures c.if-not-is_value.false g c.latest_giver-giver.ensures.given) ∙ e))
 
 pub loop-k-preserved : goal.loop-k-preserved
 loop-k-preserved c =
-    let s = c.args.s.now in
+    let P = pack_of c.args.s.now in let p = pgn_at P c.args.found.tree c.args.found.pgn in let k = c.loop-k.k in
+    let g = is_some c.latest_giver-giver.result in
+    let e : g ≡ true = search rules in
     record {
-      turns = omega (arith, c);
-      so_far = every_turn (dynamic_value_held (pack_of s) (pgn_at (pack_of s) c.args.found.tree c.args.found.pgn)) c.loop-k.k
-          ∙ (rw c.loop-k.invariant.so_far (sym c.value_held-value.ensures.held ∙ not-false c.value_held-value.result.held c.if-not-value.false));
-      source = c.value_held-value.ensures.source;
+      so_far = every_turn (dynamic_value_held P p) k ∙ (rw c.loop-k.invariant.so_far
+          (sym (a_value_held P p k c.is_value.result c.is_value.ensures c.if-not-is_value.false g c.latest_giver-giver.ensures.given) ∙ e));
+      source = source_later c.latest_giver-giver.result c.latest_giver-giver.ensures.source;
     }
 
 pub returns : goal.returns
 returns c =
     let s = c.args.s.now in let t = c.args.found.tree in let i = c.args.found.pgn in
-    let q : length (pgn_at (pack_of s) t i).fields ≡ c.loop-k.k =
-    omega (arith, c.requires.sets.fields, c.loop-k.invariant.turns, c.loop-k-test.false) in
+    let q : length (pgn_at (pack_of s) t i).fields ≡ c.loop-k.k = omega (arith, c.requires.sets.fields) in
     sym (ap (every_below (dynamic_value_held (pack_of s) (pgn_at (pack_of s) t i))) q ∙ c.loop-k.invariant.so_far)

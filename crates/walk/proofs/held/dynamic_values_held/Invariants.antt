@@ -2,7 +2,6 @@ use Rattle.walk.specs.Held.{dynamic_value_held}
 use Rattle.walk.specs.StopParts.{IsSource}
 use Rattle.rules.specs.Search.{every_below}
 use Rattle.pack.specs.Value.{pgn_at}
-use Prim.Native.Nat.{◌-◌, ◌≤◌}
 use mathlib.Core.Path.{◌≡◌}
 use mathlib.Core.Bool.{true}
 use Rattle.pack.specs.Meaning.{pack_of}
@@ -11,10 +10,6 @@ use Rattle.walk.proofs.held.dynamic_values_held.Given as goal
 abbrev pub invariant-loop-k : goal.invariant-loop-k
 invariant-loop-k l =
     record {
-      turns : l.k ≤ l.fields;
       so_far : every_below (dynamic_value_held (pack_of l.s) (pgn_at (pack_of l.s) l.found.tree l.found.pgn)) l.k ≡ true;
       source : IsSource (pack_of l.s) (pgn_at (pack_of l.s) l.found.tree l.found.pgn) l.k l.giver;
     }
-
-abbrev pub decreases-loop-k : goal.decreases-loop-k
-decreases-loop-k l = l.fields - l.k

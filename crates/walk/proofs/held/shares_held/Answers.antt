@@ -8,9 +8,6 @@ use native.Mathlib.Omega.{arith}
 use Prim.Native.Nat.{ℕ}
 use Rattle.walk.proofs.held.shares_held.Goals as goal
 
-pub loop-k-init : goal.loop-k-init
-loop-k-init c = record { turns = omega arith; apart = λ L a j l. absurd (omega (arith, l)) }
-
 pub returns-then-clashes : goal.returns-then-clashes
 returns-then-clashes c =
     λ L a. sym (shares_miss a c.loop-k.k (sym (c.clashes.ensures L a) ∙ c.if-clashes.true))
@@ -18,11 +15,10 @@ returns-then-clashes c =
 pub loop-k-preserved : goal.loop-k-preserved
 loop-k-preserved c =
     record {
-      turns = omega (arith, c.loop-k-test.true);
       apart =
           λ L a. below_next (λ (j : ℕ). any_below (λ i. clash L i j) j ≡ false) (c.loop-k.invariant.apart L a)
           (sym (c.clashes.ensures L a) ∙ c.if-clashes.false);
     }
 
 pub returns : goal.returns
-returns c = λ L a. sym (shares_all a (λ j l. c.loop-k.invariant.apart L a j (omega (arith, l, c.loop-k-test.false))))
+returns c = λ L a. sym (shares_all a (λ j l. c.loop-k.invariant.apart L a j (omega (arith, l))))

@@ -1,13 +1,13 @@
 use Rattle.std.specs.Prelude.{if◌then◌else◌}
 use Rattle.walk.specs.Stops.{names_missing}
 use Rattle.walk.specs.StopParts.{Collected}
-use Rattle.walk.proofs.Readings.{collected_none, collected_turn, collected_many}
+use Rattle.walk.proofs.Readings.{collected_turn}
 use Rattle.pack.specs.declared.entry.EntryView.{EntryView}
-use Rattle.pack.specs.Value.{Entry, lookup_at, entry_at}
+use Rattle.pack.specs.Value.{Entry, entry_at}
 use Rattle.pack.specs.Notation.{◌<ᵇ◌}
 use Rattle.pack.specs.Meaning.{entry_meaning, pack_of}
 use lib.ListN.{set}
-use mathlib.Core.Path.{◌≡◌, refl, sym, ap, ◌∙◌}
+use mathlib.Core.Path.{◌≡◌, sym, ap, ◌∙◌}
 use mathlib.Core.List.{List}
 use mathlib.Core.Bool.{Bool, ◌&&◌}
 use Prim.Native.Nat.{ℕ, ◌+◌, ◌≤◌}
@@ -22,46 +22,9 @@ turned : (s : List ℕ) {es : List Entry} {e at : ℕ} {bad bad' bad'' : List �
 turned s v hit c few y h count values =
     collected_turn hit v.value c few (sym (h ∙ ap (names_missing (pack_of s)) y)) (sym (ap (λ (E : Entry). E.value) y)) count values
 
-pub loop-e-init : goal.loop-e-init
-loop-e-init c =
-    let s = c.args.s.now in
-    record {
-      turns = omega (arith, c);
-      few = omega (arith, c);
-      same = refl;
-      collected = collected_none (pack_of s) (lookup_at (pack_of s).lookups c.args.l.index).entries c.args.at c.args.bad.now;
-    }
-
-pub entry_of-entry-requires : goal.entry_of-entry-requires
-entry_of-entry-requires c =
-    record { at = c.requires.place; kind = c.requires.kind; entry = omega (arith, c.requires.entries, c.loop-e-test.true) }
-
-pub names_missing-hit-requires : goal.names_missing-hit-requires
-names_missing-hit-requires c =
-    record { ready = c.requires.place.ready; index = c.requires.index }
-
-pub keep-n-requires : goal.keep-n-requires
-keep-n-requires c =
-    record { few = c.loop-e.invariant.few; small = c.requires.small }
-
-pub shape_of-bad-then-n-gt4 : goal.shape_of-bad-then-n-gt4
-shape_of-bad-then-n-gt4 c =
-    c.keep-n.auto.bad ∙ c.loop-e.invariant.same
-
-pub returns-then-n-gt4 : goal.returns-then-n-gt4
-returns-then-n-gt4 c =
-    collected_many (turned c.args.s.now c.entry_of-entry.result c.names_missing-hit.result c.loop-e.invariant.collected c.loop-e.invariant.few
-    c.entry_of-entry.ensures
-    c.names_missing-hit.ensures c.keep-n.ensures.count c.keep-n.ensures.values) c.args.l.entries (omega arith)
-
-pub overflow_add-e : goal.overflow_add-e
-overflow_add-e c =
-    omega (arith, c.loop-e-test.true)
-
 pub loop-e-preserved : goal.loop-e-preserved
 loop-e-preserved c =
     record {
-      turns = omega (arith, c.loop-e-test.true);
       few = omega (arith, c.if-n-gt4.false);
       same = c.keep-n.auto.bad ∙ c.loop-e.invariant.same;
       collected = turned c.args.s.now c.entry_of-entry.result c.names_missing-hit.result c.loop-e.invariant.collected c.loop-e.invariant.few
@@ -69,10 +32,7 @@ loop-e-preserved c =
           c.names_missing-hit.ensures c.keep-n.ensures.count c.keep-n.ensures.values;
     }
 
-pub shape_of-bad : goal.shape_of-bad
-shape_of-bad c = c.loop-e.invariant.same
-
 pub returns : goal.returns
 returns c =
-    let q : c.args.l.entries ≡ c.loop-e.e = omega (arith, c.loop-e.invariant.turns, c.loop-e-test.false) in
+    let q : c.args.l.entries ≡ c.loop-e.e = omega arith in
     rw q c.loop-e.invariant.collected

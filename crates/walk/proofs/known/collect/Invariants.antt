@@ -3,17 +3,13 @@ use Rattle.pack.specs.Value.{lookup_at}
 use Rattle.pack.specs.Meaning.{pack_of}
 use lib.ListN.{length}
 use mathlib.Core.Path.{◌≡◌}
-use Prim.Native.Nat.{◌-◌, ◌≤◌}
+use Prim.Native.Nat.{◌≤◌}
 use Rattle.walk.proofs.known.collect.Given as goal
 
 abbrev pub invariant-loop-e : goal.invariant-loop-e
 invariant-loop-e l =
     record {
-      turns : l.e ≤ l.entries;
       few : l.n ≤ 4;
       same : length l.bad ≡ length l.initial.bad;
       collected : Collected (pack_of l.s) (lookup_at (pack_of l.s).lookups l.l.index).entries l.e l.at l.initial.bad l.bad l.n;
     }
-
-abbrev pub decreases-loop-e : goal.decreases-loop-e
-decreases-loop-e l = l.entries - l.e

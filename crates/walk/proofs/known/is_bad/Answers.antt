@@ -3,14 +3,10 @@ use Rattle.walk.specs.StopParts.{among}
 use Rattle.rules.specs.SearchLaws.{any_turn, any_hit}
 use borrow.Author.Tests.{eq-eqb, ne_eqb}
 use lib.ListN.{get_or}
-use mathlib.Core.Path.{◌≡◌, refl, sym, ap, ◌∙◌}
+use mathlib.Core.Path.{◌≡◌, sym, ap, ◌∙◌}
 use Prim.Native.Nat.{ℕ, ◌+◌, ◌*◌}
 use native.Mathlib.Omega.{arith}
-use borrow.Author.Rules.{rules}
 use Rattle.walk.proofs.known.is_bad.Goals as goal
-
-pub loop-j-init : goal.loop-j-init
-loop-j-init c = record { turns = search rules; none_yet = refl }
 
 pub returns-then-value_at-reading : goal.returns-then-value_at-reading
 returns-then-value_at-reading c =
@@ -22,7 +18,6 @@ pub loop-j-preserved : goal.loop-j-preserved
 loop-j-preserved c =
     let bad = c.args.bad.now in
     record {
-      turns = omega (arith, c);
       none_yet = any_turn (λ j. get_or bad (4 * c.args.k + j) 0 == c.args.reading) c.loop-j.j
           ∙ (rw (
             c.loop-j.invariant.none_yet,
@@ -32,5 +27,5 @@ loop-j-preserved c =
 
 pub returns : goal.returns
 returns c =
-    let q : c.args.n ≡ c.loop-j.j = omega (arith, c.loop-j.invariant.turns, c.loop-j-test.false) in
+    let q : c.args.n ≡ c.loop-j.j = omega arith in
     sym (ap (λ (i : ℕ). among c.args.bad.now (4 * c.args.k) i c.args.reading) q ∙ c.loop-j.invariant.none_yet)

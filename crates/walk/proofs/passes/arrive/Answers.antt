@@ -1,27 +1,24 @@
-use mathlib.Core.Path.{◌∙◌}
+use mathlib.Core.Path.{ap, ◌∙◌}
 use Rattle.pack.specs.Meaning.{opt_order}
 use Rattle.walk.proofs.PassLaws.{arrive_at, arrive_not_current, arrive_endless}
-use borrow.Author.Tests.{not-true, not-false}
 use Rattle.walk.proofs.passes.arrive.Goals as goal
 
-pub returns-then-not-counter : goal.returns-then-not-counter
-returns-then-not-counter c =
-    λ L a p po g k gk. arrive_endless L p g k (opt_order c.args.counter) (rw (not-true c.args.counter.given c.if-not-counter.true))
+pub returns-in_default : goal.returns-in_default
+returns-in_default c = λ L a p po g k gk. arrive_endless L p g k (opt_order c.args.counter) (ap opt_order c.in_default.is)
 
 pub returns-then-counter-eq0 : goal.returns-then-counter-eq0
 returns-then-counter-eq0 c =
-    λ L a p po g k gk. arrive_not_current L p g k (opt_order c.args.counter)
-    (rw (not-false c.args.counter.given c.if-not-counter.false, c.if-counter-eq0.true))
+    λ L a p po g k gk. arrive_not_current L p g k (opt_order c.args.counter) (rw (c.in-Some.is, c.if-counter-eq0.true))
 
 pub returns-then-placed : goal.returns-then-placed
 returns-then-placed c =
     λ L a p po g k gk. (c.passes.ensures
     ∙ rw c.if-placed.true at (arrive_at L p c.args.o.0 po g k c.args.count gk (opt_order c.args.counter)
-    c.args.counter.order.0 (rw (not-false c.args.counter.given c.if-not-counter.false)) c.if-counter-eq0.false c.placed.result
+    c.in-Some.counter.0 (ap opt_order c.in-Some.is) c.if-counter-eq0.false c.placed.result
     (rw c.index_of.ensures at (c.placed.ensures L a))))
 
 pub returns : goal.returns
 returns c =
     λ L a p po g k gk. (rw c.if-placed.false at (arrive_at L p c.args.o.0 po g k c.args.count gk (opt_order c.args.counter)
-    c.args.counter.order.0 (rw (not-false c.args.counter.given c.if-not-counter.false)) c.if-counter-eq0.false c.placed.result
+    c.in-Some.counter.0 (ap opt_order c.in-Some.is) c.if-counter-eq0.false c.placed.result
     (rw c.index_of.ensures at (c.placed.ensures L a))))

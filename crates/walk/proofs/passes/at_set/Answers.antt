@@ -1,42 +1,13 @@
 use Rattle.walk.proofs.PassLaws.{round_not_current, round_over, round_enter, entered, kept_memory}
 use Rattle.walk.specs.Walk.{due}
 use Rattle.walk.specs.State.{arrival_of, place_of, memory_of, rest_of}
+use Rattle.std.specs.Prelude.{Some}
 use Rattle.walk.specs.SetsOf.{value_at}
 use Rattle.pack.specs.Meaning.{opt_order}
 use Prim.Native.Nat.{ℕ}
 use native.Mathlib.Omega.{arith}
 use mathlib.Core.Path.{refl, ap, ◌∙◌}
 use Rattle.walk.proofs.passes.at_set.Goals as goal
-
--- src/passes.rt:303:15
-pub offset_bounds-sets-k : goal.offset_bounds-sets-k
-offset_bounds-sets-k c = omega (arith, c.requires.set)
-
--- src/passes.rt:303:15
-pub bounds-sets-k : goal.bounds-sets-k
-bounds-sets-k c = c.requires.set
-
--- src/passes.rt:304:47
-pub overflow_mul-k : goal.overflow_mul-k
-overflow_mul-k c = omega (arith, c.requires.set)
-
--- src/passes.rt:304:47
-pub overflow_add-k : goal.overflow_add-k
-overflow_add-k c = omega (arith, c.requires.set)
-
--- src/passes.rt:304:40
-pub offset_bounds-passes-k : goal.offset_bounds-passes-k
-offset_bounds-passes-k c = omega (arith, c.requires.set)
-
--- src/passes.rt:304:40
-pub bounds-passes-k : goal.bounds-passes-k
-bounds-passes-k c =
-    omega (arith, c.requires.set, c.requires.sixteen)
-
--- src/passes.rt:311:13
-pub put_left-requires : goal.put_left-requires
-put_left-requires c =
-    c.requires
 
 -- src/passes.rt:294:1
 pub returns-in-NotCurrent : goal.returns-in-NotCurrent
@@ -45,8 +16,7 @@ returns-in-NotCurrent c =
     let p = place_of c.args.o.0 w in
     let counter = opt_order (value_at c.args.sets k).counter in
     record {
-      round = λ L a n. c.not_due.ensures w
-          ∙ round_not_current L p (memory_of w) k (arrival_of c.arrive.result) counter (a.set k).counter (c.arrive.ensures L a p refl (memory_of w) k refl) n
+      round = λ L a n. round_not_current L p (memory_of w) k (arrival_of c.arrive.result) counter (a.set k).counter (c.arrive.ensures L a p refl (memory_of w) k refl) n
           (ap arrival_of c.in-NotCurrent.is);
       memory = refl;
       end = λ h. omega (arith, c);
@@ -74,13 +44,12 @@ returns-in-Enter c =
     let o = c.args.o.0 in
     let p = place_of o w in
     let counter = opt_order (value_at c.args.sets k).counter in
-    let kept = kept_memory w w' c.requires.sixteen k c.requires.set c.pass.result c.put_left.ensures in
+    let kept = kept_memory w w' c.requires.sixteen k c.requires.set (Some c.in-Enter.further) c.put_left.ensures in
     record {
-      round = λ L a n. c.due.ensures w'
-          ∙ ap (due (place_of o w')) kept
+      round = λ L a n. ap (due (place_of o w')) kept
           ∙ round_enter L p (memory_of w) k (arrival_of c.arrive.result) counter (a.set k).counter (c.arrive.ensures L a p refl (memory_of w) k refl) n
           (rest_of c.in-Enter.further) (ap arrival_of c.in-Enter.is) (place_of o w')
-          (entered w w' c.requires.sixteen k c.requires.set c.pass.result c.put_left.ensures (rest_of c.in-Enter.further) c.pass.ensures o);
+          (entered w w' c.requires.sixteen k c.requires.set (Some c.in-Enter.further) c.put_left.ensures (rest_of c.in-Enter.further) refl o);
       memory = kept;
       end = λ h. omega (arith, c);
     }

@@ -9,11 +9,6 @@ pub returns-then-sets-o : goal.returns-then-sets-o
 returns-then-sets-o c =
     record { stands = λ L a. closed_beyond a (place_of c.args.o.0 c.args.passes.now) c.if-sets-o.true; few = omega (arith, c) }
 
--- src/passes.rt:214:5
-pub look-requires : goal.look-requires
-look-requires c =
-    c.requires
-
 -- src/passes.rt:204:1
 pub returns : goal.returns
 returns c =

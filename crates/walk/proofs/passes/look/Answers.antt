@@ -7,24 +7,7 @@ use Rattle.walk.proofs.passes.look.Goals as goal
 
 -- src/passes.rt:171:5
 pub loop-k-init : goal.loop-k-init
-loop-k-init c = record { few = omega arith; rest = λ L a. look_four a _ }
-
--- src/passes.rt:172:9
-pub overflow_sub-k : goal.overflow_sub-k
-overflow_sub-k c = omega (arith, c.loop-k-test.true)
-
--- src/passes.rt:173:19
-pub offset_bounds-sets-k : goal.offset_bounds-sets-k
-offset_bounds-sets-k c = omega (arith, c.loop-k.invariant.few)
-
--- src/passes.rt:173:19
-pub bounds-sets-k : goal.bounds-sets-k
-bounds-sets-k c = omega (arith, c.loop-k.invariant.few, c.loop-k-test.true)
-
--- src/passes.rt:174:28
-pub left_at-requires : goal.left_at-requires
-left_at-requires c =
-    record { set = omega (arith, c.loop-k.invariant.few, c.loop-k-test.true); sixteen = c.requires }
+loop-k-init c = λ L a. look_four a _
 
 -- src/passes.rt:175:13
 pub returns-then-arrives : goal.returns-then-arrives
@@ -33,31 +16,23 @@ returns-then-arrives c =
     record {
       stands = λ L a. look_hit a (place_of c.args.o.0 c.args.passes.now) c.loop-k.k low c.arrives.result
           (rw c.left_at.ensures at c.arrives.ensures) c.if-arrives.true
-          ∙ c.loop-k.invariant.rest L a;
-      few = omega (arith, c.loop-k.invariant.few, low);
+          ∙ c.loop-k.invariant L a;
+      few = omega (arith, low);
     }
-
--- src/passes.rt:171:5
-pub loop-k-smaller : goal.loop-k-smaller
-loop-k-smaller c =
-    omega (arith, c.loop-k-test.true)
 
 -- src/passes.rt:171:5
 pub loop-k-preserved : goal.loop-k-preserved
 loop-k-preserved c =
     let low : 0 < c.loop-k.k = omega (arith, c.loop-k-test.true) in
-    record {
-      few = omega (arith, c.loop-k.invariant.few);
-      rest = λ L a. look_miss a (place_of c.args.o.0 c.args.passes.now) c.loop-k.k low c.arrives.result
-          (rw c.left_at.ensures at c.arrives.ensures) c.if-arrives.false
-          ∙ c.loop-k.invariant.rest L a;
-    }
+    λ L a. look_miss a (place_of c.args.o.0 c.args.passes.now) c.loop-k.k low c.arrives.result
+    (rw c.left_at.ensures at c.arrives.ensures) c.if-arrives.false
+    ∙ c.loop-k.invariant L a
 
 -- src/passes.rt:163:1
 pub returns : goal.returns
 returns c =
     record {
       stands = λ L a. look_all L (place_of c.args.o.0 c.args.passes.now) c.loop-k.k (omega (arith, c.loop-k-test.false))
-          ∙ c.loop-k.invariant.rest L a;
+          ∙ c.loop-k.invariant L a;
       few = omega (arith, c);
     }

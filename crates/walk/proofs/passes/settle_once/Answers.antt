@@ -4,19 +4,13 @@ use native.Mathlib.Omega.{arith}
 use mathlib.Core.Path.{◌∙◌}
 use Rattle.walk.proofs.passes.settle_once.Goals as goal
 
--- src/passes.rt:328:33
-pub at_set-requires : goal.at_set-requires
-at_set-requires c =
-    record { set = rw c.in-Arrived.is at c.stand.ensures.few; sixteen = c.stand.auto.passes ∙ c.requires }
-
 -- src/passes.rt:317:1
 pub returns-in-Again : goal.returns-in-Again
 returns-in-Again c =
     let w = c.args.passes.now in
     let w' = c.stand.new.passes in
     record {
-      round = λ L a l n. c.due.ensures w'
-          ∙ stands_again L w w' (place_of c.args.o.0 w) c.stand.result c.args.o.0 (c.stand.ensures.stands L a l) c.stand.ensures.memory n
+      round = λ L a l n. stands_again L w w' (place_of c.args.o.0 w) c.stand.result c.args.o.0 (c.stand.ensures.stands L a l) c.stand.ensures.memory n
           c.in-Again.set c.in-Again.start c.in-Again.is;
       end = λ L a l. omega (arith, c);
     }
@@ -27,8 +21,7 @@ returns-in-Ready c =
     let w = c.args.passes.now in
     let w' = c.stand.new.passes in
     record {
-      round = λ L a l n. c.due-in-Ready.ensures w'
-          ∙ stands_ready L w w' (place_of c.args.o.0 w) c.stand.result c.args.o.0 (c.stand.ensures.stands L a l) c.stand.ensures.memory n
+      round = λ L a l n. stands_ready L w w' (place_of c.args.o.0 w) c.stand.result c.args.o.0 (c.stand.ensures.stands L a l) c.stand.ensures.memory n
           c.in-Ready.is;
       end = λ L a l. omega (arith, c);
     }
@@ -52,8 +45,7 @@ returns-in-Beyond c =
     let w = c.args.passes.now in
     let w' = c.stand.new.passes in
     record {
-      round = λ L a l n. c.not_due.ensures w'
-          ∙ stands_beyond L w w' (place_of c.args.o.0 w) c.stand.result c.args.o.0 (c.stand.ensures.stands L a l) c.stand.ensures.memory n
+      round = λ L a l n. stands_beyond L w w' (place_of c.args.o.0 w) c.stand.result c.args.o.0 (c.stand.ensures.stands L a l) c.stand.ensures.memory n
           c.in-Beyond.is;
       end = λ L a l. omega (arith, c);
     }

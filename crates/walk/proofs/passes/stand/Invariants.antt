@@ -10,11 +10,7 @@ use Rattle.walk.proofs.passes.stand.Given as goal
 abbrev pub invariant-loop-k : goal.invariant-loop-k
 invariant-loop-k l =
     record {
-      few : l.k ≤ 4;
       same : length l.passes ≡ length l.initial.passes;
       rest : (L : Layout) → SetsAre L l.sets → 1 ≤ l.o.0 → close L l.k (place_of l.o.0 l.passes) ≡ stand L (place_of l.o.0 l.initial.passes);
       memory : memory_of l.passes ≡ memory_of l.initial.passes;
     }
-
-abbrev pub decreases-loop-k : goal.decreases-loop-k
-decreases-loop-k l = l.k

@@ -1,12 +1,9 @@
 use Rattle.walk.proofs.Counting.{Counted}
 use mathlib.Core.Path.{◌≡◌}
 use lib.ListN.{length}
-use Prim.Native.Nat.{◌≤◌, ◌-◌}
+use Prim.Native.Nat.{◌-◌}
 use Rattle.walk.proofs.passes.visit.Given as goal
 
 abbrev pub invariant-loop-k : goal.invariant-loop-k
 invariant-loop-k l =
-    record { few : l.k ≤ 4; same : length l.passes ≡ length l.initial.passes; counted : Counted l.sets l.initial.passes (l.o.0 - 1) l.reading l.k l.passes }
-
-abbrev pub decreases-loop-k : goal.decreases-loop-k
-decreases-loop-k l = 4 - l.k
+    record { same : length l.passes ≡ length l.initial.passes; counted : Counted l.sets l.initial.passes (l.o.0 - 1) l.reading l.k l.passes }

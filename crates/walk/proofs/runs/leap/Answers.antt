@@ -19,14 +19,3 @@ returns-then-stretch c =
           free_passes marks c.args.bad.now (o - 1 + j) (get_or c.args.readings.now (m + j) 0)
           (ap (λ (i : ℕ). get_or marks i 0) e ∙ c.requires.free c.if-stretch.true (o + j) (omega (arith, c)) (omega (arith, l, c.ahead-n.ensures.within)));
     }
-
--- src/runs.rt:88:1
-pub returns : goal.returns
-returns c =
-    let m = c.args.m in
-    record {
-      read = omega (arith, c.write_passing.ensures.few, c.ahead-n.ensures.read, c.requires.read);
-      within = omega (arith, c.write_passing.ensures.few, c.ahead-n.ensures.within);
-      out = c.write_passing.ensures.out ∙ ap (λ (k : ℕ). written c.args.visits.now m k c.write_passing.result) c.index_of-k.ensures;
-      passing = λ j l. rw c.index_of-k.ensures at (c.write_passing.ensures.passing j l);
-    }

@@ -1,6 +1,5 @@
-use mathlib.Core.Path.{refl, sym, ◌∙◌}
+use mathlib.Core.Path.{refl, ◌∙◌}
 use native.Mathlib.Omega.{arith}
-use borrow.Author.Tests.{not-false}
 use Rattle.walk.proofs.Plain.{runs_none, runs_then}
 use Rattle.walk.proofs.runs.run.Goals as goal
 
@@ -17,31 +16,6 @@ loop-sets-init c =
       runs = runs_none;
     }
 
--- src/runs.rt:259:13
-pub stretch_at-stretch-requires : goal.stretch_at-stretch-requires
-stretch_at-stretch-requires c =
-    record { first = c.loop-sets.invariant.first; within = c.loop-sets.invariant.within; small = c.requires.small }
-
--- src/runs.rt:260:13
-pub run_stretch-made-requires : goal.run_stretch-made-requires
-run_stretch-made-requires c =
-    record {
-      sound = c.stretch_at-stretch.ensures.sound;
-      sixteen = c.loop-sets.invariant.sixteen;
-      read = c.loop-sets.invariant.read;
-      room = omega (arith, c.requires.room, c.loop-sets.invariant.same);
-    }
-
--- src/runs.rt:263:13
-pub shape_of-passes-then-not-made : goal.shape_of-passes-then-not-made
-shape_of-passes-then-not-made c =
-    c.run_stretch-made.auto.passes ∙ c.loop-sets.invariant.sixteen ∙ sym c.requires.sixteen
-
--- src/runs.rt:263:13
-pub shape_of-visits-then-not-made : goal.shape_of-visits-then-not-made
-shape_of-visits-then-not-made c =
-    c.run_stretch-made.auto.visits ∙ c.loop-sets.invariant.same
-
 -- src/runs.rt:263:13
 pub returns-then-not-made : goal.returns-then-not-made
 returns-then-not-made c =
@@ -51,11 +25,6 @@ returns-then-not-made c =
       read = made.read;
       runs = runs_then c.loop-sets.invariant.runs (rw c.stretch_at-stretch.ensures.from at (made.runs c.args.sets c.stretch_at-stretch.ensures.straight));
     }
-
--- src/runs.rt:258:5
-pub loop-sets-smaller : goal.loop-sets-smaller
-loop-sets-smaller c =
-    omega (arith, c.run_stretch-made.ensures.more (not-false c.run_stretch-made.result.again c.if-not-made.false), c.run_stretch-made.ensures.read)
 
 -- src/runs.rt:258:5
 pub loop-sets-preserved : goal.loop-sets-preserved

@@ -3,16 +3,12 @@ use Rattle.walk.specs.Runs.{written}
 use lib.ListN.{get_or}
 use mathlib.Core.Bool.{true}
 use mathlib.Core.Path.{◌≡◌}
-use Prim.Native.Nat.{ℕ, ◌+◌, ◌-◌, ◌≤◌, ◌<◌}
+use Prim.Native.Nat.{ℕ, ◌+◌, ◌<◌}
 use Rattle.walk.proofs.runs.write_passing.Given as goal
 
 abbrev pub invariant-loop-j : goal.invariant-loop-j
 invariant-loop-j l =
     record {
-      count : l.j ≤ l.n;
       out : l.visits ≡ written l.initial.visits l.m l.k.0 l.j;
       passing : (i : ℕ) → i < l.j → lets_pass l.marks l.bad (l.k.0 + i) (get_or l.readings (l.m + i) 0) ≡ true;
     }
-
-abbrev pub decreases-loop-j : goal.decreases-loop-j
-decreases-loop-j l = l.n - l.j

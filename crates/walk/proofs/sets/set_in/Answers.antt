@@ -1,6 +1,5 @@
 use lib.ListN.{length, get_or-eq_default}
-use mathlib.Core.Option.{Option, none, some}
-use mathlib.Core.Bool.{true}
+use Rattle.std.specs.Prelude.{Option, None, Some, IfSome}
 use mathlib.Core.Path.{◌≡◌, sym, ◌∙◌, ap}
 use Prim.Native.Nat.{ℕ, ◌+◌, ◌≤◌, ◌<◌}
 use native.Mathlib.Omega.{arith}
@@ -9,21 +8,22 @@ use Rattle.walk.specs.Layout.{no_set, set_or_empty}
 use Rattle.walk.specs.declared.sets.Set.{Set}
 use Rattle.pack.specs.Value.{Repeating, Pgn, pgn_at, set_place}
 use Rattle.pack.specs.Meaning.{repeating_meaning, optional_repeating, pack_of}
-use Rattle.pack.specs.declared.pgn.OptRepeating.{OptRepeating}
+use Rattle.pack.specs.declared.pgn.RepeatingView.{RepeatingView}
 use Rattle.pack.proofs.SetSums.{SetFits, pgn_sets_law}
 use Rattle.pack.proofs.Sets.{places_are, set_is}
 use Rattle.walk.proofs.sets.set_in.Goals as goal
 
 -- o is what stands there
-module _ (o : OptRepeating) (G : Option Repeating) (e : optional_repeating o ≡ G) where
-  fits : SetFits G → o.given ≡ true → o.set.start.0 + o.set.count < 4294967296
-  fits f h = let q : optional_repeating o ≡ some (repeating_meaning o.set) = rw h in omega (arith, f (repeating_meaning o.set) (sym e ∙ q))
+fits : (o : Option RepeatingView) (G : Option Repeating) → optional_repeating o ≡ G → SetFits G → IfSome o (λ set. set.start.0 + set.count < 4294967296)
+fits None G e f = tt
+fits (Some x) G e f = omega (arith, f (repeating_meaning x) (sym e))
 
-  told : (v : Set) → SetIs (set_or_empty (optional_repeating o)) v → SetIs (set_or_empty G) v
-  told v is = rw (← e) is
+told : (o : Option RepeatingView) (G : Option Repeating) → optional_repeating o ≡ G → (v : Set) → SetIs (set_or_empty (optional_repeating o)) v
+    → SetIs (set_or_empty G) v
+told o G e v is = rw (← e) is
 
 absent : (p : Pgn) (k : ℕ) → length p.sets ≤ k → (v : Set) → SetIs no_set v → SetIs (set_or_empty (set_place p k)) v
-absent p k h v is = rw (get_or-eq_default p.sets none h) is
+absent p k h v is = rw (get_or-eq_default p.sets None h) is
 
 pub set_of-requires : goal.set_of-requires
 set_of-requires c =

@@ -1,35 +1,10 @@
-use Rattle.walk.proofs.SetValues.{stop_misplaced, stop_clashes, stop_none}
-use Rattle.walk.proofs.Plain.{below_next}
-use Rattle.walk.specs.Layout.{misplaced, clash}
-use Rattle.rules.specs.Search.{any_below}
-use mathlib.Core.Bool.{false}
-use mathlib.Core.Path.{◌≡◌, sym, ◌∙◌}
+use Rattle.walk.proofs.SetValues.{stop_met, stop_none}
+use mathlib.Core.Path.{sym, ◌∙◌}
 use native.Mathlib.Omega.{arith}
-use Prim.Native.Nat.{ℕ}
 use Rattle.walk.proofs.sets.stop_1.Goals as goal
 
-pub loop-k-init : goal.loop-k-init
-loop-k-init c = record { turns = omega arith; fit = λ L a j l. absurd (omega (arith, l)); apart = λ L a j l. absurd (omega (arith, l)) }
-
-pub returns-then-misplaced : goal.returns-then-misplaced
-returns-then-misplaced c =
-    λ L a. sym (stop_misplaced a c.loop-k.k (sym (c.misplaced.ensures L a) ∙ c.if-misplaced.true))
-
-pub returns-then-clashes : goal.returns-then-clashes
-returns-then-clashes c =
-    λ L a. sym (stop_clashes a c.loop-k.k (sym (c.clashes.ensures L a) ∙ c.if-clashes.true))
-
-pub loop-k-preserved : goal.loop-k-preserved
-loop-k-preserved c =
-    record {
-      turns = omega (arith, c.loop-k-test.true);
-      fit = λ L a. below_next (λ (j : ℕ). misplaced L j ≡ false) (c.loop-k.invariant.fit L a) (sym (c.misplaced.ensures L a) ∙ c.if-misplaced.false);
-      apart =
-          λ L a. below_next (λ (j : ℕ). any_below (λ i. clash L i j) j ≡ false) (c.loop-k.invariant.apart L a)
-          (sym (c.clashes.ensures L a) ∙ c.if-clashes.false);
-    }
+pub returns-then-stops : goal.returns-then-stops
+returns-then-stops c = λ L a. sym (stop_met a c.loop-k.k (sym (c.stops.ensures L a) ∙ c.if-stops.true))
 
 pub returns : goal.returns
-returns c =
-    λ L a. sym (stop_none a (λ j l. c.loop-k.invariant.fit L a j (omega (arith, l, c.loop-k-test.false)))
-    (λ j l. c.loop-k.invariant.apart L a j (omega (arith, l, c.loop-k-test.false))))
+returns c = λ L a. sym (stop_none a (λ j l. c.loop-k.invariant L a j (omega (arith, l, c.loop-k-test.false))))

@@ -1,18 +1,11 @@
 use Rattle.walk.specs.SetsOf.{SetsAre}
 use Rattle.walk.specs.Layout.{Layout, misplaced, clash}
 use Rattle.rules.specs.Search.{any_below}
-use mathlib.Core.Bool.{false}
+use mathlib.Core.Bool.{false, ◌||◌}
 use mathlib.Core.Path.{◌≡◌}
-use Prim.Native.Nat.{ℕ, ◌-◌, ◌≤◌, ◌<◌}
+use Prim.Native.Nat.{ℕ, ◌<◌}
 use Rattle.walk.proofs.sets.stop_1.Given as goal
 
 abbrev pub invariant-loop-k : goal.invariant-loop-k
 invariant-loop-k l =
-    record {
-      turns : l.k ≤ 4;
-      fit : (L : Layout) → SetsAre L l.sets → (j : ℕ) → j < l.k → misplaced L j ≡ false;
-      apart : (L : Layout) → SetsAre L l.sets → (j : ℕ) → j < l.k → any_below (λ i. clash L i j) j ≡ false;
-    }
-
-abbrev pub decreases-loop-k : goal.decreases-loop-k
-decreases-loop-k l = 4 - l.k
+    (L : Layout) → SetsAre L l.sets → (j : ℕ) → j < l.k → (misplaced L j || any_below (λ i. clash L i j) j) ≡ false

@@ -7,27 +7,20 @@ use Rattle.walk.specs.State.{place_of, memory_of}
 use Rattle.walk.specs.Stops.{stop_at}
 use Rattle.walk.specs.ByPlace.{by_place}
 use Rattle.walk.proofs.Walks.{step_stops, step_visits, goes_onward, same_left}
+use mathlib.Core.Path.{refl}
 use native.Mathlib.Omega.{arith}
 use Rattle.walk.proofs.steps.step_at.Goals as goal
 
-pub stop_at-stop-requires : goal.stop_at-stop-requires
-stop_at-stop-requires c =
-    record {
-      pgn = c.requires.pgn;
-      remembered = c.requires.remembered;
-      field = omega (arith, c.index_of-field.ensures, c.requires.first, c.requires.within);
-    }
-
-pub returns-then-stop-ne0 : goal.returns-then-stop-ne0
-returns-then-stop-ne0 c =
+pub returns-in-Some : goal.returns-in-Some
+returns-in-Some c =
     let s = c.args.s.now in let w = c.args.passes.now in
     let P = pack_of s in
     let p = found_pgn s c.args.found in
     record {
       step = step_stops (layout p) (stop_at P p) (place_of c.args.o.0 w) (memory_of w) c.args.reading c.index_of-field.result.0 c.index_of-field.ensures
-          c.requires.first c.stop_at-stop.result c.stop_at-stop.ensures.stop c.if-stop-ne0.true;
-      ahead = omega (arith, c);
-      remembered = c.stop_at-stop.ensures.remembered;
+          c.requires.first c.in-Some.ensures.stop refl;
+      ahead = omega arith;
+      remembered = c.in-Some.ensures.remembered;
     }
 
 pub next_order-next-requires : goal.next_order-next-requires
@@ -42,11 +35,11 @@ returns c =
     let w' = c.visit.new.passes in
     record {
       step = step_visits (layout p) (stop_at P p) (place_of c.args.o.0 w) (memory_of w) reading c.index_of-field.result.0 c.index_of-field.ensures
-          c.requires.first c.stop_at-stop.result c.stop_at-stop.ensures.stop c.if-stop-ne0.false
+          c.requires.first c.in_default.ensures.stop refl
           (settled (layout p) (by_place (layout p)) (place_of c.next_order-next.result.0 w') (memory_of w'))
           (goes_onward (layout p) (place_of c.args.o.0 w) (place_of c.next_order-next.result.0 w') (memory_of w) (memory_of w') reading
           (same_left w w' c.visit.ensures.left c.args.o.0 c.next_order-next.result.0 c.next_order-next.ensures)
           (c.visit.ensures.memory (layout p) c.requires.pgn.sets));
       ahead = omega (arith, c.next_order-next.ensures);
-      remembered = c.stop_at-stop.ensures.remembered;
+      remembered = c.in_default.ensures.remembered;
     }

@@ -3,10 +3,9 @@ use Rattle.walk.specs.Stops.{names_missing, entries_name_missing}
 use Rattle.rules.specs.SearchLaws.{any_turn, any_hit}
 use Rattle.pack.specs.Meaning.{entry_meaning, pack_of}
 use Rattle.pack.specs.declared.entry.EntryView.{EntryView}
-use borrow.Author.Rules.{rules}
 use native.Mathlib.Omega.{arith}
 use Prim.Native.Nat.{ℕ}
-use mathlib.Core.Path.{◌≡◌, refl, sym, ◌∙◌}
+use mathlib.Core.Path.{◌≡◌, sym, ◌∙◌}
 use mathlib.Core.Bool.{Bool, ◌&&◌}
 use mathlib.Core.List.{List}
 use lib.ListN.{length, get_or}
@@ -18,40 +17,24 @@ said : (s : List ℕ) (l reading e : ℕ) (v : EntryView) (r : Bool) → entry_m
     → r ≡ ((v.value == reading) && names_missing (pack_of s) (entry_meaning s v)) → hits s l reading e ≡ r
 said s l reading e v r y h = sym (h ∙ (λ j. ((y j).value == reading) && names_missing (pack_of s) (y j)))
 
-pub loop-e-init : goal.loop-e-init
-loop-e-init c = record { turns = search rules; none_yet = refl }
-
-pub entry_of-entry-requires : goal.entry_of-entry-requires
-entry_of-entry-requires c =
-    record { at = c.requires.at; kind = c.requires.kind; entry = omega (arith, c.requires.entries, c.loop-e-test.true) }
-
-pub entry_names_missing-requires : goal.entry_names_missing-requires
-entry_names_missing-requires c =
-    record { ready = c.requires.at.ready; index = c.requires.index }
-
 pub returns-then-entry_names_missing : goal.returns-then-entry_names_missing
 unfolding entries_name_missing
 returns-then-entry_names_missing c =
-    let s = c.args.s.now in let l = c.args.l in let reading = c.args.reading in
+    let s = c.args.s.now in let l = c.args.l.index in let reading = c.args.reading in
     let h =
     said s l reading c.loop-e.e c.entry_of-entry.result c.entry_names_missing.result c.entry_of-entry.ensures c.entry_names_missing.ensures in
-    sym (any_hit (hits s l reading) (length (lookup_at (pack_of s).lookups l).entries) c.loop-e.e (omega (arith, c.requires.entries, c.loop-e-test.true))
+    sym (any_hit (hits s l reading) (length (lookup_at (pack_of s).lookups l).entries) c.loop-e.e (omega (arith, c.requires.lookup.entries, c.loop-e-test.true))
     (h ∙ c.if-entry_names_missing.true))
 
 pub loop-e-preserved : goal.loop-e-preserved
 loop-e-preserved c =
-    let s = c.args.s.now in let l = c.args.l in let reading = c.args.reading in
+    let s = c.args.s.now in let l = c.args.l.index in let reading = c.args.reading in
     let h =
     said s l reading c.loop-e.e c.entry_of-entry.result c.entry_names_missing.result c.entry_of-entry.ensures c.entry_names_missing.ensures in
-    record {
-      turns = omega (arith, c);
-      none_yet = any_turn (hits s l reading) c.loop-e.e
-          ∙ (rw (c.loop-e.invariant.none_yet, h ∙ c.if-entry_names_missing.false));
-    }
+    record { none_yet = any_turn (hits s l reading) c.loop-e.e ∙ (rw (c.loop-e.invariant.none_yet, h ∙ c.if-entry_names_missing.false)) }
 
 pub returns : goal.returns
 unfolding entries_name_missing
 returns c =
-    let q : length (lookup_at (pack_of c.args.s.now).lookups c.args.l).entries ≡ c.loop-e.e =
-    omega (arith, c.requires.entries, c.loop-e.invariant.turns, c.loop-e-test.false) in
+    let q : length (lookup_at (pack_of c.args.s.now).lookups c.args.l.index).entries ≡ c.loop-e.e = omega (arith, c.requires.lookup.entries) in
     rw (q, c.loop-e.invariant.none_yet)

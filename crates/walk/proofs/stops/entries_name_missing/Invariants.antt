@@ -2,7 +2,7 @@ use Rattle.std.specs.Prelude.{◌==◌}
 use Rattle.walk.specs.Stops.{names_missing}
 use Rattle.rules.specs.Search.{any_below}
 use Rattle.pack.specs.Meaning.{pack_of}
-use Prim.Native.Nat.{ℕ, ◌-◌, ◌≤◌}
+use Prim.Native.Nat.{ℕ}
 use mathlib.Core.Path.{◌≡◌}
 use mathlib.Core.Bool.{Bool, false, ◌&&◌}
 use mathlib.Core.List.{List}
@@ -19,9 +19,5 @@ hits s l reading e =
 abbrev pub invariant-loop-e : goal.invariant-loop-e
 invariant-loop-e l =
     record {
-      turns : l.e ≤ l.entries;
-      none_yet : any_below (hits l.s l.l l.reading) l.e ≡ false;
+      none_yet : any_below (hits l.s l.l.index l.reading) l.e ≡ false;
     }
-
-abbrev pub decreases-loop-e : goal.decreases-loop-e
-decreases-loop-e l = l.entries - l.e

@@ -3,13 +3,11 @@ use Rattle.walk.specs.Layout.{layout, sets_hold}
 use Rattle.rules.specs.DynamicLength.{length_source}
 use Rattle.rules.specs.SearchLaws.{any_turn, any_hit}
 use Rattle.rules.specs.Search.{any_below}
-use Rattle.rules.proofs.Sizes.{fields_few}
 use native.Mathlib.Numerals.{add-one}
-use borrow.Author.Rules.{rules}
 use native.Mathlib.Omega.{arith}
 use Prim.Native.Nat.{ℕ, suc, ◌+◌}
-use mathlib.Core.Path.{◌≡◌, refl, sym, ◌∙◌, ap}
-use mathlib.Core.Bool.{Bool, ◌&&◌, false≢true}
+use mathlib.Core.Path.{◌≡◌, sym, ◌∙◌, ap}
+use mathlib.Core.Bool.{Bool, ◌&&◌}
 use mathlib.Core.List.{List}
 use Rattle.pack.specs.Meaning.{pack_of}
 use Rattle.pack.specs.Value.{pgn_at, field_at}
@@ -24,17 +22,6 @@ said s t i k j own r o h =
     ∙ ap (λ (n : ℕ). length_source (pack_of s).fieldtypes (field_at (pgn_at (pack_of s) t i) j) && sets_hold (layout (pgn_at (pack_of s) t i)) (suc j) n)
     (o ∙ add-one k))
 
-pub order-own-requires : goal.order-own-requires
-order-own-requires c =
-    omega (arith, c.requires.field, fields_few c.requires.pgn.place)
-
-pub loop-j-init : goal.loop-j-init
-loop-j-init c = record { turns = search rules; none_yet = refl }
-
-pub gives_length-requires : goal.gives_length-requires
-gives_length-requires c =
-    record { pgn = c.requires.pgn; field = omega (arith, c.requires.field, c.loop-j-test.true) }
-
 pub returns-then-gives_length : goal.returns-then-gives_length
 returns-then-gives_length c =
     let s = c.args.s.now in let k = c.args.k in
@@ -44,8 +31,8 @@ returns-then-gives_length c =
     record {
       given = sym (any_hit (gives_at s t i k) k c.loop-j.j c.loop-j-test.true h);
       source = record {
-        before = λ e. c.loop-j-test.true;
-        source = λ e. and_l (length_source (pack_of s).fieldtypes (field_at (pgn_at (pack_of s) t i) c.loop-j.j))
+        before = c.loop-j-test.true;
+        source = and_l (length_source (pack_of s).fieldtypes (field_at (pgn_at (pack_of s) t i) c.loop-j.j))
             (sets_hold (layout (pgn_at (pack_of s) t i)) (suc c.loop-j.j) (suc k)) h;
       };
     }
@@ -56,13 +43,13 @@ loop-j-preserved c =
     let t = c.args.found.tree in
     let i = c.args.found.pgn in
     let h = said s t i k c.loop-j.j c.order-own.result.0 c.gives_length.result c.order-own.ensures c.gives_length.ensures in
-    record { turns = omega (arith, c); none_yet = any_turn (gives_at s t i k) c.loop-j.j ∙ (rw (c.loop-j.invariant.none_yet, h ∙ c.if-gives_length.false)) }
+    record { none_yet = any_turn (gives_at s t i k) c.loop-j.j ∙ (rw (c.loop-j.invariant.none_yet, h ∙ c.if-gives_length.false)) }
 
 pub returns : goal.returns
 returns c =
-    let q : c.loop-j.j ≡ c.args.k = omega (arith, c.loop-j.invariant.turns, c.loop-j-test.false) in
+    let q : c.loop-j.j ≡ c.args.k = omega arith in
     record {
       given = sym (ap (any_below (gives_at c.args.s.now c.args.found.tree c.args.found.pgn c.args.k)) (sym q)
           ∙ c.loop-j.invariant.none_yet);
-      source = record { before = λ e. absurd (false≢true e); source = λ e. absurd (false≢true e) };
+      source = record { before = tt; source = tt };
     }

@@ -1,7 +1,7 @@
 use Rattle.walk.proofs.Parts.{gives}
 use Rattle.walk.specs.Layout.{layout}
 use Rattle.rules.specs.Search.{any_below}
-use Prim.Native.Nat.{ℕ, ◌-◌, ◌≤◌}
+use Prim.Native.Nat.{ℕ}
 use mathlib.Core.Path.{◌≡◌}
 use mathlib.Core.Bool.{Bool, false}
 use mathlib.Core.List.{List}
@@ -15,9 +15,5 @@ gives_at s t i k = gives (pack_of s) (pgn_at (pack_of s) t i) (layout (pgn_at (p
 abbrev pub invariant-loop-j : goal.invariant-loop-j
 invariant-loop-j l =
     record {
-      turns : l.j ≤ l.k;
       none_yet : any_below (gives_at l.s l.found.tree l.found.pgn l.k) l.j ≡ false;
     }
-
-abbrev pub decreases-loop-j : goal.decreases-loop-j
-decreases-loop-j l = l.k - l.j

@@ -1,10 +1,7 @@
 use lib.ListN.{get_or}
 use mathlib.Core.Path.{◌≡◌}
-use Prim.Native.Nat.{ℕ, ◌+◌, ◌-◌, ◌≤◌, ◌<◌}
+use Prim.Native.Nat.{ℕ, ◌+◌, ◌<◌}
 use Rattle.walk.proofs.stretches.all_free.Given as goal
 
 abbrev pub invariant-loop-j : goal.invariant-loop-j
-invariant-loop-j l = record { count : l.j ≤ l.n; free : (i : ℕ) → i < l.j → get_or l.marks (l.k.0 + i) 0 ≡ 1 }
-
-abbrev pub decreases-loop-j : goal.decreases-loop-j
-decreases-loop-j l = l.n - l.j
+invariant-loop-j l = (i : ℕ) → i < l.j → get_or l.marks (l.k.0 + i) 0 ≡ 1

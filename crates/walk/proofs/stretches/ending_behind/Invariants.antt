@@ -6,7 +6,4 @@ use Rattle.walk.specs.SetsOf.{value_at}
 use Rattle.walk.proofs.stretches.ending_behind.Given as goal
 
 abbrev pub invariant-loop-k : goal.invariant-loop-k
-invariant-loop-k l = record { few : l.k ≤ 4; elsewhere : (j : ℕ) → l.k ≤ j → j < 4 → (l.next.0 == (value_at l.sets j).end.0) ≡ false }
-
-abbrev pub decreases-loop-k : goal.decreases-loop-k
-decreases-loop-k l = l.k
+invariant-loop-k l = (j : ℕ) → l.k ≤ j → j < 4 → (l.next.0 == (value_at l.sets j).end.0) ≡ false

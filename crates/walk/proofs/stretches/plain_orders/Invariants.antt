@@ -10,11 +10,7 @@ use Rattle.walk.proofs.stretches.plain_orders.Given as goal
 abbrev pub invariant-loop-k : goal.invariant-loop-k
 invariant-loop-k l =
     record {
-      few : l.k ≤ 4;
       less : l.n ≤ l.sets.fields - l.o.0;
       edges : (i : ℕ) → i < l.k → (j : ℕ) → j < l.n → edge (value_at l.sets i) (l.next.0 + j) ≡ false;
       uncounted : (i : ℕ) → i < l.k → (j : ℕ) → j < l.n → counts (opt_order (value_at l.sets i).counter) (l.o.0 + j - 1) ≡ false;
     }
-
-abbrev pub decreases-loop-k : goal.decreases-loop-k
-decreases-loop-k l = 4 - l.k

@@ -4,7 +4,6 @@ use Prim.Native.Nat.{◌+◌}
 use native.Mathlib.Omega.{arith}
 use Rattle.walk.proofs.stretches.short_of_edges.Goals as goal
 
--- src/stretches.rt:52:1
 pub returns : goal.returns
 returns c =
     record {

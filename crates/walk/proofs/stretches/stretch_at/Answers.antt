@@ -6,16 +6,6 @@ use Rattle.walk.specs.Runs.{PlainAt}
 use Rattle.walk.proofs.Plain.{plain_within}
 use Rattle.walk.proofs.stretches.stretch_at.Goals as goal
 
--- src/stretches.rt:187:9
-pub later_order-to-requires : goal.later_order-to-requires
-later_order-to-requires c = omega (arith, c.plain_orders-n.ensures.small)
-
--- src/stretches.rt:188:9
-pub ending_behind-ending-requires : goal.ending_behind-ending-requires
-ending_behind-ending-requires c =
-    let within = plain_within c.args.sets c.args.o.0 c.plain_orders-n.result c.requires.within c.plain_orders-n.ensures.plain in
-    record { first = omega (arith, c.requires.first, c.later_order-to.ensures); small = omega (arith, within, c.requires.small, c.later_order-to.ensures) }
-
 -- src/stretches.rt:181:1
 pub returns : goal.returns
 returns c =
@@ -36,7 +26,7 @@ returns c =
         free = λ h x lo hi. let e : x - 1 ≡ c.index_of.result.0 + (x - o) = omega (arith, lo, c.index_of.ensures, c.requires.first) in
             ap (λ (i : ℕ). get_or c.args.marks.now i 0) e
             ∙ c.all_free-free.ensures h (x - o) (omega (arith, lo, hi, c.later_order-to.ensures));
-        set = λ h. (c.ending_behind-ending.ensures h).set;
-        start = λ h. (c.ending_behind-ending.ensures h).first;
+        set = λ x h. (c.ending_behind-ending.ensures x h).set;
+        start = λ x h. (c.ending_behind-ending.ensures x h).first;
       };
     }

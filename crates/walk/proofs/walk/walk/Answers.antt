@@ -4,20 +4,17 @@ use Rattle.walk.proofs.walk.walk.Goals as goal
 
 pub found_pgn-requires : goal.found_pgn-requires
 found_pgn-requires c =
-    c.named_pgn.ensures.named.found c.in-Found.place c.in-Found.is
+    c.named_pgn.ensures.named.found c.in-Ok.place c.in-Ok.is
 
-pub walk_found-requires : goal.walk_found-requires
-walk_found-requires c = c.found_pgn.ensures.found
-
-pub returns-in-Refused : goal.returns-in-Refused
-returns-in-Refused c =
+pub returns-in-Err : goal.returns-in-Err
+returns-in-Err c =
     let a = walk_refused c.args.pack.now (length c.args.work.now) c.args.tree c.args.pgn _ c.named_pgn.result
-    c.named_pgn.ensures.named c.in-Refused.refusal c.in-Refused.is c.args.readings.now c.args.visits.now in
+    c.named_pgn.ensures.named c.in-Err.refusal c.in-Err.is c.args.readings.now c.args.visits.now in
     walk_promised _ _ _ _ _ _ _ _ _ a c.named_pgn.ensures.work
 
-pub returns-in-Found : goal.returns-in-Found
-returns-in-Found c =
+pub returns-in-Ok : goal.returns-in-Ok
+returns-in-Ok c =
     let a = walk_answers c.args.pack.now (length c.args.work.now) c.args.tree c.args.pgn _ c.named_pgn.result
-    c.named_pgn.ensures.named c.in-Found.place c.in-Found.is c.found_pgn.result c.found_pgn.ensures.tree c.found_pgn.ensures.pgn
+    c.named_pgn.ensures.named c.in-Ok.place c.in-Ok.is c.found_pgn.result c.found_pgn.ensures.tree c.found_pgn.ensures.pgn
     c.args.readings.now c.args.visits.now _ _ (record { answer = c.walk_found.ensures.answer; out = c.walk_found.ensures.out }) in
     walk_promised _ _ _ _ _ _ _ _ _ a c.named_pgn.ensures.work

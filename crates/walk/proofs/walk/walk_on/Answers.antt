@@ -31,9 +31,6 @@ loop-found-init c =
       remembered = c.requires.remembered;
     }
 
-pub settle-settling-requires : goal.settle-settling-requires
-settle-settling-requires c = c.loop-found.invariant.sixteen
-
 pub run_on-ran-requires : goal.run_on-ran-requires
 run_on-ran-requires c =
     let p = found_pgn c.args.s.now c.args.found in
@@ -43,29 +40,13 @@ run_on-ran-requires c =
     (settled (layout p) (by_place (layout p)) (place_of c.loop-found.here.0 w) (memory_of w)) c.loop-found.invariant.going in
     let e = c.settle-settling.ensures (layout p) c.requires.pgn.sets c.loop-found.invariant.ahead in
     record {
-      due = λ d. let b = due_within (layout p) c.settle-settling.result w' d (subst (Within (layout p)) (sym e) within) in
+      due = λ o d. let b = due_within (layout p) c.settle-settling.result w' o d (subst (Within (layout p)) (sym e) within) in
           record { first = b.0; within = omega (arith, b.1, c.requires.pgn.sets.fields) };
       small = omega (arith, c.requires.pgn.sets.fields, fields_few c.requires.pgn.place);
       sixteen = c.settle-settling.auto.passes ∙ c.loop-found.invariant.sixteen;
       read = c.loop-found.invariant.turns;
       room = omega (arith, c.loop-found.invariant.same_visits, c.requires.room);
     }
-
-pub shape_of-marks-then-readings-made : goal.shape_of-marks-then-readings-made
-shape_of-marks-then-readings-made c =
-    c.loop-found.invariant.same_marks
-
-pub shape_of-bad-then-readings-made : goal.shape_of-bad-then-readings-made
-shape_of-bad-then-readings-made c =
-    c.loop-found.invariant.same_bad
-
-pub shape_of-passes-then-readings-made : goal.shape_of-passes-then-readings-made
-shape_of-passes-then-readings-made c =
-    c.run_on-ran.auto.passes ∙ c.settle-settling.auto.passes ∙ c.loop-found.invariant.sixteen ∙ sym c.requires.sixteen
-
-pub shape_of-visits-then-readings-made : goal.shape_of-visits-then-readings-made
-shape_of-visits-then-readings-made c =
-    c.run_on-ran.auto.visits ∙ c.loop-found.invariant.same_visits
 
 pub returns-then-readings-made : goal.returns-then-readings-made
 returns-then-readings-made c =
@@ -77,14 +58,6 @@ returns-then-readings-made c =
     (c.run_on-ran.ensures.ran (layout p) c.requires.pgn.sets (stop_at (pack_of s) p) c.loop-found.invariant.remembered.never) in
     going_used (layout p) c.requires.no_stop_1 _ _ _ _ _ _ (settled_of c.run_on-ran.result.settling w') g c.if-readings-made.true
     (omega (arith, c.run_on-ran.ensures.read, c.requires.room)) c.used-end.result (c.used-end.ensures w')
-
-pub offset_bounds-readings-made : goal.offset_bounds-readings-made
-offset_bounds-readings-made c =
-    omega (arith, c.if-readings-made.false)
-
-pub bounds-readings-made : goal.bounds-readings-made
-bounds-readings-made c =
-    omega (arith, c.if-readings-made.false)
 
 pub step-requires : goal.step-requires
 step-requires c =
@@ -100,22 +73,6 @@ step-requires c =
       within = going_within (layout p) c.requires.no_stop_1 _ _ _ _ _ _ (settled_of c.run_on-ran.result.settling c.run_on-ran.new.passes) g;
     }
 
-pub shape_of-marks-in-Ended : goal.shape_of-marks-in-Ended
-shape_of-marks-in-Ended c =
-    c.step.auto.marks ∙ c.loop-found.invariant.same_marks
-
-pub shape_of-bad-in-Ended : goal.shape_of-bad-in-Ended
-shape_of-bad-in-Ended c =
-    c.step.auto.bad ∙ c.loop-found.invariant.same_bad
-
-pub shape_of-passes-in-Ended : goal.shape_of-passes-in-Ended
-shape_of-passes-in-Ended c =
-    c.step.auto.passes ∙ c.run_on-ran.auto.passes ∙ c.settle-settling.auto.passes ∙ c.loop-found.invariant.sixteen ∙ sym c.requires.sixteen
-
-pub shape_of-visits-in-Ended : goal.shape_of-visits-in-Ended
-shape_of-visits-in-Ended c =
-    c.run_on-ran.auto.visits ∙ c.loop-found.invariant.same_visits
-
 pub returns-in-Ended : goal.returns-in-Ended
 returns-in-Ended c =
     let s = c.args.s.now in let readings = c.args.readings.now in
@@ -128,18 +85,6 @@ returns-in-Ended c =
     (omega (arith, c.if-readings-made.false))
     (step_of (layout p) c.step.result w') c.step.ensures.step c.in-Ended.end
     (ap (λ (x : Stepping). step_of (layout p) x w') c.in-Ended.is) (omega (arith, c.run_on-ran.ensures.read, c.requires.room))
-
-pub write_visit-requires : goal.write_visit-requires
-write_visit-requires c =
-    omega (arith, c.if-readings-made.false, c.run_on-ran.auto.visits, c.loop-found.invariant.same_visits, c.requires.room)
-
-pub overflow_add-n : goal.overflow_add-n
-overflow_add-n c =
-    omega (arith, c.if-readings-made.false)
-
-pub loop-found-smaller : goal.loop-found-smaller
-loop-found-smaller c =
-    omega (arith, c.run_on-ran.ensures.at_least, c.if-readings-made.false)
 
 pub loop-found-preserved : goal.loop-found-preserved
 loop-found-preserved c =
