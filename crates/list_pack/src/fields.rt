@@ -1,72 +1,102 @@
 // The fields of a PGN.
-use listing::{say, work};
-use pack::field::{AuthoredView, FieldFlags, LinksView, OptReference, ScalingView};
-use pack::protocol::{FieldIndex, FieldOrder};
+use listing::loaded::LoadedPack;
+use listing::words::{Counted, LookupKind, flags, text};
+use pack::at::field_at;
+use pack::field::{AuthoredView, FieldFlags, LinksView, NamesView, ScalingView};
+use pack::text::Text;
+use std::io;
+use std::io::Write;
 
-fn scaling(s: &[u8], v: ScalingView, f: FieldFlags) {
-    say::counted(b", ", v.bits as u64, b" bit", b" bits");
-    say::pattern(b", resolution ", v.resolution);
-    say::pattern(b", offset ", v.offset);
-    say::flag(b", bits given", f.bits);
-    say::flag(b", unit given", f.unit);
-    say::flag(b", proprietary", f.proprietary);
-    say::flag(b", allowLookupWidthMismatch", f.mismatch);
-    say::flag(b", dynamicFieldLength", f.dynamic);
-    say::flag(b", overhead", f.overhead);
-    say::opt_text(b", unit ", s, v.unit);
-}
-
-fn authored(s: &[u8], v: AuthoredView) {
-    say::opt_pattern(b", authored resolution ", v.resolution);
-    say::opt_pattern(b", authored offset ", v.offset);
-    say::opt_number(b", spn ", v.spn);
-    say::opt_text(b", continues ", s, v.continues);
-    say::opt_text(b", match ", s, v.matched);
-}
-
-fn reference(s: &[u8], r: OptReference) {
-    if r.given {
-        say::kind(b", reference ", r.kind);
-        say::text(b" ", s, r.name);
+fn opt_text(
+    out: &mut impl Write,
+    words: &str,
+    pack: &LoadedPack<'_>,
+    t: Option<Text>,
+) -> io::Result<()> {
+    match t {
+        Some(t) => text(out, words, pack.text(t)),
+        None => Ok(()),
     }
 }
 
-fn links(s: &[u8], v: LinksView) {
-    reference(s, v.reference);
-    say::opt_number(b", specialValues ", v.special);
-    say::opt_text(b", bitLengthField ", s, v.length);
-    say::opt_text(b", trailing zero of ", s, v.trailing);
-    say::opt_number(b", continuation width ", v.continuation);
+fn names(
+    out: &mut impl Write,
+    pack: &LoadedPack<'_>,
+    names: NamesView,
+    order: u32,
+    at: usize,
+) -> io::Result<()> {
+    write!(out, "    {order}")?;
+    text(out, " ", pack.text(names.id))?;
+    text(out, " \"", pack.text(names.name))?;
+    write!(out, "\" at byte {at}")?;
+    text(out, ": type ", pack.text(names.kind))
 }
 
-fn list_field(s: &[u8], work: &[u32], at: usize, order: FieldOrder) {
-    let f = pack::at::field_at(s, at);
-    let names = f.names;
-    say::number(b"    ", order.0 as u64);
-    say::text(b" ", s, names.id);
-    say::text(b" \"", s, names.name);
-    say::number(b"\" at byte ", at as u64);
-    say::text(b": type ", s, names.kind);
-    // the field types stand first in the work buffer
-    say::number(b", field type ", f.ft as u64);
-    say::text(
-        b" ",
-        s,
-        pack::at::text_at(s, work::offset(work, f.ft as usize)),
-    );
-    scaling(s, f.scaling, f.flags);
-    authored(s, f.authored);
-    links(s, f.links);
-    say::words(b"\n");
+fn scaling(
+    out: &mut impl Write,
+    pack: &LoadedPack<'_>,
+    scaling: ScalingView,
+    given: FieldFlags,
+) -> io::Result<()> {
+    let bits = Counted::new(scaling.bits as usize, "bit", "bits");
+    write!(
+        out,
+        ", {bits}, resolution {:016x}, offset {:016x}",
+        scaling.resolution, scaling.offset
+    )?;
+    flags(
+        out,
+        &[
+            (given.bits, "bits given"),
+            (given.unit, "unit given"),
+            (given.proprietary, "proprietary"),
+            (given.mismatch, "allowLookupWidthMismatch"),
+            (given.dynamic, "dynamicFieldLength"),
+            (given.overhead, "overhead"),
+        ],
+    )?;
+    opt_text(out, ", unit ", pack, scaling.unit)
 }
 
-// n fields whose offsets begin at a place.
-pub fn list(s: &[u8], work: &[u32], place: usize, n: u32) {
-    let mut p = place;
-    let mut i: u32 = 0;
-    while i < n {
-        list_field(s, work, work::offset(work, p), FieldIndex(i).order());
-        p = work::behind(p, 0);
-        i += 1;
+fn authored(out: &mut impl Write, pack: &LoadedPack<'_>, authored: AuthoredView) -> io::Result<()> {
+    if let Some(resolution) = authored.resolution {
+        write!(out, ", authored resolution {resolution:016x}")?;
     }
+    if let Some(offset) = authored.offset {
+        write!(out, ", authored offset {offset:016x}")?;
+    }
+    if let Some(spn) = authored.spn {
+        write!(out, ", spn {spn}")?;
+    }
+    opt_text(out, ", continues ", pack, authored.continues)?;
+    opt_text(out, ", match ", pack, authored.matched)
+}
+
+fn links(out: &mut impl Write, pack: &LoadedPack<'_>, links: LinksView) -> io::Result<()> {
+    if let Some(reference) = links.reference {
+        write!(out, ", reference {}", LookupKind::from(reference.kind))?;
+        text(out, " ", pack.text(reference.name))?;
+    }
+    if let Some(special) = links.special {
+        write!(out, ", specialValues {special}")?;
+    }
+    opt_text(out, ", bitLengthField ", pack, links.length)?;
+    opt_text(out, ", trailing zero of ", pack, links.trailing)?;
+    if let Some(continuation) = links.continuation {
+        write!(out, ", continuation width {continuation}")?;
+    }
+    Ok(())
+}
+
+// The field of that order.
+pub fn list(out: &mut impl Write, pack: &LoadedPack<'_>, order: u32, at: usize) -> io::Result<()> {
+    let field = field_at(pack.bytes, at);
+    names(out, pack, field.names, order, at)?;
+    write!(out, ", field type {}", field.ft)?;
+    text(out, " ", pack.type_name(field.ft))?;
+    scaling(out, pack, field.scaling, field.flags)?;
+    authored(out, pack, field.authored)?;
+    links(out, pack, field.links)?;
+    writeln!(out)
 }

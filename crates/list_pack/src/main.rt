@@ -7,56 +7,43 @@ mod pgns;
 mod refusal;
 mod types;
 
-use listing::input::{longest_pack, most_records, read_pack};
-use listing::say;
-use pack::load::{Index, Loaded, load};
+use listing::input::{LONGEST, read_pack};
+use listing::loaded::LoadedPack;
+use listing::words::Counted;
+use pack::at::number_at;
 use pack::protocol::Protocol;
+use refusal::InWords;
+use std::alloc::Global;
+use std::io;
+use std::io::{BufWriter, Write};
 
-fn list_trees(s: &[u8], work: &[u32], index: Index) {
-    let mut t = 0;
-    while t < Protocol::COUNT {
-        let protocol = Protocol::ALL[t];
-        pgns::list(s, work, protocol, protocol.section(index));
-        t += 1;
+fn list(out: &mut impl Write, pack: &LoadedPack<'_>) -> io::Result<()> {
+    let length = pack.bytes.len();
+    let version = number_at(pack.bytes, 0);
+    let records = Counted::new(pack.index.records, "record", "records");
+    writeln!(out, "pack of {length} bytes, version {version}, {records}")?;
+    types::list(out, pack)?;
+    lookups::list(out, pack)?;
+    for protocol in Protocol::ALL {
+        pgns::list(out, pack, protocol)?;
+    }
+    Ok(())
+}
+
+// No record has less than two bytes.
+fn load_and_list(out: &mut impl Write, alloc: Global, bytes: &[u8]) -> io::Result<()> {
+    let mut work = vec![in alloc; 0u32; bytes.len() / 2]?;
+    match LoadedPack::load(bytes, &mut work) {
+        Ok(pack) => list(out, &pack),
+        Err(refusal) => writeln!(out, "{}", InWords(refusal)),
     }
 }
 
-fn list(s: &[u8], work: &[u32], index: Index) {
-    say::number(b"pack of ", s.len() as u64);
-    say::number(b" bytes, version ", pack::at::number_at(s, 0) as u64);
-    say::counted(b", ", index.records as u64, b" record\n", b" records\n");
-    types::list(s, work, index.types);
-    lookups::list(s, work, index.lookups);
-    list_trees(s, work, index);
-}
-
-fn show(s: &[u8], work: &[u32], loaded: Loaded) {
-    match loaded {
-        Loaded::Refused(r) => refusal::show(r),
-        Loaded::Accepted(index) => list(s, work, index),
+fn main(rt: HostRuntime) -> io::Result<()> {
+    let mut out = BufWriter::new(rt.alloc(), io::writer(&rt))?;
+    match read_pack(&rt, LONGEST)? {
+        Some(bytes) => load_and_list(&mut out, rt.alloc(), &bytes)?,
+        None => writeln!(out, "too long")?,
     }
-}
-
-fn list_pack(s: &[u8], work: &mut [u32]) {
-    let loaded = load(s, work);
-    show(s, work, loaded);
-}
-
-fn read_and_list(buf: &mut [u8], work: &mut [u32]) {
-    let input = read_pack(buf);
-    if input.whole {
-        let n = input.len;
-        list_pack(&buf[..n], work);
-    }
-}
-
-// Arrays become slices behind references, where their lengths are known by their types.
-fn lend(buf: &mut [u8; 1_048_576], work: &mut [u32; 524_288]) {
-    read_and_list(buf, work);
-}
-
-fn main() {
-    let mut buf = longest_pack();
-    let mut work = most_records();
-    lend(&mut buf, &mut work);
+    out.flush()
 }

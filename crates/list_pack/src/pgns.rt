@@ -1,84 +1,98 @@
 // The PGNs of a tree, each with its sets and fields.
 use crate::fields;
-use listing::{say, work};
-use pack::load::Section;
-use pack::pgn::{OptRepeating, PgnFlags, PgnView, set_at};
-use pack::protocol::{OptOrder, Protocol};
+use listing::loaded::{LoadedPack, Pgn};
+use listing::words::{Counted, flags, protocol_name, text};
+use pack::pgn::RepeatingView;
+use pack::protocol::Protocol;
+use std::io::Write;
+use std::{fmt, io};
 
-fn message_type(k: u32) {
-    match k {
-        0 => say::words(b": Single"),
-        1 => say::words(b": Fast"),
-        2 => say::words(b": ISO"),
-        _ => say::words(b": Mixed"),
+// How a PGN is sent.
+#[derive(Clone, Copy)]
+enum MessageType {
+    Single,
+    Fast,
+    Iso,
+    Mixed,
+}
+
+impl From<u32> for MessageType {
+    fn from(code: u32) -> MessageType {
+        match code {
+            0 => MessageType::Single,
+            1 => MessageType::Fast,
+            2 => MessageType::Iso,
+            _ => MessageType::Mixed,
+        }
     }
 }
 
-fn flags(f: PgnFlags) {
-    say::flag(b", fallback", f.fallback);
-    say::flag(b", variable", f.variable);
-    say::flag(b", MissingCompanyFields", f.incomplete);
-}
-
-fn count_field(counter: OptOrder) {
-    if counter.given {
-        say::number(b", countField ", counter.order.0 as u64);
+impl fmt::Display for MessageType {
+    fn fmt<W: fmt::Write>(&self, f: &mut fmt::Formatter<W>) -> fmt::Result {
+        f.write_str(match self {
+            MessageType::Single => "Single",
+            MessageType::Fast => "Fast",
+            MessageType::Iso => "ISO",
+            MessageType::Mixed => "Mixed",
+        })
     }
 }
 
 // The set at a place, counted from 1.
-fn list_set(place: u32, r: OptRepeating) {
-    if !r.given {
-        return;
+fn list_set(out: &mut impl Write, place: u32, set: RepeatingView) -> io::Result<()> {
+    write!(
+        out,
+        "    set {place}: start {}, count {}",
+        set.start.0, set.count
+    )?;
+    if let Some(counter) = set.counter {
+        write!(out, ", countField {}", counter.0)?;
     }
-    let set = r.set;
-    say::number(b"    set ", place as u64);
-    say::number(b": start ", set.start.0 as u64);
-    say::number(b", count ", set.count as u64);
-    count_field(set.counter);
-    say::flag(b", nested", set.nested);
-    say::words(b"\n");
+    flags(out, &[(set.nested, "nested")])?;
+    writeln!(out)
 }
 
-fn list_sets(g: PgnView) {
-    let places = g.places;
-    let mut k: u32 = 0;
-    while k < places {
-        if 4 <= k {
-            return;
+fn list_pgn(out: &mut impl Write, pack: &LoadedPack<'_>, pgn: Pgn<'_>) -> io::Result<()> {
+    let view = pgn.view;
+    write!(out, "  {}", view.pgn)?;
+    text(out, " ", pack.text(view.id))?;
+    let at = pgn.at;
+    let message = MessageType::from(view.kind);
+    write!(out, " at byte {at}: {message}, length {}", view.length)?;
+    if let Some(minimum) = view.minimum {
+        write!(out, ", minimum {minimum}")?;
+    }
+    flags(
+        out,
+        &[
+            (view.flags.fallback, "fallback"),
+            (view.flags.variable, "variable"),
+            (view.flags.incomplete, "MissingCompanyFields"),
+        ],
+    )?;
+    writeln!(
+        out,
+        ", {}",
+        Counted::new(view.fields as usize, "field", "fields")
+    )?;
+    for (place, set) in (1..=view.places).zip(view.sets) {
+        if let Some(set) = set {
+            list_set(out, place, set)?;
         }
-        list_set(k + 1, set_at(g, k));
-        k += 1;
     }
+    for (order, at) in (1..=view.fields).zip(pgn.fields) {
+        fields::list(out, pack, order, *at as usize)?;
+    }
+    Ok(())
 }
 
-// Answers the place behind the PGN and its fields.
-fn list_pgn(s: &[u8], work: &[u32], p: usize) -> usize {
-    let at = work::offset(work, p);
-    let g = pack::at::pgn_at(s, at);
-    say::number(b"  ", g.pgn as u64);
-    say::text(b" ", s, g.id);
-    say::number(b" at byte ", at as u64);
-    message_type(g.kind);
-    say::number(b", length ", g.length as u64);
-    say::opt_number(b", minimum ", g.minimum);
-    flags(g.flags);
-    say::counted(b", ", g.fields as u64, b" field\n", b" fields\n");
-    list_sets(g);
-    fields::list(s, work, work::behind(p, 0), g.fields);
-    work::behind(p, g.fields)
-}
-
-pub fn list(s: &[u8], work: &[u32], protocol: Protocol, section: Section) {
-    let n = section.count;
-    say::number(b"tree ", protocol.tree() as u64);
-    say::protocol(protocol);
-    say::number(b", PGNs ", n as u64);
-    say::words(b"\n");
-    let mut p = section.place;
-    let mut i: u32 = 0;
-    while i < n {
-        p = list_pgn(s, work, p);
-        i += 1;
+pub fn list(out: &mut impl Write, pack: &LoadedPack<'_>, protocol: Protocol) -> io::Result<()> {
+    let tree = protocol.tree();
+    let name = protocol_name(protocol);
+    let count = protocol.section(pack.index).count;
+    writeln!(out, "tree {tree} {name}, PGNs {count}")?;
+    for pgn in pack.pgns(protocol) {
+        list_pgn(out, pack, pgn)?;
     }
+    Ok(())
 }

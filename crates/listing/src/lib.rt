@@ -2,5 +2,5 @@
 #![tactic(auto)]
 
 pub mod input;
-pub mod say;
-pub mod work;
+pub mod loaded;
+pub mod words;

@@ -2,221 +2,157 @@
 // buffers of several lengths.
 #![tactic(auto)]
 
-ghost use Rattle.std.specs.Prelude.{◌≤◌, length, IfOk};
+ghost use Rattle.std.specs.Prelude.{◌≡◌, IfOk, vec_len};
 
-use pack::load::{Index, Loaded, Refusal, Section, load};
+use pack::load::{Index, Loaded, Section, load};
+use std::alloc::Global;
 use std::fs::File;
-use std::io::Read;
-use std::{env, fs};
+use std::io::{BufWriter, Read, Write};
+use std::{env, fmt, fs, io};
 
 // The most numbers that a work buffer has here, and what each of them is before a load.
 const ROOM: usize = 64;
 
 const UNUSED: u32 = 0xaaaa_aaaa;
 
-// Standard output, as the system numbers it.
-const STDOUT: i32 = 1;
+// So many of a file's bytes are loaded.
+const MOST: u64 = 4096;
 
-// What a load answered: whether the pack was accepted, and how many records it has.
+// As long as a pack may be.
+const LONGEST: usize = 1_048_576;
+
 #[derive(Clone, Copy)]
-struct Answer {
-    accepted: bool,
-    records: usize,
-}
+struct InWords(Section);
 
-fn say(words: &[u8]) {
-    io::write_all(STDOUT, words);
-}
-
-fn say_number(n: usize) {
-    io::print_decimal(STDOUT, n as u64);
-}
-
-fn say_count(n: u32) {
-    say_number(n as usize);
-}
-
-fn say_section(words: &[u8], s: Section) {
-    say(words);
-    say_count(s.count);
-    say(b" at ");
-    say_number(s.place);
-}
-
-fn say_index(index: Index) {
-    say_section(b"types ", index.types);
-    say_section(b", lookups ", index.lookups);
-    say_section(b", nmea2000 ", index.nmea2000);
-    say_section(b", j1939 ", index.j1939);
-    say_section(b", quick ", index.quick);
-    say(b", records ");
-    say_number(index.records);
-}
-
-fn say_offsets(work: &[u32], n: usize) {
-    say(b", offsets");
-    let mut i = 0;
-    while i < n {
-        if work.len() <= i {
-            return;
-        }
-        say(b" ");
-        say_count(work[i]);
-        i += 1;
+impl fmt::Display for InWords {
+    fn fmt<W: fmt::Write>(&self, f: &mut fmt::Formatter<W>) -> fmt::Result {
+        write!(f, "{} at {}", self.0.count, self.0.place)
     }
 }
 
-fn say_refusal(r: Refusal) {
-    say(b"refused ");
-    say_count(r.number());
-    say(b" detail ");
-    say_number(r.detail());
+fn write_index(out: &mut impl Write, index: Index) -> io::Result<()> {
+    write!(
+        out,
+        "types {}, lookups {}, nmea2000 {}, j1939 {}, quick {}, records {}",
+        InWords(index.types),
+        InWords(index.lookups),
+        InWords(index.nmea2000),
+        InWords(index.j1939),
+        InWords(index.quick),
+        index.records
+    )
 }
 
-fn is_kept(work: &[u32], from: usize) -> bool {
-    let mut i = from;
-    while i < work.len() {
-        if work[i] != UNUSED {
-            return false;
-        }
-        i += 1;
-    }
-    true
+// Whether the rest of a work buffer is as it was.
+fn write_kept(out: &mut impl Write, rest: &[u32]) -> io::Result<()> {
+    let kept = rest.iter().all(|n| *n == UNUSED);
+    writeln!(out, ", {}", if kept { "kept" } else { "CHANGED" })
 }
 
-// Whether the work buffer is as it was, from a place on.
-fn say_kept(work: &[u32], from: usize) {
-    if is_kept(work, from) {
-        say(b", kept\n");
-    } else {
-        say(b", CHANGED\n");
-    }
-}
-
-// Prints what a load answered, and what it left in the work buffer.
-fn say_loaded(loaded: Loaded, work: &[u32]) -> Answer {
+// What a load answered, and what it left in the work buffer. The answer is how many records an accepted pack has.
+fn write_loaded(out: &mut impl Write, loaded: Loaded, work: &[u32]) -> io::Result<Option<usize>> {
     match loaded {
-        Loaded::Refused(r) => {
-            say_refusal(r);
-            say_kept(work, 0);
-            Answer {
-                accepted: false,
-                records: 0,
-            }
+        Loaded::Refused(refusal) => {
+            write!(
+                out,
+                "refused {} detail {}",
+                refusal.number(),
+                refusal.detail()
+            )?;
+            write_kept(out, work)?;
+            Ok(None)
         }
         Loaded::Accepted(index) => {
-            say_index(index);
-            say_offsets(work, index.records);
-            say_kept(work, index.records);
-            Answer {
-                accepted: true,
-                records: index.records,
+            let (offsets, rest) = work.split_at(index.records.min(work.len()));
+            write_index(out, index)?;
+            write!(out, ", offsets")?;
+            for offset in offsets {
+                write!(out, " {offset}")?;
             }
+            write_kept(out, rest)?;
+            Ok(Some(index.records))
         }
     }
 }
 
 // Loads the pack with the first n numbers of a work buffer.
-fn load_part(pack: &[u8], work: &mut [u32], n: usize) -> Answer {
-    say(b"  work of ");
-    say_number(n);
-    say(b": ");
-    if work.len() < n {
-        say(b"not tried\n");
-        return Answer {
-            accepted: false,
-            records: 0,
-        };
-    }
-    let loaded = load(pack, &mut work[..n]);
-    say_loaded(loaded, work)
-}
-
-fn load_with(pack: &[u8], n: usize) -> Answer {
+fn load_with(out: &mut impl Write, pack: &[u8], n: usize) -> io::Result<Option<usize>> {
     let mut work = [UNUSED; ROOM];
-    load_part(pack, &mut work, n)
+    write!(out, "  work of {n}: ")?;
+    let Some(part) = work.get_mut(..n) else {
+        writeln!(out, "not tried")?;
+        return Ok(None);
+    };
+    let loaded = load(pack, part);
+    write_loaded(out, loaded, &work)
 }
 
 // A refused pack is loaded once more without any work buffer, an accepted one with a number too few, just enough, and one more.
-fn report(name: &[u8], pack: &[u8]) {
-    say(name);
-    say(b"\n");
-    let first = load_with(pack, ROOM);
-    if !first.accepted {
-        load_with(pack, 0);
-        return;
-    }
-    let n = first.records;
+fn report(out: &mut impl Write, name: &str, pack: &[u8]) -> io::Result<()> {
+    writeln!(out, "{name}")?;
+    let Some(n) = load_with(out, pack, ROOM)? else {
+        load_with(out, pack, 0)?;
+        return Ok(());
+    };
     if 0 < n {
-        load_with(pack, n - 1);
+        load_with(out, pack, n - 1)?;
     }
-    load_with(pack, n);
+    load_with(out, pack, n)?;
     if n < ROOM {
-        load_with(pack, n + 1);
+        load_with(out, pack, n + 1)?;
     }
-}
-
-// The file's first bytes, as many as there is room for.
-fn read_full(file: &mut File, buf: &mut [u8]) -> std::io::Result<usize>
-    ensures { IfOk result (λ n. n ≤ length buf.new) }
-{
-    let mut n = 0;
-    while n < buf.len() {
-        let got = file.read(&mut buf[n..])?;
-        if got == 0 {
-            break;
-        }
-        n += got;
-    }
-    Ok(n)
-}
-
-fn report_file(name: &[u8], file: &mut File) -> std::io::Result<()> {
-    let mut buf = io::buffer();
-    let n = read_full(file, &mut buf)?;
-    report(name, &buf[..n]);
     Ok(())
 }
 
+fn report_file(out: &mut impl Write, alloc: Global, name: &str, file: File) -> io::Result<()> {
+    let mut pack = Vec::new(alloc);
+    file.take(MOST).read_to_end(&mut pack)?;
+    report(out, name, &pack)
+}
+
 // A file that can't be opened is named on standard error, and the next one follows.
-fn report_argument(rt: &HostRuntime, name: &str) -> std::io::Result<()> {
+fn report_argument(rt: &HostRuntime, out: &mut impl Write, name: &str) -> io::Result<()> {
     match fs::open(rt, name) {
-        Ok(mut file) => report_file(name.as_bytes(), &mut file),
+        Ok(file) => report_file(out, rt.alloc(), name, file),
         Err(error) => eprintln!(rt; "{name}: {error}"),
     }
 }
 
-// A byte more than a pack may have.
-fn large_buffer() -> [u8; 1_048_577] {
-    [0; 1_048_577]
+// A pack of the largest size: one field type whose name takes up all the room, all else 0.
+fn largest_pack(alloc: Global, version: u8) -> io::Result<Vec<u8>>
+    ensures { IfOk result (λ pack. vec_len pack ≡ 1048576) }
+{
+    let mut pack = vec![in alloc; version, 1, 0xec, 0xff, 0x3f]?;
+    pack.resize(LONGEST, 0)?;
+    Ok(pack)
 }
 
-// A pack of the largest size, and one of a byte more: one field type whose name takes up all the room, all else 0.
-fn report_large(pack: &mut [u8], version: u8, largest: &[u8], larger: &[u8]) {
-    if pack.len() < 5 {
-        return;
-    }
-    pack[0] = version;
-    pack[1] = 1;
-    pack[2] = 0xec;
-    pack[3] = 0xff;
-    pack[4] = 0x3f;
-    let n = pack.len() - 1;
-    report(largest, &pack[..n]);
-    report(larger, pack);
+// Such a pack, and one of a byte more.
+fn report_large(
+    out: &mut impl Write,
+    alloc: Global,
+    version: u8,
+    largest: &str,
+    larger: &str,
+) -> io::Result<()> {
+    let mut pack = largest_pack(alloc, version)?;
+    report(out, largest, &pack)?;
+    pack.push(0)?;
+    report(out, larger, &pack)
 }
 
-fn main(rt: HostRuntime) -> std::io::Result<()> {
+fn main(rt: HostRuntime) -> io::Result<()> {
+    let mut out = BufWriter::new(rt.alloc(), io::writer(&rt))?;
     for name in env::args(&rt)?.skip(1) {
-        report_argument(&rt, name.as_str())?;
+        report_argument(&rt, &mut out, name.as_str())?;
     }
-    let mut pack = large_buffer();
-    report_large(&mut pack, 1, b"largest", b"larger_by_one_byte");
+    report_large(&mut out, rt.alloc(), 1, "largest", "larger_by_one_byte")?;
     report_large(
-        &mut pack,
+        &mut out,
+        rt.alloc(),
         2,
-        b"largest_of_version_2",
-        b"larger_by_one_byte_of_version_2",
-    );
-    Ok(())
+        "largest_of_version_2",
+        "larger_by_one_byte_of_version_2",
+    )?;
+    out.flush()
 }

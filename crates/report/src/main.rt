@@ -1,97 +1,99 @@
 // The report: the findings of the pack on standard input, one a line, and how many there are.
 #![tactic(auto)]
 
-ghost use Rattle.std.specs.Prelude.{◌*◌, ◌≤◌, length};
-
-mod line;
-
 use listing::input::read_pack;
-use listing::say;
+use listing::words::Refused;
+use pack::load::Refusal;
 use rules::check::{Checked, check};
 use rules::place_text::{Placed, place_text};
+use std::alloc::{AllocError, Global};
+use std::io;
+use std::io::{BufWriter, Write};
 
-// Rule, severity, place text, cause, part, other.
-fn print_line(f: &[u32], place: &[u8])
-    requires { 8 ≤ length f.now }
-{
-    line::rule(f[0]);
-    line::severity(f[1]);
-    say::words(place);
-    line::spaced(f[2]);
-    line::spaced(f[6]);
-    line::spaced(f[7]);
-    say::words(b"\n");
+// As long as a pack may be here, and the room for its records, its findings and a place text.
+const LONGEST: u32 = 65_536;
+
+const ROOM: usize = 16_384;
+
+const TEXT: usize = 65_536;
+
+// Why a report ends before its last line.
+#[derive(Drop)]
+enum Ended {
+    Refused(Refusal),
+    Io(io::Error),
 }
 
-// A finding, if its place is not refused; the first refusal ends the output.
-fn print_finding(pack: &[u8], work: &mut [u32], text: &mut [u8], f: &[u32]) -> bool
-    requires { 8 ≤ length f.now }
-{
-    match place_text(pack, work, f[3], f[4], f[5], text) {
-        Placed::Refused(r) => {
-            say::refused(r);
-            false
-        }
+impl From<io::Error> for Ended {
+    fn from(error: io::Error) -> Ended {
+        Ended::Io(error)
+    }
+}
+
+// The buffers of the calls.
+#[derive(Drop)]
+struct Buffers {
+    work: Vec<u32>,
+    findings: Vec<u32>,
+    text: Vec<u8>,
+}
+
+impl Buffers {
+    fn new(alloc: Global) -> Result<Buffers, AllocError> {
+        Ok(Buffers {
+            work: vec![in alloc; 0; ROOM]?,
+            findings: vec![in alloc; 0; ROOM]?,
+            text: vec![in alloc; 0; TEXT]?,
+        })
+    }
+}
+
+// Rule, severity, place text, cause, part, other.
+fn write_finding(
+    out: &mut impl Write,
+    pack: &[u8],
+    work: &mut [u32],
+    text: &mut [u8],
+    finding: &[u32; 8],
+) -> Result<(), Ended> {
+    let [rule, severity, cause, place, tree, item, part, other] = *finding;
+    let severity = if severity == 1 { "error" } else { "warning" };
+    match place_text(pack, work, place, tree, item, text) {
+        Placed::Refused(refusal) => Err(Ended::Refused(refusal)),
         Placed::Written(n) => {
-            print_line(f, &text[..n]);
-            true
+            write!(out, "R{rule:02} {severity} ")?;
+            out.write_all(&text[..n])?;
+            writeln!(out, " {cause} {part} {other}")?;
+            Ok(())
         }
     }
 }
 
 // Every finding, and how many there are.
-fn print_findings(
-    pack: &[u8],
-    work: &mut [u32],
-    text: &mut [u8],
-    findings: &[u32],
-    count: usize,
-    errors: usize,
-)
-    requires { 8 * count ≤ length findings.now }
-{
-    let mut i = 0;
-    while i < count {
-        let at = 8 * i;
-        if !print_finding(pack, work, text, &findings[at..at + 8]) {
-            return;
+fn report(out: &mut impl Write, alloc: Global, pack: &[u8]) -> Result<(), Ended> {
+    let mut buffers = Buffers::new(alloc).map_err(io::Error::from)?;
+    match check(pack, &mut buffers.work, &mut buffers.findings) {
+        Checked::Refused(refusal) => Err(Ended::Refused(refusal)),
+        Checked::Reported { findings, errors } => {
+            let (numbers, _) = buffers.findings.as_chunks::<8>();
+            for finding in numbers.iter().take(findings) {
+                write_finding(out, pack, &mut buffers.work, &mut buffers.text, finding)?;
+            }
+            writeln!(out, "findings {findings} errors {errors}")?;
+            Ok(())
         }
-        i += 1;
-    }
-    say::number(b"findings ", count as u64);
-    say::number(b" errors ", errors as u64);
-    say::words(b"\n");
-}
-
-fn report(pack: &[u8], work: &mut [u32], findings: &mut [u32], text: &mut [u8]) {
-    match check(pack, work, findings) {
-        Checked::Refused(r) => say::refused(r),
-        Checked::Reported {
-            findings: count,
-            errors,
-        } => print_findings(pack, work, text, findings, count, errors),
     }
 }
 
-// Arrays become slices behind references, where their lengths are known by their types.
-fn lend(
-    pack: &[u8],
-    work: &mut [u32; 16_384],
-    findings: &mut [u32; 16_384],
-    text: &mut [u8; 65_536],
-) {
-    report(pack, work, findings, text);
-}
-
-fn main() {
-    let mut buf = io::large_buffer();
-    let input = read_pack(&mut buf);
-    if !input.whole {
-        return;
+fn main(rt: HostRuntime) -> io::Result<()> {
+    let mut out = BufWriter::new(rt.alloc(), io::writer(&rt))?;
+    match read_pack(&rt, LONGEST)? {
+        None => writeln!(out, "too long")?,
+        Some(pack) => match report(&mut out, rt.alloc(), &pack) {
+            Ok(()) => {}
+            Err(Ended::Refused(refusal)) => writeln!(out, "{}", Refused(refusal))?,
+            Err(Ended::Io(error)) => return Err(error),
+        },
     }
-    let n = input.len;
-    let mut work = [0u32; 16_384];
-    let mut findings = [0u32; 16_384];
-    let mut text = [0u8; 65_536];
-    lend(&buf[..n], &mut work, &mut findings, &mut text);
+    out.flush()
 }

@@ -1,47 +1,64 @@
-// The arguments that are numbers: the tree, and from the third on the readings.
-use numerals::OptWide;
+// The arguments: the tree, the PGN, and from the third on the readings.
 use numerals::decimal::parse_u64;
+use pack::protocol::Protocol;
+use std::alloc::{AllocFailed, Global};
+use std::io;
 
 // An argument longer than this is read as an empty one.
 const LONGEST: usize = 4096;
 
-pub fn word(args: &[String], i: usize) -> &[u8] {
-    if args.len() <= i {
-        return b"";
-    }
-    let bytes = args[i].as_bytes();
-    if LONGEST < bytes.len() {
-        return b"";
-    }
-    bytes
+const MOST_READINGS: usize = 256;
+
+#[derive(Drop)]
+pub struct Arguments<'a> {
+    pub protocol: Protocol,
+    pub name: &'a [u8],
+    pub readings: Vec<u64>,
 }
 
-// "digits, one leading + allowed"
-fn number(args: &[String], i: usize) -> OptWide {
-    parse_u64(word(args, i))
+#[derive(Drop)]
+pub enum ArgumentsError {
+    // not as the usage has them
+    Usage,
+    Io(io::Error),
 }
 
-// 0 to 2, or 3 where the argument is no tree's number.
-pub fn tree(args: &[String]) -> u32 {
-    let tree = number(args, 1);
-    if tree.given {
-        if tree.value < 3 {
-            return tree.value as u32;
-        }
+impl<T: Drop> From<AllocFailed<T>> for ArgumentsError {
+    fn from(failed: AllocFailed<T>) -> ArgumentsError {
+        ArgumentsError::Io(io::Error::from(failed))
     }
-    3
 }
 
-// Whether every one of them is a number.
-pub fn read_readings(args: &[String], readings: &mut [u64]) -> bool {
-    let mut i = 0;
-    while i < readings.len() {
-        let reading = number(args, 3 + i);
-        if !reading.given {
-            return false;
-        }
-        readings[i] = reading.value;
-        i += 1;
+fn bytes(argument: &String) -> &[u8] {
+    let bytes = argument.as_bytes();
+    if bytes.len() <= LONGEST { bytes } else { b"" }
+}
+
+fn protocol(argument: &String) -> Option<Protocol> {
+    match parse_u64(bytes(argument))? {
+        0 => Some(Protocol::Nmea2000),
+        1 => Some(Protocol::J1939),
+        2 => Some(Protocol::Quick),
+        _ => None,
     }
-    true
+}
+
+// The first of them is the program's name.
+pub fn read_arguments(alloc: Global, args: &[String]) -> Result<Arguments<'_>, ArgumentsError> {
+    let [_, tree, name, others @ ..] = args else {
+        return Err(ArgumentsError::Usage);
+    };
+    if MOST_READINGS < others.len() {
+        return Err(ArgumentsError::Usage);
+    }
+    let protocol = protocol(tree).ok_or(ArgumentsError::Usage)?;
+    let mut readings = Vec::new(alloc);
+    for reading in others {
+        readings.push(parse_u64(bytes(reading)).ok_or(ArgumentsError::Usage)?)?;
+    }
+    Ok(Arguments {
+        protocol,
+        name: bytes(name),
+        readings,
+    })
 }

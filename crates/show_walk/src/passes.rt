@@ -1,111 +1,68 @@
 // The passes of a PGN's sets, told from the visits. A pass begins with a visit of its set's start: past stop 1 a set's start lies in no
 // set that is nested in it, so that no pass leaves its start out.
-ghost use Rattle.std.specs.Prelude.{◌<◌};
-
-use listing::say;
-use pack::pgn::{OptRepeating, PgnView, set_at};
+use pack::pgn::{PgnView, RepeatingView};
 use pack::protocol::{FieldOrder, same_order};
 use rules::continues::holds_order;
+use std::io;
+use std::io::Write;
 
 // How many passes of the set at each place have begun, since the latest pass of a set before it.
 #[derive(Clone, Copy)]
 pub struct Passes {
-    pub begun: [u64; 4],
+    begun: [u64; 4],
 }
 
-pub fn none() -> Passes {
-    Passes {
-        begun: [0, 0, 0, 0],
+fn begins(set: Option<RepeatingView>, order: FieldOrder) -> bool {
+    match set {
+        Some(repeating) => holds_order(set, order) && same_order(order, repeating.start),
+        None => false,
     }
-}
-
-fn begins(set: OptRepeating, order: FieldOrder) -> bool {
-    if holds_order(set, order) {
-        return same_order(order, set.set.start);
-    }
-    false
-}
-
-// The first place whose set begins with the order, 4 for none.
-fn beginning(g: PgnView, order: FieldOrder) -> u32 {
-    let places = g.places;
-    let mut k: u32 = 0;
-    while k < places {
-        if 4 <= k {
-            return 4;
-        }
-        let set = set_at(g, k);
-        if begins(set, order) {
-            return k;
-        }
-        k += 1;
-    }
-    4
-}
-
-fn indent_in(set: OptRepeating, order: FieldOrder) {
-    say::flag(b"  ", holds_order(set, order));
 }
 
 // Once for each of the first n places whose set holds the order.
-pub fn indent(g: PgnView, order: FieldOrder, n: u32) {
-    let mut k: u32 = 0;
-    while k < n {
-        if 4 <= k {
-            return;
+pub fn indent(out: &mut impl Write, view: &PgnView, order: FieldOrder, n: usize) -> io::Result<()> {
+    for set in view.sets.iter().take(n) {
+        if holds_order(*set, order) {
+            write!(out, "  ")?;
         }
-        indent_in(set_at(g, k), order);
-        k += 1;
     }
+    Ok(())
 }
 
-// The next number, as far as there is one.
-fn next(n: u64) -> u64 {
-    if n < 18446744073709551615 {
-        return n + 1;
+impl Passes {
+    pub fn none() -> Passes {
+        Passes { begun: [0; 4] }
     }
-    n
-}
 
-// What counts for place j once a pass begins at place k, where n had begun: none of a later set has.
-fn count(j: u32, k: u32, n: u64) -> u64 {
-    if j < k {
-        return n;
+    // A pass of the set at place k has begun, and none of a later set since. Answers how many of its passes have.
+    fn begin(&mut self, k: usize) -> u64 {
+        let mut latest = 0;
+        for (j, begun) in self.begun.iter_mut().enumerate() {
+            if j == k {
+                *begun = begun.saturating_add(1);
+                latest = *begun;
+            } else if k < j {
+                *begun = 0;
+            }
+        }
+        latest
     }
-    if k < j {
-        return 0;
-    }
-    next(n)
-}
 
-// A pass of the set at place k has begun.
-fn one_more(passes: Passes, k: u32) -> Passes {
-    let mut begun = passes.begun;
-    let mut j: u32 = 0;
-    while j < 4 {
-        let n = begun[j as usize];
-        begun[j as usize] = count(j, k, n);
-        j += 1;
+    // At a visit of the order; a pass that begins with it is said.
+    pub fn at_visit(
+        &mut self,
+        out: &mut impl Write,
+        view: &PgnView,
+        order: FieldOrder,
+    ) -> io::Result<()> {
+        let sets = view.sets.iter().take(view.places as usize);
+        for (k, set) in sets.enumerate() {
+            if begins(*set, order) {
+                indent(out, view, order, k)?;
+                let pass = self.begin(k);
+                return writeln!(out, "set {} pass {pass}", k + 1);
+            }
+        }
+        Ok(())
     }
-    Passes { begun }
-}
-
-fn say_pass(passes: Passes, k: u32)
-    requires { k < 4 }
-{
-    say::number(b"set ", k as u64 + 1);
-    say::number(b" pass ", passes.begun[k as usize]);
-    say::words(b"\n");
-}
-
-// At a visit of the order; a pass that begins with it is said.
-pub fn at_visit(g: PgnView, passes: Passes, order: FieldOrder) -> Passes {
-    let k = beginning(g, order);
-    if 4 <= k {
-        return passes;
-    }
-    let after = one_more(passes, k);
-    indent(g, order, k);
-    say_pass(after, k);
-    after
 }

@@ -1,210 +1,200 @@
 // The walk over a PGN, visit by visit.
+use crate::arguments::Arguments;
 use crate::find::{Found, find};
-use crate::passes;
-use listing::{say, work};
-use pack::at::{pgn_at, text_at};
-use pack::load::{Loaded, load};
-use pack::pgn::PgnView;
-use pack::protocol::{FieldIndex, FieldOrder, Protocol};
+use crate::passes::{Passes, indent};
+use listing::loaded::{LoadedPack, Pgn};
+use listing::words::{Counted, Refused, protocol_name, text};
+use pack::at::text_at;
+use pack::protocol::{FieldIndex, Protocol};
 use rules::check::{Checked, check};
-use walk::walk::{End, HeldAnswer, Walked, held, walk};
+use std::alloc::{AllocError, Global};
+use std::io::Write;
+use std::{fmt, io};
+use walk::walk::{End, HeldAnswer, Stop, Walked, held, walk};
 
-fn show_tree(tree: u32) {
-    say::number(b"tree ", tree as u64);
-    say::protocol(Protocol::of_tree(tree));
+const FINDINGS: usize = 16_384;
+
+const VISITS: usize = 256;
+
+// The buffers of the calls.
+#[derive(Drop)]
+struct Buffers {
+    work: Vec<u32>,
+    findings: Vec<u32>,
+    visits: Vec<u32>,
 }
 
-fn heading(s: &[u8], g: PgnView, tree: u32, pgn: u32) {
-    say::number(b"PGN ", g.pgn as u64);
-    say::text(b" ", s, g.id);
-    say::words(b" of ");
-    show_tree(tree);
-    say::number(b", index ", pgn as u64);
-    say::words(b"\n");
+impl Buffers {
+    // No record of a pack has less than two bytes.
+    fn new(alloc: Global, bytes: usize) -> Result<Buffers, AllocError> {
+        Ok(Buffers {
+            work: vec![in alloc; 0; bytes / 2]?,
+            findings: vec![in alloc; 0; FINDINGS]?,
+            visits: vec![in alloc; 0; VISITS]?,
+        })
+    }
+}
+
+// A tree by its number and its protocol's name.
+#[derive(Clone, Copy)]
+struct Tree(Protocol);
+
+impl fmt::Display for Tree {
+    fn fmt<W: fmt::Write>(&self, f: &mut fmt::Formatter<W>) -> fmt::Result {
+        write!(f, "tree {} {}", self.0.tree(), protocol_name(self.0))
+    }
 }
 
 // What being held means for a pack that was checked without one error, or not.
-fn say_held(yes: bool, clean: bool) {
-    if !yes {
-        say::words(b"not held: a walk may stop even where there is no error\n");
-        return;
-    }
-    if clean {
-        say::words(b"held, and no error: no walk stops, whatever the readings\n");
-        return;
-    }
-    say::words(b"held, but a walk may stop: the pack is not without error\n");
-}
-
-fn show_held(s: &[u8], work: &mut [u32], tree: u32, pgn: u32, clean: bool) {
-    match held(s, work, tree, pgn) {
-        HeldAnswer::Refused(r) => say::refused(r),
-        HeldAnswer::Held(yes) => say_held(yes, clean),
+fn meaning(held: bool, clean: bool) -> &'static str {
+    match (held, clean) {
+        (false, _) => "not held: a walk may stop even where there is no error",
+        (true, true) => "held, and no error: no walk stops, whatever the readings",
+        (true, false) => "held, but a walk may stop: the pack is not without error",
     }
 }
 
 // How many errors the pack has. Whether it has none: a check that is refused, by 22 here, shows nothing.
-fn show_errors(s: &[u8], work: &mut [u32], findings: &mut [u32]) -> bool {
-    match check(s, work, findings) {
-        Checked::Refused(r) => {
-            say::words(b"its pack's errors are not counted: ");
-            say::refused(r);
-            false
+fn show_errors(out: &mut impl Write, pack: &[u8], buffers: &mut Buffers) -> io::Result<bool> {
+    match check(pack, &mut buffers.work, &mut buffers.findings) {
+        Checked::Refused(refusal) => {
+            writeln!(
+                out,
+                "its pack's errors are not counted: {}",
+                Refused(refusal)
+            )?;
+            Ok(false)
         }
-        Checked::Reported {
-            findings: n,
-            errors,
-        } => {
-            say::counted(b"its pack has ", n as u64, b" finding", b" findings");
-            say::counted(b", ", errors as u64, b" error\n", b" errors\n");
-            errors == 0
+        Checked::Reported { findings, errors } => {
+            let found = Counted::new(findings, "finding", "findings");
+            let wrong = Counted::new(errors, "error", "errors");
+            writeln!(out, "its pack has {found}, {wrong}")?;
+            Ok(errors == 0)
         }
     }
 }
 
-// A visit of field k of the PGN at that work position.
+// A visit of field k.
 fn show_visit(
-    s: &[u8],
-    work: &[u32],
-    place: usize,
-    g: PgnView,
+    out: &mut impl Write,
+    pack: &LoadedPack<'_>,
+    pgn: Pgn<'_>,
+    passes: &mut Passes,
     k: u32,
-    order: FieldOrder,
     reading: u64,
-) {
-    passes::indent(g, order, g.places);
-    say::number(b"order ", order.0 as u64);
-    let at = work::offset(work, work::behind(place, k));
-    say::text(b" ", s, text_at(s, at));
-    say::number(b" reading ", reading);
-    say::words(b"\n");
-}
-
-// The first n visits.
-fn show_visits(
-    s: &[u8],
-    work: &[u32],
-    place: usize,
-    g: PgnView,
-    readings: &[u64],
-    visits: &[u32],
-    n: usize,
-) {
-    let mut passes = passes::none();
-    let mut i = 0;
-    while i < n {
-        if visits.len() <= i {
-            return;
-        }
-        if readings.len() <= i {
-            return;
-        }
-        let k = visits[i];
-        if g.fields <= k {
-            return;
-        }
-        let order = FieldIndex(k).order();
-        passes = passes::at_visit(g, passes, order);
-        show_visit(s, work, place, g, k, order, readings[i]);
-        i += 1;
+) -> io::Result<()> {
+    let Some(at) = pgn.fields.get(k as usize) else {
+        return Ok(());
+    };
+    if u32::MAX == k {
+        return Ok(());
     }
+    let view = pgn.view;
+    let order = FieldIndex(k).order();
+    passes.at_visit(out, &view, order)?;
+    indent(out, &view, order, view.places as usize)?;
+    write!(out, "order {}", order.0)?;
+    text(out, " ", pack.text(text_at(pack.bytes, *at as usize)))?;
+    writeln!(out, " reading {reading}")
 }
 
 // "At a field, in this order", and before.
-fn reason(stop: u32) {
+fn reason(stop: Stop) -> &'static str {
     match stop {
-        1 => say::words(b": a set out of place"),
-        2 => say::words(b": a set's countField not current"),
-        3 => say::words(b": lookup missing"),
-        4 => say::words(b": match unresolved, or too large for the field's bits"),
-        5 => say::words(b": an entry for the reading names a missing field type or nested lookup"),
-        6 => say::words(b": bitLengthField target not current"),
-        7 => say::words(b": continued field not current"),
-        8 => say::words(b": no lower-order dynamicFieldLength or DYNAMIC_FIELD_KEY field current"),
-        _ => say::words(b": trailing-zero target not current"),
+        Stop::SetMisplaced => "a set out of place",
+        Stop::CounterNotCurrent => "a set's countField not current",
+        Stop::LookupMissing => "lookup missing",
+        Stop::MatchUnfit => "match unresolved, or too large for the field's bits",
+        Stop::EntryNamesMissing => {
+            "an entry for the reading names a missing field type or nested lookup"
+        }
+        Stop::LengthNotCurrent => "bitLengthField target not current",
+        Stop::ContinuedNotCurrent => "continued field not current",
+        Stop::NoLengthSource => "no lower-order dynamicFieldLength or DYNAMIC_FIELD_KEY field current",
+        Stop::TrailingNotCurrent => "trailing-zero target not current",
     }
 }
 
-fn after(n: usize) {
-    say::counted(b" after ", n as u64, b" visit", b" visits");
-}
-
-fn show_end(end: End, n: usize) {
+fn show_end(out: &mut impl Write, end: End, visits: usize) -> io::Result<()> {
+    let visits = Counted::new(visits, "visit", "visits");
     match end {
-        End::Whole => {
-            say::words(b"whole");
-            after(n);
-        }
-        End::UsedUp => {
-            say::words(b"used up");
-            after(n);
-        }
+        End::Whole => writeln!(out, "whole after {visits}"),
+        End::UsedUp => writeln!(out, "used up after {visits}"),
         End::Stop(stop) => {
-            say::number(b"stop ", stop as u64);
-            after(n);
-            reason(stop);
+            let number = stop as u32;
+            writeln!(out, "stop {number} after {visits}: {}", reason(stop))
         }
     }
-    say::words(b"\n");
 }
 
 fn show_walk(
-    s: &[u8],
-    work: &mut [u32],
+    out: &mut impl Write,
+    pack: &LoadedPack<'_>,
     tree: u32,
-    found: Found,
-    g: PgnView,
+    found: Found<'_>,
     readings: &[u64],
-    visits: &mut [u32],
-) {
-    match walk(s, work, tree, found.pgn, readings, visits) {
-        Walked::Refused(r) => say::refused(r),
-        Walked::Ended { end, visits: n } => {
-            show_visits(s, work, found.place, g, readings, visits, n);
-            show_end(end, n);
+    buffers: &mut Buffers,
+) -> io::Result<()> {
+    match walk(
+        pack.bytes,
+        &mut buffers.work,
+        tree,
+        found.item,
+        readings,
+        &mut buffers.visits,
+    ) {
+        Walked::Refused(refusal) => writeln!(out, "{}", Refused(refusal)),
+        Walked::Ended { end, visits } => {
+            let mut passes = Passes::none();
+            for (k, reading) in buffers.visits.iter().zip(readings).take(visits) {
+                show_visit(out, pack, found.pgn, &mut passes, *k, *reading)?;
+            }
+            show_end(out, end, visits)
         }
     }
 }
 
 // The walk first, since a check can take long.
 fn show_found(
-    s: &[u8],
-    work: &mut [u32],
-    findings: &mut [u32],
-    tree: u32,
-    found: Found,
+    out: &mut impl Write,
+    alloc: Global,
+    pack: &LoadedPack<'_>,
+    protocol: Protocol,
+    found: Found<'_>,
     readings: &[u64],
-    visits: &mut [u32],
-) {
-    if !found.given {
-        say::words(b"not in the pack: no PGN of that number or id in ");
-        show_tree(tree);
-        say::words(b"\n");
-        return;
+) -> io::Result<()> {
+    let mut buffers = Buffers::new(alloc, pack.bytes.len())?;
+    let view = found.pgn.view;
+    write!(out, "PGN {}", view.pgn)?;
+    text(out, " ", pack.text(view.id))?;
+    writeln!(out, " of {}, index {}", Tree(protocol), found.item)?;
+    let tree = protocol.tree();
+    show_walk(out, pack, tree, found, readings, &mut buffers)?;
+    let clean = show_errors(out, pack.bytes, &mut buffers)?;
+    match held(pack.bytes, &mut buffers.work, tree, found.item) {
+        HeldAnswer::Refused(refusal) => writeln!(out, "{}", Refused(refusal)),
+        HeldAnswer::Held(held) => writeln!(out, "{}", meaning(held, clean)),
     }
-    let g = pgn_at(s, work::offset(work, found.place));
-    heading(s, g, tree, found.pgn);
-    show_walk(s, work, tree, found, g, readings, visits);
-    let clean = show_errors(s, work, findings);
-    show_held(s, work, tree, found.pgn, clean);
 }
 
 // The PGN of that name in the tree.
 pub fn show(
-    s: &[u8],
-    work: &mut [u32],
-    findings: &mut [u32],
-    tree: u32,
-    name: &[u8],
-    readings: &[u64],
-    visits: &mut [u32],
-) {
-    match load(s, work) {
-        Loaded::Refused(r) => say::refused(r),
-        Loaded::Accepted(index) => {
-            let section = Protocol::of_tree(tree).section(index);
-            let found = find(s, work, section, name);
-            show_found(s, work, findings, tree, found, readings, visits);
-        }
+    out: &mut impl Write,
+    alloc: Global,
+    bytes: &[u8],
+    arguments: &Arguments<'_>,
+) -> io::Result<()> {
+    let protocol = arguments.protocol;
+    let mut work = vec![in alloc; 0u32; bytes.len() / 2]?;
+    match LoadedPack::load(bytes, &mut work) {
+        Err(refusal) => writeln!(out, "{}", Refused(refusal)),
+        Ok(pack) => match find(&pack, protocol, arguments.name) {
+            Some(found) => show_found(out, alloc, &pack, protocol, found, &arguments.readings),
+            None => writeln!(
+                out,
+                "not in the pack: no PGN of that number or id in {}",
+                Tree(protocol)
+            ),
+        },
     }
 }

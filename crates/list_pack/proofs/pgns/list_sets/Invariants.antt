@@ -1,9 +1,0 @@
-use Prim.Native.Nat.{◌-◌}
-use Rattle.list_pack.proofs.pgns.list_sets.Given as goal
-
--- `pgns::list_sets` is safe and ends: the measure is the number of places left.
-abbrev pub invariant-loop-k : goal.invariant-loop-k
-invariant-loop-k l = Unit {0}
-
-abbrev pub decreases-loop-k : goal.decreases-loop-k
-decreases-loop-k l = l.places - l.k
