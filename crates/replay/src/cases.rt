@@ -40,10 +40,8 @@ pub fn wide(n: u32) -> u64 {
 }
 
 pub fn print_numbers(numbers: &[u32]) {
-    let mut i = 0;
-    while i < numbers.len() {
+    for i in 0..numbers.len() {
         spaced(wide(numbers[i]));
-        i += 1;
     }
 }
 

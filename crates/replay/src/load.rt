@@ -2,10 +2,8 @@
 use crate::cases::{count, print_numbers, print_refused, read_pack, spaced, words};
 
 fn print_all(numbers: &[u64]) {
-    let mut i = 0;
-    while i < numbers.len() {
+    for i in 0..numbers.len() {
         spaced(numbers[i]);
-        i += 1;
     }
 }
 

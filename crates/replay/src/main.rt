@@ -28,10 +28,8 @@ fn next_case(call: Call) {
 
 fn replay(call: Call) {
     let n = cases::number();
-    let mut i = 0;
-    while i < n {
+    for i in 0..n {
         next_case(call);
-        i += 1;
     }
 }
 

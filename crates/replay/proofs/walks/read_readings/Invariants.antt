@@ -6,6 +6,3 @@ use Rattle.replay.proofs.walks.read_readings.Given as goal
 -- `read_readings` is safe and ends: each turn leaves one reading fewer.
 abbrev pub invariant-loop-i : goal.invariant-loop-i
 invariant-loop-i l = length l.readings ≡ length l.initial.readings
-
-abbrev pub decreases-loop-i : goal.decreases-loop-i
-decreases-loop-i l = length l.initial.readings - l.i
