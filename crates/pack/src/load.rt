@@ -171,7 +171,13 @@ fn place_entries(s: &[u8], work: &mut [u32], c: Cursor, kind: u32, n: u32, p: us
 }
 
 // A lookup whose name is above `before`, and its entries.
-fn place_lookup(s: &[u8], work: &mut [u32], c: Cursor, before: Option<Text>, p: usize) -> LookupPlaced
+fn place_lookup(
+    s: &[u8],
+    work: &mut [u32],
+    c: Cursor,
+    before: Option<Text>,
+    p: usize,
+) -> LookupPlaced
     requires { Room s.now c p }
     ensures { LookupPlacing s.now (record { next = c; before = before }) work.old p work.new result }
 {

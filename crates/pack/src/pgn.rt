@@ -80,7 +80,10 @@ fn order_of(number: Option<u32>) -> Option<FieldOrder>
 fn no_repeating(c: Cursor) -> OptRepeatingItem
     ensures { result ≡ record { value = None; next = c } }
 {
-    OptRepeatingItem { value: None, next: c }
+    OptRepeatingItem {
+        value: None,
+        next: c,
+    }
 }
 
 impl Cursor {

@@ -110,7 +110,8 @@ fn reason(stop: Stop) -> &'static str {
         }
         Stop::LengthNotCurrent => "bitLengthField target not current",
         Stop::ContinuedNotCurrent => "continued field not current",
-        Stop::NoLengthSource => "no lower-order dynamicFieldLength or DYNAMIC_FIELD_KEY field current",
+        Stop::NoLengthSource =>
+            "no lower-order dynamicFieldLength or DYNAMIC_FIELD_KEY field current",
         Stop::TrailingNotCurrent => "trailing-zero target not current",
     }
 }

@@ -225,7 +225,8 @@ count_0 : run (pgn (set 1 1 (Some 0) false) None (a ∷ [])) [] ≡ answer (stop
 unfolding run
 count_0 = refl
 
-count_in_a_left_set : run (pgn (set 2 1 (Some 1) false) (set 3 1 (Some 2) false) (a ∷ b ∷ c ∷ [])) (1 ∷ 1 ∷ 1 ∷ []) ≡ answer (stop CounterNotCurrent) (0 ∷ 1 ∷ [])
+count_in_a_left_set : run (pgn (set 2 1 (Some 1) false) (set 3 1 (Some 2) false) (a ∷ b ∷ c ∷ [])) (1 ∷ 1 ∷ 1 ∷ [])
+    ≡ answer (stop CounterNotCurrent) (0 ∷ 1 ∷ [])
 unfolding run
 count_in_a_left_set = refl
 
@@ -276,11 +277,13 @@ unfolding run
 unknown_nested = refl
 
 -- STOPS 6 to 9: the target lies in a set that has been left, or is no field
-length_in_a_left_set : run (pgn (set 2 1 (Some 1) false) None (a ∷ b ∷ z_as_long_as (bytes "b") ∷ [])) (1 ∷ 1 ∷ 1 ∷ []) ≡ answer (stop LengthNotCurrent) (0 ∷ 1 ∷ [])
+length_in_a_left_set : run (pgn (set 2 1 (Some 1) false) None (a ∷ b ∷ z_as_long_as (bytes "b") ∷ [])) (1 ∷ 1 ∷ 1 ∷ [])
+    ≡ answer (stop LengthNotCurrent) (0 ∷ 1 ∷ [])
 unfolding run
 length_in_a_left_set = refl
 
-continued_in_a_left_set : run (pgn (set 2 1 (Some 1) false) None (a ∷ b ∷ z_continues (bytes "b") ∷ [])) (1 ∷ 1 ∷ 1 ∷ []) ≡ answer (stop ContinuedNotCurrent) (0 ∷ 1 ∷ [])
+continued_in_a_left_set : run (pgn (set 2 1 (Some 1) false) None (a ∷ b ∷ z_continues (bytes "b") ∷ [])) (1 ∷ 1 ∷ 1 ∷ [])
+    ≡ answer (stop ContinuedNotCurrent) (0 ∷ 1 ∷ [])
 unfolding run
 continued_in_a_left_set = refl
 

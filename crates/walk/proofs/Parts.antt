@@ -33,7 +33,8 @@ use Rattle.walk.proofs.Tests.{and_i}
 
 -- ---- the whole
 
-joined : (a b : Bool) (x : Option Stop) → (if a then Some LookupMissing else (if b then Some MatchUnfit else x)) ≡ or_else (if a then Some LookupMissing else (if b then Some MatchUnfit else None)) x
+joined : (a b : Bool) (x : Option Stop) → (if a then Some LookupMissing else (if b then Some MatchUnfit else x))
+    ≡ or_else (if a then Some LookupMissing else (if b then Some MatchUnfit else None)) x
 joined true b x = refl
 joined false true x = refl
 joined false false x = refl

@@ -13,7 +13,8 @@ loop-found-init c =
 pub returns-in_err-found : goal.returns-in_err-found
 returns-in_err-found c =
     let s = c.args.s.now in
-    c.from_residual.ensures ∙ sym (candidate_none (pack_of s).pgns_j1939 (bytes_of s c.args.name) c.loop-found.b (sym c.in_err-found.ensures)) ∙ c.loop-found.invariant
+    c.from_residual.ensures
+    ∙ sym (candidate_none (pack_of s).pgns_j1939 (bytes_of s c.args.name) c.loop-found.b (sym c.in_err-found.ensures)) ∙ c.loop-found.invariant
 
 pub has_name-requires : goal.has_name-requires
 has_name-requires c =

@@ -37,7 +37,8 @@ loop-k-preserved c =
     let t = c.args.g.tree in
     let i = c.args.g.item in
     reporting_turn c.loop-k.invariant (omega (arith, c.loop-k-test.true))
-    (rw (said s t i c.loop-k.k c.field_of-f.result c.is_some.result c.pgn_error.result c.field_of-f.ensures c.is_some.ensures c.pgn_error.ensures) c.put_if-m.ensures)
+    (rw (said s t i c.loop-k.k c.field_of-f.result c.is_some.result c.pgn_error.result c.field_of-f.ensures c.is_some.ensures c.pgn_error.ensures)
+    c.put_if-m.ensures)
 
 pub returns : goal.returns
 unfolding spns_elsewhere

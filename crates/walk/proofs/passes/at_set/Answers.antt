@@ -16,7 +16,8 @@ returns-in-NotCurrent c =
     let p = place_of c.args.o.0 w in
     let counter = opt_order (value_at c.args.sets k).counter in
     record {
-      round = λ L a n. round_not_current L p (memory_of w) k (arrival_of c.arrive.result) counter (a.set k).counter (c.arrive.ensures L a p refl (memory_of w) k refl) n
+      round = λ L a n. round_not_current L p (memory_of w) k (arrival_of c.arrive.result) counter (a.set k).counter
+          (c.arrive.ensures L a p refl (memory_of w) k refl) n
           (ap arrival_of c.in-NotCurrent.is);
       memory = refl;
       end = λ h. omega (arith, c);

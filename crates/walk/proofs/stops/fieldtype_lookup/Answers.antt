@@ -40,7 +40,8 @@ module _ (s w : List ℕ) where
           rw (e, ← f, q)
 
       known : L.kind ≡ 3 → (reading : ℕ)
-          → reference_names_missing (pack_of s) (optional_reference s r) reading ≡ entries_name_missing (pack_of s) (lookup_at (pack_of s).lookups i).entries reading
+          → reference_names_missing (pack_of s) (optional_reference s r) reading
+          ≡ entries_name_missing (pack_of s) (lookup_at (pack_of s).lookups i).entries reading
       unfolding reference_names_missing lookup_names_missing fieldtypes
       known y reading =
           let q : ((lookup_at (pack_of s).lookups i).kind == 3) ≡ true = ap (λ (M : Lookup). M.kind == 3) (sym is.means) ∙ eq-eqb L.kind 3 y in
