@@ -5,7 +5,6 @@ pub mod SetFacts
 pub mod SetValues
 pub mod PassNumbers
 pub mod PassLaws
-pub mod Counting
 -- the stops in parts
 pub mod Parts
 -- what is remembered of the fields

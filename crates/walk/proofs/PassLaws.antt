@@ -10,7 +10,7 @@ use Rattle.std.specs.Prelude.{Option, None, Some}
 use lib.ListN.{length, get_or-eq_default}
 use borrow.Author.Tests.{ne_eqb, lt-ltb, le-ltb}
 use Rattle.walk.specs.Layout.{Layout, no_set, set_at, end}
-use Rattle.walk.specs.Passes.{Rest, endless, more, Place, present, goto, goto_with, arrives, Stand, again, arrived, ready, beyond, look, Turn}
+use Rattle.walk.specs.Passes.{Rest, endless, Place, present, goto, goto_with, arrives, Stand, again, arrived, ready, beyond, look, Turn}
 use Rattle.walk.specs.Passes.{goes_on, leaves, begins, turn, close, stand}
 use Rattle.walk.specs.Walk.{Arrival, not_current, over, enter, counted, arrive, Settled, past, halted, due, settle, settled}
 use Rattle.walk.specs.ByPlace.{placed, by_place}

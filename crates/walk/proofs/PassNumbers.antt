@@ -2,13 +2,15 @@
 use Prim.Native.Nat.{ℕ, ◌+◌, ◌*◌, ◌<◌}
 use native.Mathlib.Omega.{arith}
 use native.Mathlib.Decide.{ℕ_discrete}
-use mathlib.Core.Path.{◌≡◌, refl, ap, ◌∙◌, fun_ext}
+use mathlib.Core.Path.{◌≡◌, refl, sym, ap, ◌∙◌, fun_ext}
 use mathlib.Core.List.{List}
-use Rattle.std.specs.Prelude.{Option, None, Some}
+use Rattle.std.specs.Bool.{then_some}
+use Rattle.std.specs.Prelude.{Option, None, Some, ◌==◌, if◌then◌else◌}
+use mathlib.Core.Bool.{Bool, true, false}
 use lib.ListN.{length, get_or, set, length-set, replicate}
 use lib.Seq.{get_or-set_same, get_or-set_other}
 use borrow.Author.Tests.{eq-eqb, ne_eqb}
-use Rattle.walk.specs.Passes.{Rest, put, goto_with}
+use Rattle.walk.specs.Passes.{Rest, more, put, goto_with}
 use Rattle.walk.specs.State.{left_of, left_at, with_numbers, with_left, place_of, memory_of}
 use Rattle.walk.specs.declared.passes.Further.{Further}
 use Rattle.walk.specs.declared.passes.Further.TheVariants.{Endless, More}
@@ -76,20 +78,47 @@ module _ (w : List ℕ) (room : length w ≡ 16) (k : ℕ) (low : k < 4) where
       go j (yes q) = rw (q, eq-eqb k k refl, put) (ap left_of (left_put v))
       go j (no h) = rw (ne_eqb j k h, put) (ap left_of (left_other v j h))
 
--- a reading is put at place 4 k + 3
-module _ (w : List ℕ) (room : length w ≡ 16) (k : ℕ) (low : k < 4) (r : ℕ) where
-  pub latest_put : memory_of (set w (4 * k + 3) r) k ≡ r
-  latest_put = get_or-set_same w (4 * k + 3) r 0 (omega (arith, room, low))
+-- one is put at place 4 k + 2, how many more
+more_of : (p q : Bool) (z m n : ℕ) → then_some p (if q then Endless else More z) ≡ Some (More m) → then_some p (if q then Endless else More n) ≡ Some (More n)
+more_of true true z m n e = absurd (cc)
+more_of true false z m n e = refl
+more_of false q z m n e = absurd (cc)
 
-  pub latest_other : (j : ℕ) → (j ≡ k → ⊥) → memory_of (set w (4 * k + 3) r) j ≡ memory_of w j
-  latest_other j h = get_or-set_other w (4 * k + 3) (4 * j + 3) r 0 (λ e. h (omega (arith, e)))
+pub memory_more : (w : List ℕ) (k n : ℕ) → memory_of (set w (4 * k + 2) n) ≡ memory_of w
+memory_more w k n = fun_ext (λ j. get_or-set_other w (4 * k + 2) (4 * j + 3) n 0 (λ e. omega (arith, e)))
 
-  pub left_kept : (j : ℕ) → left_at (set w (4 * k + 3) r) j ≡ left_at w j
-  left_kept j =
-      let a : get_or (set w (4 * k + 3) r) (4 * j) 0 ≡ get_or w (4 * j) 0 = get_or-set_other w (4 * k + 3) (4 * j) r 0 (λ e. omega (arith, e)) in
-      let b : get_or (set w (4 * k + 3) r) (4 * j + 1) 0 ≡ get_or w (4 * j + 1) 0 = get_or-set_other w (4 * k + 3) (4 * j + 1) r 0 (λ e. omega (arith, e)) in
-      let c : get_or (set w (4 * k + 3) r) (4 * j + 2) 0 ≡ get_or w (4 * j + 2) 0 = get_or-set_other w (4 * k + 3) (4 * j + 2) r 0 (λ e. omega (arith, e)) in
+module _ (w : List ℕ) (room : length w ≡ 16) (k : ℕ) (low : k < 4) (m n : ℕ) (here : left_at w k ≡ Some (More m)) where
+  left_more : left_at (set w (4 * k + 2) n) k ≡ Some (More n)
+  left_more =
+      let a : get_or (set w (4 * k + 2) n) (4 * k) 0 ≡ get_or w (4 * k) 0 = get_or-set_other w (4 * k + 2) (4 * k) n 0 (λ e. omega (arith, e)) in
+      let b : get_or (set w (4 * k + 2) n) (4 * k + 1) 0 ≡ get_or w (4 * k + 1) 0 = get_or-set_other w (4 * k + 2) (4 * k + 1) n 0 (λ e. omega (arith, e)) in
+      let c : get_or (set w (4 * k + 2) n) (4 * k + 2) 0 ≡ n = get_or-set_same w (4 * k + 2) n 0 (omega (arith, room, low)) in
+      rw (a, b, c) (more_of (get_or w (4 * k) 0 == 1) (get_or w (4 * k + 1) 0 == 1) (get_or w (4 * k + 2) 0) m n here)
+
+  more_other : (j : ℕ) → (j ≡ k → ⊥) → left_at (set w (4 * k + 2) n) j ≡ left_at w j
+  more_other j h =
+      let a : get_or (set w (4 * k + 2) n) (4 * j) 0 ≡ get_or w (4 * j) 0 = get_or-set_other w (4 * k + 2) (4 * j) n 0 (λ e. omega (arith, e)) in
+      let b : get_or (set w (4 * k + 2) n) (4 * j + 1) 0 ≡ get_or w (4 * j + 1) 0 = get_or-set_other w (4 * k + 2) (4 * j + 1) n 0 (λ e. omega (arith, e)) in
+      let c : get_or (set w (4 * k + 2) n) (4 * j + 2) 0 ≡ get_or w (4 * j + 2) 0 =
+      get_or-set_other w (4 * k + 2) (4 * j + 2) n 0 (λ e. h (omega (arith, e))) in
       rw (a, b, c)
+
+  pub place_more : (o : ℕ) → place_of o (set w (4 * k + 2) n) ≡ goto_with (place_of o w) o k (Some (more n))
+  unfolding put
+  place_more o = ap (λ (l : ℕ → Option Rest). record { order = o; left = l }) (fun_ext (λ j. go j (ℕ_discrete j k)))
+    where
+      go : (j : ℕ) → Dec (j ≡ k) → left_of (left_at (set w (4 * k + 2) n) j) ≡ put (place_of o w).left k (Some (more n)) j
+      go j (yes q) = rw (q, eq-eqb k k refl, put) (ap left_of left_more)
+      go j (no h) = rw (ne_eqb j k h, put) (ap left_of (more_other j h))
+
+-- what was left of it is put for set k
+pub put_there : (f : ℕ → Option Rest) (k : ℕ) (x : Option Rest) → f k ≡ x → put f k x ≡ f
+unfolding put
+put_there f k x e = fun_ext (λ j. go j (ℕ_discrete j k))
+  where
+    go : (j : ℕ) → Dec (j ≡ k) → put f k x j ≡ f j
+    go j (yes q) = rw (q, eq-eqb k k refl, put) (sym e)
+    go j (no h) = rw (ne_eqb j k h, put)
 
 -- numbers that begin as `[0; n]`: no set has a present pass, and no countField a reading
 pub zeros_left : (n k : ℕ) → left_of (left_at (replicate {A = ℕ} n 0) k) ≡ None

@@ -1,9 +1,9 @@
 -- Runs: visits within a stretch, from a set's pass into the next, and how they follow one another.
 use Rattle.std.specs.Prelude.{◌==◌}
-use Prim.Native.Nat.{ℕ, zero, suc, pred, ◌+◌, ◌-◌, ◌≤◌, ◌<◌}
+use Prim.Native.Nat.{ℕ, zero, suc, pred, ◌+◌, ◌*◌, ◌-◌, ◌≤◌, ◌<◌}
 use native.Mathlib.Omega.{arith}
 use native.Mathlib.Numerals.{add-one}
-use native.Mathlib.Decide.{ℕ_discrete, dec_lt}
+use native.Mathlib.Decide.{dec_lt}
 use mathlib.Core.Path.{◌≡◌, refl, sym, ap, subst, ◌∙◌, fun_ext}
 use mathlib.Core.Bool.{Bool, true, false, ◌||◌}
 use Rattle.std.specs.Prelude.{Option, None, Some}
@@ -14,23 +14,25 @@ use Rattle.pack.specs.Meaning.{opt_order}
 use Rattle.rules.specs.SearchLaws.{below_suc}
 use Rattle.walk.specs.SetsOf.{SetsAre, value_at}
 use Rattle.walk.specs.Layout.{Layout, no_set}
-use Rattle.walk.specs.Passes.{Place, goto, goto_with, ready, again, turn, begins, close, stand}
+use Rattle.walk.specs.Passes.{Rest, endless, more, Place, goto, goto_with, ready, again, turn, begins, close, stand}
 use Rattle.walk.specs.Walk.{Stops, Settled, due, settled, onward}
 use Rattle.walk.specs.ByPlace.{placed, by_place, counts}
 use Rattle.walk.specs.Runs.{edge, PlainAt, EndsBehind, written, Turns, RunsTo}
-use Rattle.walk.specs.State.{rest_of, left_of, left_at, with_left, place_of, memory_of, settled_of}
+use Rattle.walk.specs.State.{left_of, left_at, place_of, memory_of}
 use Rattle.walk.specs.Steps.{Run, no_step, then_step}
 use Rattle.walk.specs.StopParts.{lets_pass}
 use Rattle.walk.specs.declared.passes.Further.{Further}
-use Rattle.walk.specs.declared.passes.Settling.{Settling}
-use Rattle.walk.specs.declared.passes.Settling.TheVariants.{Due}
-use Rattle.pack.specs.declared.protocol.FieldOrder.{FieldOrder}
+use Rattle.walk.specs.declared.passes.Further.TheVariants.{Endless, More}
 use Rattle.walk.specs.declared.stretches.Ending.{Ending}
 use Rattle.walk.specs.declared.sets.Sets.{Sets}
 use Rattle.walk.proofs.PassLaws.{round_ready, round_again, pass_begins, close_four, close_skip, closed_look, look_none, look_four}
-use Rattle.walk.proofs.PassLaws.{entered, kept_memory}
+use Rattle.walk.proofs.PassNumbers.{place_more, memory_more, put_there}
 use Rattle.walk.proofs.Tests.{or_l, or_r}
 use Rattle.walk.proofs.Walks.{step_visits}
+
+turn_more : (n : ℕ) → (n ≡ 0 → ⊥) → begins (more (n - 1)) ≡ turn true (Some (more n))
+turn_more zero h = absurd (h refl)
+turn_more (suc n) h = let e : suc n - 1 ≡ n = omega arith in rw e
 
 module _ {L : Layout} {v : Sets} (a : SetsAre L v) where
   -- a visit of a field that is no countField
@@ -103,15 +105,26 @@ pass_onward a o x b w w' t r =
     ∙ begins_again a o w w' x.set b.set b.end b.last t
     ∙ ap (λ (n : ℕ). due (place_of n w') (memory_of w')) (sym b.start)
 
--- another pass of set k begins, with y left after it
-pub turns_again : (w : List ℕ) → length w ≡ 16 → (k : ℕ) → k < 4 → (x : Option Further) → x ≡ left_at w k → (f : Further) → x ≡ Some f → (y : Further)
-    → begins (rest_of y) ≡ turn true (Some (rest_of f)) → (w' : List ℕ) → w' ≡ with_left w k (Some y) → Turns w k w'
-turns_again w room k low x ex f ef y turned w' ew = record {
-  rest = rest_of y;
-  begins = ap (λ (v : Option Further). turn true (left_of v)) (sym ex ∙ ef) ∙ sym turned;
-  place = entered w w' room k low (Some y) ew (rest_of y) refl;
-  memory = kept_memory w w' room k low (Some y) ew;
-}
+-- another pass of set k begins: of endless ones nothing changes, else one less is left
+module _ (w : List ℕ) (room : length w ≡ 16) (k : ℕ) (low : k < 4) (x : Option Further) (ex : x ≡ left_at w k) where
+  pub turns_endless : x ≡ Some Endless → Turns w k w
+  turns_endless e = record {
+    rest = endless;
+    begins = ap (turn true) left;
+    place = λ o. ap (λ (l : ℕ → Option Rest). record { order = o; left = l }) (sym (put_there (place_of o w).left k (Some endless) left));
+    memory = refl;
+  }
+    where
+      left : left_of (left_at w k) ≡ Some endless
+      left = ap left_of (sym ex ∙ e)
+
+  pub turns_more : (m : ℕ) → x ≡ Some (More m) → (m ≡ 0 → ⊥) → (w' : List ℕ) → w' ≡ set w (4 * k + 2) (m - 1) → Turns w k w'
+  turns_more m e z w' ew = record {
+    rest = more (m - 1);
+    begins = ap (λ (v : Option Further). turn true (left_of v)) (sym ex ∙ e) ∙ sym (turn_more m z);
+    place = λ o. ap (place_of o) ew ∙ place_more w room k low m (m - 1) (sym ex ∙ e) o;
+    memory = ap memory_of ew ∙ memory_more w k (m - 1);
+  }
 
 -- set k ends behind the order o, and no later one does
 pub ends_behind : (v : Sets) (o k : ℕ) → k < 4 → (next : ℕ) → next ≡ o + 1 → (next == (value_at v k).end.0) ≡ true

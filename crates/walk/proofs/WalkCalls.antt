@@ -1,12 +1,11 @@
 -- The ends of the calls `walk` and `held`: answer and visit buffer. Both first name a PGN.
-use Prim.Native.Nat.{ℕ, ◌≤◌, ◌<◌}
+use Prim.Native.Nat.{ℕ}
 use native.Mathlib.Omega.{arith}
-use mathlib.Core.Path.{◌≡◌, refl, sym, ap, subst, ◌∙◌}
+use mathlib.Core.Path.{◌≡◌, refl, sym, ap, ◌∙◌}
 use mathlib.Core.Bool.{Bool, true, false}
 use mathlib.Core.List.{List}
 use Rattle.std.specs.Prelude.{Option, None, Some, Result, Ok, Err}
 use lib.ListN.{length}
-use borrow.Author.Tests.{le-leb, lt-leb}
 use Rattle.pack.specs.Load.{Answer as Numbers, loaded, work_after}
 use Rattle.pack.specs.Notation.{◌≤ᵇ◌}
 use Rattle.pack.proofs.Told.{after_refused, after_accepted}
@@ -15,13 +14,12 @@ use Rattle.pack.specs.declared.load.Index.{Index}
 use Rattle.pack.specs.declared.load.Loaded.{Loaded}
 use Rattle.pack.specs.declared.load.Loaded.TheVariants as load
 use Rattle.pack.specs.declared.load.Refusal.{Refusal}
-use Rattle.pack.specs.declared.load.Refusal.TheVariants.{Visits}
 use Rattle.pack.specs.Value.{pgn_at}
 use Rattle.walk.specs.Held.{held}
-use Rattle.walk.specs.Naming.{absence, naming_refusal, refusal_of, IsPlaced, NamedIs}
+use Rattle.walk.specs.Naming.{absence, naming_refusal, refusal_of, NamedIs}
 use Rattle.walk.specs.Walk.{End, whole, used_up, stop, Answer}
 use Rattle.walk.specs.WalkCall.{in_pack, ending, judged, walk_of, walked, visits_left}
-use Rattle.walk.specs.WalkCall.{visits_after, end_number, ending_number, walk_answer, visits_tell, Told}
+use Rattle.walk.specs.WalkCall.{visits_after, end_number, ending_number, walk_answer, visits_tell}
 use Rattle.walk.specs.WalkCall.{walk_tells, Walks}
 use Rattle.walk.specs.WalkCall.{held_judged, held_told, held_answer, held_tell, held_tells, TellsHeld}
 use Rattle.walk.specs.declared.named.FoundPgn.{FoundPgn}

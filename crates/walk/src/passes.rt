@@ -87,7 +87,7 @@ fn put_numbers(passes: &mut [u64], k: usize, present: u64, endless: u64, more: u
     passes[4 * k + 2] = more;
 }
 
-pub fn put_left(passes: &mut [u64], k: usize, left: Option<Further>)
+fn put_left(passes: &mut [u64], k: usize, left: Option<Further>)
     requires { record { set : k < 4; sixteen : length passes.old ≡ 16 } }
     ensures { passes.new ≡ with_left passes.old k left }
 {
@@ -99,7 +99,7 @@ pub fn put_left(passes: &mut [u64], k: usize, left: Option<Further>)
 }
 
 // What comes of a pass that ends.
-pub fn after(further: Further) -> Turning
+fn after(further: Further) -> Turning
     ensures { turn_of result ≡ turn true (Some (rest_of further)) }
 {
     match further {

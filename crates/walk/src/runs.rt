@@ -7,7 +7,7 @@ ghost use Rattle.pack.specs.declared.protocol.FieldOrder.{FieldOrder};
 
 use crate::known::lets_pass;
 use crate::orders::{index_of, later_order};
-use crate::passes::{Turning, after, left_at, put_left};
+use crate::passes::{Further, left_at};
 use crate::sets::Sets;
 use crate::stretches::{Stretch, ahead, is_in, stretch_at};
 use pack::protocol::{FieldIndex, FieldOrder, same_order};
@@ -110,7 +110,7 @@ fn leap(
     write_passing(marks, bad, readings, visits, m, k, n)
 }
 
-// Where a pass of set k ends: whether another begins, which is counted then.
+// Where a pass of set k ends: whether another begins, which is counted then. One number is written, of endless ones none.
 fn begins(passes: &mut [u64], k: usize) -> bool
     requires { record { set : k < 4; sixteen : length passes.old ≡ 16 } }
     ensures { record {
@@ -121,13 +121,14 @@ fn begins(passes: &mut [u64], k: usize) -> bool
     let Some(further) = left_at(passes, k) else {
         return false;
     };
-    match after(further) {
-        Turning::Begins(further) => {
-            put_left(passes, k, Some(further));
-            true
-        }
-        _ => false,
+    let Further::More(more) = further else {
+        return true;
+    };
+    if more == 0 {
+        return false;
     }
+    passes[4 * k + 2] = more - 1;
+    true
 }
 
 // At the order o, after m visits: whether it ends the stretch with a set, the visit there is known not to stop, and another pass of the set

@@ -1,13 +1,21 @@
-use mathlib.Core.Path.{sym, ap, ◌∙◌}
+use mathlib.Core.Path.{refl, sym, ap, ◌∙◌}
 use mathlib.Core.Bool.{false≢true}
-use Rattle.walk.specs.State.{turn_of}
-use Rattle.walk.proofs.Plain.{turns_again}
+use Rattle.std.specs.Prelude.{Some}
+use Rattle.walk.proofs.Plain.{turns_endless, turns_more}
 use Rattle.walk.proofs.runs.begins.Goals as goal
 
-pub returns-in-Begins : goal.returns-in-Begins
-returns-in-Begins c =
+pub returns-in_default-further : goal.returns-in_default-further
+returns-in_default-further c =
+    record {
+      kept = λ h. refl;
+      turns = λ h. turns_endless c.args.passes.now c.requires.sixteen c.args.k c.requires.set c.left_at.result c.left_at.ensures
+          (c.in-Some.is ∙ ap Some c.in_default-further.is);
+    }
+
+pub returns : goal.returns
+returns c =
     record {
       kept = λ h. absurd (false≢true (sym h));
-      turns = λ h. turns_again c.args.passes.now c.requires.sixteen c.args.k c.requires.set c.left_at.result c.left_at.ensures
-          c.in-Some.further c.in-Some.is c.in-Begins.further (ap turn_of (sym c.in-Begins.is) ∙ c.after.ensures) _ c.put_left.ensures;
+      turns = λ h. turns_more c.args.passes.now c.requires.sixteen c.args.k c.requires.set c.left_at.result c.left_at.ensures
+          c.in-More.more (c.in-Some.is ∙ ap Some c.in-More.is) c.if-more-eq0.false _ refl;
     }
