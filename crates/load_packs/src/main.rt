@@ -114,7 +114,10 @@ fn report_file(out: &mut impl Write, alloc: Global, name: &str, file: File) -> i
 fn report_argument(rt: &HostRuntime, out: &mut impl Write, name: &str) -> io::Result<()> {
     match fs::open(rt, name) {
         Ok(file) => report_file(out, rt.alloc(), name, file),
-        Err(error) => eprintln!(rt; "{name}: {error}"),
+        Err(error) => {
+            out.flush()?;
+            eprintln!(rt; "{name}: {error}")
+        }
     }
 }
 

@@ -155,7 +155,7 @@ fn show_walk(
     }
 }
 
-// The walk first, since a check can take long.
+// The walk first, and at once, since a check can take long.
 fn show_found(
     out: &mut impl Write,
     alloc: Global,
@@ -171,6 +171,7 @@ fn show_found(
     writeln!(out, " of {}, index {}", Tree(protocol), found.item)?;
     let tree = protocol.tree();
     show_walk(out, pack, tree, found, readings, &mut buffers)?;
+    out.flush()?;
     let clean = show_errors(out, pack.bytes, &mut buffers)?;
     match held(pack.bytes, &mut buffers.work, tree, found.item) {
         HeldAnswer::Refused(refusal) => writeln!(out, "{}", Refused(refusal)),
