@@ -21,9 +21,7 @@ fn print_place(pack: &[u8], work: &mut [u32], text: &mut [u8], place: u32, tree:
     words(&text[..n]);
 }
 
-fn print_finding(pack: &[u8], work: &mut [u32], text: &mut [u8], f: &[u32])
-    requires { 8 ≤ length f.now }
-{
+fn print_finding(pack: &[u8], work: &mut [u32], text: &mut [u8], f: &[u32; 8]) {
     io::print_decimal(1, wide(f[0]));
     print_numbers(&f[1..]);
     words(b" ");
@@ -32,11 +30,9 @@ fn print_finding(pack: &[u8], work: &mut [u32], text: &mut [u8], f: &[u32])
 }
 
 fn print_findings(pack: &[u8], work: &mut [u32], text: &mut [u8], findings: &[u32]) {
-    let mut at = 0;
-    while 8 <= findings.len() - at {
-        let next = at + 8;
-        print_finding(pack, work, text, &findings[at..next]);
-        at = next;
+    let (findings, _) = findings.as_chunks::<8>();
+    for finding in findings {
+        print_finding(pack, work, text, finding);
     }
 }
 

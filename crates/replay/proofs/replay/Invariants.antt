@@ -1,4 +1,4 @@
-use Prim.Native.Nat.{◌≤◌, ◌-◌}
+use Prim.Native.Nat.{◌≤◌}
 use Rattle.replay.proofs.replay.Given as goal
 
 -- `replay` is safe and ends: each turn leaves one case fewer.
