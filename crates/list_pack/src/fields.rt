@@ -1,18 +1,12 @@
 // The fields of a PGN.
-use listing::loaded::LoadedPack;
 use listing::words::{Counted, LookupKind, flags, text};
-use pack::at::field_at;
 use pack::field::{AuthoredView, FieldFlags, LinksView, NamesView, ScalingView};
+use pack::loaded::{FieldRef, Pack};
 use pack::text::Text;
 use std::io;
 use std::io::Write;
 
-fn opt_text(
-    out: &mut impl Write,
-    words: &str,
-    pack: &LoadedPack<'_>,
-    t: Option<Text>,
-) -> io::Result<()> {
+fn opt_text(out: &mut impl Write, words: &str, pack: &Pack<'_>, t: Option<Text>) -> io::Result<()> {
     match t {
         Some(t) => text(out, words, pack.text(t)),
         None => Ok(()),
@@ -21,10 +15,10 @@ fn opt_text(
 
 fn names(
     out: &mut impl Write,
-    pack: &LoadedPack<'_>,
+    pack: &Pack<'_>,
     names: NamesView,
     order: u32,
-    at: usize,
+    at: u32,
 ) -> io::Result<()> {
     write!(out, "    {order}")?;
     text(out, " ", pack.text(names.id))?;
@@ -35,7 +29,7 @@ fn names(
 
 fn scaling(
     out: &mut impl Write,
-    pack: &LoadedPack<'_>,
+    pack: &Pack<'_>,
     scaling: ScalingView,
     given: FieldFlags,
 ) -> io::Result<()> {
@@ -59,7 +53,7 @@ fn scaling(
     opt_text(out, ", unit ", pack, scaling.unit)
 }
 
-fn authored(out: &mut impl Write, pack: &LoadedPack<'_>, authored: AuthoredView) -> io::Result<()> {
+fn authored(out: &mut impl Write, pack: &Pack<'_>, authored: AuthoredView) -> io::Result<()> {
     if let Some(resolution) = authored.resolution {
         write!(out, ", authored resolution {resolution:016x}")?;
     }
@@ -73,7 +67,7 @@ fn authored(out: &mut impl Write, pack: &LoadedPack<'_>, authored: AuthoredView)
     opt_text(out, ", match ", pack, authored.matched)
 }
 
-fn links(out: &mut impl Write, pack: &LoadedPack<'_>, links: LinksView) -> io::Result<()> {
+fn links(out: &mut impl Write, pack: &Pack<'_>, links: LinksView) -> io::Result<()> {
     if let Some(reference) = links.reference {
         write!(out, ", reference {}", LookupKind::from(reference.kind))?;
         text(out, " ", pack.text(reference.name))?;
@@ -90,11 +84,22 @@ fn links(out: &mut impl Write, pack: &LoadedPack<'_>, links: LinksView) -> io::R
 }
 
 // The field of that order.
-pub fn list(out: &mut impl Write, pack: &LoadedPack<'_>, order: u32, at: usize) -> io::Result<()> {
-    let field = field_at(pack.bytes, at);
+pub fn list(
+    out: &mut impl Write,
+    pack: &Pack<'_>,
+    order: u32,
+    field: FieldRef<'_>,
+) -> io::Result<()> {
+    let FieldRef {
+        at,
+        view: field,
+        ..
+    } = field;
     names(out, pack, field.names, order, at)?;
     write!(out, ", field type {}", field.ft)?;
-    text(out, " ", pack.type_name(field.ft))?;
+    if let Some(field_type) = pack.field_type(field.ft) {
+        text(out, " ", pack.text(field_type.name))?;
+    }
     scaling(out, pack, field.scaling, field.flags)?;
     authored(out, pack, field.authored)?;
     links(out, pack, field.links)?;

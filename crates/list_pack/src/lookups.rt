@@ -1,13 +1,21 @@
 // The lookups, each with its entries.
-use listing::loaded::{LoadedPack, Lookup};
 use listing::words::{Counted, LookupKind, text};
-use pack::at::entry_at;
+use pack::loaded::{EntryRef, LookupRef, Pack};
+use pack::lookup::LookupRecord;
 use std::io;
 use std::io::Write;
 
-fn list_entry(out: &mut impl Write, pack: &LoadedPack<'_>, kind: u32, at: usize) -> io::Result<()> {
-    let entry = entry_at(pack.bytes, at, kind);
-    let kind = LookupKind::from(kind);
+fn list_entry(
+    out: &mut impl Write,
+    pack: &Pack<'_>,
+    kind: LookupKind,
+    entry: EntryRef<'_>,
+) -> io::Result<()> {
+    let EntryRef {
+        at,
+        view: entry,
+        ..
+    } = entry;
     write!(out, "   ")?;
     if kind == LookupKind::Triplet {
         write!(out, " {}", entry.first)?;
@@ -24,30 +32,25 @@ fn list_entry(out: &mut impl Write, pack: &LoadedPack<'_>, kind: u32, at: usize)
     writeln!(out)
 }
 
-fn list_lookup(
-    out: &mut impl Write,
-    pack: &LoadedPack<'_>,
-    i: usize,
-    lookup: Lookup<'_>,
-) -> io::Result<()> {
-    let view = lookup.view;
-    write!(out, "  {i}")?;
+fn list_lookup(out: &mut impl Write, pack: &Pack<'_>, lookup: LookupRef<'_>) -> io::Result<()> {
+    let LookupRecord { item, view, .. } = lookup.lookup;
+    write!(out, "  {item}")?;
     text(out, " ", pack.text(view.name))?;
-    let at = lookup.at;
+    let at = lookup.at();
     let kind = LookupKind::from(view.kind);
     let bits = Counted::new(view.bits as usize, "bit", "bits");
     let entries = Counted::new(view.entries as usize, "entry", "entries");
     writeln!(out, " at byte {at}: {kind}, {bits}, {entries}")?;
-    for at in lookup.entries {
-        list_entry(out, pack, view.kind, *at as usize)?;
+    for entry in lookup.entries() {
+        list_entry(out, pack, kind, entry)?;
     }
     Ok(())
 }
 
-pub fn list(out: &mut impl Write, pack: &LoadedPack<'_>) -> io::Result<()> {
+pub fn list(out: &mut impl Write, pack: &Pack<'_>) -> io::Result<()> {
     writeln!(out, "lookups {}", pack.index.lookups.count)?;
-    for (i, lookup) in pack.lookups().enumerate() {
-        list_lookup(out, pack, i, lookup)?;
+    for lookup in pack.lookups() {
+        list_lookup(out, pack, lookup)?;
     }
     Ok(())
 }

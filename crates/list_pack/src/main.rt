@@ -8,20 +8,18 @@ mod refusal;
 mod types;
 
 use listing::input::{LONGEST, read_pack};
-use listing::loaded::LoadedPack;
 use listing::words::Counted;
-use pack::at::number_at;
+use pack::loaded::Pack;
 use pack::protocol::Protocol;
 use refusal::InWords;
 use std::alloc::Global;
 use std::io;
 use std::io::{BufWriter, Write};
 
-fn list(out: &mut impl Write, pack: &LoadedPack<'_>) -> io::Result<()> {
+fn list(out: &mut impl Write, pack: &Pack<'_>) -> io::Result<()> {
     let length = pack.bytes.len();
-    let version = number_at(pack.bytes, 0);
     let records = Counted::new(pack.index.records, "record", "records");
-    writeln!(out, "pack of {length} bytes, version {version}, {records}")?;
+    writeln!(out, "pack of {length} bytes, version 1, {records}")?;
     types::list(out, pack)?;
     lookups::list(out, pack)?;
     for protocol in Protocol::ALL {
@@ -33,7 +31,7 @@ fn list(out: &mut impl Write, pack: &LoadedPack<'_>) -> io::Result<()> {
 // No record has less than two bytes.
 fn load_and_list(out: &mut impl Write, alloc: Global, bytes: &[u8]) -> io::Result<()> {
     let mut work = vec![in alloc; 0u32; bytes.len() / 2]?;
-    match LoadedPack::load(bytes, &mut work) {
+    match Pack::load(bytes, &mut work) {
         Ok(pack) => list(out, &pack),
         Err(refusal) => writeln!(out, "{}", InWords(refusal)),
     }

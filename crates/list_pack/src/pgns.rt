@@ -1,7 +1,7 @@
 // The PGNs of a tree, each with its sets and fields.
 use crate::fields;
-use listing::loaded::{LoadedPack, Pgn};
 use listing::words::{Counted, flags, protocol_name, text};
+use pack::loaded::{Pack, PgnRef};
 use pack::pgn::RepeatingView;
 use pack::protocol::Protocol;
 use std::io::Write;
@@ -52,11 +52,11 @@ fn list_set(out: &mut impl Write, place: u32, set: RepeatingView) -> io::Result<
     writeln!(out)
 }
 
-fn list_pgn(out: &mut impl Write, pack: &LoadedPack<'_>, pgn: Pgn<'_>) -> io::Result<()> {
-    let view = pgn.view;
+fn list_pgn(out: &mut impl Write, pack: &Pack<'_>, pgn: PgnRef<'_>) -> io::Result<()> {
+    let view = pgn.pgn.view;
     write!(out, "  {}", view.pgn)?;
     text(out, " ", pack.text(view.id))?;
-    let at = pgn.at;
+    let at = pgn.at();
     let message = MessageType::from(view.kind);
     write!(out, " at byte {at}: {message}, length {}", view.length)?;
     if let Some(minimum) = view.minimum {
@@ -80,13 +80,13 @@ fn list_pgn(out: &mut impl Write, pack: &LoadedPack<'_>, pgn: Pgn<'_>) -> io::Re
             list_set(out, place, set)?;
         }
     }
-    for (order, at) in (1..=view.fields).zip(pgn.fields) {
-        fields::list(out, pack, order, *at as usize)?;
+    for (order, field) in (1..=view.fields).zip(pgn.fields()) {
+        fields::list(out, pack, order, field)?;
     }
     Ok(())
 }
 
-pub fn list(out: &mut impl Write, pack: &LoadedPack<'_>, protocol: Protocol) -> io::Result<()> {
+pub fn list(out: &mut impl Write, pack: &Pack<'_>, protocol: Protocol) -> io::Result<()> {
     let tree = protocol.tree();
     let name = protocol_name(protocol);
     let count = protocol.section(pack.index).count;

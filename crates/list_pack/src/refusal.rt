@@ -1,18 +1,19 @@
 // A refusal in words.
 use pack::load::Refusal;
+use pack::reader::{Fault, InputRefusal};
 use std::fmt;
 
-// 1 to 8, the refusals that have a place in the pack.
-fn reason(number: u32) -> &'static str {
-    match number {
-        1 => "bytes end inside an item or before the next one",
-        2 => "a number not in shortest form, or too large for its width",
-        3 => "pack version other than 1",
-        4 => "a code, mark or flag outside its values",
-        5 => "a lookup's name not above the previous one",
-        6 => "a field's field type index not below the number of field types",
-        7 => "a sum above 4,294,967,295",
-        _ => "bytes after the last tree",
+// What is wrong with an item of the pack.
+fn reason(fault: Fault) -> &'static str {
+    match fault {
+        Fault::CutShort => "bytes end inside an item or before the next one",
+        Fault::Number => "a number not in shortest form, or too large for its width",
+        Fault::Version => "pack version other than 1",
+        Fault::Code => "a code, mark or flag outside its values",
+        Fault::NameOrder => "a lookup's name not above the previous one",
+        Fault::TypeIndex => "a field's field type index not below the number of field types",
+        Fault::Sum => "a sum above 4,294,967,295",
+        Fault::BytesLeft => "bytes after the last tree",
     }
 }
 
@@ -22,10 +23,11 @@ pub struct InWords(pub Refusal);
 impl fmt::Display for InWords {
     fn fmt<W: fmt::Write>(&self, f: &mut fmt::Formatter<W>) -> fmt::Result {
         match self.0 {
-            Refusal::Input { number, offset } => write!(
+            Refusal::Input(InputRefusal { fault, offset }) => write!(
                 f,
-                "refused {number} at byte {offset}: {}",
-                reason(number)
+                "refused {} at byte {offset}: {}",
+                fault as u32,
+                reason(fault)
             ),
             Refusal::TooLong => write!(f, "refused 9: pack longer than 1,048,576 bytes"),
             Refusal::Work(n) => write!(

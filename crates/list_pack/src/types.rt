@@ -1,35 +1,39 @@
 // The field types.
-use listing::loaded::LoadedPack;
 use listing::words::{flags, text};
-use pack::at::type_at;
+use pack::loaded::{Pack, TypeRef};
 use std::io;
 use std::io::Write;
 
-fn list_type(out: &mut impl Write, pack: &LoadedPack<'_>, i: usize, at: usize) -> io::Result<()> {
-    let t = type_at(pack.bytes, at);
+fn list_type(
+    out: &mut impl Write,
+    pack: &Pack<'_>,
+    i: usize,
+    field_type: TypeRef<'_>,
+) -> io::Result<()> {
+    let TypeRef { at, view, .. } = field_type;
     write!(out, "  {i}")?;
-    text(out, " ", pack.text(t.name))?;
+    text(out, " ", pack.text(view.name))?;
     write!(
         out,
         " at byte {at}: size {}, resolution {:016x}",
-        t.size, t.resolution
+        view.size, view.resolution
     )?;
-    text(out, ", root ", pack.text(t.root))?;
+    text(out, ", root ", pack.text(view.root))?;
     flags(
         out,
         &[
-            (t.base, "base"),
-            (t.print, "print function"),
-            (t.signed, "signed"),
+            (view.base, "base"),
+            (view.print, "print function"),
+            (view.signed, "signed"),
         ],
     )?;
     writeln!(out)
 }
 
-pub fn list(out: &mut impl Write, pack: &LoadedPack<'_>) -> io::Result<()> {
+pub fn list(out: &mut impl Write, pack: &Pack<'_>) -> io::Result<()> {
     writeln!(out, "field types {}", pack.index.types.count)?;
-    for (i, at) in pack.types().iter().enumerate() {
-        list_type(out, pack, i, *at as usize)?;
+    for (i, field_type) in pack.types().enumerate() {
+        list_type(out, pack, i, field_type)?;
     }
     Ok(())
 }

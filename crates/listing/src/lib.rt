@@ -2,5 +2,4 @@
 #![tactic(auto)]
 
 pub mod input;
-pub mod loaded;
 pub mod words;

@@ -4,7 +4,7 @@
 
 ghost use Rattle.std.specs.Prelude.{◌≡◌, IfOk, vec_len};
 
-use pack::load::{Index, Loaded, Section, load};
+use pack::load::{Index, Refusal, Section, load};
 use std::alloc::Global;
 use std::fs::File;
 use std::io::{BufWriter, Read, Write};
@@ -50,9 +50,13 @@ fn write_kept(out: &mut impl Write, rest: &[u32]) -> io::Result<()> {
 }
 
 // What a load answered, and what it left in the work buffer. The answer is how many records an accepted pack has.
-fn write_loaded(out: &mut impl Write, loaded: Loaded, work: &[u32]) -> io::Result<Option<usize>> {
+fn write_loaded(
+    out: &mut impl Write,
+    loaded: Result<Index, Refusal>,
+    work: &[u32],
+) -> io::Result<Option<usize>> {
     match loaded {
-        Loaded::Refused(refusal) => {
+        Err(refusal) => {
             write!(
                 out,
                 "refused {} detail {}",
@@ -62,7 +66,7 @@ fn write_loaded(out: &mut impl Write, loaded: Loaded, work: &[u32]) -> io::Resul
             write_kept(out, work)?;
             Ok(None)
         }
-        Loaded::Accepted(index) => {
+        Ok(index) => {
             let (offsets, rest) = work.split_at(index.records.min(work.len()));
             write_index(out, index)?;
             write!(out, ", offsets")?;

@@ -1,4 +1,6 @@
 -- What an accepting `load` gives the layers above: a ready work list, the index of the pack's value, and bounds.
+use Rattle.std.specs.Prelude.{Result, Ok, Err}
+use Rattle.pack.specs.declared.load.Refusal.{Refusal}
 use Rattle.std.specs.Prelude.{if◌then◌else◌}
 use Prim.Native.Nat.{ℕ, zero, suc, ◌<◌}
 use native.Mathlib.Omega.{arith}
@@ -16,8 +18,6 @@ use Rattle.pack.specs.Ready.{Ready, IndexIs, place_of_tree}
 use Rattle.pack.specs.Trees.{protocol_of, section_of}
 use Rattle.pack.specs.declared.load.Index.{Index}
 use Rattle.pack.specs.declared.load.Refusal.TheVariants.{Work}
-use Rattle.pack.specs.declared.load.Loaded.{Loaded}
-use Rattle.pack.specs.declared.load.Loaded.TheVariants.{Refused, Accepted}
 use Rattle.pack.proofs.Values.{types_are, lookups_are, pgns_are, length_types, tree_place}
 
 pub index_law : (s : List ℕ) → IndexIs (pack_of s) (load_index s)
@@ -42,21 +42,21 @@ index_law s =
     places (suc (suc (suc t))) h = absurd (omega arith)
 
 -- what was loaded is ready
-pub load_law : (s w : List ℕ) (i : Index) → loaded s (length w) ≡ Accepted i → Ready s (work_after s w) × (i ≡ load_index s)
+pub load_law : (s w : List ℕ) (i : Index) → loaded s (length w) ≡ Ok i → Ready s (work_after s w) × (i ≡ load_index s)
 unfolding loaded work_after
 load_law s w i e = go (verdict s) refl ((load_index s).records ≤ᵇ length w) refl
   where
     go : (v : Verdict) → verdict s ≡ v → (b : Bool) → ((load_index s).records ≤ᵇ length w) ≡ b → Ready s (work_after s w) × (i ≡ load_index s)
-    go (refused r) x b y = let z : Refused r ≡ Accepted i = rw x at e in let u : ◌≡◌ {A = ℕ} 0 1 = cc in absurd (omega arith)
+    go (refused r) x b y = let z : Err r ≡ Ok i = rw x at e in let u : ◌≡◌ {A = ℕ} 0 1 = cc in absurd (omega arith)
     go accepted x true y =
-        let z : Accepted (load_index s) ≡ Accepted i = rw (x, y) at e in
+        let z : Ok (load_index s) ≡ Ok i = rw (x, y) at e in
         (record { accepted = x; begins = (rw (x, y) (take-append_seam (offsets s) (drop (length (offsets s)) w))) }, cc)
     go accepted x false y = let u : ◌≡◌ {A = ℕ} 0 1 = (let z = rw (x, y) at e in cc) in absurd (omega arith)
 
 -- what `load` answers is what reading gives, and 21
-abbrev pub read_answer : Reading → Index → ℕ → Loaded
-read_answer (refused_by r) i m = Refused r
-read_answer (holds P os) i m = if length os ≤ᵇ m then Accepted i else Refused (Work (length os))
+abbrev pub read_answer : Reading → Index → ℕ → Result Index Refusal
+read_answer (refused_by r) i m = Err r
+read_answer (holds P os) i m = if length os ≤ᵇ m then Ok i else Err (Work (length os))
 
 pub read_law : (s : List ℕ) (m : ℕ) → loaded s m ≡ read_answer (read s) (load_index s) m
 unfolding loaded read load_index

@@ -1,4 +1,5 @@
 -- Bounds for the layers above: an accepted pack has no more records than bytes, and every offset is within it.
+use Rattle.pack.specs.Items.{Cursor}
 use Rattle.std.specs.Prelude.{◌==◌}
 use Prim.Native.Nat.{ℕ, zero, suc, ◌+◌, ◌≤◌}
 use native.Mathlib.Omega.{arith}
@@ -14,7 +15,6 @@ use Rattle.pack.specs.Format.{tree_list, type_part}
 use Rattle.pack.specs.Format.{lookup_part, tree_part, before, offsets, pack_end, lookup_start, pgn_start}
 use Rattle.pack.specs.Load.{most_bytes}
 use Rattle.pack.specs.Ready.{Ready}
-use Rattle.pack.specs.declared.cursor.Cursor.{Cursor}
 use Rattle.pack.proofs.Reading.{if_all, back, number_reader, version_reader, type_reader, type_moves, types_reader, entry_reader, entry_moves}
 use Rattle.pack.proofs.Reading.{entries_reader, lookup_reader, lookup_moves, lookup_steps, lookups_reader, field_steps, field_moves, fields_reader}
 use Rattle.pack.proofs.Reading.{pgn_reader, pgn_moves, pgn_next_reader, pgns_reader}

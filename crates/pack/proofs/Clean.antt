@@ -1,4 +1,5 @@
 -- In an accepted pack every record begins at a cursor that is not refused.
+use Rattle.pack.specs.Items.{Cursor}
 use Rattle.std.specs.Prelude.{None}
 use Rattle.std.specs.Prelude.{◌==◌}
 use Prim.Native.Nat.{ℕ, zero, suc, ◌+◌, ◌-◌, ◌≤◌, ◌<◌}
@@ -15,10 +16,11 @@ use Rattle.pack.specs.Format.{types, entries, lookup_next, lookups, fields, pgn_
 use Rattle.pack.specs.Format.{tree_list, pack_end}
 use Rattle.pack.specs.Format.{type_start, lookup_start, pgn_start}
 use Rattle.pack.specs.Load.{most_bytes, refused, accepted, verdict}
-use Rattle.pack.specs.declared.cursor.Cursor.{Cursor}
+use Rattle.pack.specs.Reads.{refusal_of}
 use Rattle.pack.specs.declared.load.Refusal.TheVariants.{Input, TooLong}
 use Rattle.pack.proofs.Reading.{back, clean, number_reader, type_reader, entry_reader, lookup_steps, field_steps, pgn_next_reader}
 use Rattle.pack.proofs.Places.{lookups_turn, pgns_turn}
+use Rattle.pack.specs.Reads.{refusal_of}
 use Rattle.pack.proofs.Whole.{finish_back, tree_reader}
 
 pub fresh_at : (c : Cursor) → c.refused ≡ 0 → c ≡ fresh c.at
@@ -35,7 +37,7 @@ accepted_end s e = go (most_bytes <ᵇ length s) refl ((pack_end s).refused == 0
         let w : ◌≡◌ {A = ℕ} 0 1 = cc in absurd (omega arith)
     go false x true y = (eqb-true (pack_end s).refused 0 y, ltb-false most_bytes (length s) x)
     go false x false y =
-        let z : refused (Input (pack_end s).refused (pack_end s).at) ≡ accepted = rw (x, y) at e in
+        let z : refused (Input (refusal_of (pack_end s))) ≡ accepted = rw (x, y) at e in
         let w : ◌≡◌ {A = ℕ} 0 1 = cc in absurd (omega arith)
 
 module _ (s : List ℕ) (a : (pack_end s).refused ≡ 0) where

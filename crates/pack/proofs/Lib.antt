@@ -14,3 +14,8 @@ pub mod Positions
 pub mod SetSums
 pub mod Accepted
 pub mod Bounds
+pub mod ReaderLaws
+pub mod Standing
+pub mod ReaderItems
+pub mod Few
+pub mod Turns

@@ -1,74 +1,151 @@
 -- Laws of the steps of `load`: records placed one after the other, and where a loop over them stops.
-use Rattle.std.specs.Prelude.{None}
-use Prim.Native.Nat.{ℕ, ◌+◌, ◌≤◌}
+use Rattle.pack.specs.Items.{Cursor, Item, Form, fresh}
+use Rattle.std.specs.Prelude.{None, Result, Ok, Err}
+use Rattle.std.specs.Result.{IsErrAnd}
+use Rattle.std.proofs.lemmas.Result.{err_from_is_err_and}
+use Prim.Native.Nat.{ℕ, suc, ◌+◌, ◌≤◌, ◌<◌}
 use native.Mathlib.Omega.{arith}
 use native.Mathlib.Numerals.{add-one}
-use native.Mathlib.Decide.{ℕ_discrete}
-use mathlib.Core.Path.{◌≡◌, refl, ap, ◌∙◌}
+use mathlib.Core.Path.{◌≡◌, refl, ap, ◌∙◌, sym}
 use mathlib.Core.List.{List, [], ◌∷◌, ◌++◌}
-use borrow.Author.Tests.{eq-eqb, ne_eqb}
-use lib.ListN.{set}
+use borrow.Author.Tests.{eq-eqb, eqb-false}
+use lib.ListN.{length, set}
+use lib.Seq.{sets}
 use Rattle.pack.specs.Records.{read_type, read_entry}
 use Rattle.pack.specs.Format.{types, type_offsets, entries, entry_offsets, lookup_next, lookup_records, lookups, lookup_offsets}
 use Rattle.pack.specs.Format.{field_next, fields}
 use Rattle.pack.specs.Format.{field_offsets, pgn_next, pgn_records, pgns, pgn_offsets}
-use Rattle.pack.specs.Placing.{Room, PlacedTo, counted}
-use Rattle.pack.specs.declared.cursor.Cursor.{Cursor}
-use Rattle.pack.proofs.Reading.{Reader, Moves, stays, type_reader, entry_reader, lookup_steps, field_steps, pgn_next_reader}
-use Rattle.pack.proofs.Stores.{stored_none, stored_append, stored_cons}
+use Rattle.pack.specs.Reads.{told, Reads}
+use Rattle.pack.specs.Placing.{Room, Placing}
+use Rattle.pack.specs.declared.reader.Reader.{Reader}
+use Rattle.pack.specs.declared.reader.InputRefusal.{InputRefusal}
+use Rattle.pack.proofs.Reading.{Moves, stays, type_reader, entry_reader, lookup_steps, field_steps, pgn_next_reader}
+use Rattle.pack.proofs.ReaderLaws.{told_ok, told_err, cursor_is, Ok-Err, same_Ok}
+use Rattle.pack.proofs.Stores.{Stored, stored_none, stored_append, stored_one}
 
--- nothing placed yet
-pub placed_none : (s w : List ℕ) (c : Cursor) (p : ℕ) → Room s c p → PlacedTo c w p [] w c p
-placed_none s w c p r = record { next = refl; few = r.few; stored = λ _. stored_none w p }
+-- Nothing was refused so far: the reader has come from r to the cursor `end`, and the offsets xs were stored from p on.
+pub record Along (r : Reader) (w : List ℕ) (p : ℕ) (end : Cursor) (xs : List ℕ) (r' : Reader) (w' : List ℕ) (p' : ℕ) : Type 0 where
+  pub bytes : r'.bytes.now ≡ r.bytes.now
+  pub at : fresh r'.at ≡ end
+  pub stored : Stored w p xs w' p'
+  pub room : Room r' p'
 
--- one record without parts
-pub placed_one : {s : List ℕ} {f : Cursor → Cursor} → Reader s f → Moves f → (c : Cursor) (p : ℕ) (w w' : List ℕ) (d : Cursor) (q : ℕ)
-    → Room s c p → d ≡ f c → w' ≡ set w p c.at → q ≡ counted d p → PlacedTo (f c) w p (c.at ∷ []) w' d q
-placed_one {s} {f} r m c p w w' d q room e x k =
-    record { next = e; few = few (ℕ_discrete d.refused 0); stored = λ z. record { count = k ∙ (rw (eq-eqb _ _ z)); work = x } }
-  where
-    few : Dec (d.refused ≡ 0) → q ≤ d.at
-    few (yes z) =
-        let y : (f c).refused ≡ 0 = rw (← e) z in
-        let a : q ≡ p + 1 = k ∙ (rw (eq-eqb _ _ z)) in
-        let b : d.at ≡ (f c).at = ap (λ (x : Cursor). x.at) e in
-        omega (arith, m c y, room.few)
-    few (no n) =
-        let a : q ≡ p = k ∙ (rw (ne_eqb _ _ n)) in
-        let b : d.at ≡ (f c).at = ap (λ (x : Cursor). x.at) e in
-        omega (arith, r.grows c, room.few)
+pub along_none : (r : Reader) (w : List ℕ) (p : ℕ) → Room r p → Along r w p (fresh r.at) [] r w p
+along_none r w p h = record { bytes = refl; at = refl; stored = stored_none w p; room = h }
 
--- more records behind them
-pub placed_append : {end : Cursor} {w : List ℕ} {p : ℕ} {xs w' : List ℕ} {c : Cursor} {q : ℕ} {end' : Cursor} {ys w'' : List ℕ} {d : Cursor} {r : ℕ}
-    → PlacedTo end w p xs w' c q → c.refused ≡ 0 → PlacedTo end' w' q ys w'' d r → PlacedTo end' w p (xs ++ ys) w'' d r
-placed_append a z b = record { next = b.next; few = b.few; stored = λ y. stored_append (a.stored z) (b.stored y) }
+module _ {r : Reader} {w : List ℕ} {p : ℕ} {end : Cursor} {xs : List ℕ} {d : Reader} {v : List ℕ} {q : ℕ} (a : Along r w p end xs d v q) where
+  here : {B : Type 0} (f : List ℕ → Cursor → B) → f d.bytes.now (fresh d.at) ≡ f r.bytes.now end
+  here f = ap (λ s. f s (fresh d.at)) a.bytes ∙ ap (f r.bytes.now) a.at
 
--- a record whose head was refused: its parts are not reached
-pub placed_refused : {end : Cursor} {w w' : List ℕ} {xs : List ℕ} (p q : ℕ) (d : Cursor) → d ≡ end → (d.refused ≡ 0 → ⊥) → q ≤ d.at
-    → PlacedTo end w p xs w' d q
-placed_refused p q d e n h = record { next = e; few = h; stored = λ z. absurd (n z) }
+  module _ {A : Type 0} {form : Form A} {x : A} {e : Reader} (b : Reads d form (Ok x) e) where
+    abbrev k : Item A
+    k = form d.bytes.now (fresh d.at)
 
--- a record with parts
-pub placed_parts : {end : Cursor} {w : List ℕ} {p x : ℕ} {xs w' : List ℕ} {d : Cursor} {q : ℕ}
-    → PlacedTo end (set w p x) (p + 1) xs w' d q → PlacedTo end w p (x ∷ xs) w' d q
-placed_parts {end} {w} {p} {x} {xs} {w'} {d} {q} a =
-    record { next = a.next; few = a.few; stored = λ z. stored_cons w p x xs w' q (a.stored z) }
+    same : k ≡ form r.bytes.now end
+    same = here form
 
--- there is room behind what was placed
-pub room_after : {s : List ℕ} {f : Cursor → Cursor} → Reader s f → (c : Cursor) (p : ℕ) {w xs w' : List ℕ} {d : Cursor} {q : ℕ}
-    → Room s c p → PlacedTo (f c) w p xs w' d q → Room s d q
-room_after {s} {f} r c p {w} {xs} {w'} {d} {q} room a =
-    record { short = room.short; inside = (rw a.next (r.within c room.inside)); few = a.few }
+    ok : (k.next.refused ≡ 0) × (k.value ≡ x)
+    ok = told_ok k x b.answer
 
--- a reader that is not followed by a place
-pub room_read : {s : List ℕ} {f : Cursor → Cursor} → Reader s f → (c : Cursor) (p : ℕ) → Room s c p → Room s (f c) p
-room_read {s} {f} r c p room = record { short = room.short; inside = r.within c room.inside; few = omega (arith, r.grows c, room.few) }
+    reached : fresh e.at ≡ k.next
+    reached = cursor_is k.next e.at ok.0 (b.at ok.0)
 
--- behind the head of a record that was read
-pub room_head : {s : List ℕ} {f : Cursor → Cursor} → Reader s f → Moves f → (c : Cursor) (p : ℕ) → Room s c p → (f c).refused ≡ 0 → Room s (f c) (p + 1)
-room_head {s} {f} r m c p room z = record { short = room.short; inside = r.within c room.inside; few = omega (arith, m c z, room.few) }
+    -- what was read there
+    pub along_value : x ≡ (form r.bytes.now end).value
+    along_value = sym ok.1 ∙ ap (λ (i : Item A). i.value) same
 
--- ---- a turn of each loop, and where a refused one stays
+    -- an item without a place
+    pub along_read : ((c : Cursor) → c.at ≤ (form d.bytes.now c).next.at) → Along r w p (form r.bytes.now end).next xs e v q
+    along_read g =
+        record {
+          bytes = b.bytes ∙ a.bytes;
+          at = reached ∙ ap (λ (i : Item A). i.next) same;
+          stored = a.stored;
+          room = record { short = (rw b.bytes a.room.short); few = omega (arith, a.room.few, g (fresh d.at), b.at ok.0) };
+        }
+
+    -- a record without parts
+    pub along_record : Moves (λ c. (form d.bytes.now c).next) → (u : List ℕ) → u ≡ set v q d.at
+        → Along r w p (form r.bytes.now end).next (xs ++ end.at ∷ []) e u (q + 1)
+    along_record m u y =
+        let z : d.at ≡ end.at = ap (λ (c : Cursor). c.at) a.at in
+        record {
+          bytes = b.bytes ∙ a.bytes;
+          at = reached ∙ ap (λ (i : Item A). i.next) same;
+          stored = rw (y, z) (stored_one a.stored end.at);
+          room = record { short = (rw b.bytes a.room.short); few = omega (arith, a.room.few, m (fresh d.at) ok.0, b.at ok.0) };
+        }
+
+  -- records placed behind them
+  pub along_then : {A : Type 0} {form : Form A} {behind : A → ℕ} {ys : List ℕ → Cursor → List ℕ} {x : A} {e : Reader} {u : List ℕ}
+      → Placing form behind ys d v q (Ok x) e u
+      → behind (form d.bytes.now (fresh d.at)).value ≡ q + length (ys d.bytes.now (fresh d.at))
+      → Along r w p (form r.bytes.now end).next (xs ++ ys r.bytes.now end) e u (behind x)
+  along_then {A} {form} {behind} {ys} {x} {e} {u} b n =
+      let o = ok b.reads in
+      let f : behind x ≡ q + length (ys d.bytes.now (fresh d.at)) = (rw (← o.1)) ∙ n in
+      let y : ys d.bytes.now (fresh d.at) ≡ ys r.bytes.now end = here ys in
+      record {
+        bytes = b.reads.bytes ∙ a.bytes;
+        at = reached b.reads ∙ ap (λ (i : Item A). i.next) (same b.reads);
+        stored = rw (← y) (stored_append a.stored (record { count = f; work = b.work o.0 }));
+        room = record { short = (rw b.reads.bytes a.room.short); few = b.few x refl };
+      }
+
+  -- where a `?` returns: the records at hand are refused with the item that was
+  pub refused : {A B : Type 0} {g : Form A} {f : InputRefusal} {e : Reader} {form : Form B} {behind : B → ℕ} {ys : List ℕ → Cursor → List ℕ} {u : List ℕ}
+      → {z : Result B InputRefusal} → Reads d g (Err f) e → IsErrAnd z (λ y. y ≡ f)
+      → (((g r.bytes.now end).next.refused ≡ 0 → ⊥) → (form r.bytes.now (fresh r.at)).next ≡ (g r.bytes.now end).next)
+      → Placing form behind ys r w p z e u
+  refused {A} {B} {g} {f} {e} {form} {behind} {ys} {u} {z} b i h =
+      let y = err_from_is_err_and {Q = λ y. y ≡ f} z i in
+      let k : g d.bytes.now (fresh d.at) ≡ g r.bytes.now end = here g in
+      let o = told_err (g r.bytes.now end) f (b.answer ∙ ap told k) in
+      let n : (g r.bytes.now end).next.refused ≡ 0 → ⊥ = λ m. eqb-false _ _ o.0 m in
+      let s = h n in
+      record {
+        reads = record {
+          bytes = b.bytes ∙ a.bytes;
+          answer = y.1 ∙ (rw (s, o.0, y.2, o.1));
+          at = λ m. absurd (n (rw (← s) m));
+        };
+        few = λ x m. absurd (Ok-Err x y.0 (sym m ∙ y.1));
+        work = λ m. absurd (n (rw (← s) m));
+      }
+
+  -- the last of the records at hand, however that went
+  pub placed_last : {A : Type 0} {form g : Form A} {behind : A → ℕ} {ys zs : List ℕ → Cursor → List ℕ} {z : Result A InputRefusal} {e : Reader} {u : List ℕ}
+      → Placing g behind ys d v q z e u → g r.bytes.now end ≡ form r.bytes.now (fresh r.at)
+      → xs ++ ys r.bytes.now end ≡ zs r.bytes.now (fresh r.at) → Placing form behind zs r w p z e u
+  placed_last {A} {form} {g} {behind} {ys} {zs} {z} {e} {u} b h i =
+      let k : g d.bytes.now (fresh d.at) ≡ form r.bytes.now (fresh r.at) = here g ∙ h in
+      let stored : (form r.bytes.now (fresh r.at)).next.refused ≡ 0 → u ≡ sets v q (ys r.bytes.now end) = λ m. b.work (rw k m) ∙ (rw (here ys)) in
+      record {
+        reads = record {
+          bytes = b.reads.bytes ∙ a.bytes;
+          answer = b.reads.answer ∙ ap told k;
+          at = rw k at b.reads.at;
+        };
+        few = b.few;
+        work =
+            λ m.
+            (let y : Stored w p (xs ++ ys r.bytes.now end) u (q + length (ys r.bytes.now end)) = stored_append a.stored (record { count = refl; work = stored m }) in
+            y.work ∙ (rw i));
+      }
+
+-- the records at hand are placed
+pub placed : {A : Type 0} (form : Form A) (behind : A → ℕ) (ys : List ℕ → Cursor → List ℕ) {r : Reader} {w : List ℕ} {p : ℕ} {d : Reader} {v : List ℕ} {x : A}
+    → Along r w p (form r.bytes.now (fresh r.at)).next (ys r.bytes.now (fresh r.at)) d v (behind x) → x ≡ (form r.bytes.now (fresh r.at)).value
+    → Placing form behind ys r w p (Ok x) d v
+placed {A} form behind ys {r} {w} {p} {d} {v} {x} a y =
+    let z : (form r.bytes.now (fresh r.at)).next.refused ≡ 0 = sym (ap (λ (c : Cursor). c.refused) a.at) in
+    record {
+      reads = record { bytes = a.bytes; answer = (rw (eq-eqb _ _ z, y)); at = λ _. ap (λ (c : Cursor). c.at) a.at };
+      few = λ t m. rw (same_Ok _ _ m) at a.room.few;
+      work = λ _. a.stored.work;
+    }
+
+-- ---- a turn of each loop, and where one that is refused stays
 
 module _ (s : List ℕ) (c : Cursor) where
   pub types_turn : (i : ℕ) → types s c (i + 1) ≡ (read_type s (types s c i)).next
@@ -79,9 +156,9 @@ module _ (s : List ℕ) (c : Cursor) where
   unfolding type_offsets
   type_offsets_turn i = rw add-one
 
-  pub types_stay : (i n : ℕ) → i ≤ n → ((types s c i).refused ≡ 0 → ⊥) → types s c n ≡ types s c i
+  pub types_stay : (i n : ℕ) → i < n → ((read_type s (types s c i)).next.refused ≡ 0 → ⊥) → types s c n ≡ (read_type s (types s c i)).next
   unfolding types
-  types_stay i n h = stays (type_reader s) c i n h
+  types_stay i n h = stays (type_reader s) c (suc i) n (omega (arith, h))
 
   pub entries_turn : (k i : ℕ) → entries k s c (i + 1) ≡ (read_entry k s (entries k s c i)).next
   unfolding entries
@@ -91,9 +168,10 @@ module _ (s : List ℕ) (c : Cursor) where
   unfolding entry_offsets
   entry_offsets_turn k i = rw add-one
 
-  pub entries_stay : (k i n : ℕ) → i ≤ n → ((entries k s c i).refused ≡ 0 → ⊥) → entries k s c n ≡ entries k s c i
+  pub entries_stay : (k i n : ℕ) → i < n → ((read_entry k s (entries k s c i)).next.refused ≡ 0 → ⊥)
+      → entries k s c n ≡ (read_entry k s (entries k s c i)).next
   unfolding entries
-  entries_stay k i n h = stays (entry_reader s k) c i n h
+  entries_stay k i n h = stays (entry_reader s k) c (suc i) n (omega (arith, h))
 
   pub lookups_turn : (i : ℕ) → lookups s c (i + 1) ≡ lookup_next s (lookups s c i)
   unfolding lookups
@@ -103,9 +181,10 @@ module _ (s : List ℕ) (c : Cursor) where
   unfolding lookup_offsets
   lookup_offsets_turn i = rw add-one
 
-  pub lookups_stay : (i n : ℕ) → i ≤ n → ((lookups s c i).next.refused ≡ 0 → ⊥) → (lookups s c n).next ≡ (lookups s c i).next
+  pub lookups_stay : (i n : ℕ) → i < n → ((lookup_next s (lookups s c i)).next.refused ≡ 0 → ⊥)
+      → (lookups s c n).next ≡ (lookup_next s (lookups s c i)).next
   unfolding lookups
-  lookups_stay i n h = stays (lookup_steps s) (record { next = c; before = None }) i n h
+  lookups_stay i n h = stays (lookup_steps s) (record { next = c; before = None }) (suc i) n (omega (arith, h))
 
   pub fields_turn : (k i : ℕ) → fields k s c (i + 1) ≡ field_next k s (fields k s c i)
   unfolding fields
@@ -115,9 +194,10 @@ module _ (s : List ℕ) (c : Cursor) where
   unfolding field_offsets
   field_offsets_turn k i = rw add-one
 
-  pub fields_stay : (k i n : ℕ) → i ≤ n → ((fields k s c i).next.refused ≡ 0 → ⊥) → (fields k s c n).next ≡ (fields k s c i).next
+  pub fields_stay : (k i n : ℕ) → i < n → ((field_next k s (fields k s c i)).next.refused ≡ 0 → ⊥)
+      → (fields k s c n).next ≡ (field_next k s (fields k s c i)).next
   unfolding fields
-  fields_stay k i n h = stays (field_steps s k) (record { next = c; total = 0 }) i n h
+  fields_stay k i n h = stays (field_steps s k) (record { next = c; total = 0 }) (suc i) n (omega (arith, h))
 
   pub pgns_turn : (k i : ℕ) → pgns k s c (i + 1) ≡ pgn_next k s (pgns k s c i)
   unfolding pgns
@@ -127,6 +207,6 @@ module _ (s : List ℕ) (c : Cursor) where
   unfolding pgn_offsets
   pgn_offsets_turn k i = rw add-one
 
-  pub pgns_stay : (k i n : ℕ) → i ≤ n → ((pgns k s c i).refused ≡ 0 → ⊥) → pgns k s c n ≡ pgns k s c i
+  pub pgns_stay : (k i n : ℕ) → i < n → ((pgn_next k s (pgns k s c i)).refused ≡ 0 → ⊥) → pgns k s c n ≡ pgn_next k s (pgns k s c i)
   unfolding pgns
-  pgns_stay k i n h = stays (pgn_next_reader s k) c i n h
+  pgns_stay k i n h = stays (pgn_next_reader s k) c (suc i) n (omega (arith, h))

@@ -1,4 +1,5 @@
 -- What the layers above go by: the record at a record's work position means that record of the pack's value.
+use Rattle.pack.specs.Items.{Cursor, Item}
 use Rattle.std.specs.Prelude.{None}
 use Rattle.std.specs.Prelude.{◌==◌}
 use Prim.Native.Nat.{ℕ, zero, suc, ◌+◌, ◌-◌, ◌≤◌, ◌<◌}
@@ -10,20 +11,20 @@ use lib.ListN.{length, get_or, take, length-append, length-take, get_or-append}
 use lib.Seq.{get_or-append-add, get_or-take}
 use Rattle.pack.specs.Notation.{concat_below}
 use Rattle.pack.specs.Value.{Lookup, Field, Pgn, Pack, no_field_type, no_entry, pgn_at, field_at, lookup_at}
-use Rattle.pack.specs.Items.{fresh, bytes_of, read_number, read_text, read_name, read_index, read_code}
-use Rattle.pack.specs.Records.{read_type, read_entry, read_lookup, read_names, read_scaling, read_authored, read_pgn, read_field}
+use Rattle.pack.specs.Items.{◌▷◌, give, fresh, bytes_of, read_number, read_text, read_name, read_index, read_code}
+use Rattle.pack.specs.Records.{read_type, read_entry, read_lookup, read_names, read_scaling, read_authored, read_pgn, read_field, read_second_text}
 use Rattle.pack.specs.Format.{types, type_offsets, entries, entry_offsets, lookup_records, lookup_offsets, FieldState, field_next, fields}
 use Rattle.pack.specs.Format.{field_offsets, pgn_records, pgn_offsets, type_list, lookup_list, tree_list, type_part, lookup_part, tree_part}
 use Rattle.pack.specs.Format.{before, offsets}
 use Rattle.pack.specs.Format.{type_start, lookup_start, pgn_start, pack_end}
 use Rattle.pack.specs.Meaning.{type_meaning, entry_meaning, field_meaning, type_of_pack, lookup_of_pack, pgn_of_pack, pack_of}
 use Rattle.pack.specs.Ready.{Ready, place_of_lookup, place_of_pgn, LookupAt, PgnAt, LookupIs, PgnIs}
-use Rattle.pack.specs.declared.cursor.Cursor.{Cursor}
-use Rattle.pack.specs.declared.field.FieldItem.{FieldItem}
-use Rattle.pack.specs.declared.cursor.TextItem.{TextItem}
+use Rattle.pack.specs.declared.text.Text.{Text}
+use Rattle.pack.specs.declared.field.FieldView.{FieldView}
 use Rattle.pack.proofs.Tables.{length_concat_below, getD_concat_below, getD_tab}
-use Rattle.pack.proofs.Reading.{if_all, number_fits, back, code_reader, scaling_reader, authored_reader, links_reader}
-use Rattle.pack.proofs.Places.{fields_turn}
+use Rattle.pack.proofs.Bounds.{offsets_bound}
+use Rattle.pack.proofs.Reading.{if_all, number_fits, back, number_reader, text_reader, index_reader, code_reader, scaling_reader, authored_reader, links_reader}
+use Rattle.pack.proofs.Places.{types_turn, entries_turn, fields_turn}
 use Rattle.pack.proofs.Free.{index_below, lookup_free, field_free}
 use Rattle.pack.proofs.Clean.{fresh_at, accepted_end, pgn_clean, field_clean, lookup_clean, entry_clean, type_clean}
 use Rattle.pack.proofs.Sets.{places_read}
@@ -100,6 +101,12 @@ module _ (s : List ℕ) where
         omega (arith, all_of (suc t) (omega arith)),
       )
 
+-- A record is at the offset that the work list has at p, and nothing in it is refused.
+pub record Stands (s w : List ℕ) (p : ℕ) (next : Cursor → Cursor) : Type 0 where
+  pub place : p < length w
+  pub inside : get_or w p 0 ≤ length s
+  pub clean : (next (fresh (get_or w p 0))).refused ≡ 0
+
 module _ (s w : List ℕ) (r : Ready s w) where
   clean_end : (pack_end s).refused ≡ 0
   clean_end = (accepted_end s r.accepted).0
@@ -110,20 +117,33 @@ module _ (s w : List ℕ) (r : Ready s w) where
   pub records_fit : length (offsets s) ≤ length w
   records_fit = let t : length (take (length (offsets s)) w) ≡ length (offsets s) = ap length r.begins in omega (arith, length-take (length (offsets s)) w)
 
+  -- at the cursor c, which the offset k stands for
+  stands : (k : ℕ) (c : Cursor) (next : Cursor → Cursor) → k < length (offsets s) → fresh (get_or w k 0) ≡ c → (next c).refused ≡ 0 → Stands s w k next
+  stands k c next h e z =
+      record { place = omega (arith, records_fit, h); inside = omega (arith, at_work k h, offsets_bound s k); clean = rw e z }
+
+  type_cursor : (i : ℕ) → i < (type_list s).value → fresh (get_or w i 0) ≡ type_start s i
+  type_cursor i l =
+      let o = type_offset s i l in
+      ap fresh (at_work i o.1 ∙ o.0) ∙ sym (fresh_at (type_start s i) (type_clean s clean_end i (omega arith)))
+
+  pub type_stands : (i : ℕ) → i < length (pack_of s).fieldtypes → Stands s w i (λ c. (read_type s c).next)
+  type_stands i h =
+      let l : i < (type_list s).value = omega (arith, types_are s) in
+      stands i (type_start s i) (λ c. (read_type s c).next) (type_offset s i l).1 (type_cursor i l)
+      (rw (← types_turn s (type_list s).next i) (type_clean s clean_end (i + 1) (omega arith)))
+
   pub type_law : (i : ℕ) → i < length (pack_of s).fieldtypes
-      → (i < length w) × (type_meaning s (read_type s (fresh (get_or w i 0))).value ≡ get_or (pack_of s).fieldtypes i no_field_type)
+      → type_meaning s (read_type s (fresh (get_or w i 0))).value ≡ get_or (pack_of s).fieldtypes i no_field_type
   unfolding type_of_pack
   type_law i h =
       let l : i < (type_list s).value = omega (arith, types_are s) in
-      let o = type_offset s i l in
-      let e : fresh (get_or w i 0) ≡ type_start s i = ap fresh (at_work i o.1 ∙ o.0)
-      ∙ sym (fresh_at (type_start s i) (type_clean s clean_end i (omega arith))) in
-      (omega (arith, records_fit, o.1), (rw e (sym (type_is s i l))))
+      rw (type_cursor i l) (sym (type_is s i l))
 
 -- a name with none before it
 name_first : (s : List ℕ) (c : Cursor) → read_name None s c ≡ read_text s c
 unfolding read_name
-name_first s c = if_all (λ (t : TextItem). t ≡ read_text s c) ((read_text s c).next.refused == 0) _ _ (λ _. refl) (λ _. refl)
+name_first s c = if_all (λ (t : Item Text). t ≡ read_text s c) ((read_text s c).next.refused == 0) _ _ (λ _. refl) (λ _. refl)
 
 module _ {s w : List ℕ} {i p : ℕ} (a : LookupAt s w i p) where
   listed : i < (lookup_list s).value
@@ -145,6 +165,20 @@ module _ {s w : List ℕ} {i p : ℕ} (a : LookupAt s w i p) where
   lookup_view : read_lookup None s (fresh (get_or w p 0)) ≡ lookup_head s i
   lookup_view = rw lookup_cursor (sym (lookup_free s (lookup_start s i).next (lookup_start s i).before lookup_head_clean))
 
+  pub lookup_stands : Stands s w p (λ c. (read_lookup None s c).next)
+  lookup_stands =
+      let o = (lookup_offset s i 0 listed (omega (arith, length_lookup s (lookup_start s i)))).1 in
+      let l = length_lookup s (lookup_start s i) in
+      stands s w a.ready p (fresh (get_or w p 0)) _ (omega (arith, a.place)) refl (rw lookup_view lookup_head_clean)
+
+  pub lookup_name_stands : Stands s w p (λ c. (read_text s c).next)
+  unfolding read_lookup ◌▷◌ give
+  lookup_name_stands =
+      let l = lookup_stands in
+      let c = fresh (get_or w p 0) in
+      let n : (read_name None s c).next.refused ≡ 0 = back (code_reader s 3) _ (back (number_reader s) _ (back (number_reader s) _ l.clean)) in
+      record { place = l.place; inside = l.inside; clean = rw (name_first s c) at n }
+
   pub lookup_room : p + 1 + length (lookup_at (pack_of s).lookups i).entries ≤ length w
   lookup_room =
       let l = length_lookup s (lookup_start s i) in
@@ -155,7 +189,7 @@ module _ {s w : List ℕ} {i p : ℕ} (a : LookupAt s w i p) where
   lookup_law = rw lookup_view (record { means = (rw (lookup_is s i listed)); entries = sym (entries_are s i listed) })
 
   pub lookup_name_law : bytes_of s (read_text s (fresh (get_or w p 0))).value ≡ (lookup_at (pack_of s).lookups i).name
-  unfolding read_lookup
+  unfolding read_lookup ◌▷◌ give
   lookup_name_law =
       let e : bytes_of s (read_lookup None s (fresh (get_or w p 0))).value.name ≡ (lookup_at (pack_of s).lookups i).name
       = ap (λ (L : Lookup). L.name) lookup_law.means in
@@ -165,11 +199,10 @@ module _ {s w : List ℕ} {i p : ℕ} (a : LookupAt s w i p) where
   unfolding lookup_of_pack
   kind_is = rw (lookup_is s i listed)
 
-  pub entry_law : (j : ℕ) → j < length (lookup_at (pack_of s).lookups i).entries
-      → entry_meaning s (read_entry (lookup_at (pack_of s).lookups i).kind s (fresh (get_or w (p + 1 + j) 0))).value
-      ≡ get_or (lookup_at (pack_of s).lookups i).entries j no_entry
+  entry_cursor : (j : ℕ) → j < length (lookup_at (pack_of s).lookups i).entries
+      → (fresh (get_or w (p + 1 + j) 0) ≡ entries (lookup_head s i).value.kind s (lookup_head s i).next j) × (p + 1 + j < length (offsets s))
   unfolding lookup_records entry_offsets
-  entry_law j h =
+  entry_cursor j h =
       let m : j < (lookup_head s i).value.entries = omega (arith, entries_are s i listed) in
       let l = length_lookup s (lookup_start s i) in
       let o = lookup_offset s i (suc j) listed (omega arith) in
@@ -177,8 +210,23 @@ module _ {s w : List ℕ} {i p : ℕ} (a : LookupAt s w i p) where
       let x : get_or w (p + 1 + j) 0 ≡ (entries (lookup_head s i).value.kind s (lookup_head s i).next j).at =
       at_work s w a.ready (p + 1 + j) (omega (arith, o.1)) ∙ (rw e at o.0)
       ∙ getD_tab (λ n. (entries (lookup_head s i).value.kind s (lookup_head s i).next n).at) 0 (lookup_head s i).value.entries j m in
-      let y = ap fresh x ∙ sym (fresh_at _ (entry_clean s (clean_end s w a.ready) i j listed (omega arith))) in
-      rw (kind_is, y) (sym (entry_is s i j listed m))
+      (ap fresh x ∙ sym (fresh_at _ (entry_clean s (clean_end s w a.ready) i j listed (omega arith))), omega (arith, o.1))
+
+  pub entry_stands : (j : ℕ) → j < length (lookup_at (pack_of s).lookups i).entries
+      → Stands s w (p + 1 + j) (λ c. (read_entry (lookup_at (pack_of s).lookups i).kind s c).next)
+  entry_stands j h =
+      let m : j < (lookup_head s i).value.entries = omega (arith, entries_are s i listed) in
+      let k = (lookup_head s i).value.kind in
+      let e = entry_cursor j h in
+      stands s w a.ready (p + 1 + j) (entries k s (lookup_head s i).next j) _ e.1 e.0
+      (rw (kind_is, ← entries_turn s (lookup_head s i).next k j) (entry_clean s (clean_end s w a.ready) i (j + 1) listed (omega arith)))
+
+  pub entry_law : (j : ℕ) → j < length (lookup_at (pack_of s).lookups i).entries
+      → entry_meaning s (read_entry (lookup_at (pack_of s).lookups i).kind s (fresh (get_or w (p + 1 + j) 0))).value
+      ≡ get_or (lookup_at (pack_of s).lookups i).entries j no_entry
+  entry_law j h =
+      let m : j < (lookup_head s i).value.entries = omega (arith, entries_are s i listed) in
+      rw (kind_is, (entry_cursor j h).0) (sym (entry_is s i j listed m))
 
 types_fit : (s : List ℕ) → (type_list s).value ≤ 4294967295
 unfolding type_list
@@ -203,6 +251,14 @@ module _ {s w : List ℕ} {t i p : ℕ} (a : PgnAt s w t i p) where
       (fresh_at (pgn_start s t i) (pgn_clean s (clean_end s w a.ready) t i a.tree (omega (arith, counted_pgn)))) in
       rw y
 
+  pub pgn_stands : Stands s w p (λ c. (read_pgn s c).next)
+  unfolding fields
+  pgn_stands =
+      let l = length_pgn s (type_list s).value (pgn_start s t i) in
+      let o = (pgn_offset s t i 0 a.tree counted_pgn (omega arith)).1 in
+      stands s w a.ready p (fresh (get_or w p 0)) _ (omega (arith, a.place)) refl
+      (rw pgn_view (field_clean s (clean_end s w a.ready) t i 0 a.tree counted_pgn (omega arith)))
+
   pub pgn_room : p + 1 + length (pgn_at (pack_of s) t i).fields ≤ length w
   pgn_room =
       let l = length_pgn s (type_list s).value (pgn_start s t i) in
@@ -217,44 +273,89 @@ module _ {s w : List ℕ} {t i p : ℕ} (a : PgnAt s w t i p) where
   })
 
   pub pgn_number_law : (read_number s (fresh (get_or w p 0))).value ≡ (pgn_at (pack_of s) t i).pgn
-  unfolding read_pgn
+  unfolding read_pgn ◌▷◌ give
   pgn_number_law = ap (λ (G : Pgn). G.pgn) pgn_law.means
 
-  pub field_law : (j : ℕ) → j < length (pgn_at (pack_of s) t i).fields
-      → field_meaning s (read_field 4294967296 0 s (fresh (get_or w (p + 1 + j) 0))).value ≡ field_at (pgn_at (pack_of s) t i) j
+  -- the state before field j
+  abbrev before_field : ℕ → FieldState
+  before_field j = fields (type_list s).value s (pgn_head s t i).next j
+
+  field_cursor : (j : ℕ) → j < length (pgn_at (pack_of s) t i).fields
+      → (fresh (get_or w (p + 1 + j) 0) ≡ (before_field j).next) × (p + 1 + j < length (offsets s))
   unfolding pgn_records field_offsets
-  field_law j h =
+  field_cursor j h =
       let k = (type_list s).value in
       let m : j < (pgn_head s t i).value.fields = omega (arith, fields_are s t i a.tree counted_pgn) in
       let l = length_pgn s k (pgn_start s t i) in
       let o = pgn_offset s t i (suc j) a.tree counted_pgn (omega arith) in
       let e : place_of_pgn (pack_of s) t i + suc j ≡ p + 1 + j = omega (arith, a.place) in
-      let st = fields k s (pgn_head s t i).next j in
-      let x : get_or w (p + 1 + j) 0 ≡ st.next.at = at_work s w a.ready (p + 1 + j) (omega (arith, o.1)) ∙ (rw e at o.0)
-      ∙ getD_tab (λ n. (fields k s (pgn_head s t i).next n).next.at) 0 (pgn_head s t i).value.fields j m in
-      let y : fresh (get_or w (p + 1 + j) 0) ≡ st.next = ap fresh x ∙ sym
-      (fresh_at st.next (field_clean s (clean_end s w a.ready) t i j a.tree counted_pgn (omega arith))) in
+      let x : get_or w (p + 1 + j) 0 ≡ (before_field j).next.at = at_work s w a.ready (p + 1 + j) (omega (arith, o.1)) ∙ (rw e at o.0)
+      ∙ getD_tab (λ n. (fields k s (pgn_head s t i).next n).next.at) 0 (pgn_head s t i).value.fields j m in (
+        ap fresh x ∙ sym (fresh_at (before_field j).next (field_clean s (clean_end s w a.ready) t i j a.tree counted_pgn (omega arith))),
+        omega (arith, o.1),
+      )
+
+  -- by itself it reads as behind those before it
+  field_free_here : (j : ℕ) → j < length (pgn_at (pack_of s) t i).fields
+      → (read_field (type_list s).value (before_field j).total s (before_field j).next ≡ read_field 4294967296 0 s (before_field j).next)
+      × ((read_field (type_list s).value (before_field j).total s (before_field j).next).next.refused ≡ 0)
+  field_free_here j h =
+      let k = (type_list s).value in
+      let m : j < (pgn_head s t i).value.fields = omega (arith, fields_are s t i a.tree counted_pgn) in
+      let st = before_field j in
       let z : (field_next k s st).next.refused ≡ 0 = rw (← fields_turn s (pgn_head s t i).next k j)
       (field_clean s (clean_end s w a.ready) t i (j + 1) a.tree counted_pgn (omega arith)) in
-      rw y
-      (ap (λ (f : FieldItem). field_meaning s f.value) (sym (field_free s st.next k st.total (omega (arith, types_fit s)) (step_clean s k st z)))
-      ∙ sym (field_is s t i j a.tree counted_pgn m))
+      (field_free s st.next k st.total (omega (arith, types_fit s)) (step_clean s k st z), step_clean s k st z)
+
+  pub field_stands : (j : ℕ) → j < length (pgn_at (pack_of s) t i).fields → Stands s w (p + 1 + j) (λ c. (read_field 4294967296 0 s c).next)
+  field_stands j h =
+      let f = field_free_here j h in
+      let e = field_cursor j h in
+      stands s w a.ready (p + 1 + j) (before_field j).next _ e.1 e.0 (rw (← f.0) f.1)
+
+  pub field_law : (j : ℕ) → j < length (pgn_at (pack_of s) t i).fields
+      → field_meaning s (read_field 4294967296 0 s (fresh (get_or w (p + 1 + j) 0))).value ≡ field_at (pgn_at (pack_of s) t i) j
+  field_law j h =
+      let m : j < (pgn_head s t i).value.fields = omega (arith, fields_are s t i a.tree counted_pgn) in
+      rw (field_cursor j h).0
+      (ap (λ (f : Item FieldView). field_meaning s f.value) (sym (field_free_here j h).0) ∙ sym (field_is s t i j a.tree counted_pgn m))
+
+  field_names_clean : (j : ℕ) → j < length (pgn_at (pack_of s) t i).fields → (read_names s (fresh (get_or w (p + 1 + j) 0))).next.refused ≡ 0
+  unfolding read_field ◌▷◌ give
+  field_names_clean j h =
+      let n = (read_names s (fresh (get_or w (p + 1 + j) 0))).next in
+      let sc = read_scaling 0 s (read_code 63 s (read_index 4294967296 s n).next).next in
+      let z : sc.next.refused ≡ 0 =
+      back (authored_reader s) sc.next (back (links_reader s sc.value.bits) (read_authored s sc.next).next (field_stands j h).clean) in
+      back (index_reader s 4294967296) n (back (code_reader s 63) _ (back (scaling_reader s 0) _ z))
+
+  pub field_name_stands : (j : ℕ) → j < length (pgn_at (pack_of s) t i).fields → Stands s w (p + 1 + j) (λ c. (read_second_text s c).next)
+  unfolding read_names read_second_text ◌▷◌ give
+  field_name_stands j h =
+      let f = field_stands j h in
+      record { place = f.place; inside = f.inside; clean = back (text_reader s) _ (field_names_clean j h) }
+
+  pub field_id_stands : (j : ℕ) → j < length (pgn_at (pack_of s) t i).fields → Stands s w (p + 1 + j) (λ c. (read_text s c).next)
+  unfolding read_second_text ◌▷◌
+  field_id_stands j h =
+      let f = field_name_stands j h in
+      record { place = f.place; inside = f.inside; clean = back (text_reader s) _ f.clean }
 
   pub field_id_law : (j : ℕ) → j < length (pgn_at (pack_of s) t i).fields
       → bytes_of s (read_text s (fresh (get_or w (p + 1 + j) 0))).value ≡ (field_at (pgn_at (pack_of s) t i) j).id
-  unfolding read_field read_names
+  unfolding read_field read_names ◌▷◌ give
   field_id_law j h = ap (λ (f : Field). f.id) (field_law j h)
 
   pub field_name_law : (j : ℕ) → j < length (pgn_at (pack_of s) t i).fields
-      → bytes_of s (read_text s (read_text s (fresh (get_or w (p + 1 + j) 0))).next).value ≡ (field_at (pgn_at (pack_of s) t i) j).name
-  unfolding read_field read_names
+      → bytes_of s (read_second_text s (fresh (get_or w (p + 1 + j) 0))).value ≡ (field_at (pgn_at (pack_of s) t i) j).name
+  unfolding read_field read_names read_second_text ◌▷◌ give
   field_name_law j h = ap (λ (f : Field). f.name) (field_law j h)
 
 -- ---- a field's field type is there: 6 refuses every other index
 
 module _ (s : List ℕ) where
   field_type_below : (k total : ℕ) (c : Cursor) → (read_field k total s c).next.refused ≡ 0 → (read_field k total s c).value.ft < k
-  unfolding read_field
+  unfolding read_field ◌▷◌ give
   field_type_below k total c e =
       let n = (read_names s c).next in
       let sc = read_scaling total s (read_code 63 s (read_index k s n).next).next in

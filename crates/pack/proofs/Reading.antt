@@ -1,5 +1,5 @@
 -- Laws of readers: a refused cursor stays, reading stays within the bytes and never goes back, and it refuses by 1 to 8.
-use Rattle.std.specs.Prelude.{◌==◌, if◌then◌else◌}
+use Rattle.std.specs.Prelude.{◌==◌, if◌then◌else◌, Option, None, Some}
 use Prim.Native.Nat.{ℕ, zero, suc, ◌+◌, ◌-◌, ◌*◌, ◌≤◌, ◌<◌}
 use native.Mathlib.Omega.{arith}
 use native.Mathlib.Decide.{ℕ_discrete}
@@ -9,21 +9,13 @@ use mathlib.Core.Bool.{Bool, true, false}
 use borrow.Author.Tests.{ne_eqb, eqb-false, ltb-true, leb-true}
 use lib.ListN.{length}
 use Rattle.pack.specs.Notation.{◌<ᵇ◌, ◌≤ᵇ◌}
-use Rattle.pack.specs.Items.{rises, refuse, moved, last_byte_at, shortest, capped, groups, largest32, largest64, read_wide}
-use Rattle.pack.specs.Items.{read_number, judged, read_version}
-use Rattle.pack.specs.Items.{read_code, read_index, read_sum, read_bytes, read_text, read_name, read_float, read_mark, read_opt_text}
-use Rattle.pack.specs.Items.{read_opt_number, read_opt_bytes, read_opt_sum, read_opt_float}
-use Rattle.pack.specs.Records.{read_type, read_first, read_kind_part, read_entry, read_lookup, read_repeating, read_opt_repeating, read_pgn}
-use Rattle.pack.specs.Records.{read_names, read_scaling, read_authored}
-use Rattle.pack.specs.Records.{read_opt_reference, read_links, read_field}
+use Rattle.pack.specs.Items.{Cursor, Item, Form, give, ◌▷◌, optional, refuse, moved, last_byte_at, shortest, decoded, capped, groups, largest32}
+use Rattle.pack.specs.Items.{largest64, read_wide, read_number, judged, read_version, read_code, read_index, read_sum, read_bytes, read_text}
+use Rattle.pack.specs.Items.{rises, read_name, read_float, read_mark}
+use Rattle.pack.specs.Records.{read_type, read_first, read_kind_part, read_entry, read_lookup, read_repeating, read_pgn, read_names}
+use Rattle.pack.specs.Records.{read_scaling, read_authored, read_reference, read_links, read_field}
 use Rattle.pack.specs.Format.{iter, types, entries, LookupState, lookup_next, lookups, FieldState, field_next, fields, pgn_next, pgns}
-use Rattle.std.specs.Prelude.{Option, None}
 use Rattle.pack.specs.declared.text.Text.{Text}
-use Rattle.pack.specs.declared.number.Value.{Value}
-use Rattle.pack.specs.declared.cursor.Cursor.{Cursor}
-use Rattle.pack.specs.declared.cursor.NumberItem.{NumberItem}
-use Rattle.pack.specs.declared.cursor.WideItem.{WideItem}
-use Rattle.pack.specs.declared.cursor.TextItem.{TextItem}
 use Rattle.pack.specs.declared.text.Text.{Text}
 
 -- a step of a reading whose state holds a cursor
@@ -133,9 +125,14 @@ module _ {s : List ℕ} where
   pub after_moves : {f : Cursor → Cursor} {g : Cursor → Cursor → Cursor} → Reader s f → ((c : Cursor) → Moves (g c)) → Moves (λ c. g c (f c))
   after_moves {f} {g} p q c e = omega (arith, p.grows c, q c (f c) e)
 
+decoded_all : (P : Item ℕ → Type 0) (c : Cursor) (e : ℕ) (o : Option ℕ) → P (record { value = 0; next = refuse c 2 })
+    → ((v : ℕ) → P (record { value = v; next = moved c e })) → P (decoded c e o)
+decoded_all P c e None a b = a
+decoded_all P c e (Some v) a b = b v
+
 module _ (s : List ℕ) where
   -- the ends of a number: left as it was, cut short, refused by 2, read
-  wide_all : (most : ℕ) (P : WideItem → Type 0) (c : Cursor) → ((c.refused == 0) ≡ false → P (record { value = 0; next = c }))
+  wide_all : (most : ℕ) (P : (Item ℕ) → Type 0) (c : Cursor) → ((c.refused == 0) ≡ false → P (record { value = 0; next = c }))
       → P (record { value = 0; next = refuse c 1 })
       → P (record { value = 0; next = refuse c 2 }) →
       ((v : ℕ) → last_byte_at s c.at < length s → P (record { value = v; next = moved c (last_byte_at s c.at + 1) }))
@@ -146,7 +143,7 @@ module _ (s : List ℕ) where
       if_all P (c.refused == 0) _ _
       (λ _. if_all P (l <ᵇ length s) _ _
       (λ h. if_all P (shortest s c.at l) _ _
-      (λ _. if_all P (capped most (groups s (l + 1) (l + 1 - c.at))).over _ _ (λ _. d) (λ _. e _ (ltb-true _ _ h)))
+      (λ _. decoded_all P c (l + 1) (capped most (groups s (l + 1) (l + 1 - c.at))) d (λ v. e v (ltb-true _ _ h)))
       (λ _. d))
       (λ _. b))
       a
@@ -184,18 +181,18 @@ module _ (s : List ℕ) where
         sticky = λ c h. stick c h;
         within =
             λ c h.
-            if_all (λ (w : NumberItem). w.next.at ≤ length s) ((read_number s c).next.refused == 0) _ _
-            (λ _. if_all (λ (w : NumberItem). w.next.at ≤ length s) (good c) _ _ (λ _. number_reader.within c h) (λ _. h))
+            if_all (λ (w : Item ℕ). w.next.at ≤ length s) ((read_number s c).next.refused == 0) _ _
+            (λ _. if_all (λ (w : Item ℕ). w.next.at ≤ length s) (good c) _ _ (λ _. number_reader.within c h) (λ _. h))
             (λ _. number_reader.within c h);
         grows =
             λ c.
-            if_all (λ (w : NumberItem). c.at ≤ w.next.at) ((read_number s c).next.refused == 0) _ _
-            (λ _. if_all (λ (w : NumberItem). c.at ≤ w.next.at) (good c) _ _ (λ _. number_reader.grows c) (λ _. omega arith))
+            if_all (λ (w : Item ℕ). c.at ≤ w.next.at) ((read_number s c).next.refused == 0) _ _
+            (λ _. if_all (λ (w : Item ℕ). c.at ≤ w.next.at) (good c) _ _ (λ _. number_reader.grows c) (λ _. omega arith))
             (λ _. number_reader.grows c);
         numbered =
             λ c h.
-            if_all (λ (w : NumberItem). w.next.refused ≤ 8) ((read_number s c).next.refused == 0) _ _
-            (λ _. if_all (λ (w : NumberItem). w.next.refused ≤ 8) (good c) _ _ (λ _. number_reader.numbered c h) (λ _. l))
+            if_all (λ (w : Item ℕ). w.next.refused ≤ 8) ((read_number s c).next.refused == 0) _ _
+            (λ _. if_all (λ (w : Item ℕ). w.next.refused ≤ 8) (good c) _ _ (λ _. number_reader.numbered c h) (λ _. l))
             (λ _. number_reader.numbered c h);
       }
     where
@@ -205,8 +202,8 @@ module _ (s : List ℕ) where
   judged_moves : (good : Cursor → Bool) (n : ℕ) → Moves (λ c. (judged c (read_number s c) (good c) (suc n)).next)
   unfolding judged
   judged_moves good n c =
-      if_all (λ (w : NumberItem). w.next.refused ≡ 0 → c.at + 1 ≤ w.next.at) ((read_number s c).next.refused == 0) _ _
-      (λ _. if_all (λ (w : NumberItem). w.next.refused ≡ 0 → c.at + 1 ≤ w.next.at) (good c) _ _ (λ _. number_moves c) (λ _ z. absurd (omega arith)))
+      if_all (λ (w : Item ℕ). w.next.refused ≡ 0 → c.at + 1 ≤ w.next.at) ((read_number s c).next.refused == 0) _ _
+      (λ _. if_all (λ (w : Item ℕ). w.next.refused ≡ 0 → c.at + 1 ≤ w.next.at) (good c) _ _ (λ _. number_moves c) (λ _ z. absurd (omega arith)))
       (λ _. number_moves c)
 
   pub version_reader : Reader s (λ c. (read_version s c).next)
@@ -230,11 +227,11 @@ module _ (s : List ℕ) where
   bytes_reader = judged_reader (λ c. (read_number s c).value * 8 ≤ᵇ largest32) 7 (omega arith)
 
   pub mark_reader : Reader s (λ c. (read_mark s c).next)
-  unfolding read_mark
+  unfolding read_mark ◌▷◌ give
   mark_reader = code_reader 1
 
   -- the ends of a text: its length refused, cut short, read
-  text_all : (P : TextItem → Type 0) (c : Cursor)
+  text_all : (P : (Item Text) → Type 0) (c : Cursor)
       → (((read_number s c).next.refused == 0) ≡ false → P (record { value = record { start = 0; len = 0 }; next = (read_number s c).next }))
       → P (record { value = record { start = 0; len = 0 }; next = refuse c 1 })
       → ((v : Text) (e : ℕ) → (read_number s c).next.at ≤ e → e ≤ length s → P (record { value = v; next = moved (read_number s c).next e }))
@@ -262,7 +259,7 @@ module _ (s : List ℕ) where
       text_all (λ w. w.next.refused ≡ 0 → c.at + 1 ≤ w.next.at) c (λ h z. absurd (eqb-false _ _ h z)) (λ z. absurd (omega arith))
       (λ v e k l z. omega (arith, number_moves c z))
 
-  name_all : (before : Option Text) (P : TextItem → Type 0) (c : Cursor) → P (read_text s c)
+  name_all : (before : Option Text) (P : (Item Text) → Type 0) (c : Cursor) → P (read_text s c)
       → P (record { value = record { start = 0; len = 0 }; next = refuse c 5 }) → P (read_name before s c)
   unfolding read_name
   name_all before P c a b =
@@ -294,18 +291,18 @@ module _ (s : List ℕ) where
         sticky = λ c h. stick c h;
         within =
             λ c h.
-            if_all (λ (w : WideItem). w.next.at ≤ length s) (c.refused == 0) _ _
-            (λ _. if_all (λ (w : WideItem). w.next.at ≤ length s) (c.at + 8 ≤ᵇ length s) _ _ (λ l. leb-true _ _ l) (λ _. h))
+            if_all (λ (w : Item ℕ). w.next.at ≤ length s) (c.refused == 0) _ _
+            (λ _. if_all (λ (w : Item ℕ). w.next.at ≤ length s) (c.at + 8 ≤ᵇ length s) _ _ (λ l. leb-true _ _ l) (λ _. h))
             (λ _. h);
         grows =
             λ c.
-            if_all (λ (w : WideItem). c.at ≤ w.next.at) (c.refused == 0) _ _
-            (λ _. if_all (λ (w : WideItem). c.at ≤ w.next.at) (c.at + 8 ≤ᵇ length s) _ _ (λ l. omega arith) (λ _. omega arith))
+            if_all (λ (w : Item ℕ). c.at ≤ w.next.at) (c.refused == 0) _ _
+            (λ _. if_all (λ (w : Item ℕ). c.at ≤ w.next.at) (c.at + 8 ≤ᵇ length s) _ _ (λ l. omega arith) (λ _. omega arith))
             (λ _. omega arith);
         numbered =
             λ c h.
-            if_all (λ (w : WideItem). w.next.refused ≤ 8) (c.refused == 0) _ _
-            (λ _. if_all (λ (w : WideItem). w.next.refused ≤ 8) (c.at + 8 ≤ᵇ length s) _ _ (λ l. h) (λ _. omega arith))
+            if_all (λ (w : Item ℕ). w.next.refused ≤ 8) (c.refused == 0) _ _
+            (λ _. if_all (λ (w : Item ℕ). w.next.refused ≤ 8) (c.at + 8 ≤ᵇ length s) _ _ (λ l. h) (λ _. omega arith))
             (λ _. h);
       }
     where
@@ -318,25 +315,9 @@ module _ (s : List ℕ) where
   optionally {f} {g} p t e = choose (λ c. (read_mark s c).value) (λ c. f (read_mark s c).next) (λ c. (read_mark s c).next) g t e
       (followed mark_reader (λ c. p)) mark_reader
 
-  pub opt_text_reader : Reader s (λ c. (read_opt_text s c).next)
-  unfolding read_opt_text
-  opt_text_reader = optionally text_reader (λ c e. rw e) (λ c e. rw e)
-
-  pub opt_number_reader : Reader s (λ c. (read_opt_number s c).next)
-  unfolding read_opt_number
-  opt_number_reader = optionally number_reader (λ c e. rw e) (λ c e. rw e)
-
-  pub opt_bytes_reader : Reader s (λ c. (read_opt_bytes s c).next)
-  unfolding read_opt_bytes
-  opt_bytes_reader = optionally bytes_reader (λ c e. rw e) (λ c e. rw e)
-
-  pub opt_sum_reader : (o : ℕ) → Reader s (λ c. (read_opt_sum o s c).next)
-  unfolding read_opt_sum
-  opt_sum_reader o = optionally (sum_reader o) (λ c e. rw e) (λ c e. rw e)
-
-  pub opt_float_reader : Reader s (λ c. (read_opt_float s c).next)
-  unfolding read_opt_float
-  opt_float_reader = optionally float_reader (λ c e. rw e) (λ c e. rw e)
+  pub optional_reader : {A : Type 0} (p : Form A) → Reader s (λ c. (p s c).next) → Reader s (λ c. (optional p s c).next)
+  unfolding optional ◌▷◌ give
+  optional_reader p r = optionally r (λ c e. rw e) (λ c e. rw e)
 
   -- ---- the records
 
@@ -345,79 +326,75 @@ module _ (s : List ℕ) where
   p ▸ q = followed p (λ c. q)
 
   pub type_reader : Reader s (λ c. (read_type s c).next)
-  unfolding read_type
+  unfolding read_type ◌▷◌ give
   type_reader = text_reader ▸ code_reader 7 ▸ number_reader ▸ float_reader ▸ text_reader
 
   pub type_moves : Moves (λ c. (read_type s c).next)
-  unfolding read_type
+  unfolding read_type ◌▷◌ give
   type_moves = moves_then text_moves (λ c. code_reader 7 ▸ number_reader ▸ float_reader ▸ text_reader)
 
   first_reader : (kind : ℕ) → Reader s (λ c. (read_first kind s c).next)
-  unfolding read_first
+  unfolding read_first ◌▷◌ give
   first_reader kind = choose (λ c. kind == 1) (λ c. (read_wide largest64 s c).next) (λ c. c) _ (λ c e. rw e) (λ c e. rw e) (wide_reader largest64) stay
 
-  kind_part_reader : (kind : ℕ) → Reader s (λ c. (read_kind_part kind s c).next)
-  unfolding read_kind_part
-  kind_part_reader kind = choose (λ c. kind == 3) (λ c. (read_opt_text s (read_text s c).next).next) (λ c. c) _ (λ c e. rw e) (λ c e. rw e)
-      (text_reader ▸ opt_text_reader) stay
+  pub kind_part_reader : (kind : ℕ) → Reader s (λ c. (read_kind_part kind s c).next)
+  unfolding read_kind_part ◌▷◌ give
+  kind_part_reader kind = choose (λ c. kind == 3) (λ c. (optional read_text s (read_text s c).next).next) (λ c. c) _ (λ c e. rw e) (λ c e. rw e)
+      (text_reader ▸ optional_reader read_text text_reader) stay
 
   pub entry_reader : (kind : ℕ) → Reader s (λ c. (read_entry kind s c).next)
-  unfolding read_entry
+  unfolding read_entry ◌▷◌ give
   entry_reader kind = first_reader kind ▸ wide_reader largest64 ▸ text_reader ▸ kind_part_reader kind
 
   pub entry_moves : (kind : ℕ) → Moves (λ c. (read_entry kind s c).next)
-  unfolding read_entry
+  unfolding read_entry ◌▷◌ give
   entry_moves kind = after_moves (first_reader kind) (λ c. moves_then (wide_moves largest64) (λ c. text_reader ▸ kind_part_reader kind))
 
   pub lookup_reader : (before : Option Text) → Reader s (λ c. (read_lookup before s c).next)
-  unfolding read_lookup
+  unfolding read_lookup ◌▷◌ give
   lookup_reader before = name_reader before ▸ code_reader 3 ▸ number_reader ▸ number_reader
 
   pub lookup_moves : (before : Option Text) → Moves (λ c. (read_lookup before s c).next)
-  unfolding read_lookup
+  unfolding read_lookup ◌▷◌ give
   lookup_moves before = moves_then (name_moves before) (λ c. code_reader 3 ▸ number_reader ▸ number_reader)
 
-  repeating_reader : Reader s (λ c. (read_repeating s c).next)
-  unfolding read_repeating
-  repeating_reader = followed number_reader (λ c. sum_reader (read_number s c).value) ▸ opt_number_reader ▸ mark_reader
-
-  pub opt_repeating_reader : Reader s (λ c. (read_opt_repeating s c).next)
-  unfolding read_opt_repeating
-  opt_repeating_reader = optionally repeating_reader (λ c e. rw e) (λ c e. rw e)
+  pub repeating_reader : Reader s (λ c. (read_repeating s c).next)
+  unfolding read_repeating ◌▷◌ give
+  repeating_reader = followed number_reader (λ c. sum_reader (read_number s c).value) ▸ optional_reader read_number number_reader ▸ mark_reader
 
   pub pgn_reader : Reader s (λ c. (read_pgn s c).next)
-  unfolding read_pgn
-  pgn_reader = number_reader ▸ text_reader ▸ code_reader 3 ▸ code_reader 7 ▸ number_reader ▸ opt_bytes_reader ▸ opt_repeating_reader
-      ▸ opt_repeating_reader ▸ number_reader
+  unfolding read_pgn ◌▷◌ give
+  pgn_reader = number_reader ▸ text_reader ▸ code_reader 3 ▸ code_reader 7 ▸ number_reader ▸ optional_reader read_bytes bytes_reader ▸ optional_reader read_repeating repeating_reader
+      ▸ optional_reader read_repeating repeating_reader ▸ number_reader
 
   pub pgn_moves : Moves (λ c. (read_pgn s c).next)
-  unfolding read_pgn
+  unfolding read_pgn ◌▷◌ give
   pgn_moves = moves_then number_moves
-      (λ c. text_reader ▸ code_reader 3 ▸ code_reader 7 ▸ number_reader ▸ opt_bytes_reader ▸ opt_repeating_reader ▸ opt_repeating_reader ▸ number_reader)
+      (λ c. text_reader ▸ code_reader 3 ▸ code_reader 7 ▸ number_reader ▸ optional_reader read_bytes bytes_reader ▸ optional_reader read_repeating repeating_reader ▸ optional_reader read_repeating repeating_reader ▸ number_reader)
 
   pub names_reader : Reader s (λ c. (read_names s c).next)
-  unfolding read_names
+  unfolding read_names ◌▷◌ give
   names_reader = text_reader ▸ text_reader ▸ text_reader
 
   names_moves : Moves (λ c. (read_names s c).next)
-  unfolding read_names
+  unfolding read_names ◌▷◌ give
   names_moves = moves_then text_moves (λ c. text_reader ▸ text_reader)
 
   pub scaling_reader : (total : ℕ) → Reader s (λ c. (read_scaling total s c).next)
-  unfolding read_scaling
-  scaling_reader total = sum_reader total ▸ float_reader ▸ float_reader ▸ opt_text_reader
+  unfolding read_scaling ◌▷◌ give
+  scaling_reader total = sum_reader total ▸ float_reader ▸ float_reader ▸ optional_reader read_text text_reader
 
   pub authored_reader : Reader s (λ c. (read_authored s c).next)
-  unfolding read_authored
-  authored_reader = opt_float_reader ▸ opt_float_reader ▸ opt_number_reader ▸ opt_text_reader ▸ opt_text_reader
+  unfolding read_authored ◌▷◌ give
+  authored_reader = optional_reader read_float float_reader ▸ optional_reader read_float float_reader ▸ optional_reader read_number number_reader ▸ optional_reader read_text text_reader ▸ optional_reader read_text text_reader
 
-  opt_reference_reader : Reader s (λ c. (read_opt_reference s c).next)
-  unfolding read_opt_reference
-  opt_reference_reader = optionally (code_reader 3 ▸ text_reader) (λ c e. rw e) (λ c e. rw e)
+  pub reference_reader : Reader s (λ c. (read_reference s c).next)
+  unfolding read_reference ◌▷◌ give
+  reference_reader = code_reader 3 ▸ text_reader
 
   pub links_reader : (bits : ℕ) → Reader s (λ c. (read_links bits s c).next)
-  unfolding read_links
-  links_reader bits = opt_reference_reader ▸ opt_number_reader ▸ opt_text_reader ▸ opt_text_reader ▸ opt_sum_reader bits
+  unfolding read_links ◌▷◌ give
+  links_reader bits = optional_reader read_reference reference_reader ▸ optional_reader read_number number_reader ▸ optional_reader read_text text_reader ▸ optional_reader read_text text_reader ▸ optional_reader (read_sum bits) (sum_reader bits)
 
   -- what follows a field's names
   abbrev field_rest : ℕ → ℕ → Cursor → Cursor
@@ -431,11 +408,11 @@ module _ (s : List ℕ) where
       (λ c. links_reader (read_scaling total s (read_code 63 s (read_index k s c).next).next).value.bits)
 
   pub field_reader : (k total : ℕ) → Reader s (λ c. (read_field k total s c).next)
-  unfolding read_field
+  unfolding read_field ◌▷◌ give
   field_reader k total = names_reader ▸ field_rest_reader k total
 
   pub field_moves : (k total : ℕ) → Moves (λ c. (read_field k total s c).next)
-  unfolding read_field
+  unfolding read_field ◌▷◌ give
   field_moves k total = moves_then names_moves (λ c. field_rest_reader k total)
 
   -- ---- the lists
@@ -504,19 +481,17 @@ module _ (s : List ℕ) where
 
 -- ---- a number fits its width
 
-capped_fits : (most n : ℕ) → (capped most n).value ≤ most
+capped_fits : (most n : ℕ) (c : Cursor) (e : ℕ) → (decoded c e (capped most n)).value ≤ most
 unfolding capped
-capped_fits most n = if_all (λ (v : Value). v.value ≤ most) (n ≤ᵇ most) _ _ (λ e. leb-true _ _ e) (λ _. omega arith)
+capped_fits most n c e = if_all (λ (o : Option ℕ). (decoded c e o).value ≤ most) (n ≤ᵇ most) _ _ (λ h. leb-true _ _ h) (λ _. omega arith)
 
 pub number_fits : (s : List ℕ) (c : Cursor) → (read_number s c).value ≤ largest32
 unfolding read_number read_wide
 number_fits s c =
-    let P : WideItem → Type 0 = λ w. w.value ≤ largest32 in
+    let P : Item ℕ → Type 0 = λ w. w.value ≤ largest32 in
     let l = last_byte_at s c.at in
-    let v = capped largest32 (groups s (l + 1) (l + 1 - c.at)) in
     if_all P (c.refused == 0) _ _
     (λ _. if_all P (l <ᵇ length s) _ _
-    (λ _. if_all P (shortest s c.at l) _ _
-    (λ _. if_all P v.over _ _ (λ _. omega arith) (λ _. capped_fits largest32 (groups s (l + 1) (l + 1 - c.at)))) (λ _. omega arith))
+    (λ _. if_all P (shortest s c.at l) _ _ (λ _. capped_fits largest32 (groups s (l + 1) (l + 1 - c.at)) c (l + 1)) (λ _. omega arith))
     (λ _. omega arith))
     (λ _. omega arith)

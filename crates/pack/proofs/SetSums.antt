@@ -1,4 +1,5 @@
 -- A set of an accepted pack ends at a number of 32 bits: 7 refuses every other.
+use Rattle.pack.specs.Items.{Cursor}
 use Prim.Native.Nat.{ℕ, zero, suc, ◌+◌, ◌≤◌, ◌<◌}
 use native.Mathlib.Omega.{arith}
 use mathlib.Core.Path.{◌≡◌, refl}
@@ -6,13 +7,12 @@ use mathlib.Core.List.{List, []}
 use mathlib.Core.Bool.{Bool, true, false}
 use Rattle.std.specs.Prelude.{Option, None, Some}
 use Rattle.pack.specs.Value.{Repeating, pgn_at, set_place}
-use Rattle.pack.specs.Items.{largest32, read_number, read_mark}
-use Rattle.pack.specs.Records.{read_repeating, read_opt_repeating, read_pgn}
+use Rattle.pack.specs.Items.{◌▷◌, give, optional, largest32, read_number, read_mark}
+use Rattle.pack.specs.Records.{read_repeating, read_pgn}
 use Rattle.pack.specs.Format.{fields, tree_list, pgn_start}
 use Rattle.pack.specs.Meaning.{repeating_meaning, optional_repeating, pgn_meaning, pgn_of_pack, pack_of}
 use Rattle.pack.specs.Ready.{PgnAt}
-use Rattle.pack.specs.declared.cursor.Cursor.{Cursor}
-use Rattle.pack.proofs.Reading.{back, number_reader, opt_number_reader, mark_reader, opt_repeating_reader}
+use Rattle.pack.proofs.Reading.{back, number_reader, optional_reader, mark_reader, repeating_reader}
 use Rattle.pack.proofs.Free.{sum_fits}
 use Rattle.pack.proofs.Clean.{accepted_end, field_clean}
 use Rattle.pack.proofs.Values.{pgns_are, pgn_is}
@@ -23,14 +23,14 @@ SetFits o = (r : Repeating) → o ≡ Some r → r.start + r.count ≤ largest32
 
 module _ (s : List ℕ) where
   set_fits : (c : Cursor) → (read_repeating s c).next.refused ≡ 0 → (read_repeating s c).value.start.0 + (read_repeating s c).value.count ≤ largest32
-  unfolding read_repeating
+  unfolding read_repeating ◌▷◌ give
   set_fits c e =
       let n = read_number s c in
-      let a = sum_fits s n.next n.value (back (opt_number_reader s) _ (back (mark_reader s) _ e)) in
+      let a = sum_fits s n.next n.value (back (optional_reader s read_number (number_reader s)) _ (back (mark_reader s) _ e)) in
       omega (arith, a)
 
-  opt_set_fits : (c : Cursor) → (read_opt_repeating s c).next.refused ≡ 0 → SetFits (optional_repeating (read_opt_repeating s c).value)
-  unfolding read_opt_repeating
+  opt_set_fits : (c : Cursor) → (optional read_repeating s c).next.refused ≡ 0 → SetFits (optional_repeating (optional read_repeating s c).value)
+  unfolding optional ◌▷◌ give
   opt_set_fits c e r h = go (read_mark s c).value refl
     where
       go : (b : Bool) → (read_mark s c).value ≡ b → r.start + r.count ≤ largest32
@@ -43,8 +43,8 @@ module _ (s : List ℕ) where
 
   pgn_sets_fit : (c : Cursor) → (read_pgn s c).next.refused ≡ 0 → (k : ℕ)
       → SetFits (set_place (pgn_meaning s (read_pgn s c).value []) k)
-  unfolding read_pgn
-  pgn_sets_fit c e zero = opt_set_fits _ (back (opt_repeating_reader s) _ (back (number_reader s) _ e))
+  unfolding read_pgn ◌▷◌ give
+  pgn_sets_fit c e zero = opt_set_fits _ (back (optional_reader s read_repeating (repeating_reader s)) _ (back (number_reader s) _ e))
   pgn_sets_fit c e (suc zero) = opt_set_fits _ (back (number_reader s) _ e)
   pgn_sets_fit c e (suc (suc k)) = λ r h. let u : ◌≡◌ {A = ℕ} 0 1 = cc in absurd (omega arith)
 

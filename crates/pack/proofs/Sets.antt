@@ -1,4 +1,5 @@
 -- A PGN's places for sets: how many, and what stands at each.
+use Rattle.pack.specs.Items.{◌▷◌, give, Cursor}
 use Prim.Native.Nat.{ℕ, zero, suc, ◌≤◌, ◌<◌}
 use native.Mathlib.Omega.{arith}
 use native.Mathlib.Decide.{dec_lt}
@@ -12,13 +13,12 @@ use Rattle.pack.specs.Records.{read_pgn}
 use Rattle.pack.specs.Format.{tree_list, pgn_start}
 use Rattle.pack.specs.Meaning.{optional_repeating, pgn_of_pack, pack_of}
 use Rattle.pack.specs.Ready.{PgnIs}
-use Rattle.pack.specs.declared.cursor.Cursor.{Cursor}
 use Rattle.pack.specs.declared.pgn.PgnView.{PgnView}
 use Rattle.pack.proofs.Tables.{length_tab, getD_tab}
 use Rattle.pack.proofs.Values.{pgns_are, pgn_is}
 
 pub places_read : (s : List ℕ) (c : Cursor) → (read_pgn s c).value.places ≡ 2
-unfolding read_pgn
+unfolding read_pgn ◌▷◌ give
 places_read s c = refl
 
 -- what a view that means a PGN says of its sets

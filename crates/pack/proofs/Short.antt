@@ -1,4 +1,5 @@
 -- What one byte says: a number below 128, and a mark after which nothing follows.
+use Rattle.pack.specs.Items.{Cursor}
 use Prim.Native.Nat.{ℕ, ◌+◌, ◌-◌, ◌≤◌, ◌<◌}
 use native.Mathlib.Omega.{arith}
 use native.Mathlib.Nat.{mod-eq_of_lt}
@@ -8,8 +9,7 @@ use mathlib.Core.List.{List}
 use borrow.Author.Tests.{eq-eqb, lt-ltb, le-ltb, le-leb}
 use lib.ListN.{length, get_or, drop}
 use lib.Seq.{drop-cons}
-use Rattle.pack.specs.Items.{fresh, run, last_byte_at, groups, shortest, capped, largest32, read_wide, read_number, judged, read_code, read_mark}
-use Rattle.pack.specs.declared.cursor.Cursor.{Cursor}
+use Rattle.pack.specs.Items.{◌▷◌, give, fresh, run, last_byte_at, groups, shortest, capped, largest32, read_wide, read_number, judged, read_code, read_mark}
 
 -- a byte without the top bit is a number's last
 pub run_ends : (s : List ℕ) (i : ℕ) → i < length s → get_or s i 0 < 128 → run (drop i s) ≡ 0
@@ -27,5 +27,5 @@ module _ (s : List ℕ) (c : Cursor) (clean : c.refused ≡ 0) (inside : c.at < 
       rw (e, n, g, eq-eqb _ _ clean, lt-ltb _ _ inside, le-ltb c.at c.at (omega arith), le-leb _ _ m, clean)
 
   pub no_item : get_or s c.at 0 ≡ 0 → read_mark s c ≡ record { value = false; next = fresh (c.at + 1) }
-  unfolding read_mark read_code read_number judged
+  unfolding read_mark read_code read_number judged ◌▷◌ give
   no_item z = rw (one_byte largest32 (omega (arith, z)) (omega (arith, z)), z)

@@ -1,18 +1,33 @@
 -- What `load` answers, in 01's numbers; and what a call that goes on after it tells.
+use Rattle.std.specs.Prelude.{Result, Ok, Err}
 use Rattle.std.specs.Prelude.{◌==◌}
-use Prim.Native.Nat.{ℕ}
+use Prim.Native.Nat.{ℕ, zero, suc, ◌≤◌}
+use native.Mathlib.Omega.{arith}
 use mathlib.Core.Path.{◌≡◌, refl, sym, ap, ◌∙◌}
-use mathlib.Core.Bool.{Bool, true, false}
+use mathlib.Core.Bool.{Bool, true, false, true≢false}
 use mathlib.Core.List.{List}
 use lib.ListN.{length}
 use Rattle.pack.specs.Notation.{◌<ᵇ◌, ◌≤ᵇ◌}
 use Rattle.pack.specs.Format.{pack_end, offsets}
 use Rattle.pack.specs.Load.{Answer, refusal_answer, after, load_answer, most_bytes, verdict, load_index, loaded, load_tells, work_after, Loads}
-use Rattle.pack.specs.Load.{refusal_number}
+use Rattle.pack.specs.Load.{refusal_number, fault_number}
+use Rattle.pack.specs.Reads.{fault_of}
+use Rattle.pack.proofs.Bounds.{input_bound}
 use Rattle.pack.specs.declared.load.Index.{Index}
 use Rattle.pack.specs.declared.load.Refusal.{Refusal}
-use Rattle.pack.specs.declared.load.Loaded.{Loaded}
-use Rattle.pack.specs.declared.load.Loaded.TheVariants.{Refused, Accepted}
+
+-- each of the eight numbers names a fault
+fault_numbered : (n : ℕ) → (n == 0) ≡ false → n ≤ 8 → fault_number (fault_of n) ≡ n
+fault_numbered zero h l = absurd (true≢false h)
+fault_numbered (suc zero) h l = refl
+fault_numbered (suc (suc zero)) h l = refl
+fault_numbered (suc (suc (suc zero))) h l = refl
+fault_numbered (suc (suc (suc (suc zero)))) h l = refl
+fault_numbered (suc (suc (suc (suc (suc zero))))) h l = refl
+fault_numbered (suc (suc (suc (suc (suc (suc zero)))))) h l = refl
+fault_numbered (suc (suc (suc (suc (suc (suc (suc zero))))))) h l = refl
+fault_numbered (suc (suc (suc (suc (suc (suc (suc (suc zero)))))))) h l = refl
+fault_numbered (suc (suc (suc (suc (suc (suc (suc (suc (suc n))))))))) h l = absurd (omega (arith, l))
 
 pub load_told : (s : List ℕ) (m : ℕ) → load_answer (loaded s m) ≡ load_tells s m
 unfolding loaded verdict load_index load_tells
@@ -21,22 +36,22 @@ load_told s m = go (most_bytes <ᵇ length s) refl ((pack_end s).refused == 0) r
     go : (a : Bool) → (most_bytes <ᵇ length s) ≡ a → (b : Bool) → ((pack_end s).refused == 0) ≡ b → (c : Bool) → (length (offsets s) ≤ᵇ m) ≡ c
         → load_answer (loaded s m) ≡ load_tells s m
     go true x b y c z = rw x
-    go false x false y c z = rw (x, y)
+    go false x false y c z = rw (x, y, fault_numbered (pack_end s).refused y (input_bound s).0)
     go false x true y true z = rw (x, y, z)
     go false x true y false z = rw (x, y, z)
 
 -- what `load` answers and leaves, with the numbers
-pub promised : (s w w' : List ℕ) (r : Loaded) → r ≡ loaded s (length w) → w' ≡ work_after s w → Loads s w w' r
+pub promised : (s w w' : List ℕ) (r : Result Index Refusal) → r ≡ loaded s (length w) → w' ≡ work_after s w → Loads s w w' r
 promised s w w' r e f = record { answer = e; told = ap load_answer e ∙ load_told s (length w); work = f }
 
 -- a refusal's number is not 0
-pub numbered : (s : List ℕ) (m : ℕ) (r : Refusal) → loaded s m ≡ Refused r → (refusal_number r == 0) ≡ false
+pub numbered : (s : List ℕ) (m : ℕ) (r : Refusal) → loaded s m ≡ Err r → (refusal_number r == 0) ≡ false
 unfolding loaded verdict load_index
 numbered s m r e = go (most_bytes <ᵇ length s) refl ((pack_end s).refused == 0) refl (length (offsets s) ≤ᵇ m) refl
   where
-    number_of : Loaded → ℕ
-    number_of (Refused q) = refusal_number q
-    number_of (Accepted i) = 1
+    number_of : Result Index Refusal → ℕ
+    number_of (Err q) = refusal_number q
+    number_of (Ok i) = 1
 
     back : (n : ℕ) → number_of (loaded s m) ≡ n → (n == 0) ≡ false → (refusal_number r == 0) ≡ false
     back n f z = ap (λ k. k == 0) (sym (ap number_of e) ∙ f) ∙ z
@@ -44,12 +59,12 @@ numbered s m r e = go (most_bytes <ᵇ length s) refl ((pack_end s).refused == 0
     go : (a : Bool) → (most_bytes <ᵇ length s) ≡ a → (b : Bool) → ((pack_end s).refused == 0) ≡ b → (c : Bool) → (length (offsets s) ≤ᵇ m) ≡ c
         → (refusal_number r == 0) ≡ false
     go true x b y c z = back 9 (rw x) refl
-    go false x false y c z = back (pack_end s).refused (rw (x, y)) y
+    go false x false y c z = back (pack_end s).refused (rw (x, y, fault_numbered (pack_end s).refused y (input_bound s).0)) y
     go false x true y true z = back 1 (rw (x, y, z)) refl
     go false x true y false z = back 21 (rw (x, y, z)) refl
 
-pub after_refused : (s : List ℕ) (m : ℕ) (r : Refusal) → loaded s m ≡ Refused r → (rest : Answer) → refusal_answer r ≡ after (load_tells s m) rest
+pub after_refused : (s : List ℕ) (m : ℕ) (r : Refusal) → loaded s m ≡ Err r → (rest : Answer) → refusal_answer r ≡ after (load_tells s m) rest
 after_refused s m r e rest = rw (← load_told s m, e, numbered s m r e)
 
-pub after_accepted : (s : List ℕ) (m : ℕ) (i : Index) → loaded s m ≡ Accepted i → (rest : Answer) → rest ≡ after (load_tells s m) rest
+pub after_accepted : (s : List ℕ) (m : ℕ) (i : Index) → loaded s m ≡ Ok i → (rest : Answer) → rest ≡ after (load_tells s m) rest
 after_accepted s m i e rest = rw (← load_told s m, e)

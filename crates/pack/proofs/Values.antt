@@ -1,4 +1,5 @@
 -- The records of the pack's value, by index.
+use Rattle.pack.specs.Items.{Cursor, Item}
 use Prim.Native.Nat.{ℕ, zero, suc, ◌+◌, ◌≤◌, ◌<◌}
 use native.Mathlib.Omega.{arith}
 use mathlib.Core.Path.{◌≡◌, refl, ap}
@@ -12,9 +13,8 @@ use Rattle.pack.specs.Format.{lookup_start, pgn_start}
 use Rattle.pack.specs.Meaning.{type_of_pack, lookup_of_pack, pgn_of_pack, tree_of_pack, pack_of, entry_meaning, field_meaning}
 use Rattle.pack.specs.Ready.{place_of_lookup, pgn_records_below, place_of_tree}
 use Rattle.pack.proofs.Tables.{length_tab, getD_tab}
-use Rattle.pack.specs.declared.cursor.Cursor.{Cursor}
-use Rattle.pack.specs.declared.lookup.LookupItem.{LookupItem}
-use Rattle.pack.specs.declared.pgn.PgnItem.{PgnItem}
+use Rattle.pack.specs.declared.lookup.LookupView.{LookupView}
+use Rattle.pack.specs.declared.pgn.PgnView.{PgnView}
 
 module _ (s : List ℕ) where
   pub types_are : length (pack_of s).fieldtypes ≡ (type_list s).value
@@ -49,10 +49,10 @@ module _ (s : List ℕ) where
   pgn_is t i h l = rw (tree_is t h) (getD_tab (pgn_of_pack s t) no_pgn (tree_list s t).value i l)
 
   -- the head of lookup i, and of PGN i of tree t
-  abbrev pub lookup_head : ℕ → LookupItem
+  abbrev pub lookup_head : ℕ → Item LookupView
   lookup_head i = read_lookup (lookup_start s i).before s (lookup_start s i).next
 
-  abbrev pub pgn_head : ℕ → ℕ → PgnItem
+  abbrev pub pgn_head : ℕ → ℕ → Item PgnView
   pgn_head t i = read_pgn s (pgn_start s t i)
 
   pub entries_are : (i : ℕ) → i < (lookup_list s).value → length (lookup_at (pack_of s).lookups i).entries ≡ (lookup_head i).value.entries

@@ -1,24 +1,27 @@
--- The sections of a pack put together: what one walk over it reaches, counts and stores.
-use Prim.Native.Nat.{ℕ, suc}
+-- The sections of a pack put together: what one walk over it reaches, counts and stores, and where one that is refused leaves the whole.
+use Rattle.pack.specs.Items.{Cursor, Form}
+use Rattle.std.specs.Prelude.{Result, Ok, Err, ◌==◌}
+use Rattle.std.specs.Result.{IsErrAnd}
+use Prim.Native.Nat.{ℕ, zero, suc, ◌+◌, ◌-◌, ◌≤◌, ◌<◌}
 use native.Mathlib.Omega.{arith}
 use native.Mathlib.Decide.{ℕ_discrete}
-use mathlib.Core.Path.{◌≡◌, ap, ◌∙◌}
-use mathlib.Core.List.{List}
-use borrow.Author.Tests.{ne_eqb}
+use mathlib.Core.Path.{◌≡◌, refl, ap, ◌∙◌, sym}
+use mathlib.Core.List.{List, []}
 use lib.ListN.{length}
+use borrow.Author.Tests.{ne_eqb}
 use Rattle.pack.specs.Items.{fresh, read_number, read_version, finish}
-use Rattle.pack.specs.Format.{types, type_offsets, lookups, lookup_offsets, pgns, type_list, lookup_list, tree_start, tree_list, pack_end}
-use Rattle.pack.specs.Format.{type_part, lookup_part}
-use Rattle.pack.specs.Format.{tree_part, before, offsets}
+use Rattle.pack.specs.Notation.{◌<ᵇ◌}
+use Rattle.pack.specs.Format.{types, type_offsets, lookups, lookup_offsets, pgns, type_list, lookup_list, tree_start, tree_list, type_part, before}
+use Rattle.pack.specs.Format.{offsets, pack_end}
 use Rattle.pack.specs.Load.{load_index}
-use Rattle.pack.specs.Placing.{Stored, PlacedTo, TreePlacing, Walking}
-use Rattle.pack.specs.declared.cursor.Cursor.{Cursor}
-use Rattle.pack.specs.declared.cursor.NumberItem.{NumberItem}
+use Rattle.pack.specs.Reads.{Reads, Ends}
+use Rattle.pack.specs.Placing.{Places, PlacesTree, PlacesAll}
+use Rattle.pack.specs.declared.load.Section.{Section}
 use Rattle.pack.specs.declared.load.Index.{Index}
-use Rattle.pack.specs.declared.load.Placed.{Placed}
-use Rattle.pack.specs.declared.load.TreePlaced.{TreePlaced}
-use Rattle.pack.proofs.Reading.{Reader, back, followed, number_reader, lookups_reader, pgns_reader}
-use Rattle.pack.proofs.Stores.{stored_append}
+use Rattle.pack.specs.declared.reader.InputRefusal.{InputRefusal}
+use Rattle.pack.specs.declared.reader.Reader as declared
+use Rattle.pack.proofs.Reading.{Reader, if_all, followed, number_reader, version_reader, types_reader, lookups_reader, pgns_reader}
+use Rattle.pack.proofs.Places.{Along, along_none, along_value, along_read, along_then, refused, placed}
 
 -- the end is refused where what stands before it is
 pub finish_back : (s : List ℕ) (c : Cursor) → (finish s c).refused ≡ 0 → c.refused ≡ 0
@@ -34,109 +37,114 @@ module _ (s : List ℕ) where
   pub tree_reader : (k : ℕ) → Reader s (λ c. pgns k s (read_number s c).next (read_number s c).value)
   tree_reader k = followed (number_reader s) (λ c. pgns_reader s k (read_number s c).value)
 
-  pub lookups_after : Reader s (λ c. (lookups s (read_number s c).next (read_number s c).value).next)
-  lookups_after = followed (number_reader s) (λ c. lookups_reader s (read_number s c).value)
+  -- the pack ends there if it is refused there
+  abbrev pub Ending : Cursor → Type 0
+  Ending c = (c.refused ≡ 0 → ⊥) → pack_end s ≡ c
 
-  -- a tree placed behind what stands before tree t
-  tree_step : (t : ℕ) {w w' : List ℕ} {p : ℕ} (c : Cursor) (r : TreePlaced) (k : ℕ) → c ≡ tree_start s t → k ≡ (type_list s).value → TreePlacing s k c w p w' r
-      → (r.next ≡ tree_start s (suc t)) × (r.count ≡ (tree_list s t).value)
-      × (r.next.refused ≡ 0 → (c.refused ≡ 0) × Stored w p (tree_part s t) w' r.place)
-  unfolding tree_start tree_list
-  tree_step t {w} {w'} {p} c r k e f a =
-      let q = a.placed in
-      let next : r.next ≡ tree_start s (suc t) = q.next ∙ (rw (e, f)) in
-      (next, a.count ∙ (rw e), λ z. (back (tree_reader k) c (rw (← q.next) z), (rw (e, f) at (q.stored z))))
+  ends_before : {c d : Cursor} → Ending d → ((c.refused ≡ 0 → ⊥) → d ≡ c) → Ending c
+  ends_before f g n = let e = g n in f (λ z. n (rw (← e) z)) ∙ e
 
-  pub whole : (w w1 w2 w3 w4 w5 : List ℕ) (v n m : NumberItem) (t l : Placed) (a b d : TreePlaced) (e : Cursor)
-      → v ≡ read_version s (fresh 0) → n ≡ read_number s v.next
-      → PlacedTo (types s n.next n.value) w 0 (type_offsets s n.next n.value) w1 t.next t.place
-      → m ≡ read_number s t.next
-      → PlacedTo (lookups s m.next m.value).next w1 t.place (lookup_offsets s m.next m.value) w2 l.next l.place
-      → TreePlacing s n.value l.next w2 l.place w3 a → TreePlacing s n.value a.next w3 a.place w4 b
-      → TreePlacing s n.value b.next w4 b.place w5 d
-      → e ≡ finish s d.next
-      → Walking s w w5
-      (record {
-        index = record {
-          types = record { count = n.value; place = 0 };
-          lookups = record { count = m.value; place = t.place };
-          nmea2000 = record { count = a.count; place = l.place };
-          j1939 = record { count = b.count; place = a.place };
-          quick = record { count = d.count; place = b.place };
-          records = d.place;
-        };
-        end = e;
-      })
-  unfolding pack_end type_list lookup_list tree_start before offsets load_index
-  whole w w1 w2 w3 w4 w5 v n m t l a b d e ev en pt em pl pa pb pd ee =
-      record { end = ee ∙ (rw xd.0); index = index; work = λ z. (stored z).4.work }
-    where
-      xn : n ≡ type_list s
-      xn = en ∙ (rw ev)
+  tree_from : (d t : ℕ) → d + t ≡ 3 → Ending (tree_start s t)
+  unfolding tree_start pack_end finish
+  tree_from zero t e = let z : t ≡ 3 = omega arith in rw z (λ n. rw (ne_eqb _ _ n))
+  tree_from (suc d) t e = ends_before (tree_from d (suc t) (omega arith)) ((tree_reader (type_list s).value).sticky (tree_start s t))
 
-      xt : t.next ≡ types s (type_list s).next (type_list s).value
-      xt = pt.next ∙ (rw xn)
+  pub tree_ends : (t : ℕ) → t ≤ 3 → Ending (tree_start s t)
+  tree_ends t h = tree_from (3 - t) t (omega arith)
 
-      xm : m ≡ lookup_list s
-      xm = em ∙ (rw xt)
+  pub lookup_list_ends : Ending (lookup_list s).next
+  unfolding tree_start
+  lookup_list_ends = ends_before (tree_ends 0 (omega arith)) ((lookups_reader s (lookup_list s).value).sticky (lookup_list s).next)
 
-      xl : l.next ≡ tree_start s 0
-      xl = pl.next ∙ (rw xm)
+  pub types_ends : Ending (types s (type_list s).next (type_list s).value)
+  unfolding lookup_list
+  types_ends = ends_before lookup_list_ends ((number_reader s).sticky (types s (type_list s).next (type_list s).value))
 
-      k : n.value ≡ (type_list s).value
-      k = ap (λ (r : NumberItem). r.value) xn
+  pub type_list_ends : Ending (type_list s).next
+  type_list_ends = ends_before types_ends ((types_reader s (type_list s).value).sticky (type_list s).next)
 
-      xa : (a.next ≡ tree_start s 1) × (a.count ≡ (tree_list s 0).value)
-          × (a.next.refused ≡ 0 → (l.next.refused ≡ 0) × Stored w2 l.place (tree_part s 0) w3 a.place)
-      xa = tree_step 0 l.next a n.value xl k pa
+  pub version_ends : Ending (read_version s (fresh 0)).next
+  unfolding type_list
+  version_ends = ends_before type_list_ends ((number_reader s).sticky (read_version s (fresh 0)).next)
 
-      xb : (b.next ≡ tree_start s 2) × (b.count ≡ (tree_list s 1).value)
-          × (b.next.refused ≡ 0 → (a.next.refused ≡ 0) × Stored w3 a.place (tree_part s 1) w4 b.place)
-      xb = tree_step 1 a.next b n.value xa.0 k pb
+-- ---- the walk
 
-      xd : (d.next ≡ tree_start s 3) × (d.count ≡ (tree_list s 2).value)
-          × (d.next.refused ≡ 0 → (b.next.refused ≡ 0) × Stored w4 b.place (tree_part s 2) w5 d.place)
-      xd = tree_step 2 b.next d n.value xb.0 k pd
+-- the end of the pack, as an item
+abbrev pub end_form : Form (Unit {0})
+end_form s c = record { value = tt; next = finish s c }
 
-      clean : (pack_end s).refused ≡ 0
-          → (d.next.refused ≡ 0) × (b.next.refused ≡ 0) × (a.next.refused ≡ 0) × (l.next.refused ≡ 0) × (t.next.refused ≡ 0)
-      clean z =
-          let zd : d.next.refused ≡ 0 = rw xd.0 (finish_back s (tree_start s 3) z) in
-          let zb = (xd.2 zd).0 in
-          let za = (xb.2 zb).0 in
-          let zl = (xa.2 za).0 in
-          let zm : (lookups s (read_number s t.next).next (read_number s t.next).value).next.refused ≡ 0 = rw (← em, ← pl.next) zl in
-          (zd, zb, za, zl, back lookups_after t.next zm)
+finish_at : (s : List ℕ) (c : Cursor) → (finish s c).at ≡ c.at
+unfolding finish
+finish_at s c =
+    let P : Cursor → Type 0 = λ d. d.at ≡ c.at in
+    if_all P (c.refused == 0) _ _ (λ _. if_all P (c.at <ᵇ length s) _ _ (λ _. refl) (λ _. refl)) (λ _. refl)
 
-      stored : (pack_end s).refused ≡ 0
-          → Stored w 0 (type_part s) w1 t.place × Stored w 0 (before s 0) w2 l.place × Stored w 0 (before s 1) w3 a.place
-          × Stored w 0 (before s 2) w4 b.place × Stored w 0 (before s 3) w5 d.place
-      stored z =
-          let y = clean z in
-          let s0 : Stored w 0 (type_part s) w1 t.place = rw xn at (pt.stored y.4) in
-          let s1 : Stored w1 t.place (lookup_part s) w2 l.place = rw xm at (pl.stored y.3) in
-          let s2 : Stored w 0 (before s 0) w2 l.place = stored_append s0 s1 in
-          let s3 : Stored w 0 (before s 1) w3 a.place = stored_append s2 (xa.2 y.2).1 in
-          let s4 : Stored w 0 (before s 2) w4 b.place = stored_append s3 (xb.2 y.1).1 in
-          (s0, s2, s3, s4, stored_append s4 (xd.2 y.0).1)
+pub ends : {d : declared.Reader} {z : Result (Unit {0}) InputRefusal} → Ends d z → Reads d end_form z d
+ends {d} {z} a = record { bytes = refl; answer = a.answer; at = λ _. sym (finish_at d.bytes.now (fresh d.at)) }
 
-      index : (pack_end s).refused ≡ 0
-          → ◌≡◌ {A = Index}
-          (record {
-            types = record { count = n.value; place = 0 };
-            lookups = record { count = m.value; place = t.place };
-            nmea2000 = record { count = a.count; place = l.place };
-            j1939 = record { count = b.count; place = a.place };
-            quick = record { count = d.count; place = b.place };
-            records = d.place;
-          })
-          (load_index s)
-      index z =
-          let y = stored z in
-          let m1 : m.value ≡ (lookup_list s).value = ap (λ (r : NumberItem). r.value) xm in
-          let p0 : t.place ≡ length (type_part s) = omega (arith, y.0.count) in
-          let p1 : l.place ≡ length (before s 0) = omega (arith, y.1.count) in
-          let p2 : a.place ≡ length (before s 1) = omega (arith, y.2.count) in
-          let p3 : b.place ≡ length (before s 2) = omega (arith, y.3.count) in
-          let p4 : d.place ≡ length (before s 3) = omega (arith, y.4.count) in
-          rw (k, m1, xa.1, xb.1, xd.1, p0, p1, p2, p3, p4)
+-- the whole, as a form
+abbrev all_form : Form Index
+all_form s c = record { value = load_index s; next = pack_end s }
+
+-- nothing refused up to there, in a pack of n field types
+pub record Upto (r : declared.Reader) (w : List ℕ) (n : ℕ) (end : Cursor) (xs : List ℕ) (d : declared.Reader) (v : List ℕ) (p : ℕ) : Type 0 where
+  pub types : n ≡ (type_list r.bytes.now).value
+  pub along : Along r w 0 end xs d v p
+
+module _ {r : declared.Reader} {w : List ℕ} where
+  -- where a `?` returns
+  pub walk_refused : {end : Cursor} {xs : List ℕ} {d : declared.Reader} {v : List ℕ} {q : ℕ} {A : Type 0} {g : Form A} {f : InputRefusal} {e : declared.Reader}
+      {u : List ℕ} {z : Result Index InputRefusal}
+      → Along r w 0 end xs d v q → Reads d g (Err f) e → IsErrAnd z (λ y. y ≡ f) → Ending r.bytes.now (g r.bytes.now end).next
+      → PlacesAll r.bytes.now w z u
+  walk_refused {u = u} a b i h =
+      let p = refused a {form = all_form} {behind = λ (x : Index). x.records} {ys = λ s c. offsets s} {u = u} b i h in
+      record { answer = p.reads.answer; work = p.work }
+
+  pub begun : {d : declared.Reader} {v : ℕ} → r.at ≡ 0 → length r.bytes.now < 4294967296 → Reads r read_version (Ok v) d
+      → Along r w 0 (read_version r.bytes.now (fresh 0)).next [] d w 0
+  begun {d} {v} z h b =
+      let a = along_none r w 0 (record { short = h; few = omega arith }) in
+      let b = along_read a b (version_reader r.bytes.now).grows in
+      record { bytes = b.bytes; at = b.at ∙ ap (λ k. (read_version r.bytes.now (fresh k)).next) z; stored = b.stored; room = b.room }
+
+  module _ {n : ℕ} {d e : declared.Reader} where
+    pub upto_types : Along r w 0 (read_version r.bytes.now (fresh 0)).next [] d w 0 → Reads d read_number (Ok n) e
+        → Upto r w n (type_list r.bytes.now).next [] e w 0
+    unfolding type_list
+    upto_types a b = record { types = along_value a b; along = along_read a b (number_reader d.bytes.now).grows }
+
+    module _ {v u : List ℕ} {p q : ℕ} where
+      pub upto_lookups : Upto r w n (type_list r.bytes.now).next [] d v p → Places (λ s c. types s c n) (λ s c. type_offsets s c n) d v p (Ok q) e u
+          → Upto r w n (types r.bytes.now (type_list r.bytes.now).next (type_list r.bytes.now).value) (type_part r.bytes.now) e u q
+      upto_lookups a b = record { types = a.types; along = rw a.types at (along_then a.along b refl) }
+
+      pub upto_tree : (t : ℕ) → Upto r w n (tree_start r.bytes.now t) (before r.bytes.now t) d v p → {x : Section} → PlacesTree n d v p (Ok (x, q)) e u
+          → Upto r w n (tree_start r.bytes.now (suc t)) (before r.bytes.now (suc t)) e u q
+          × (x ≡ record { count = (tree_list r.bytes.now t).value; place = length (before r.bytes.now t) })
+      unfolding tree_start tree_list before
+      upto_tree t a {x} b =
+          let y = along_value a.along b.reads in
+          let l : p ≡ length (before r.bytes.now t) = omega (arith, a.along.stored.count) in
+          (record { types = a.types; along = rw a.types at (along_then a.along b refl) }, ap (λ (k : Section × ℕ). k.0) y ∙ (rw l))
+
+    pub upto_number : {v : List ℕ} {p m : ℕ} → Upto r w n (types r.bytes.now (type_list r.bytes.now).next (type_list r.bytes.now).value) (type_part r.bytes.now) d v p
+        → Reads d read_number (Ok m) e
+        → Upto r w n (lookup_list r.bytes.now).next (type_part r.bytes.now) e v p × (m ≡ (lookup_list r.bytes.now).value)
+    unfolding lookup_list
+    upto_number a b = (record { types = a.types; along = along_read a.along b (number_reader d.bytes.now).grows }, along_value a.along b)
+
+    pub upto_trees : {v u : List ℕ} {p q m : ℕ} → Upto r w n (lookup_list r.bytes.now).next (type_part r.bytes.now) d v p → m ≡ (lookup_list r.bytes.now).value
+        → Places (λ s c. (lookups s c m).next) (λ s c. lookup_offsets s c m) d v p (Ok q) e u
+        → Upto r w n (tree_start r.bytes.now 0) (before r.bytes.now 0) e u q
+    unfolding tree_start before
+    upto_trees a k b = record { types = a.types; along = rw k at (along_then a.along b refl) }
+
+  pub walked : {n : ℕ} {d : declared.Reader} {v : List ℕ} {i : Index} → Upto r w n (tree_start r.bytes.now 3) (before r.bytes.now 3) d v i.records
+      → {x : Unit {0}} → Ends d (Ok x)
+      → i ≡ load_index r.bytes.now → PlacesAll r.bytes.now w (Ok i) v
+  unfolding pack_end offsets
+  walked {n} {d} {v} {i} a b e =
+      let g : (c : Cursor) → c.at ≤ (finish d.bytes.now c).at = λ c. omega (arith, finish_at d.bytes.now c) in
+      let p = placed all_form (λ (x : Index). x.records) (λ s c. offsets s) (along_read a.along (ends b) g) e in
+      record { answer = p.reads.answer; work = p.work }

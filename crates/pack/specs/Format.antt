@@ -1,12 +1,11 @@
 -- The pack as a whole: its lists of records one after the other, where each record begins, and how far reading gets.
-use Rattle.std.specs.Prelude.{ℕ, zero, suc, ◌+◌, false, true, List, ◌∷◌, ◌++◌}
+use Rattle.pack.specs.Items.{Cursor, Item}
+use Rattle.std.specs.Prelude.{ℕ, zero, suc, ◌+◌, List, ◌∷◌, ◌++◌}
 use Rattle.std.specs.Prelude.{Option, None, Some}
 use Rattle.pack.specs.Notation.{concat_below, tab}
 use Rattle.pack.specs.Items.{fresh, read_number, read_version, finish}
 use Rattle.pack.specs.Records.{read_type, read_entry, read_lookup, read_pgn, read_field}
 use Rattle.pack.specs.declared.text.Text.{Text}
-use Rattle.pack.specs.declared.cursor.Cursor.{Cursor}
-use Rattle.pack.specs.declared.cursor.NumberItem.{NumberItem}
 
 -- "A list is a count, then its records": f, n times
 abbrev pub iter : {A : Type 0} → (A → A) → A → ℕ → A
@@ -101,10 +100,10 @@ pgn_offsets k s c n = concat_below (λ i. pgn_records k s (pgns k s c i)) n
 -- ---- "Pack: version; list of field types; list of lookups; three lists of PGNs"
 
 -- each list's count, and the cursor behind it
-unfoldable pub type_list : List ℕ → NumberItem
+unfoldable pub type_list : List ℕ → Item ℕ
 type_list s = read_number s (read_version s (fresh 0)).next
 
-unfoldable pub lookup_list : List ℕ → NumberItem
+unfoldable pub lookup_list : List ℕ → Item ℕ
 lookup_list s = read_number s (types s (type_list s).next (type_list s).value)
 
 -- where tree t begins
@@ -112,7 +111,7 @@ unfoldable pub tree_start : List ℕ → ℕ → Cursor
 tree_start s zero = (lookups s (lookup_list s).next (lookup_list s).value).next
 tree_start s (suc t) = let n = read_number s (tree_start s t) in pgns (type_list s).value s n.next n.value
 
-unfoldable pub tree_list : List ℕ → ℕ → NumberItem
+unfoldable pub tree_list : List ℕ → ℕ → Item ℕ
 tree_list s t = read_number s (tree_start s t)
 
 -- how far reading gets: the end of the pack, or the first offending item

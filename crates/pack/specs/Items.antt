@@ -1,23 +1,37 @@
--- The items of a pack and the cursor that reads them, as document 01's "The pack" and "Refused for the input" have them.
--- A reader answers the item and the next cursor. A refused cursor stands at the offending item: each further read answers an empty item and
--- the same cursor, so "the first offending item decides".
+-- The items of a pack and how they are read, as document 01's "The pack" and "Refused for the input" have them.
+-- A reading answers an item and the cursor behind it. A refused cursor stands at the offending item: each further reading answers an empty item
+-- and the same cursor, so "the first offending item decides".
 use Rattle.std.specs.Prelude.{ℕ, zero, suc, ◌+◌, ◌-◌, ◌*◌, ◌%◌, ◌^◌, List, [], ◌∷◌}
 use Rattle.std.specs.Prelude.{Bool, true, false, not, ◌&&◌, length, get_or, drop, take, ◌==◌, if◌then◌else◌}
 use Rattle.std.specs.Prelude.{Option, None, Some}
 use Rattle.pack.specs.Notation.{◌<ᵇ◌, ◌≤ᵇ◌}
 use Rattle.pack.specs.declared.text.Text.{Text}
-use Rattle.pack.specs.declared.number.Value.{Value}
-use Rattle.pack.specs.declared.cursor.Cursor.{Cursor}
-use Rattle.pack.specs.declared.cursor.WideItem.{WideItem}
-use Rattle.pack.specs.declared.cursor.NumberItem.{NumberItem}
-use Rattle.pack.specs.declared.cursor.MarkItem.{MarkItem}
-use Rattle.pack.specs.declared.cursor.TextItem.{TextItem}
-use Rattle.pack.specs.declared.optional.OptTextItem.{OptTextItem}
-use Rattle.pack.specs.declared.optional.OptNumberItem.{OptNumberItem}
-use Rattle.pack.specs.declared.optional.OptFloatItem.{OptFloatItem}
 
 infix 50 ◌≺◌
+infixr 20 ◌▷◌
 -- ---- the cursor
+
+-- an offset; and 01's number of the refusal there, 0 where there is none
+pub record Cursor : Type 0 where
+  pub at : ℕ
+  pub refused : ℕ
+
+-- an item, and the cursor behind it
+pub record Item (A : Type 0) : Type 0 where
+  pub value : A
+  pub next : Cursor
+
+-- from the bytes of a pack and a cursor
+abbrev pub Form : Type 0 → Type 0
+Form A = List ℕ → Cursor → Item A
+
+-- nothing is read
+unfoldable pub give : {A : Type 0} → A → Form A
+give v s c = record { value = v; next = c }
+
+-- one item, and then what follows such an item
+unfoldable pub ◌▷◌ : {A B : Type 0} → Form A → (A → Form B) → Form B
+(p ▷ q) s c = q (p s c).value s (p s c).next
 
 -- a cursor at an offset, with nothing refused
 abbrev pub fresh : ℕ → Cursor
@@ -51,20 +65,22 @@ unfoldable pub shortest : List ℕ → ℕ → ℕ → Bool
 shortest s at e = not ((at <ᵇ e) && (get_or s e 0 == 0))
 
 -- "too large for its width"
-unfoldable pub capped : ℕ → ℕ → Value
-capped most n = if n ≤ᵇ most then record { over = false; value = n } else record { over = true; value = 0 }
+unfoldable pub capped : ℕ → ℕ → Option ℕ
+capped most n = if n ≤ᵇ most then Some n else None
+
+-- a number that was decoded up to the offset e, or refused at c
+abbrev pub decoded : Cursor → (e : ℕ) → Option ℕ → Item ℕ
+decoded c e None = record { value = 0; next = refuse c 2 }
+decoded c e (Some v) = record { value = v; next = moved c e }
 
 -- 1: "bytes end inside an item or before the next one"; 2: "a number not in shortest form, or too large for its width"
-unfoldable pub read_wide : ℕ → List ℕ → Cursor → WideItem
+unfoldable pub read_wide : ℕ → Form ℕ
 read_wide most s c =
     let e = last_byte_at s c.at in
-    let v = capped most (groups s (e + 1) (e + 1 - c.at)) in
     if c.refused == 0
     then if e <ᵇ length s
     then if shortest s c.at e
-    then if v.over
-    then record { value = 0; next = refuse c 2 }
-    else record { value = v.value; next = moved c (e + 1) }
+    then decoded c (e + 1) (capped most (groups s (e + 1) (e + 1 - c.at)))
     else record { value = 0; next = refuse c 2 }
     else record { value = 0; next = refuse c 1 }
     else record { value = 0; next = c }
@@ -76,40 +92,40 @@ largest32 = 4294967295
 abbrev pub largest64 : ℕ
 largest64 = 18446744073709551615
 
-unfoldable pub read_number : List ℕ → Cursor → NumberItem
-read_number s c = let w = read_wide largest32 s c in record { value = w.value; next = w.next }
+unfoldable pub read_number : Form ℕ
+read_number = read_wide largest32
 
 -- an item that was read, judged by a further point: refused by that number where it is not good
-unfoldable pub judged : Cursor → NumberItem → Bool → ℕ → NumberItem
+unfoldable pub judged : Cursor → Item ℕ → Bool → ℕ → Item ℕ
 judged c item good n =
     if item.next.refused == 0
     then if good then item else record { value = 0; next = refuse c n }
     else record { value = 0; next = item.next }
 
 -- 3: "pack version other than 1"
-unfoldable pub read_version : List ℕ → Cursor → NumberItem
+unfoldable pub read_version : Form ℕ
 read_version s c = let n = read_number s c in judged c n (n.value == 1) 3
 
 -- 4: "a code, mark or flag outside its values", which are 0 to `most`
-unfoldable pub read_code : ℕ → List ℕ → Cursor → NumberItem
+unfoldable pub read_code : ℕ → Form ℕ
 read_code most s c = let n = read_number s c in judged c n (n.value ≤ᵇ most) 4
 
 -- 6: "a field's field type index not below the number of field types"
-unfoldable pub read_index : ℕ → List ℕ → Cursor → NumberItem
+unfoldable pub read_index : ℕ → Form ℕ
 read_index count s c = let n = read_number s c in judged c n (n.value <ᵇ count) 6
 
 -- 7: "a sum above 4,294,967,295", at "the item that completes the sum"
-unfoldable pub read_sum : ℕ → List ℕ → Cursor → NumberItem
+unfoldable pub read_sum : ℕ → Form ℕ
 read_sum other s c = let n = read_number s c in judged c n (other + n.value ≤ᵇ largest32) 7
 
 -- 7 for "minimum length × 8"
-unfoldable pub read_bytes : List ℕ → Cursor → NumberItem
+unfoldable pub read_bytes : Form ℕ
 read_bytes s c = let n = read_number s c in judged c n (n.value * 8 ≤ᵇ largest32) 7
 
 -- ---- texts and floats
 
 -- "A text is a length and bytes", "one item with its length, which is judged before its bytes"
-unfoldable pub read_text : List ℕ → Cursor → TextItem
+unfoldable pub read_text : Form Text
 read_text s c =
     let n = read_number s c in
     let e = n.next.at + n.value in
@@ -135,7 +151,7 @@ abbrev pub rises : List ℕ → Option Text → Text → Bool
 rises s None t = true
 rises s (Some before) t = bytes_of s before ≺ bytes_of s t
 
-unfoldable pub read_name : Option Text → List ℕ → Cursor → TextItem
+unfoldable pub read_name : Option Text → Form Text
 read_name before s c =
     let t = read_text s c in
     if t.next.refused == 0
@@ -148,7 +164,7 @@ read_name before s c =
 abbrev pub four : List ℕ → ℕ → ℕ
 four s at = get_or s at 0 + 256 * (get_or s (at + 1) 0 + 256 * (get_or s (at + 2) 0 + 256 * get_or s (at + 3) 0))
 
-unfoldable pub read_float : List ℕ → Cursor → WideItem
+unfoldable pub read_float : Form ℕ
 read_float s c =
     if c.refused == 0
     then if c.at + 8 ≤ᵇ length s
@@ -158,39 +174,11 @@ read_float s c =
 
 -- ---- optional items: "a mark, 0 or 1, then the item if 1"
 
-unfoldable pub read_mark : List ℕ → Cursor → MarkItem
-read_mark s c = let n = read_code 1 s c in record { value = n.value == 1; next = n.next }
+unfoldable pub read_mark : Form Bool
+read_mark = read_code 1 ▷ λ n. give (n == 1)
 
-unfoldable pub read_opt_text : List ℕ → Cursor → OptTextItem
-read_opt_text s c =
-    let m = read_mark s c in
-    let t = read_text s m.next in
-    if m.value
-    then record { value = Some t.value; next = t.next }
-    else record { value = None; next = m.next }
-
-abbrev pub some_number : NumberItem → OptNumberItem
-some_number n = record { value = Some n.value; next = n.next }
-
-abbrev pub no_number : Cursor → OptNumberItem
-no_number c = record { value = None; next = c }
-
-unfoldable pub read_opt_number : List ℕ → Cursor → OptNumberItem
-read_opt_number s c = let m = read_mark s c in if m.value then some_number (read_number s m.next) else no_number m.next
-
-unfoldable pub read_opt_bytes : List ℕ → Cursor → OptNumberItem
-read_opt_bytes s c = let m = read_mark s c in if m.value then some_number (read_bytes s m.next) else no_number m.next
-
-unfoldable pub read_opt_sum : ℕ → List ℕ → Cursor → OptNumberItem
-read_opt_sum other s c = let m = read_mark s c in if m.value then some_number (read_sum other s m.next) else no_number m.next
-
-unfoldable pub read_opt_float : List ℕ → Cursor → OptFloatItem
-read_opt_float s c =
-    let m = read_mark s c in
-    let f = read_float s m.next in
-    if m.value
-    then record { value = Some f.value; next = f.next }
-    else record { value = None; next = m.next }
+unfoldable pub optional : {A : Type 0} → Form A → Form (Option A)
+optional p = read_mark ▷ λ given. if given then (p ▷ λ v. give (Some v)) else give None
 
 -- ---- the end
 

@@ -8,3 +8,5 @@ pub mod Meaning
 pub mod Placing
 pub mod Trees
 pub mod Ready
+pub mod Reads
+pub mod Loaded

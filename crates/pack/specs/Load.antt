@@ -1,17 +1,28 @@
 -- What `load` answers, and what it leaves in the work buffer.
-use Rattle.std.specs.Prelude.{ℕ, ◌≡◌, List, [], ◌∷◌, ◌++◌, length, drop, ◌==◌, if◌then◌else◌}
+use Rattle.std.specs.Prelude.{ℕ, ◌≡◌, List, [], ◌∷◌, ◌++◌, length, drop, Result, Ok, Err, ◌==◌, if◌then◌else◌}
 use Rattle.pack.specs.Notation.{◌<ᵇ◌, ◌≤ᵇ◌}
 use Rattle.pack.specs.Format.{type_list, lookup_list, tree_list, type_part, before, offsets, pack_end}
 use Rattle.pack.specs.declared.load.Section.{Section}
 use Rattle.pack.specs.declared.load.Index.{Index}
 use Rattle.pack.specs.declared.load.Refusal.{Refusal}
 use Rattle.pack.specs.declared.load.Refusal.TheVariants.{Input, TooLong, Work, Findings, Absent, Place, Visits}
-use Rattle.pack.specs.declared.load.Loaded.{Loaded}
-use Rattle.pack.specs.declared.load.Loaded.TheVariants.{Refused, Accepted}
+use Rattle.pack.specs.Reads.{refusal_of}
+use Rattle.pack.specs.declared.reader.Fault.{Fault}
+use Rattle.pack.specs.declared.reader.Fault.TheVariants as fault
+
+abbrev pub fault_number : Fault → ℕ
+fault_number fault.CutShort = 1
+fault_number fault.Number = 2
+fault_number fault.Version = 3
+fault_number fault.Code = 4
+fault_number fault.NameOrder = 5
+fault_number fault.TypeIndex = 6
+fault_number fault.Sum = 7
+fault_number fault.BytesLeft = 8
 
 -- "A refusal gives its number and a detail."
 abbrev pub refusal_number : Refusal → ℕ
-refusal_number (Input n at) = n
+refusal_number (Input i) = fault_number i.fault
 refusal_number TooLong = 9
 refusal_number (Work n) = 21
 refusal_number (Findings n) = 22
@@ -22,7 +33,7 @@ refusal_number (Visits n) = 25
 -- "For 1 to 8 the detail is the byte offset at which the offending item (a number, text, 8-byte float) begins; for 9 it is 0."
 -- "The detail is the length needed; 0 for 23 .."
 abbrev pub refusal_detail : Refusal → ℕ
-refusal_detail (Input n at) = at
+refusal_detail (Input i) = i.offset
 refusal_detail TooLong = 0
 refusal_detail (Work n) = n
 refusal_detail (Findings n) = n
@@ -65,9 +76,9 @@ index_values i =
     ++ section_values i.j1939
     ++ section_values i.quick
 
-abbrev pub load_answer : Loaded → Answer
-load_answer (Refused r) = refusal_answer r
-load_answer (Accepted i) = gives (index_values i)
+abbrev pub load_answer : Result Index Refusal → Answer
+load_answer (Err r) = refusal_answer r
+load_answer (Ok i) = gives (index_values i)
 
 -- ---- load
 
@@ -86,7 +97,7 @@ verdict s =
     then refused TooLong
     else (if (pack_end s).refused == 0
     then accepted
-    else refused (Input (pack_end s).refused (pack_end s).at))
+    else refused (Input (refusal_of (pack_end s))))
 
 -- the counts, and the work positions at which field types, lookups and the three trees begin
 unfoldable pub load_index : List ℕ → Index
@@ -100,12 +111,12 @@ load_index s =
       records = length (offsets s);
     }
 
-abbrev pub answer : Verdict → Index → ℕ → Loaded
-answer (refused r) i m = Refused r
-answer accepted i m = if i.records ≤ᵇ m then Accepted i else Refused (Work i.records)
+abbrev pub answer : Verdict → Index → ℕ → Result Index Refusal
+answer (refused r) i m = Err r
+answer accepted i m = if i.records ≤ᵇ m then Ok i else Err (Work i.records)
 
 -- `load` of the pack s with a work buffer of m numbers. 21: "work buffer shorter than the records"
-unfoldable pub loaded : List ℕ → ℕ → Loaded
+unfoldable pub loaded : List ℕ → ℕ → Result Index Refusal
 loaded s m = answer (verdict s) (load_index s) m
 
 -- The same in 01's numbers: "9 is tested first. Then the first offending item decides"; "Input refusals come before these; then 21"
@@ -121,16 +132,16 @@ load_tells s m =
 abbrev pub over : List ℕ → List ℕ → List ℕ
 over front w = front ++ drop (length front) w
 
-abbrev pub work_left : Loaded → List ℕ → List ℕ → List ℕ
-work_left (Refused r) front w = w
-work_left (Accepted i) front w = over front w
+abbrev pub work_left : Result Index Refusal → List ℕ → List ℕ → List ℕ
+work_left (Err r) front w = w
+work_left (Ok i) front w = over front w
 
 -- "After 1 to 9 and 21 no buffer has changed. Otherwise the work buffer holds the offset of each record .., its rest unchanged."
 unfoldable pub work_after : List ℕ → List ℕ → List ℕ
 work_after s w = work_left (loaded s (length w)) (offsets s) w
 
 -- What `load` promises: its answer r, also in 01's numbers, and the work buffer, w before and w' after.
-pub record Loads (s w w' : List ℕ) (r : Loaded) : Type 0 where
+pub record Loads (s w w' : List ℕ) (r : Result Index Refusal) : Type 0 where
   pub answer : r ≡ loaded s (length w)
   pub told : load_answer r ≡ load_tells s (length w)
   pub work : w' ≡ work_after s w

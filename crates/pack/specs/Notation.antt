@@ -1,6 +1,5 @@
 -- Notation that the definitions share, so that they read like the paper: tests on numbers and bytes, and lists made by index.
 use Rattle.std.specs.Prelude.{ℕ, zero, suc, Bool, true, false, ◌&&◌, List, [], ◌∷◌, ◌++◌, ltb, leb, ◌==◌}
-use Rattle.std.specs.Prelude.{Option, None, Some}
 
 infix 50 ◌<ᵇ◌
 infix 50 ◌≤ᵇ◌

@@ -1,8 +1,9 @@
 // An entry of a lookup, read item by item in 01's order.
-ghost use Rattle.std.specs.Prelude.{◌≡◌};
+ghost use Rattle.pack.specs.Reads.{Reads};
 ghost use Rattle.pack.specs.Records.{read_first, read_kind_part, read_entry};
 
-use crate::cursor::{Cursor, WideItem};
+use crate::items::Words;
+use crate::reader::{InputRefusal, Reader};
 use crate::text::Text;
 
 // An entry of a lookup; what its kind does not have is 0 or empty.
@@ -15,77 +16,53 @@ pub struct EntryView {
     pub nested: Option<Text>,
 }
 
-#[derive(Clone, Copy)]
-pub struct EntryItem {
-    pub value: EntryView,
-    pub next: Cursor,
-}
-
 // What a fieldtype entry has besides value and name.
 #[derive(Clone, Copy)]
-pub struct KindPartItem {
+pub struct KindPart {
     pub fieldtype: Text,
     pub nested: Option<Text>,
-    pub next: Cursor,
 }
 
-impl Cursor {
+impl Reader<'_> {
     // A triplet's first value, which stands before its second.
-    fn first(self, s: &[u8], kind: u32) -> WideItem
-        ensures { result ≡ read_first kind s.now self }
+    fn first(&mut self, kind: u32) -> Result<u64, InputRefusal>
+        ensures { Reads self.old (read_first kind) result self.new }
     {
         if kind == 1 {
-            return self.wide(s, 0xffff_ffff_ffff_ffff);
+            return self.wide(u64::MAX);
         }
-        WideItem {
-            value: 0,
-            next: self,
-        }
+        Ok(0)
     }
 
-    fn kind_part(self, s: &[u8], kind: u32) -> KindPartItem
-        ensures { result ≡ read_kind_part kind s.now self }
+    fn kind_part(&mut self, kind: u32) -> Result<KindPart, InputRefusal>
+        ensures { Reads self.old (read_kind_part kind) result self.new }
     {
         if kind == 3 {
-            let t = self.text(s);
-            let n = t.next.opt_text(s);
-            let fieldtype = t.value;
-            let nested = n.value;
-            let next = n.next;
-            return KindPartItem {
-                fieldtype,
-                nested,
-                next,
-            };
+            return Ok(KindPart {
+                fieldtype: self.text()?,
+                nested: self.optional(Words)?,
+            });
         }
-        KindPartItem {
+        Ok(KindPart {
             fieldtype: Text { start: 0, len: 0 },
             nested: None,
-            next: self,
-        }
+        })
     }
 
     // An entry of a lookup of that kind.
-    pub fn entry(self, s: &[u8], kind: u32) -> EntryItem
-        ensures { result ≡ read_entry kind s.now self }
+    pub(crate) fn entry(&mut self, kind: u32) -> Result<EntryView, InputRefusal>
+        ensures { Reads self.old (read_entry kind) result self.new }
     {
-        let first = self.first(s, kind);
-        let value = first.next.wide(s, 0xffff_ffff_ffff_ffff);
-        let name = value.next.text(s);
-        let rest = name.next.kind_part(s, kind);
-        let a = name.value;
-        let fieldtype = rest.fieldtype;
-        let nested = rest.nested;
-        let next = rest.next;
-        EntryItem {
-            value: EntryView {
-                first: first.value,
-                value: value.value,
-                name: a,
-                fieldtype,
-                nested,
-            },
-            next,
-        }
+        let first = self.first(kind)?;
+        let value = self.wide(u64::MAX)?;
+        let name = self.text()?;
+        let rest = self.kind_part(kind)?;
+        Ok(EntryView {
+            first,
+            value,
+            name,
+            fieldtype: rest.fieldtype,
+            nested: rest.nested,
+        })
     }
 }

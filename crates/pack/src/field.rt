@@ -1,9 +1,10 @@
 // A field, read item by item in 01's order.
-ghost use Rattle.std.specs.Prelude.{◌≡◌, ◌+◌, ◌≤◌};
-ghost use Rattle.std.specs.Prelude.{None};
-ghost use Rattle.pack.specs.Records.{read_names, field_flags_of, read_scaling, read_authored, read_opt_reference, read_links, read_field};
+ghost use Rattle.std.specs.Prelude.{◌≡◌};
+ghost use Rattle.pack.specs.Reads.{Reads};
+ghost use Rattle.pack.specs.Records.{read_names, field_flags_of, read_scaling, read_authored, read_reference, read_links, read_field};
 
-use crate::cursor::{Cursor, fresh};
+use crate::items::{Float, Item, Number, Sum, Words};
+use crate::reader::{InputRefusal, Reader};
 use crate::text::Text;
 
 // What a field is called.
@@ -12,12 +13,6 @@ pub struct NamesView {
     pub id: Text,
     pub name: Text,
     pub kind: Text,
-}
-
-#[derive(Clone, Copy)]
-pub struct NamesItem {
-    pub value: NamesView,
-    pub next: Cursor,
 }
 
 #[derive(Clone, Copy)]
@@ -39,12 +34,6 @@ pub struct ScalingView {
     pub unit: Option<Text>,
 }
 
-#[derive(Clone, Copy)]
-pub struct ScalingItem {
-    pub value: ScalingView,
-    pub next: Cursor,
-}
-
 // What the author wrote.
 #[derive(Clone, Copy)]
 pub struct AuthoredView {
@@ -56,21 +45,9 @@ pub struct AuthoredView {
 }
 
 #[derive(Clone, Copy)]
-pub struct AuthoredItem {
-    pub value: AuthoredView,
-    pub next: Cursor,
-}
-
-#[derive(Clone, Copy)]
 pub struct ReferenceView {
     pub kind: u32,
     pub name: Text,
-}
-
-#[derive(Clone, Copy)]
-pub struct OptReferenceItem {
-    pub value: Option<ReferenceView>,
-    pub next: Cursor,
 }
 
 // What a field refers to.
@@ -84,12 +61,6 @@ pub struct LinksView {
 }
 
 #[derive(Clone, Copy)]
-pub struct LinksItem {
-    pub value: LinksView,
-    pub next: Cursor,
-}
-
-#[derive(Clone, Copy)]
 pub struct FieldView {
     pub names: NamesView,
     pub ft: u32,
@@ -97,12 +68,6 @@ pub struct FieldView {
     pub scaling: ScalingView,
     pub authored: AuthoredView,
     pub links: LinksView,
-}
-
-#[derive(Clone, Copy)]
-pub struct FieldItem {
-    pub value: FieldView,
-    pub next: Cursor,
 }
 
 fn field_flags(n: u32) -> FieldFlags
@@ -118,173 +83,93 @@ fn field_flags(n: u32) -> FieldFlags
     }
 }
 
-fn no_reference(c: Cursor) -> OptReferenceItem
-    ensures { result ≡ record { value = None; next = c } }
-{
-    OptReferenceItem {
-        value: None,
-        next: c,
-    }
-}
-
-impl Cursor {
-    fn names(self, s: &[u8]) -> NamesItem
-        ensures { result ≡ read_names s.now self }
+impl Reader<'_> {
+    fn names(&mut self) -> Result<NamesView, InputRefusal>
+        ensures { Reads self.old read_names result self.new }
     {
-        let id = self.text(s);
-        let name = id.next.text(s);
-        let kind = name.next.text(s);
-        let a = id.value;
-        let b = name.value;
-        let c = kind.value;
-        let next = kind.next;
-        NamesItem {
-            value: NamesView {
-                id: a,
-                name: b,
-                kind: c,
-            },
-            next,
-        }
+        Ok(NamesView {
+            id: self.text()?,
+            name: self.text()?,
+            kind: self.text()?,
+        })
     }
 
     // The scaling of a field, in a PGN whose fields before it have `total` bits.
-    fn scaling(self, s: &[u8], total: u32) -> ScalingItem
-        ensures { record {
-          is : result ≡ read_scaling total s.now self;
-          bound : total + result.value.bits ≤ 4294967295;
-        } }
+    fn scaling(&mut self, total: u32) -> Result<ScalingView, InputRefusal>
+        ensures { Reads self.old (read_scaling total) result self.new }
     {
-        let bits = self.sum(s, total);
-        let resolution = bits.next.float(s);
-        let offset = resolution.next.float(s);
-        let unit = offset.next.opt_text(s);
-        let u = unit.value;
-        let next = unit.next;
-        ScalingItem {
-            value: ScalingView {
-                bits: bits.value,
-                resolution: resolution.value,
-                offset: offset.value,
-                unit: u,
-            },
-            next,
-        }
+        Ok(ScalingView {
+            bits: self.sum(total)?,
+            resolution: self.float()?,
+            offset: self.float()?,
+            unit: self.optional(Words)?,
+        })
     }
 
-    fn authored(self, s: &[u8]) -> AuthoredItem
-        ensures { result ≡ read_authored s.now self }
+    fn authored(&mut self) -> Result<AuthoredView, InputRefusal>
+        ensures { Reads self.old read_authored result self.new }
     {
-        let resolution = self.opt_float(s);
-        let offset = resolution.next.opt_float(s);
-        let spn = offset.next.opt_number(s);
-        let continues = spn.next.opt_text(s);
-        let matched = continues.next.opt_text(s);
-        let a = resolution.value;
-        let b = offset.value;
-        let c = spn.value;
-        let d = continues.value;
-        let e = matched.value;
-        let next = matched.next;
-        AuthoredItem {
-            value: AuthoredView {
-                resolution: a,
-                offset: b,
-                spn: c,
-                continues: d,
-                matched: e,
-            },
-            next,
-        }
+        Ok(AuthoredView {
+            resolution: self.optional(Float)?,
+            offset: self.optional(Float)?,
+            spn: self.optional(Number)?,
+            continues: self.optional(Words)?,
+            matched: self.optional(Words)?,
+        })
     }
 
-    fn opt_reference(self, s: &[u8]) -> OptReferenceItem
-        ensures { result ≡ read_opt_reference s.now self }
+    fn reference(&mut self) -> Result<ReferenceView, InputRefusal>
+        ensures { Reads self.old read_reference result self.new }
     {
-        if self.absent(s) {
-            let c = fresh(self.at + 1);
-            return no_reference(c);
-        }
-        self.opt_reference_long(s)
-    }
-
-    fn opt_reference_long(self, s: &[u8]) -> OptReferenceItem
-        ensures { result ≡ read_opt_reference s.now self }
-    {
-        let m = self.mark(s);
-        let c = m.next;
-        if m.value {
-            let kind = c.code(s, 3);
-            let name = kind.next.text(s);
-            let n = name.value;
-            let next = name.next;
-            return OptReferenceItem {
-                value: Some(ReferenceView {
-                    kind: kind.value,
-                    name: n,
-                }),
-                next,
-            };
-        }
-        no_reference(c)
+        Ok(ReferenceView {
+            kind: self.code(3)?,
+            name: self.text()?,
+        })
     }
 
     // What a field of `bits` bits refers to.
-    fn links(self, s: &[u8], bits: u32) -> LinksItem
-        ensures { result ≡ read_links bits s.now self }
+    fn links(&mut self, bits: u32) -> Result<LinksView, InputRefusal>
+        ensures { Reads self.old (read_links bits) result self.new }
     {
-        let reference = self.opt_reference(s);
-        let special = reference.next.opt_number(s);
-        let length = special.next.opt_text(s);
-        let trailing = length.next.opt_text(s);
-        let continuation = trailing.next.opt_sum(s, bits);
-        let a = reference.value;
-        let b = special.value;
-        let c = length.value;
-        let d = trailing.value;
-        let e = continuation.value;
-        let next = continuation.next;
-        LinksItem {
-            value: LinksView {
-                reference: a,
-                special: b,
-                length: c,
-                trailing: d,
-                continuation: e,
-            },
-            next,
-        }
+        Ok(LinksView {
+            reference: self.optional(Reference)?,
+            special: self.optional(Number)?,
+            length: self.optional(Words)?,
+            trailing: self.optional(Words)?,
+            continuation: self.optional(Sum(bits))?,
+        })
     }
 
     // A field, in a pack of `types` field types and a PGN whose fields before it have `total` bits.
-    pub fn field(self, s: &[u8], types: u64, total: u32) -> FieldItem
-        ensures { record {
-          is : result ≡ read_field types total s.now self;
-          bound : total + result.value.scaling.bits ≤ 4294967295;
-        } }
+    pub(crate) fn field(&mut self, types: u64, total: u32) -> Result<FieldView, InputRefusal>
+        ensures { Reads self.old (read_field types total) result self.new }
     {
-        let names = self.names(s);
-        let ft = names.next.index(s, types);
-        let flags = ft.next.code(s, 63);
-        let scaling = flags.next.scaling(s, total);
-        let authored = scaling.next.authored(s);
-        let links = authored.next.links(s, scaling.value.bits);
-        let a = names.value;
-        let f = field_flags(flags.value);
-        let b = scaling.value;
-        let c = authored.value;
-        let d = links.value;
-        let next = links.next;
-        FieldItem {
-            value: FieldView {
-                names: a,
-                ft: ft.value,
-                flags: f,
-                scaling: b,
-                authored: c,
-                links: d,
-            },
-            next,
-        }
+        let names = self.names()?;
+        let ft = self.index(types)?;
+        let flags = self.code(63)?;
+        let scaling = self.scaling(total)?;
+        let authored = self.authored()?;
+        let links = self.links(scaling.bits)?;
+        Ok(FieldView {
+            names,
+            ft,
+            flags: field_flags(flags),
+            scaling,
+            authored,
+            links,
+        })
+    }
+}
+
+#[derive(Drop)]
+struct Reference;
+
+impl Item for Reference {
+    type Value = ReferenceView;
+
+    ghost form = { λ _. read_reference };
+
+    fn read(self, reader: &mut Reader) -> Result<ReferenceView, InputRefusal> {
+        reader.reference()
     }
 }

@@ -1,8 +1,8 @@
 // A field type, read item by item in 01's order. A view holds numbers, float patterns, and texts as parts of the pack.
-ghost use Rattle.std.specs.Prelude.{◌≡◌};
+ghost use Rattle.pack.specs.Reads.{Reads};
 ghost use Rattle.pack.specs.Records.{read_type};
 
-use crate::cursor::Cursor;
+use crate::reader::{InputRefusal, Reader};
 use crate::text::Text;
 
 #[derive(Clone, Copy)]
@@ -16,36 +16,23 @@ pub struct FieldTypeView {
     pub root: Text,
 }
 
-#[derive(Clone, Copy)]
-pub struct FieldTypeItem {
-    pub value: FieldTypeView,
-    pub next: Cursor,
-}
-
-impl Cursor {
-    pub fn field_type(self, s: &[u8]) -> FieldTypeItem
-        ensures { result ≡ read_type s.now self }
+impl Reader<'_> {
+    pub(crate) fn field_type(&mut self) -> Result<FieldTypeView, InputRefusal>
+        ensures { Reads self.old read_type result self.new }
     {
-        let name = self.text(s);
-        let flags = name.next.code(s, 7);
-        let size = flags.next.number(s);
-        let resolution = size.next.float(s);
-        let root = resolution.next.text(s);
-        let a = name.value;
-        let f = flags.value;
-        let b = root.value;
-        let next = root.next;
-        FieldTypeItem {
-            value: FieldTypeView {
-                name: a,
-                base: f % 2 == 1,
-                print: f / 2 % 2 == 1,
-                signed: f / 4 % 2 == 1,
-                size: size.value,
-                resolution: resolution.value,
-                root: b,
-            },
-            next,
-        }
+        let name = self.text()?;
+        let flags = self.code(7)?;
+        let size = self.number()?;
+        let resolution = self.float()?;
+        let root = self.text()?;
+        Ok(FieldTypeView {
+            name,
+            base: flags % 2 == 1,
+            print: flags / 2 % 2 == 1,
+            signed: flags / 4 % 2 == 1,
+            size,
+            resolution,
+            root,
+        })
     }
 }

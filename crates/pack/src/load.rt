@@ -1,13 +1,13 @@
 // `load`: every input refusal, then the offset of each record into the work buffer. One walk over the pack serves both: it judges, counts
 // and places the offsets in a list on the stack, from which they are copied.
-ghost use Rattle.std.specs.Prelude.{◌≡◌, ◌≤◌, ◌<◌, length, set, take};
+ghost use Rattle.std.specs.Prelude.{◌≡◌, ◌≤◌, ◌<◌, length, set};
 ghost use Rattle.pack.specs.Format.{types, type_offsets, entries, entry_offsets, lookups, lookup_offsets, fields, field_offsets};
-ghost use Rattle.pack.specs.Format.{pgn_next, pgn_records, pgns, pgn_offsets, pack_end, offsets};
-ghost use Rattle.pack.specs.Load.{refusal_number, refusal_detail, over, most_bytes, Loads};
-ghost use Rattle.pack.specs.Placing.{Room, Placing, LookupPlacing, TreePlacing, Walking, counted};
+ghost use Rattle.pack.specs.Format.{pgn_next, pgn_records, pgns, pgn_offsets};
+ghost use Rattle.pack.specs.Load.{refusal_number, refusal_detail, most_bytes, Loads};
+ghost use Rattle.pack.specs.Placing.{Room, Places, PlacesLookup, PlacesTree, PlacesAll};
+ghost use Rattle.pack.specs.declared.load.Refusal.TheVariants.{Input};
 
-use crate::buffers::copy;
-use crate::cursor::Cursor;
+use crate::reader::{InputRefusal, Reader};
 use crate::text::Text;
 
 const MOST_BYTES: usize = 1_048_576;
@@ -32,10 +32,10 @@ pub struct Index {
 }
 
 // Every refusal of every call.
-#[derive(Clone, Copy)]
+#[derive(Clone, Copy, PartialEq, Eq, Debug)]
 pub enum Refusal {
     // 1 to 8
-    Input { number: u32, offset: usize },
+    Input(InputRefusal),
     // 9
     TooLong,
     // 21
@@ -56,7 +56,7 @@ impl Refusal {
         ensures { result ≡ refusal_number self }
     {
         match self {
-            Refusal::Input { number, offset: _ } => number,
+            Refusal::Input(input) => input.fault as u32,
             Refusal::TooLong => 9,
             Refusal::Work(_) => 21,
             Refusal::Findings(_) => 22,
@@ -70,7 +70,7 @@ impl Refusal {
         ensures { result ≡ refusal_detail self }
     {
         match self {
-            Refusal::Input { number: _, offset } => offset,
+            Refusal::Input(input) => input.offset,
             Refusal::TooLong => 0,
             Refusal::Work(n) => n,
             Refusal::Findings(n) => n,
@@ -81,37 +81,12 @@ impl Refusal {
     }
 }
 
-#[derive(Clone, Copy)]
-pub enum Loaded {
-    Refused(Refusal),
-    Accepted(Index),
-}
+impl From<InputRefusal> for Refusal {
+    ghost from_gives = { λ input r. r ≡ Input input };
 
-// Past some records: the cursor, and the work position behind them.
-#[derive(Clone, Copy)]
-struct Placed {
-    next: Cursor,
-    place: usize,
-}
-
-#[derive(Clone, Copy)]
-struct LookupPlaced {
-    next: Cursor,
-    before: Option<Text>,
-    place: usize,
-}
-
-#[derive(Clone, Copy)]
-struct TreePlaced {
-    count: u32,
-    next: Cursor,
-    place: usize,
-}
-
-#[derive(Clone, Copy)]
-struct Walked {
-    index: Index,
-    end: Cursor,
+    fn from(input: InputRefusal) -> Refusal {
+        Refusal::Input(input)
+    }
 }
 
 // The offset of a record at its work position, where the buffer has that.
@@ -124,252 +99,183 @@ fn put(work: &mut [u32], p: usize, at: usize)
     }
 }
 
-// The work position behind a record that ends at c: a refused one is not counted.
-fn past(c: Cursor, p: usize) -> usize
-    requires { p < 4294967296 }
-    ensures { result ≡ counted c p }
+// Each of these places the offsets of the records that it reads from p on, and answers the work position behind them.
+fn place_types(r: &mut Reader, work: &mut [u32], n: u32, p: usize) -> Result<usize, InputRefusal>
+    requires { Room r.old p }
+    ensures { Places (λ s c. types s c n) (λ s c. type_offsets s c n) r.old work.old p result r.new work.new }
 {
-    if c.refused == 0 { p + 1 } else { p }
-}
-
-fn place_types(s: &[u8], work: &mut [u32], c: Cursor, n: u32, p: usize) -> Placed
-    requires { Room s.now c p }
-    ensures { Placing (types s.now c n) work.old p (type_offsets s.now c n) work.new result }
-{
-    let mut c = c;
     let mut p = p;
-    for i in 0..n {
-        if c.refused != 0 {
-            return Placed { next: c, place: p };
-        }
-        let at = c.at;
-        put(work, p, at);
-        let r = c.field_type(s);
-        c = r.next;
-        p = past(c, p);
+    for _i in 0..n {
+        put(work, p, r.at);
+        r.field_type()?;
+        p += 1;
     }
-    Placed { next: c, place: p }
+    Ok(p)
 }
 
-fn place_entries(s: &[u8], work: &mut [u32], c: Cursor, kind: u32, n: u32, p: usize) -> Placed
-    requires { Room s.now c p }
-    ensures { Placing (entries kind s.now c n) work.old p (entry_offsets kind s.now c n) work.new result }
-{
-    let mut c = c;
-    let mut p = p;
-    for i in 0..n {
-        if c.refused != 0 {
-            return Placed { next: c, place: p };
-        }
-        let at = c.at;
-        put(work, p, at);
-        let r = c.entry(s, kind);
-        c = r.next;
-        p = past(c, p);
-    }
-    Placed { next: c, place: p }
-}
-
-// A lookup whose name is above `before`, and its entries.
-fn place_lookup(
-    s: &[u8],
+fn place_entries(
+    r: &mut Reader,
     work: &mut [u32],
-    c: Cursor,
+    kind: u32,
+    n: u32,
+    p: usize,
+) -> Result<usize, InputRefusal>
+    requires { Room r.old p }
+    ensures { Places (λ s c. entries kind s c n) (λ s c. entry_offsets kind s c n) r.old work.old p result r.new work.new }
+{
+    let mut p = p;
+    for _i in 0..n {
+        put(work, p, r.at);
+        r.entry(kind)?;
+        p += 1;
+    }
+    Ok(p)
+}
+
+// A lookup whose name is above the one before it, and its entries; and its name.
+fn place_lookup(
+    r: &mut Reader,
+    work: &mut [u32],
     before: Option<Text>,
     p: usize,
-) -> LookupPlaced
-    requires { Room s.now c p }
-    ensures { LookupPlacing s.now (record { next = c; before = before }) work.old p work.new result }
+) -> Result<(usize, Text), InputRefusal>
+    requires { Room r.old p }
+    ensures { PlacesLookup before r.old work.old p result r.new work.new }
 {
-    let at = c.at;
-    put(work, p, at);
-    let l = c.lookup(s, before);
-    let text = l.value.name;
-    let next = l.next;
-    if next.refused != 0 {
-        return LookupPlaced {
-            next,
-            before: Some(text),
-            place: p,
-        };
-    }
-    let e = place_entries(s, work, next, l.value.kind, l.value.entries, p + 1);
-    let end = e.next;
-    LookupPlaced {
-        next: end,
-        before: Some(text),
-        place: e.place,
-    }
+    put(work, p, r.at);
+    let lookup = r.lookup(before)?;
+    let behind = place_entries(r, work, lookup.kind, lookup.entries, p + 1)?;
+    Ok((behind, lookup.name))
 }
 
-fn place_lookups(s: &[u8], work: &mut [u32], c: Cursor, n: u32, p: usize) -> Placed
-    requires { Room s.now c p }
-    ensures { Placing (lookups s.now c n).next work.old p (lookup_offsets s.now c n) work.new result }
+fn place_lookups(r: &mut Reader, work: &mut [u32], n: u32, p: usize) -> Result<usize, InputRefusal>
+    requires { Room r.old p }
+    ensures { Places (λ s c. (lookups s c n).next) (λ s c. lookup_offsets s c n) r.old work.old p result r.new work.new }
 {
-    let mut c = c;
     let mut before = None;
     let mut p = p;
-    for i in 0..n {
-        if c.refused != 0 {
-            return Placed { next: c, place: p };
-        }
-        let r = place_lookup(s, work, c, before, p);
-        c = r.next;
-        before = r.before;
-        p = r.place;
+    for _i in 0..n {
+        let (behind, name) = place_lookup(r, work, before, p)?;
+        before = Some(name);
+        p = behind;
     }
-    Placed { next: c, place: p }
+    Ok(p)
 }
 
 // The fields of a PGN, in a pack of `types` field types.
-fn place_fields(s: &[u8], work: &mut [u32], c: Cursor, types: u32, n: u32, p: usize) -> Placed
-    requires { Room s.now c p }
-    ensures { Placing (fields types s.now c n).next work.old p (field_offsets types s.now c n) work.new result }
+fn place_fields(
+    r: &mut Reader,
+    work: &mut [u32],
+    types: u32,
+    n: u32,
+    p: usize,
+) -> Result<usize, InputRefusal>
+    requires { Room r.old p }
+    ensures { Places (λ s c. (fields types s c n).next) (λ s c. field_offsets types s c n) r.old work.old p result r.new work.new }
 {
-    let mut c = c;
     let mut total: u32 = 0;
     let mut p = p;
-    for i in 0..n {
-        if c.refused != 0 {
-            return Placed { next: c, place: p };
-        }
-        let at = c.at;
-        put(work, p, at);
-        let r = c.field(s, types as u64, total);
-        c = r.next;
-        total = total + r.value.scaling.bits;
-        p = past(c, p);
+    for _i in 0..n {
+        put(work, p, r.at);
+        let field = r.field(types as u64, total)?;
+        total += field.scaling.bits;
+        p += 1;
     }
-    Placed { next: c, place: p }
+    Ok(p)
 }
 
 // A PGN and its fields.
-fn place_pgn(s: &[u8], work: &mut [u32], c: Cursor, types: u32, p: usize) -> Placed
-    requires { Room s.now c p }
-    ensures { Placing (pgn_next types s.now c) work.old p (pgn_records types s.now c) work.new result }
+fn place_pgn(r: &mut Reader, work: &mut [u32], types: u32, p: usize) -> Result<usize, InputRefusal>
+    requires { Room r.old p }
+    ensures { Places (pgn_next types) (pgn_records types) r.old work.old p result r.new work.new }
 {
-    let at = c.at;
-    put(work, p, at);
-    let g = c.pgn(s);
-    let next = g.next;
-    if next.refused != 0 {
-        return Placed { next, place: p };
-    }
-    place_fields(s, work, next, types, g.value.fields, p + 1)
+    put(work, p, r.at);
+    let pgn = r.pgn()?;
+    place_fields(r, work, types, pgn.fields, p + 1)
 }
 
-fn place_pgns(s: &[u8], work: &mut [u32], c: Cursor, types: u32, n: u32, p: usize) -> Placed
-    requires { Room s.now c p }
-    ensures { Placing (pgns types s.now c n) work.old p (pgn_offsets types s.now c n) work.new result }
+fn place_pgns(
+    r: &mut Reader,
+    work: &mut [u32],
+    types: u32,
+    n: u32,
+    p: usize,
+) -> Result<usize, InputRefusal>
+    requires { Room r.old p }
+    ensures { Places (λ s c. pgns types s c n) (λ s c. pgn_offsets types s c n) r.old work.old p result r.new work.new }
 {
-    let mut c = c;
     let mut p = p;
-    for i in 0..n {
-        if c.refused != 0 {
-            return Placed { next: c, place: p };
-        }
-        let r = place_pgn(s, work, c, types, p);
-        c = r.next;
-        p = r.place;
+    for _i in 0..n {
+        p = place_pgn(r, work, types, p)?;
     }
-    Placed { next: c, place: p }
+    Ok(p)
 }
 
 // A tree: the count of its PGNs, and them.
-fn place_tree(s: &[u8], work: &mut [u32], c: Cursor, types: u32, p: usize) -> TreePlaced
-    requires { Room s.now c p }
-    ensures { TreePlacing s.now types c work.old p work.new result }
+fn place_tree(
+    r: &mut Reader,
+    work: &mut [u32],
+    types: u32,
+    p: usize,
+) -> Result<(Section, usize), InputRefusal>
+    requires { Room r.old p }
+    ensures { PlacesTree types r.old work.old p result r.new work.new }
 {
-    let n = c.number(s);
-    let r = place_pgns(s, work, n.next, types, n.value, p);
-    let next = r.next;
-    TreePlaced {
-        count: n.value,
-        next,
-        place: r.place,
-    }
+    let count = r.number()?;
+    let behind = place_pgns(r, work, types, count, p)?;
+    Ok((Section { count, place: p }, behind))
 }
 
-fn place_all(s: &[u8], work: &mut [u32]) -> Walked
-    requires { length s.now < 4294967296 }
-    ensures { Walking s.now work.old work.new result }
+// The offsets of all records, from the beginning of a buffer on, as far as it has room; and the index.
+fn place_all(pack: &[u8], work: &mut [u32]) -> Result<Index, InputRefusal>
+    requires { length pack.now < 4294967296 }
+    ensures { PlacesAll pack.now work.old result work.new }
 {
-    let start = Cursor { at: 0, refused: 0 };
-    let version = start.version(s);
-    let types = version.next.number(s);
-    let k = types.value;
-    let t = place_types(s, work, types.next, k, 0);
-    let lookups = t.next.number(s);
-    let l = place_lookups(s, work, lookups.next, lookups.value, t.place);
-    let a = place_tree(s, work, l.next, k, l.place);
-    let b = place_tree(s, work, a.next, k, a.place);
-    let c = place_tree(s, work, b.next, k, b.place);
-    let end = c.next.finish(s);
-    Walked {
-        index: Index {
-            types: Section { count: k, place: 0 },
-            lookups: Section {
-                count: lookups.value,
-                place: t.place,
-            },
-            nmea2000: Section {
-                count: a.count,
-                place: l.place,
-            },
-            j1939: Section {
-                count: b.count,
-                place: a.place,
-            },
-            quick: Section {
-                count: c.count,
-                place: b.place,
-            },
-            records: c.place,
+    let mut r = Reader { bytes: pack, at: 0 };
+    r.version()?;
+    let types = r.number()?;
+    let lookups_at = place_types(&mut r, work, types, 0)?;
+    let lookups = r.number()?;
+    let trees_at = place_lookups(&mut r, work, lookups, lookups_at)?;
+    let (nmea2000, j1939_at) = place_tree(&mut r, work, types, trees_at)?;
+    let (j1939, quick_at) = place_tree(&mut r, work, types, j1939_at)?;
+    let (quick, records) = place_tree(&mut r, work, types, quick_at)?;
+    r.finish()?;
+    Ok(Index {
+        types: Section {
+            count: types,
+            place: 0,
         },
-        end,
-    }
+        lookups: Section {
+            count: lookups,
+            place: lookups_at,
+        },
+        nmea2000,
+        j1939,
+        quick,
+        records,
+    })
 }
 
-// The n offsets of an accepted pack into the work buffer, which has room for them: those that `short` holds are copied, more are placed again.
-fn deliver(pack: &[u8], work: &mut [u32], short: &[u32], n: usize)
-    requires { record {
-      bytes : length pack.now < 4294967296;
-      accepted : (pack_end pack.now).refused ≡ 0;
-      counted : n ≡ length (offsets pack.now);
-      short : n ≤ length short.now → take n short.now ≡ offsets pack.now;
-      room : n ≤ length work.old;
-    } }
-    ensures { work.new ≡ over (offsets pack.now) work.old }
-{
-    if n <= short.len() {
-        copy(short, work, n);
-        return;
-    }
-    place_all(pack, work);
-}
-
-// `load` by way of `short`, since after a refusal the work buffer has not changed.
-fn load_by(pack: &[u8], work: &mut [u32], short: &mut [u32]) -> Loaded
+// `load` by way of `short`, since after a refusal the work buffer has not changed: the offsets that `short` holds are copied, more are placed
+// again.
+fn load_by(pack: &[u8], work: &mut [u32], short: &mut [u32]) -> Result<Index, Refusal>
     requires { length pack.now ≤ most_bytes }
     ensures { Loads pack.now work.old work.new result }
 {
-    let judged = place_all(pack, short);
-    let end = judged.end;
-    if end.refused != 0 {
-        return Loaded::Refused(Refusal::Input {
-            number: end.refused as u32,
-            offset: end.at,
-        });
+    let index = place_all(pack, short)?;
+    let n = index.records;
+    if work.len() < n {
+        return Err(Refusal::Work(n));
     }
-    let index = judged.index;
-    if work.len() < index.records {
-        return Loaded::Refused(Refusal::Work(index.records));
+    if n <= short.len() {
+        work[..n].copy_from_slice(&short[..n]);
+        return Ok(index);
     }
-    deliver(pack, work, short, index.records);
-    Loaded::Accepted(index)
+    Ok(place_all(pack, work)?)
 }
 
-fn load_short(pack: &[u8], work: &mut [u32]) -> Loaded
+fn load_short(pack: &[u8], work: &mut [u32]) -> Result<Index, Refusal>
     requires { length pack.now ≤ most_bytes }
     ensures { Loads pack.now work.old work.new result }
 {
@@ -377,7 +283,7 @@ fn load_short(pack: &[u8], work: &mut [u32]) -> Loaded
     load_by(pack, work, &mut short)
 }
 
-fn load_long(pack: &[u8], work: &mut [u32]) -> Loaded
+fn load_long(pack: &[u8], work: &mut [u32]) -> Result<Index, Refusal>
     requires { length pack.now ≤ most_bytes }
     ensures { Loads pack.now work.old work.new result }
 {
@@ -385,11 +291,11 @@ fn load_long(pack: &[u8], work: &mut [u32]) -> Loaded
     load_by(pack, work, &mut short)
 }
 
-pub fn load(pack: &[u8], work: &mut [u32]) -> Loaded
+pub fn load(pack: &[u8], work: &mut [u32]) -> Result<Index, Refusal>
     ensures { Loads pack.now work.old work.new result }
 {
     if MOST_BYTES < pack.len() {
-        return Loaded::Refused(Refusal::TooLong);
+        return Err(Refusal::TooLong);
     }
     if pack.len() <= SHORT_BYTES {
         return load_short(pack, work);

@@ -1,8 +1,8 @@
 // A lookup, read item by item in 01's order, up to its entries.
-ghost use Rattle.std.specs.Prelude.{◌≡◌};
+ghost use Rattle.pack.specs.Reads.{Reads};
 ghost use Rattle.pack.specs.Records.{read_lookup};
 
-use crate::cursor::Cursor;
+use crate::reader::{InputRefusal, Reader};
 use crate::text::Text;
 
 // A lookup without its entries, which follow it.
@@ -22,31 +22,16 @@ pub struct LookupRecord {
     pub view: LookupView,
 }
 
-#[derive(Clone, Copy)]
-pub struct LookupItem {
-    pub value: LookupView,
-    pub next: Cursor,
-}
-
-impl Cursor {
+impl Reader<'_> {
     // A lookup up to its entries, its name above the one before it.
-    pub fn lookup(self, s: &[u8], before: Option<Text>) -> LookupItem
-        ensures { result ≡ read_lookup before s.now self }
+    pub(crate) fn lookup(&mut self, before: Option<Text>) -> Result<LookupView, InputRefusal>
+        ensures { Reads self.old (read_lookup before) result self.new }
     {
-        let name = self.name(s, before);
-        let kind = name.next.code(s, 3);
-        let bits = kind.next.number(s);
-        let entries = bits.next.number(s);
-        let a = name.value;
-        let next = entries.next;
-        LookupItem {
-            value: LookupView {
-                name: a,
-                kind: kind.value,
-                bits: bits.value,
-                entries: entries.value,
-            },
-            next,
-        }
+        Ok(LookupView {
+            name: self.name(before)?,
+            kind: self.code(3)?,
+            bits: self.number()?,
+            entries: self.number()?,
+        })
     }
 }

@@ -1,32 +1,19 @@
 // The parts of a number in groups of seven bits.
-ghost use Rattle.std.specs.Prelude.{◌≡◌, ◌≤◌, ◌<◌, length};
+ghost use Rattle.std.specs.Prelude.{◌≡◌, ◌≤◌, ◌<◌, length, IfSome};
+ghost use Rattle.std.specs.Bool.{then_some};
+ghost use Rattle.pack.specs.Notation.{◌<ᵇ◌};
 ghost use Rattle.pack.specs.Items.{last_byte_at, groups, shortest, capped};
 
-// A number, or that it is above what its width holds.
-#[derive(Clone, Copy)]
-pub(crate) struct Value {
-    pub over: bool,
-    pub value: u64,
-}
-
-fn wide(b: u8) -> u64
-    ensures { result ≡ b }
+// Where the number that begins at `at` has its last byte.
+pub(crate) fn last_byte(s: &[u8], at: usize) -> Option<usize>
+    ensures { result ≡ then_some (last_byte_at s.now at <ᵇ length s.now) (last_byte_at s.now at) }
 {
-    b as u64
-}
-
-// Where the number that begins at `at` has its last byte; the length or more where it has none.
-pub(crate) fn last_byte(s: &[u8], at: usize) -> usize
-    ensures { result ≡ last_byte_at s.now at }
-{
-    let mut i = at;
-    while i < s.len() {
+    for i in at..s.len() {
         if s[i] < 128 {
-            return i;
+            return Some(i);
         }
-        i += 1;
     }
-    i
+    None
 }
 
 // Whether the number from `at` to its last byte `e` is in shortest form.
@@ -35,42 +22,22 @@ pub(crate) fn is_shortest(s: &[u8], at: usize, e: usize) -> bool
     ensures { result ≡ shortest s.now at e }
 {
     if at < e {
-        if s[e] == 0 {
-            return false;
-        }
+        return s[e] != 0;
     }
     true
 }
 
-// The value of the n groups before `end`, counted from the top, so that it can be left before it would wrap.
-pub(crate) fn decode(s: &[u8], end: usize, n: usize, most: u64) -> Value
+// The value of the n groups before `end`, counted from the top.
+pub(crate) fn decode(s: &[u8], end: usize, n: usize, most: u64) -> Option<u64>
     requires { record { enough : n ≤ end; within : end ≤ length s.now } }
-    ensures { record {
-      is : result ≡ capped most (groups s.now end n);
-      bound : result.value ≤ most;
-    } }
+    ensures is { result ≡ capped most (groups s.now end n) }
+    ensures bound { IfSome result (λ v. v ≤ most) }
 {
-    let mut v: u64 = 0;
-    let mut k: usize = 0;
-    while k < n {
-        if 0x0200_0000_0000_0000 <= v {
-            return Value {
-                over: true,
-                value: 0,
-            };
-        }
-        k += 1;
-        v = v * 128 + wide(s[end - k] % 128);
+    let mut value: u64 = 0;
+    for k in 0..n {
+        value = value
+            .checked_mul(128)?
+            .checked_add((s[end - 1 - k] % 128) as u64)?;
     }
-    if v <= most {
-        Value {
-            over: false,
-            value: v,
-        }
-    } else {
-        Value {
-            over: true,
-            value: 0,
-        }
-    }
+    (value <= most).then_some(value)
 }

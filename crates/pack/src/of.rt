@@ -1,25 +1,38 @@
 // For the layers above: the records by their work positions, said of the pack's value. A caller proves that a position is the record's own.
 // Where in the pack a view's texts stand is left free, and so is what an absent item holds: only what a view means is promised.
-ghost use Rattle.std.specs.Prelude.{◌≡◌, ◌<◌, length, get_or};
+ghost use Rattle.std.specs.Prelude.{◌≡◌, ◌≤◌, ◌<◌, length, get_or};
 ghost use Rattle.pack.specs.Value.{no_field_type, no_entry, pgn_at, field_at, lookup_at};
-ghost use Rattle.pack.specs.Items.{bytes_of};
+ghost use Rattle.pack.specs.Items.{bytes_of, fresh};
+ghost use Rattle.pack.specs.Reads.{told};
+ghost use Rattle.pack.specs.Records.{read_second_text};
 ghost use Rattle.pack.specs.Meaning.{type_meaning, entry_meaning, field_meaning, pack_of};
 ghost use Rattle.pack.specs.Ready.{Ready, LookupAt, PgnAt, LookupIs, PgnIs};
 
-use crate::at::{entry_at, field_at, lookup_at, pgn_at, second_text_at, text_at, type_at};
 use crate::entry::EntryView;
 use crate::field::FieldView;
 use crate::field_type::FieldTypeView;
 use crate::lookup::LookupView;
 use crate::pgn::PgnView;
+use crate::reader::{InputRefusal, Reader};
 use crate::text::Text;
 
-// The offset that the work list has at p.
-fn offset(work: &[u32], p: usize) -> usize
-    requires { p < length work.now }
-    ensures { result ≡ get_or work.now p 0 }
+// A reader at the record whose offset the work list has at p.
+fn reader<'a>(s: &'a [u8], work: &[u32], p: usize) -> Reader<'a>
+    requires { record { place : p < length work.now; inside : get_or work.now p 0 ≤ length s.now } }
+    ensures { record { bytes : result.bytes.now ≡ s.now; at : result.at ≡ get_or work.now p 0 } }
 {
-    work[p] as usize
+    Reader {
+        bytes: s,
+        at: work[p] as usize,
+    }
+}
+
+// The text behind the one that a record begins with: a field's name.
+fn second_text(mut r: Reader) -> Result<Text, InputRefusal>
+    ensures { result ≡ told (read_second_text r.entry.bytes.now (fresh r.entry.at)) }
+{
+    r.text()?;
+    r.text()
 }
 
 // Field type i.
@@ -27,9 +40,10 @@ pub fn type_of(s: &[u8], work: &[u32], i: u32) -> FieldTypeView
     requires { record { ready : Ready s.now work.now; type : i < length (pack_of s.now).fieldtypes } }
     ensures { type_meaning s.now result ≡ get_or (pack_of s.now).fieldtypes i no_field_type }
 {
-    let p = i as usize;
-    let at = offset(work, p);
-    type_at(s, at)
+    let Ok(field_type) = reader(s, work, i as usize).field_type() else {
+        unreachable!()
+    };
+    field_type
 }
 
 // Lookup i, at p.
@@ -37,8 +51,10 @@ pub fn lookup_of(s: &[u8], work: &[u32], i: u32, p: usize) -> LookupView
     requires { LookupAt s.now work.now i p }
     ensures { LookupIs s.now (lookup_at (pack_of s.now).lookups i) result }
 {
-    let at = offset(work, p);
-    lookup_at(s, at)
+    let Ok(lookup) = reader(s, work, p).lookup(None) else {
+        unreachable!()
+    };
+    lookup
 }
 
 // The name of lookup i, at p.
@@ -46,8 +62,10 @@ pub fn lookup_name_of(s: &[u8], work: &[u32], i: u32, p: usize) -> Text
     requires { LookupAt s.now work.now i p }
     ensures { bytes_of s.now result ≡ (lookup_at (pack_of s.now).lookups i).name }
 {
-    let at = offset(work, p);
-    text_at(s, at)
+    let Ok(name) = reader(s, work, p).text() else {
+        unreachable!()
+    };
+    name
 }
 
 // Entry j of lookup i, at p, which is of that kind.
@@ -59,9 +77,10 @@ pub fn entry_of(s: &[u8], work: &[u32], i: u32, p: usize, kind: u32, j: u32) -> 
     } }
     ensures { entry_meaning s.now result ≡ get_or (lookup_at (pack_of s.now).lookups i).entries j no_entry }
 {
-    let q = p + 1 + j as usize;
-    let at = offset(work, q);
-    entry_at(s, at, kind)
+    let Ok(entry) = reader(s, work, p + 1 + j as usize).entry(kind) else {
+        unreachable!()
+    };
+    entry
 }
 
 // PGN i of tree t, at p.
@@ -69,8 +88,10 @@ pub fn pgn_of(s: &[u8], work: &[u32], t: u32, i: u32, p: usize) -> PgnView
     requires { PgnAt s.now work.now t i p }
     ensures { PgnIs s.now (pgn_at (pack_of s.now) t i) result }
 {
-    let at = offset(work, p);
-    pgn_at(s, at)
+    let Ok(pgn) = reader(s, work, p).pgn() else {
+        unreachable!()
+    };
+    pgn
 }
 
 // Field j of PGN i of tree t, which is at p.
@@ -78,9 +99,10 @@ pub fn field_of(s: &[u8], work: &[u32], t: u32, i: u32, p: usize, j: u32) -> Fie
     requires { record { at : PgnAt s.now work.now t i p; field : j < length (pgn_at (pack_of s.now) t i).fields } }
     ensures { field_meaning s.now result ≡ field_at (pgn_at (pack_of s.now) t i) j }
 {
-    let q = p + 1 + j as usize;
-    let at = offset(work, q);
-    field_at(s, at)
+    let Ok(field) = reader(s, work, p + 1 + j as usize).field(0x1_0000_0000, 0) else {
+        unreachable!()
+    };
+    field
 }
 
 // The id of field j of PGN i of tree t, which is at p.
@@ -88,9 +110,10 @@ pub fn field_id_of(s: &[u8], work: &[u32], t: u32, i: u32, p: usize, j: u32) -> 
     requires { record { at : PgnAt s.now work.now t i p; field : j < length (pgn_at (pack_of s.now) t i).fields } }
     ensures { bytes_of s.now result ≡ (field_at (pgn_at (pack_of s.now) t i) j).id }
 {
-    let q = p + 1 + j as usize;
-    let at = offset(work, q);
-    text_at(s, at)
+    let Ok(id) = reader(s, work, p + 1 + j as usize).text() else {
+        unreachable!()
+    };
+    id
 }
 
 // Its name.
@@ -98,7 +121,8 @@ pub fn field_name_of(s: &[u8], work: &[u32], t: u32, i: u32, p: usize, j: u32) -
     requires { record { at : PgnAt s.now work.now t i p; field : j < length (pgn_at (pack_of s.now) t i).fields } }
     ensures { bytes_of s.now result ≡ (field_at (pgn_at (pack_of s.now) t i) j).name }
 {
-    let q = p + 1 + j as usize;
-    let at = offset(work, q);
-    second_text_at(s, at)
+    let Ok(name) = second_text(reader(s, work, p + 1 + j as usize)) else {
+        unreachable!()
+    };
+    name
 }

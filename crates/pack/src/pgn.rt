@@ -1,10 +1,12 @@
 // A PGN and its sets, read item by item in 01's order, up to its fields.
 ghost use Rattle.std.specs.Prelude.{◌≡◌, ◌<◌, get_or};
 ghost use Rattle.std.specs.Prelude.{None};
-ghost use Rattle.pack.specs.Records.{order_of, read_repeating, read_opt_repeating, read_pgn};
+ghost use Rattle.pack.specs.Reads.{Reads};
+ghost use Rattle.pack.specs.Records.{order_of, pgn_flags_of, read_repeating, read_pgn};
 
-use crate::cursor::{Cursor, fresh};
+use crate::items::{Item, Length, Number};
 use crate::protocol::FieldOrder;
+use crate::reader::{InputRefusal, Reader};
 use crate::text::Text;
 
 #[derive(Clone, Copy)]
@@ -13,18 +15,6 @@ pub struct RepeatingView {
     pub start: FieldOrder,
     pub counter: Option<FieldOrder>,
     pub nested: bool,
-}
-
-#[derive(Clone, Copy)]
-pub struct RepeatingItem {
-    pub value: RepeatingView,
-    pub next: Cursor,
-}
-
-#[derive(Clone, Copy)]
-pub struct OptRepeatingItem {
-    pub value: Option<RepeatingView>,
-    pub next: Cursor,
 }
 
 #[derive(Clone, Copy)]
@@ -57,12 +47,6 @@ pub struct PgnRecord {
     pub view: PgnView,
 }
 
-#[derive(Clone, Copy)]
-pub struct PgnItem {
-    pub value: PgnView,
-    pub next: Cursor,
-}
-
 // The set at place k.
 pub fn set_at(g: PgnView, k: u32) -> Option<RepeatingView>
     requires { k < 4 }
@@ -77,100 +61,68 @@ fn order_of(number: Option<u32>) -> Option<FieldOrder>
     number.map(FieldOrder)
 }
 
-fn no_repeating(c: Cursor) -> OptRepeatingItem
-    ensures { result ≡ record { value = None; next = c } }
+fn pgn_flags(n: u32) -> PgnFlags
+    ensures { result ≡ pgn_flags_of n }
 {
-    OptRepeatingItem {
-        value: None,
-        next: c,
+    PgnFlags {
+        fallback: n % 2 == 1,
+        variable: n / 2 % 2 == 1,
+        incomplete: n / 4 % 2 == 1,
     }
 }
 
-impl Cursor {
-    fn repeating(self, s: &[u8]) -> RepeatingItem
-        ensures { result ≡ read_repeating s.now self }
+impl Reader<'_> {
+    fn repeating(&mut self) -> Result<RepeatingView, InputRefusal>
+        ensures { Reads self.old read_repeating result self.new }
     {
-        let count = self.number(s);
-        let start = count.next.sum(s, count.value);
-        let counter = start.next.opt_number(s);
-        let nested = counter.next.mark(s);
-        let c = order_of(counter.value);
-        let next = nested.next;
-        RepeatingItem {
-            value: RepeatingView {
-                count: count.value,
-                start: FieldOrder(start.value),
-                counter: c,
-                nested: nested.value,
-            },
-            next,
-        }
-    }
-
-    fn opt_repeating(self, s: &[u8]) -> OptRepeatingItem
-        ensures { result ≡ read_opt_repeating s.now self }
-    {
-        if self.absent(s) {
-            let c = fresh(self.at + 1);
-            return no_repeating(c);
-        }
-        self.opt_repeating_long(s)
-    }
-
-    fn opt_repeating_long(self, s: &[u8]) -> OptRepeatingItem
-        ensures { result ≡ read_opt_repeating s.now self }
-    {
-        let m = self.mark(s);
-        let c = m.next;
-        if m.value {
-            let r = c.repeating(s);
-            let set = r.value;
-            let next = r.next;
-            return OptRepeatingItem {
-                value: Some(set),
-                next,
-            };
-        }
-        no_repeating(c)
+        let count = self.number()?;
+        let start = self.sum(count)?;
+        let counter = self.optional(Number)?;
+        let nested = self.mark()?;
+        Ok(RepeatingView {
+            count,
+            start: FieldOrder(start),
+            counter: order_of(counter),
+            nested,
+        })
     }
 
     // A PGN up to its fields.
-    pub fn pgn(self, s: &[u8]) -> PgnItem
-        ensures { result ≡ read_pgn s.now self }
+    pub(crate) fn pgn(&mut self) -> Result<PgnView, InputRefusal>
+        ensures { Reads self.old read_pgn result self.new }
     {
-        let pgn = self.number(s);
-        let id = pgn.next.text(s);
-        let kind = id.next.code(s, 3);
-        let flags = kind.next.code(s, 7);
-        let length = flags.next.number(s);
-        let minimum = length.next.opt_bytes(s);
-        let first = minimum.next.opt_repeating(s);
-        let second = first.next.opt_repeating(s);
-        let fields = second.next.number(s);
-        let i = id.value;
-        let f = flags.value;
-        let m = minimum.value;
-        let a = first.value;
-        let b = second.value;
-        let sets = [a, b, None, None];
-        let next = fields.next;
-        PgnItem {
-            value: PgnView {
-                pgn: pgn.value,
-                id: i,
-                kind: kind.value,
-                flags: PgnFlags {
-                    fallback: f % 2 == 1,
-                    variable: f / 2 % 2 == 1,
-                    incomplete: f / 4 % 2 == 1,
-                },
-                length: length.value,
-                minimum: m,
-                sets,
-                places: 2,
-                fields: fields.value,
-            },
-            next,
-        }
+        let pgn = self.number()?;
+        let id = self.text()?;
+        let kind = self.code(3)?;
+        let flags = self.code(7)?;
+        let length = self.number()?;
+        let minimum = self.optional(Length)?;
+        let first = self.optional(Repeating)?;
+        let second = self.optional(Repeating)?;
+        let fields = self.number()?;
+        Ok(PgnView {
+            pgn,
+            id,
+            kind,
+            flags: pgn_flags(flags),
+            length,
+            minimum,
+            sets: [first, second, None, None],
+            places: 2,
+            fields,
+        })
+    }
+}
+
+#[derive(Drop)]
+struct Repeating;
+
+impl Item for Repeating {
+    type Value = RepeatingView;
+
+    ghost form = { λ _. read_repeating };
+
+    fn read(self, reader: &mut Reader) -> Result<RepeatingView, InputRefusal> {
+        reader.repeating()
     }
 }

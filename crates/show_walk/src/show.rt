@@ -1,10 +1,10 @@
 // The walk over a PGN, visit by visit.
 use crate::arguments::Arguments;
-use crate::find::{Found, find};
+use crate::find::find;
 use crate::passes::{Passes, indent};
-use listing::loaded::{LoadedPack, Pgn};
 use listing::words::{Counted, Refused, protocol_name, text};
-use pack::at::text_at;
+use pack::loaded::{Pack, PgnRef};
+use pack::pgn::PgnRecord;
 use pack::protocol::{FieldIndex, Protocol};
 use rules::check::{Checked, check};
 use std::alloc::{AllocError, Global};
@@ -77,24 +77,24 @@ fn show_errors(out: &mut impl Write, pack: &[u8], buffers: &mut Buffers) -> io::
 // A visit of field k.
 fn show_visit(
     out: &mut impl Write,
-    pack: &LoadedPack<'_>,
-    pgn: Pgn<'_>,
+    pack: &Pack<'_>,
+    pgn: PgnRef<'_>,
     passes: &mut Passes,
     k: u32,
     reading: u64,
 ) -> io::Result<()> {
-    let Some(at) = pgn.fields.get(k as usize) else {
+    let Some(field) = pgn.field(k) else {
         return Ok(());
     };
     if u32::MAX == k {
         return Ok(());
     }
-    let view = pgn.view;
+    let view = pgn.pgn.view;
     let order = FieldIndex(k).order();
     passes.at_visit(out, &view, order)?;
     indent(out, &view, order, view.places as usize)?;
     write!(out, "order {}", order.0)?;
-    text(out, " ", pack.text(text_at(pack.bytes, *at as usize)))?;
+    text(out, " ", pack.text(field.names.id))?;
     writeln!(out, " reading {reading}")
 }
 
@@ -130,9 +130,9 @@ fn show_end(out: &mut impl Write, end: End, visits: usize) -> io::Result<()> {
 
 fn show_walk(
     out: &mut impl Write,
-    pack: &LoadedPack<'_>,
+    pack: &Pack<'_>,
     tree: u32,
-    found: Found<'_>,
+    found: PgnRef<'_>,
     readings: &[u64],
     buffers: &mut Buffers,
 ) -> io::Result<()> {
@@ -140,7 +140,7 @@ fn show_walk(
         pack.bytes,
         &mut buffers.work,
         tree,
-        found.item,
+        found.pgn.item,
         readings,
         &mut buffers.visits,
     ) {
@@ -148,7 +148,7 @@ fn show_walk(
         Walked::Ended { end, visits } => {
             let mut passes = Passes::none();
             for (k, reading) in buffers.visits.iter().zip(readings).take(visits) {
-                show_visit(out, pack, found.pgn, &mut passes, *k, *reading)?;
+                show_visit(out, pack, found, &mut passes, *k, *reading)?;
             }
             show_end(out, end, visits)
         }
@@ -159,21 +159,21 @@ fn show_walk(
 fn show_found(
     out: &mut impl Write,
     alloc: Global,
-    pack: &LoadedPack<'_>,
+    pack: &Pack<'_>,
     protocol: Protocol,
-    found: Found<'_>,
+    found: PgnRef<'_>,
     readings: &[u64],
 ) -> io::Result<()> {
     let mut buffers = Buffers::new(alloc, pack.bytes.len())?;
-    let view = found.pgn.view;
+    let PgnRecord { item, view, .. } = found.pgn;
     write!(out, "PGN {}", view.pgn)?;
     text(out, " ", pack.text(view.id))?;
-    writeln!(out, " of {}, index {}", Tree(protocol), found.item)?;
+    writeln!(out, " of {}, index {}", Tree(protocol), item)?;
     let tree = protocol.tree();
     show_walk(out, pack, tree, found, readings, &mut buffers)?;
     out.flush()?;
     let clean = show_errors(out, pack.bytes, &mut buffers)?;
-    match held(pack.bytes, &mut buffers.work, tree, found.item) {
+    match held(pack.bytes, &mut buffers.work, tree, item) {
         HeldAnswer::Refused(refusal) => writeln!(out, "{}", Refused(refusal)),
         HeldAnswer::Held(held) => writeln!(out, "{}", meaning(held, clean)),
     }
@@ -188,7 +188,7 @@ pub fn show(
 ) -> io::Result<()> {
     let protocol = arguments.protocol;
     let mut work = vec![in alloc; 0u32; bytes.len() / 2]?;
-    match LoadedPack::load(bytes, &mut work) {
+    match Pack::load(bytes, &mut work) {
         Err(refusal) => writeln!(out, "{}", Refused(refusal)),
         Ok(pack) => match find(&pack, protocol, arguments.name) {
             Some(found) => show_found(out, alloc, &pack, protocol, found, &arguments.readings),

@@ -1,6 +1,6 @@
-use Rattle.pack.specs.Placing.{Stored}
+use Rattle.pack.proofs.Stores.{Stored}
 use lib.ListN.{take, length}
-use Prim.Native.Nat.{◌-◌, ◌≤◌}
+use Prim.Native.Nat.{◌≤◌}
 use mathlib.Core.Path.{◌≡◌}
 use Rattle.pack.proofs.buffers.copy.Given as goal
 

@@ -1,66 +1,79 @@
-use lib.ListN.{length}
-use mathlib.Core.Path.{◌≡◌, ap, ◌∙◌}
+use Rattle.std.specs.Prelude.{Ok, Err}
+use Rattle.std.proofs.lemmas.Result.{err_from_is_err_and}
+use Prim.Native.Nat.{ℕ, ◌≤◌}
 use native.Mathlib.Omega.{arith}
-use Prim.Native.Nat.{ℕ}
-use Rattle.pack.specs.declared.load.Refusal.TheVariants.{Work}
-use Rattle.pack.specs.declared.load.Loaded.TheVariants.{Refused}
-use Rattle.pack.specs.declared.load.Index.{Index}
-use Rattle.pack.specs.declared.cursor.Cursor.{Cursor}
-use Rattle.pack.specs.Format.{pack_end, offsets}
-use Rattle.pack.specs.Load.{load_index}
-use Rattle.pack.specs.Placing.{Walking}
-use Rattle.pack.specs.declared.load.Walked.{Walked}
+use mathlib.Core.Path.{◌≡◌, ap, ◌∙◌, sym}
 use mathlib.Core.List.{List}
+use borrow.Author.Tests.{eqb-false}
+use lib.ListN.{length, take}
+use Rattle.pack.specs.Items.{Item}
+use Rattle.pack.specs.Format.{pack_end, offsets}
+use Rattle.pack.specs.Load.{most_bytes, load_index, over, Loads}
+use Rattle.pack.specs.Placing.{PlacesAll}
+use Rattle.pack.specs.declared.load.Index.{Index}
+use Rattle.pack.specs.declared.load.Refusal.TheVariants.{Input}
+use Rattle.pack.specs.declared.reader.InputRefusal.{InputRefusal}
+use Rattle.pack.proofs.ReaderLaws.{told_ok, told_err}
 use Rattle.pack.proofs.Told.{promised}
-use Rattle.pack.proofs.Stores.{take_stored}
+use Rattle.pack.proofs.Stores.{sets_over, take_stored}
 use Rattle.pack.proofs.Loading.{input_refused, work_short, loads}
-use Rattle.pack.proofs.Bounds.{input_bound}
 use Rattle.pack.proofs.load.load_by.Goals as goal
 
--- a walk that is not refused: the pack is accepted, and all its records are counted
-module _ {s w w' : List ℕ} {r : Walked} (a : Walking s w w' r) (e : r.end.refused ≡ 0) where
+-- what a walk tells of the pack s
+abbrev whole : List ℕ → Item Index
+whole s = record { value = load_index s; next = pack_end s }
+
+module _ {s w w' : List ℕ} {i : Index} (a : PlacesAll s w (Ok i) w') where
   accepted : (pack_end s).refused ≡ 0
-  accepted = rw (← a.end) e
+  accepted = (told_ok (whole s) i a.answer).0
 
-  counted : r.index.records ≡ length (offsets s)
+  index : i ≡ load_index s
+  index = sym (told_ok (whole s) i a.answer).1
+
+  counted : i.records ≡ length (offsets s)
   unfolding load_index
-  counted = ap (λ (i : Index). i.records) (a.index accepted)
+  counted = ap (λ (x : Index). x.records) index
 
-pub overflow_cast-result : goal.overflow_cast-result
-overflow_cast-result c =
-    omega (arith, (input_bound c.args.pack.now).0, ap (λ (d : Cursor). d.refused) c.place_all-judged.ensures.end)
+  -- the answer where the work buffer v has room
+  all : length s ≤ most_bytes → {v v' : List ℕ} → i.records ≤ length v → v' ≡ over (offsets s) v → Loads s v v' (Ok i)
+  all h {v} {v'} l e =
+      let r = loads s v h accepted (rw counted at l) in
+      promised _ _ _ _ (rw index r.answer) (e ∙ r.work)
 
-pub returns-then-end-ne0 : goal.returns-then-end-ne0
-returns-then-end-ne0 c =
-    let e = c.place_all-judged.ensures.end in
-    let a = input_refused c.args.pack.now c.args.work.now c.requires (rw (← e) c.if-end-ne0.true) in
-    promised _ _ _ _ (rw e a.answer) a.work
+-- a walk that was refused: so is the pack
+not_accepted : {s w w' : List ℕ} {f : InputRefusal} → PlacesAll s w (Err f) w' → (pack_end s).refused ≡ 0 → ⊥
+not_accepted {s} {w} {w'} {f} a z = eqb-false _ _ (told_err (whole s) f a.answer).0 z
 
-pub returns-then-work-index : goal.returns-then-work-index
-returns-then-work-index c =
+pub returns-in_err-index : goal.returns-in_err-index
+returns-in_err-index c =
     let s = c.args.pack.now in
-    let z = accepted c.place_all-judged.ensures c.if-end-ne0.false in
-    let n = counted c.place_all-judged.ensures c.if-end-ne0.false in
-    let a = work_short s c.args.work.now c.requires z (rw n at c.if-work-index.true) in
-    promised _ _ _ _ (ap (λ (k : ℕ). Refused (Work k)) n ∙ a.answer) a.work
+    let f = c.in_err-index.field-0.0 in
+    let y = err_from_is_err_and {Q = λ y. y ≡ Input f} c.from_residual.result c.from_residual.ensures.1 in
+    let e = (told_err (whole s) f c.in_err-index.ensures.answer).1 in
+    let a = input_refused s c.args.work.now c.requires (not_accepted c.in_err-index.ensures) in
+    promised _ _ _ _ (rw (y.1, y.2, e) a.answer) a.work
 
-pub deliver-requires : goal.deliver-requires
-deliver-requires c =
+pub returns-then-work-n : goal.returns-then-work-n
+returns-then-work-n c =
+    let n = counted c.in_ok-index.ensures in
+    let a = work_short c.args.pack.now c.args.work.now c.requires (accepted c.in_ok-index.ensures) (rw n at c.if-work-n.true) in
+    promised _ _ _ _ (rw n a.answer) a.work
+
+pub returns-then-n-short : goal.returns-then-n-short
+returns-then-n-short c =
     let s = c.args.pack.now in
-    let z = accepted c.place_all-judged.ensures c.if-end-ne0.false in
-    let n = counted c.place_all-judged.ensures c.if-end-ne0.false in
-    record {
-      bytes = omega (arith, c.requires);
-      accepted = z;
-      counted = n;
-      short = λ h. rw (n, c.place_all-judged.ensures.work z) (take_stored c.args.short.now (offsets s) (omega (arith, h, n, c.place_all-judged.auto.work)));
-      room = c.if-work-index.false;
-    }
+    let p = c.in_ok-index.ensures in
+    let n = counted p in
+    let t = take_stored c.args.short.now (offsets s) (omega (arith, c.if-n-short.true, n, c.place_all.auto.work)) in
+    let front : take c.in_ok-index.index.records c.place_all.new.work ≡ offsets s = rw (n, p.work (accepted p)) t in
+    all p c.requires c.if-work-n.false (rw (c.copy_from_slice.ensures.after ∙ front, n))
+
+pub returns-in_err-place_all : goal.returns-in_err-place_all
+returns-in_err-place_all c = absurd (not_accepted c.in_err-place_all.ensures (accepted c.in_ok-index.ensures))
 
 pub returns : goal.returns
 returns c =
-    let s = c.args.pack.now in
-    let z = accepted c.place_all-judged.ensures c.if-end-ne0.false in
-    let n = counted c.place_all-judged.ensures c.if-end-ne0.false in
-    let a = loads s c.args.work.now c.requires z (rw n at c.if-work-index.false) in
-    promised _ _ _ _ (rw (c.place_all-judged.ensures.index z) a.answer) (c.deliver.ensures ∙ a.work)
+    let p = c.in_ok-place_all.ensures in
+    let same : c.in_ok-place_all.field-0 ≡ c.in_ok-index.index = index p ∙ sym (index c.in_ok-index.ensures) in
+    let room = rw (← same) at c.if-work-n.false in
+    all p c.requires room (p.work (accepted p) ∙ sets_over c.args.work.now (offsets c.args.pack.now) (omega (arith, room, counted p)))

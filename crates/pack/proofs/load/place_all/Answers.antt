@@ -1,70 +1,112 @@
-use Rattle.pack.specs.declared.cursor.NumberItem.{NumberItem}
-use Rattle.pack.specs.declared.cursor.Cursor.{Cursor}
-use Rattle.pack.proofs.Whole.{whole, tree_reader}
-use Rattle.pack.proofs.Places.{room_read, room_after}
-use Rattle.pack.proofs.Reading.{version_reader, number_reader, types_reader, lookups_reader}
-use Rattle.pack.specs.Placing.{Room}
-use Rattle.pack.specs.Items.{fresh, read_version, read_number}
-use Prim.Native.Nat.{ℕ, ◌<◌}
+use Rattle.pack.proofs.Places.{along_none}
+use Rattle.pack.proofs.Whole.{version_ends, type_list_ends, types_ends, lookup_list_ends, tree_ends, ends, walk_refused, walked}
+use Rattle.pack.proofs.Whole.{begun, upto_types, upto_lookups, upto_number, upto_trees, upto_tree}
+use Rattle.pack.specs.Format.{type_list, lookup_list, tree_start, type_part, before, offsets, pack_end}
+use Rattle.pack.specs.Load.{load_index}
 use native.Mathlib.Omega.{arith}
-use mathlib.Core.Path.{◌≡◌, ◌∙◌}
-use mathlib.Core.List.{List}
+use mathlib.Core.Path.{◌≡◌, refl}
 use lib.ListN.{length}
 use Rattle.pack.proofs.load.place_all.Goals as goal
 
--- room for the first section
-room_first : (s : List ℕ) (v n : NumberItem) → length s < 4294967296 → v ≡ read_version s (fresh 0) → n ≡ read_number s v.next → Room s n.next 0
-room_first s v n h ev en =
-    let a : Room s (fresh 0) 0 = record { short = h; inside = omega arith; few = omega arith } in
-    rw (en, ev) (room_read (number_reader s) _ 0 (room_read (version_reader s) (fresh 0) 0 a))
+pub returns-in_err-version : goal.returns-in_err-version
+returns-in_err-version c =
+    walk_refused (along_none _ c.args.work.now 0 (record { short = c.requires; few = omega arith })) c.in_err-version.ensures c.from_residual.ensures.1
+    (version_ends c.args.pack.now)
 
--- room behind a number
-room_number : (s : List ℕ) (c : Cursor) (p : ℕ) (n : NumberItem) → Room s c p → n ≡ read_number s c → Room s n.next p
-room_number s c p n r e = rw e (room_read (number_reader s) c p r)
+pub returns-in_err-types : goal.returns-in_err-types
+unfolding type_list
+returns-in_err-types c =
+    let a = begun {w = c.args.work.now} refl c.requires c.in_ok-version.ensures in
+    walk_refused a c.in_err-types.ensures c.from_residual-in_err-types.ensures.1 (type_list_ends c.args.pack.now)
 
-pub place_types-t-requires : goal.place_types-t-requires
-place_types-t-requires c =
-    room_first c.args.s.now c.version-version.result c.number-types.result c.requires c.version-version.ensures c.number-types.ensures
+pub returns-in_err-lookups_at : goal.returns-in_err-lookups_at
+returns-in_err-lookups_at c =
+    let a = begun {w = c.args.work.now} refl c.requires c.in_ok-version.ensures in
+    let b = upto_types a c.in_ok-types.ensures in
+    walk_refused b.along c.in_err-lookups_at.ensures.reads c.from_residual-in_err-lookups_at.ensures.1 (rw b.types (types_ends c.args.pack.now))
 
-pub place_lookups-l-requires : goal.place_lookups-l-requires
-place_lookups-l-requires c =
-    let s = c.args.s.now in
-    let a = room_first s c.version-version.result c.number-types.result c.requires c.version-version.ensures c.number-types.ensures in
-    let b = room_after (types_reader s c.number-types.result.value) c.number-types.result.next 0 a c.place_types-t.ensures in
-    room_number s _ _ c.number-lookups.result b c.number-lookups.ensures
+pub returns-in_err-lookups : goal.returns-in_err-lookups
+unfolding lookup_list
+returns-in_err-lookups c =
+    let a = begun {w = c.args.work.now} refl c.requires c.in_ok-version.ensures in
+    let b = upto_types a c.in_ok-types.ensures in
+    let d = upto_lookups b c.in_ok-lookups_at.ensures in
+    walk_refused d.along c.in_err-lookups.ensures c.from_residual-in_err-lookups.ensures.1 (lookup_list_ends c.args.pack.now)
 
-pub place_tree-a-requires : goal.place_tree-a-requires
-place_tree-a-requires c =
-    let s = c.args.s.now in
-    let a = room_first s c.version-version.result c.number-types.result c.requires c.version-version.ensures c.number-types.ensures in
-    let b = room_after (types_reader s c.number-types.result.value) c.number-types.result.next 0 a c.place_types-t.ensures in
-    let d = room_number s _ _ c.number-lookups.result b c.number-lookups.ensures in
-    room_after (lookups_reader s c.number-lookups.result.value) c.number-lookups.result.next _ d c.place_lookups-l.ensures
+pub place_lookups-requires : goal.place_lookups-requires
+place_lookups-requires c =
+    let a = begun {w = c.args.work.now} refl c.requires c.in_ok-version.ensures in
+    let b = upto_types a c.in_ok-types.ensures in
+    let d = upto_lookups b c.in_ok-lookups_at.ensures in
+    let e = upto_number d c.in_ok-lookups.ensures in
+    e.0.along.room
 
-pub place_tree-b-requires : goal.place_tree-b-requires
-place_tree-b-requires c =
-    let s = c.args.s.now in
-    let a = room_first s c.version-version.result c.number-types.result c.requires c.version-version.ensures c.number-types.ensures in
-    let b = room_after (types_reader s c.number-types.result.value) c.number-types.result.next 0 a c.place_types-t.ensures in
-    let d = room_number s _ _ c.number-lookups.result b c.number-lookups.ensures in
-    let e = room_after (lookups_reader s c.number-lookups.result.value) c.number-lookups.result.next _ d c.place_lookups-l.ensures in
-    room_after (tree_reader s c.number-types.result.value) c.place_lookups-l.result.next _ e c.place_tree-a.ensures.placed
+pub returns-in_err-trees_at : goal.returns-in_err-trees_at
+unfolding tree_start
+returns-in_err-trees_at c =
+    let a = begun {w = c.args.work.now} refl c.requires c.in_ok-version.ensures in
+    let b = upto_types a c.in_ok-types.ensures in
+    let d = upto_lookups b c.in_ok-lookups_at.ensures in
+    let e = upto_number d c.in_ok-lookups.ensures in
+    walk_refused e.0.along c.in_err-trees_at.ensures.reads c.from_residual-in_err-trees_at.ensures.1 (rw e.1 (tree_ends c.args.pack.now 0 (omega arith)))
 
-pub place_tree-c-requires : goal.place_tree-c-requires
-place_tree-c-requires c =
-    let s = c.args.s.now in
-    let a = room_first s c.version-version.result c.number-types.result c.requires c.version-version.ensures c.number-types.ensures in
-    let b = room_after (types_reader s c.number-types.result.value) c.number-types.result.next 0 a c.place_types-t.ensures in
-    let d = room_number s _ _ c.number-lookups.result b c.number-lookups.ensures in
-    let e = room_after (lookups_reader s c.number-lookups.result.value) c.number-lookups.result.next _ d c.place_lookups-l.ensures in
-    let f = room_after (tree_reader s c.number-types.result.value) c.place_lookups-l.result.next _ e c.place_tree-a.ensures.placed in
-    room_after (tree_reader s c.number-types.result.value) c.place_tree-a.result.next _ f c.place_tree-b.ensures.placed
+pub returns-in_err-nmea2000 : goal.returns-in_err-nmea2000
+unfolding tree_start
+returns-in_err-nmea2000 c =
+    let a = begun {w = c.args.work.now} refl c.requires c.in_ok-version.ensures in
+    let b = upto_types a c.in_ok-types.ensures in
+    let d = upto_lookups b c.in_ok-lookups_at.ensures in
+    let e = upto_number d c.in_ok-lookups.ensures in
+    let f = upto_trees e.0 e.1 c.in_ok-trees_at.ensures in
+    walk_refused f.along c.in_err-nmea2000.ensures.reads c.from_residual-in_err-nmea2000.ensures.1 (rw f.types (tree_ends c.args.pack.now 1 (omega arith)))
 
-pub shape_of-work : goal.shape_of-work
-shape_of-work c =
-    c.place_tree-c.auto.work ∙ c.place_tree-b.auto.work ∙ c.place_tree-a.auto.work ∙ c.place_lookups-l.auto.work ∙ c.place_types-t.auto.work
+pub returns-in_err-j1939 : goal.returns-in_err-j1939
+unfolding tree_start
+returns-in_err-j1939 c =
+    let a = begun {w = c.args.work.now} refl c.requires c.in_ok-version.ensures in
+    let b = upto_types a c.in_ok-types.ensures in
+    let d = upto_lookups b c.in_ok-lookups_at.ensures in
+    let e = upto_number d c.in_ok-lookups.ensures in
+    let f = upto_trees e.0 e.1 c.in_ok-trees_at.ensures in
+    let g = upto_tree 0 f c.in_ok-nmea2000.ensures in
+    walk_refused g.0.along c.in_err-j1939.ensures.reads c.from_residual-in_err-j1939.ensures.1 (rw g.0.types (tree_ends c.args.pack.now 2 (omega arith)))
+
+pub returns-in_err-quick : goal.returns-in_err-quick
+unfolding tree_start
+returns-in_err-quick c =
+    let a = begun {w = c.args.work.now} refl c.requires c.in_ok-version.ensures in
+    let b = upto_types a c.in_ok-types.ensures in
+    let d = upto_lookups b c.in_ok-lookups_at.ensures in
+    let e = upto_number d c.in_ok-lookups.ensures in
+    let f = upto_trees e.0 e.1 c.in_ok-trees_at.ensures in
+    let g = upto_tree 0 f c.in_ok-nmea2000.ensures in
+    let h = upto_tree 1 g.0 c.in_ok-j1939.ensures in
+    walk_refused h.0.along c.in_err-quick.ensures.reads c.from_residual-in_err-quick.ensures.1 (rw h.0.types (tree_ends c.args.pack.now 3 (omega arith)))
+
+pub returns-in_err-finish : goal.returns-in_err-finish
+unfolding pack_end
+returns-in_err-finish c =
+    let a = begun {w = c.args.work.now} refl c.requires c.in_ok-version.ensures in
+    let b = upto_types a c.in_ok-types.ensures in
+    let d = upto_lookups b c.in_ok-lookups_at.ensures in
+    let e = upto_number d c.in_ok-lookups.ensures in
+    let f = upto_trees e.0 e.1 c.in_ok-trees_at.ensures in
+    let g = upto_tree 0 f c.in_ok-nmea2000.ensures in
+    let h = upto_tree 1 g.0 c.in_ok-j1939.ensures in
+    let i = upto_tree 2 h.0 c.in_ok-quick.ensures in
+    walk_refused i.0.along (ends c.in_err-finish.ensures) c.from_residual-in_err-finish.ensures.1 (λ _. refl)
 
 pub returns : goal.returns
+unfolding load_index offsets
 returns c =
-    whole c.args.s.now _ _ _ _ _ _ _ _ _ _ _ _ _ _ _ c.version-version.ensures c.number-types.ensures c.place_types-t.ensures c.number-lookups.ensures
-    c.place_lookups-l.ensures c.place_tree-a.ensures c.place_tree-b.ensures c.place_tree-c.ensures c.finish-end.ensures
+    let a = begun {w = c.args.work.now} refl c.requires c.in_ok-version.ensures in
+    let b = upto_types a c.in_ok-types.ensures in
+    let d = upto_lookups b c.in_ok-lookups_at.ensures in
+    let e = upto_number d c.in_ok-lookups.ensures in
+    let f = upto_trees e.0 e.1 c.in_ok-trees_at.ensures in
+    let g = upto_tree 0 f c.in_ok-nmea2000.ensures in
+    let h = upto_tree 1 g.0 c.in_ok-j1939.ensures in
+    let i = upto_tree 2 h.0 c.in_ok-quick.ensures in
+    let p : c.in_ok-lookups_at.lookups_at ≡ length (type_part c.args.pack.now) = omega (arith, d.along.stored.count) in
+    let q : c.in_ok-quick.records ≡ length (before c.args.pack.now 3) = omega (arith, i.0.along.stored.count) in
+    walked i.0 c.in_ok-finish.ensures (rw (b.types, e.1, g.1, h.1, i.1, p, q))

@@ -1,54 +1,35 @@
-use Rattle.pack.proofs.Places.{placed_none, placed_one, placed_append, placed_refused, room_after, entries_turn, entry_offsets_turn, entries_stay}
-use Rattle.pack.proofs.Reading.{entry_reader, entry_moves}
+use Rattle.pack.proofs.Places.{along_none, along_record, placed, refused, entries_turn, entry_offsets_turn, entries_stay}
+use Rattle.pack.proofs.Reading.{entry_moves}
+use Rattle.pack.specs.Items.{fresh}
 use Rattle.pack.specs.Format.{entries, entry_offsets}
 use native.Mathlib.Omega.{arith}
-use mathlib.Core.Path.{◌≡◌, refl, ap, ◌∙◌, sym}
+use mathlib.Core.Path.{◌≡◌}
 use Rattle.pack.proofs.load.place_entries.Goals as goal
 
 pub loop-i-init : goal.loop-i-init
 unfolding entries entry_offsets
-loop-i-init c =
-    record { turns = omega (arith, c); length = refl; placed = placed_none c.args.s.now _ _ _ c.requires; room = c.requires }
-
-pub shape_of-work-then-c-ne0 : goal.shape_of-work-then-c-ne0
-shape_of-work-then-c-ne0 c =
-    c.loop-i.invariant.length
-
-pub returns-then-c-ne0 : goal.returns-then-c-ne0
-returns-then-c-ne0 c =
-    let s = c.args.s.now in
-    let a = c.loop-i.invariant.placed in
-    let n = c.if-c-ne0.true in
-    placed_refused _ _ _
-    (a.next ∙ sym (entries_stay s c.args.c c.args.kind c.loop-i.i c.args.n (omega (arith, c)) (λ z. n ((rw a.next z))))) n a.few
+loop-i-init c = along_none _ _ _ c.requires
 
 pub put-requires : goal.put-requires
-put-requires c =
-    omega (arith, c.loop-i.invariant.room.short, c.loop-i.invariant.room.inside)
+put-requires c = omega (arith, c.loop-i.invariant.room.short, c.loop-i.r.inside)
 
-pub past-p-requires : goal.past-p-requires
-past-p-requires c =
-    omega (arith, c.loop-i.invariant.room.short, c.loop-i.invariant.room.inside, c.loop-i.invariant.room.few)
+pub overflow_add-p : goal.overflow_add-p
+overflow_add-p c = omega (arith, c.loop-i.invariant.room.short, c.loop-i.invariant.room.few, c.loop-i.r.inside)
 
 pub loop-i-preserved : goal.loop-i-preserved
 loop-i-preserved c =
-    let s = c.args.s.now in let kind = c.args.kind in
-    let i = c.loop-i.i in
-    let a = c.loop-i.invariant.placed in
-    let one = placed_one (entry_reader s kind) (entry_moves s kind) c.loop-i.c c.loop-i.p c.loop-i.work c.put.new.work _ _ c.loop-i.invariant.room
-    (ap (λ r. r.next) c.entry-r.ensures) c.put.ensures c.past-p.ensures in
-    let all = placed_append a c.if-c-ne0.false one in
-    record {
-      turns = omega (arith, c);
-      length = c.put.auto.work ∙ c.loop-i.invariant.length;
-      placed = (rw (entries_turn s c.args.c kind i, entry_offsets_turn s c.args.c kind i, ← a.next) all);
-      room = room_after (entry_reader s kind) c.loop-i.c c.loop-i.p c.loop-i.invariant.room one;
-    }
+    let s = c.args.r.now.bytes.now in
+    let k = fresh c.args.r.now.at in
+    let i = c.loop-i._i in
+    let one = along_record c.loop-i.invariant c.in_ok-entry.ensures (entry_moves c.loop-i.r.bytes.now c.args.kind) _ c.put.ensures in
+    rw (entries_turn s k c.args.kind i, entry_offsets_turn s k c.args.kind i) one
 
-pub shape_of-work : goal.shape_of-work
-shape_of-work c = c.loop-i.invariant.length
+pub returns-in_err-entry : goal.returns-in_err-entry
+returns-in_err-entry c =
+    refused c.loop-i.invariant c.in_err-entry.ensures c.from_residual.ensures.1
+    (entries_stay c.args.r.now.bytes.now (fresh c.args.r.now.at) c.args.kind c.loop-i._i c.args.n c.loop-i-test.true)
 
 pub returns : goal.returns
 returns c =
-    let e : c.args.n ≡ c.loop-i.i = omega (arith, c) in
-    rw e c.loop-i.invariant.placed
+    let e : c.loop-i._i ≡ c.args.n = omega (arith, c.loop-i.auto._i-end, c.loop-i-test.false) in
+    placed _ _ _ (rw e at c.loop-i.invariant) (rw e at c.loop-i.invariant.stored.count)

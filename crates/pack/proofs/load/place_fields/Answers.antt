@@ -1,68 +1,53 @@
-use Rattle.pack.proofs.Places.{placed_none, placed_one, placed_append, placed_refused, room_after, fields_turn, field_offsets_turn, fields_stay}
-use Rattle.pack.proofs.Reading.{field_reader, field_moves}
+use Rattle.pack.proofs.Places.{along_none, along_record, along_value, placed, refused, fields_turn, field_offsets_turn, fields_stay}
+use Rattle.pack.proofs.Reading.{field_moves}
+use Rattle.pack.proofs.ReaderLaws.{told_ok}
+use Rattle.pack.proofs.Free.{field_fits}
+use Rattle.pack.specs.Items.{fresh}
 use Rattle.pack.specs.Format.{fields, field_offsets, field_next}
+use Rattle.pack.specs.Records.{read_field}
 use Prim.Native.Nat.{◌+◌}
 use native.Mathlib.Omega.{arith}
-use mathlib.Core.Path.{◌≡◌, refl, ap, ◌∙◌, sym}
+use mathlib.Core.Path.{◌≡◌, refl, ap}
 use Rattle.pack.proofs.load.place_fields.Goals as goal
 
 pub loop-i-init : goal.loop-i-init
 unfolding fields field_offsets
-loop-i-init c =
-    record {
-      turns = omega (arith, c);
-      length = refl;
-      placed = placed_none c.args.s.now _ _ _ c.requires;
-      room = c.requires;
-      total = refl;
-    }
-
-pub shape_of-work-then-c-ne0 : goal.shape_of-work-then-c-ne0
-shape_of-work-then-c-ne0 c =
-    c.loop-i.invariant.length
-
-pub returns-then-c-ne0 : goal.returns-then-c-ne0
-returns-then-c-ne0 c =
-    let s = c.args.s.now in
-    let a = c.loop-i.invariant.placed in
-    let n = c.if-c-ne0.true in
-    placed_refused _ _ _
-    (a.next ∙ sym (fields_stay s c.args.c c.args.types c.loop-i.i c.args.n (omega (arith, c)) (λ z. n ((rw a.next z))))) n a.few
+loop-i-init c = record { along = along_none _ _ _ c.requires; total = refl }
 
 pub put-requires : goal.put-requires
-put-requires c =
-    omega (arith, c.loop-i.invariant.room.short, c.loop-i.invariant.room.inside)
+put-requires c = omega (arith, c.loop-i.invariant.along.room.short, c.loop-i.r.inside)
 
-pub past-p-requires : goal.past-p-requires
-past-p-requires c =
-    omega (arith, c.loop-i.invariant.room.short, c.loop-i.invariant.room.inside, c.loop-i.invariant.room.few)
+pub overflow_add-p : goal.overflow_add-p
+overflow_add-p c = omega (arith, c.loop-i.invariant.along.room.short, c.loop-i.invariant.along.room.few, c.loop-i.r.inside)
 
-pub loop-i-smaller : goal.loop-i-smaller
-loop-i-smaller c =
-    omega (arith, c.loop-i-test.true)
+pub overflow_add-total : goal.overflow_add-total
+overflow_add-total c =
+    let f = read_field c.args.types c.loop-i.total c.loop-i.r.bytes.now (fresh c.loop-i.r.at) in
+    let o = told_ok f c.in_ok-field.field c.in_ok-field.ensures.answer in
+    omega (arith, (rw o.1 at (field_fits c.loop-i.r.bytes.now (fresh c.loop-i.r.at) c.args.types c.loop-i.total o.0)))
 
 pub loop-i-preserved : goal.loop-i-preserved
 unfolding field_next
 loop-i-preserved c =
-    let s = c.args.s.now in let types = c.args.types in
-    let i = c.loop-i.i in
-    let a = c.loop-i.invariant.placed in
-    let one = placed_one (field_reader s types c.loop-i.total) (field_moves s types c.loop-i.total) c.loop-i.c c.loop-i.p c.loop-i.work c.put.new.work _ _
-    c.loop-i.invariant.room (ap (λ r. r.next) c.field-r.ensures.is) c.put.ensures c.past-p.ensures in
-    let all = placed_append a c.if-c-ne0.false one in
+    let types = c.args.types in
+    let s = c.args.r.now.bytes.now in
+    let k = fresh c.args.r.now.at in
+    let i = c.loop-i._i in
+    let a = c.loop-i.invariant.along in
+    let t = c.loop-i.invariant.total in
     record {
-      turns = omega (arith, c.loop-i-test.true);
-      length = c.put.auto.work ∙ c.loop-i.invariant.length;
-      placed = (rw (fields_turn s c.args.c types i, field_offsets_turn s c.args.c types i, ← a.next, ← c.loop-i.invariant.total) all);
-      room = room_after (field_reader s types c.loop-i.total) c.loop-i.c c.loop-i.p c.loop-i.invariant.room one;
-      total =
-          (rw (fields_turn s c.args.c types i, ← a.next, ← c.loop-i.invariant.total) (ap (λ r. c.loop-i.total + r.value.scaling.bits) c.field-r.ensures.is));
+      along = rw (fields_turn s k types i, field_offsets_turn s k types i, ← t)
+          (along_record a c.in_ok-field.ensures (field_moves c.loop-i.r.bytes.now types c.loop-i.total) _ c.put.ensures);
+      total = rw (fields_turn s k types i, ← t) (ap (λ r. c.loop-i.total + r.scaling.bits) (along_value a c.in_ok-field.ensures));
     }
 
-pub shape_of-work : goal.shape_of-work
-shape_of-work c = c.loop-i.invariant.length
+pub returns-in_err-field : goal.returns-in_err-field
+unfolding field_next
+returns-in_err-field c =
+    let stay = fields_stay c.args.r.now.bytes.now (fresh c.args.r.now.at) c.args.types c.loop-i._i c.args.n c.loop-i-test.true in
+    refused c.loop-i.invariant.along c.in_err-field.ensures c.from_residual.ensures.1 (rw (← c.loop-i.invariant.total) at stay)
 
 pub returns : goal.returns
 returns c =
-    let e : c.args.n ≡ c.loop-i.i = omega (arith, c) in
-    rw e c.loop-i.invariant.placed
+    let e : c.loop-i._i ≡ c.args.n = omega (arith, c.loop-i.auto._i-end, c.loop-i-test.false) in
+    placed _ _ _ (rw e at c.loop-i.invariant.along) (rw e at c.loop-i.invariant.along.stored.count)

@@ -1,16 +1,13 @@
-use Rattle.pack.specs.Placing.{Room, PlacedTo}
+use Rattle.pack.specs.Items.{fresh}
 use Rattle.pack.specs.Format.{fields, field_offsets}
-use Prim.Native.Nat.{◌-◌, ◌≤◌}
+use Rattle.pack.proofs.Places.{Along}
 use mathlib.Core.Path.{◌≡◌}
-use lib.ListN.{length}
 use Rattle.pack.proofs.load.place_fields.Given as goal
 
 abbrev pub invariant-loop-i : goal.invariant-loop-i
 invariant-loop-i l =
     record {
-      turns : l.i ≤ l.n;
-      length : length l.work ≡ length l.initial.work;
-      placed : PlacedTo (fields l.types l.s l.initial.c l.i).next l.initial.work l.initial.p (field_offsets l.types l.s l.initial.c l.i) l.work l.c l.p;
-      room : Room l.s l.c l.p;
-      total : l.total ≡ (fields l.types l.s l.initial.c l.i).total;
+      along : Along l.initial.r l.initial.work l.initial.p (fields l.types l.initial.r.bytes.now (fresh l.initial.r.at) l._i).next
+          (field_offsets l.types l.initial.r.bytes.now (fresh l.initial.r.at) l._i) l.r l.work l.p;
+      total : l.total ≡ (fields l.types l.initial.r.bytes.now (fresh l.initial.r.at) l._i).total;
     }

@@ -1,57 +1,49 @@
-use Rattle.pack.proofs.Places.{placed_none, placed_append, placed_refused, room_after, lookups_turn, lookup_offsets_turn, lookups_stay}
-use Rattle.pack.proofs.Reading.{lookup_next_reader}
-use Rattle.pack.specs.Format.{LookupState, lookups, lookup_offsets}
+use Rattle.pack.proofs.Places.{along_none, along_value, along_then, placed, refused, lookups_turn, lookup_offsets_turn, lookups_stay}
+use Rattle.pack.specs.Items.{Cursor, fresh}
+use Rattle.std.specs.Prelude.{Option, Some}
+use Rattle.pack.specs.declared.text.Text.{Text}
+use Prim.Native.Nat.{ℕ}
+use mathlib.Core.List.{List}
+use Rattle.pack.specs.Format.{LookupState, lookups, lookup_offsets, lookup_next}
 use native.Mathlib.Omega.{arith}
-use mathlib.Core.Path.{◌≡◌, refl, ◌∙◌, sym}
+use mathlib.Core.Path.{◌≡◌, refl, ap, sym}
 use Rattle.pack.proofs.load.place_lookups.Goals as goal
+
+-- the state at lookup i, by the name that is at hand
+state : (s : List ℕ) (c : Cursor) (i : ℕ) (before : Option Text) → before ≡ (lookups s c i).before
+    → ◌≡◌ {A = LookupState} (lookups s c i) (record { next = (lookups s c i).next; before = before })
+state s c i before e = λ j. record { next = (lookups s c i).next; before = sym e j }
 
 pub loop-i-init : goal.loop-i-init
 unfolding lookups lookup_offsets
-loop-i-init c =
-    record {
-      turns = omega (arith, c);
-      length = refl;
-      placed = placed_none c.args.s.now _ _ _ c.requires;
-      room = c.requires;
-      before = refl;
-    }
+loop-i-init c = record { along = along_none _ _ _ c.requires; before = refl }
 
-pub shape_of-work-then-c-ne0 : goal.shape_of-work-then-c-ne0
-shape_of-work-then-c-ne0 c =
-    c.loop-i.invariant.length
-
-pub returns-then-c-ne0 : goal.returns-then-c-ne0
-returns-then-c-ne0 c =
-    let s = c.args.s.now in
-    let a = c.loop-i.invariant.placed in
-    let n = c.if-c-ne0.true in
-    placed_refused _ _ _ (a.next ∙ sym (lookups_stay s c.args.c c.loop-i.i c.args.n (omega (arith, c)) (λ z. n ((rw a.next z))))) n a.few
-
-pub place_lookup-r-requires : goal.place_lookup-r-requires
-place_lookup-r-requires c =
-    c.loop-i.invariant.room
+pub place_lookup-requires : goal.place_lookup-requires
+place_lookup-requires c = c.loop-i.invariant.along.room
 
 pub loop-i-preserved : goal.loop-i-preserved
+unfolding lookup_next
 loop-i-preserved c =
-    let s = c.args.s.now in
-    let i = c.loop-i.i in
-    let a = c.loop-i.invariant.placed in
-    let b = c.place_lookup-r.ensures in
-    let all = placed_append a c.if-c-ne0.false b.placed in
-    let st : ◌≡◌ {A = LookupState} (lookups s c.args.c i) (record { next = c.loop-i.c; before = c.loop-i.before }) =
-    λ j. record { next = sym a.next j; before = sym c.loop-i.invariant.before j } in
+    let s = c.args.r.now.bytes.now in
+    let k = fresh c.args.r.now.at in
+    let i = c.loop-i._i in
+    let a = c.loop-i.invariant.along in
+    let st = state s k i c.loop-i.before c.loop-i.invariant.before in
     record {
-      turns = omega (arith, c);
-      length = c.place_lookup-r.auto.work ∙ c.loop-i.invariant.length;
-      placed = (rw (lookups_turn s c.args.c i, lookup_offsets_turn s c.args.c i, st) all);
-      room = room_after (lookup_next_reader s c.loop-i.before) c.loop-i.c c.loop-i.p c.loop-i.invariant.room b.placed;
-      before = (rw (lookups_turn s c.args.c i, st) b.before);
+      along = rw (lookups_turn s k i, lookup_offsets_turn s k i, st) (along_then a c.in_ok-behind.ensures refl);
+      before = rw (lookups_turn s k i, st) (ap (λ v. Some v.1) (along_value a c.in_ok-behind.ensures.reads));
     }
 
-pub shape_of-work : goal.shape_of-work
-shape_of-work c = c.loop-i.invariant.length
+pub returns-in_err-behind : goal.returns-in_err-behind
+returns-in_err-behind c =
+    let s = c.args.r.now.bytes.now in
+    let k = fresh c.args.r.now.at in
+    let i = c.loop-i._i in
+    let st = state s k i c.loop-i.before c.loop-i.invariant.before in
+    refused c.loop-i.invariant.along c.in_err-behind.ensures.reads c.from_residual.ensures.1
+    (rw st at (lookups_stay s k i c.args.n c.loop-i-test.true))
 
 pub returns : goal.returns
 returns c =
-    let e : c.args.n ≡ c.loop-i.i = omega (arith, c) in
-    rw e c.loop-i.invariant.placed
+    let e : c.loop-i._i ≡ c.args.n = omega (arith, c.loop-i.auto._i-end, c.loop-i-test.false) in
+    placed _ _ _ (rw e at c.loop-i.invariant.along) (rw e at c.loop-i.invariant.along.stored.count)

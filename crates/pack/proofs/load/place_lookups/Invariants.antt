@@ -1,16 +1,13 @@
-use Rattle.pack.specs.Placing.{Room, PlacedTo}
+use Rattle.pack.specs.Items.{fresh}
 use Rattle.pack.specs.Format.{lookups, lookup_offsets}
-use Prim.Native.Nat.{◌-◌, ◌≤◌}
+use Rattle.pack.proofs.Places.{Along}
 use mathlib.Core.Path.{◌≡◌}
-use lib.ListN.{length}
 use Rattle.pack.proofs.load.place_lookups.Given as goal
 
 abbrev pub invariant-loop-i : goal.invariant-loop-i
 invariant-loop-i l =
     record {
-      turns : l.i ≤ l.n;
-      length : length l.work ≡ length l.initial.work;
-      placed : PlacedTo (lookups l.s l.initial.c l.i).next l.initial.work l.initial.p (lookup_offsets l.s l.initial.c l.i) l.work l.c l.p;
-      room : Room l.s l.c l.p;
-      before : l.before ≡ (lookups l.s l.initial.c l.i).before;
+      along : Along l.initial.r l.initial.work l.initial.p (lookups l.initial.r.bytes.now (fresh l.initial.r.at) l._i).next
+          (lookup_offsets l.initial.r.bytes.now (fresh l.initial.r.at) l._i) l.r l.work l.p;
+      before : l.before ≡ (lookups l.initial.r.bytes.now (fresh l.initial.r.at) l._i).before;
     }

@@ -1,50 +1,39 @@
-use Rattle.pack.specs.declared.cursor.Cursor.{Cursor}
-use Rattle.pack.specs.Format.{field_offsets, fields, pgn_next, pgn_records}
-use Rattle.pack.proofs.Places.{placed_refused, placed_parts, room_head}
-use Rattle.pack.proofs.Reading.{pgn_reader, pgn_moves, fields_reader}
-use Rattle.pack.specs.declared.pgn.PgnItem.{PgnItem}
-use Rattle.pack.specs.Placing.{PlacedTo}
+use Rattle.pack.proofs.Places.{along_none, along_record, along_value, placed_last, refused}
+use Rattle.pack.proofs.Reading.{pgn_moves, fields_reader}
+use Rattle.pack.specs.Items.{fresh}
+use Rattle.pack.specs.Format.{pgn_next, pgn_records, field_offsets}
+use Prim.Native.Nat.{suc, ◌+◌}
+use lib.ListN.{length}
+use mathlib.Core.Path.{◌≡◌}
 use Rattle.pack.specs.Records.{read_pgn}
-use Prim.Native.Nat.{ℕ, ◌+◌}
 use native.Mathlib.Omega.{arith}
-use mathlib.Core.Path.{◌≡◌, ap, ◌∙◌, sym}
-use mathlib.Core.List.{List}
-use lib.ListN.{set}
 use Rattle.pack.proofs.load.place_pgn.Goals as goal
 
--- the head and the fields behind it
-whole : (k : ℕ) (s : List ℕ) (c : Cursor) (g : PgnItem) (w : List ℕ) (p : ℕ) (w' : List ℕ) (d : Cursor) (q : ℕ) → g ≡ read_pgn s c
-    → PlacedTo (fields k s g.next g.value.fields).next (set w p c.at) (p + 1) (field_offsets k s g.next g.value.fields) w' d q
-    → PlacedTo (pgn_next k s c) w p (pgn_records k s c) w' d q
-unfolding pgn_next pgn_records
-whole k s c g w p w' d q e a = placed_parts (rw e at a)
-
 pub put-requires : goal.put-requires
-put-requires c =
-    omega (arith, c.requires.short, c.requires.inside)
-
-pub returns-then-next-ne0 : goal.returns-then-next-ne0
-unfolding pgn_next
-returns-then-next-ne0 c =
-    let s = c.args.s.now in
-    let e : c.pgn-g.result.next ≡ (read_pgn s c.args.c).next = ap (λ (r : PgnItem). r.next) c.pgn-g.ensures in
-    let l : c.pgn-g.result.next.at ≡ (read_pgn s c.args.c).next.at = ap (λ (r : PgnItem). r.next.at) c.pgn-g.ensures in
-    placed_refused _ _ _ (e
-    ∙ sym
-    ((fields_reader s c.args.types (read_pgn s c.args.c).value.fields).sticky (read_pgn s c.args.c).next (rw (← e) c.if-next-ne0.true)))
-    c.if-next-ne0.true (omega (arith, l, (pgn_reader s).grows c.args.c, c.requires.few))
+put-requires c = omega (arith, c.requires.short, c.args.r.now.inside)
 
 pub overflow_add-p : goal.overflow_add-p
-overflow_add-p c =
-    omega (arith, c.requires.short, c.requires.inside, c.requires.few)
+overflow_add-p c = omega (arith, c.requires.short, c.requires.few, c.args.r.now.inside)
+
+pub returns-in_err-pgn : goal.returns-in_err-pgn
+unfolding pgn_next
+returns-in_err-pgn c =
+    let s = c.args.r.now.bytes.now in
+    let g = read_pgn s (fresh c.args.r.now.at) in
+    refused (along_none _ _ _ c.requires) c.in_err-pgn.ensures c.from_residual.ensures.1 ((fields_reader s c.args.types g.value.fields).sticky g.next)
 
 pub place_fields-requires : goal.place_fields-requires
 place_fields-requires c =
-    let s = c.args.s.now in
-    let e : c.pgn-g.result.next ≡ (read_pgn s c.args.c).next = ap (λ (r : PgnItem). r.next) c.pgn-g.ensures in
-    rw e (room_head (pgn_reader s) (pgn_moves s) c.args.c c.args.p c.requires (rw (← e) c.if-next-ne0.false))
+    (along_record (along_none _ _ _ c.requires) c.in_ok-pgn.ensures (pgn_moves c.args.r.now.bytes.now) _ c.put.ensures).room
 
 pub returns : goal.returns
+unfolding pgn_next pgn_records
 returns c =
-    whole c.args.types c.args.s.now c.args.c c.pgn-g.result c.args.work.now c.args.p _ _ _ c.pgn-g.ensures
-    (rw c.put.ensures at c.place_fields.ensures)
+    let s = c.args.r.now.bytes.now in
+    let none = along_none c.args.r.now c.args.work.now c.args.p c.requires in
+    let head = along_record none c.in_ok-pgn.ensures (pgn_moves s) _ c.put.ensures in
+    let v = along_value none c.in_ok-pgn.ensures in
+    let g = read_pgn s (fresh c.args.r.now.at) in
+    let n = length (field_offsets c.args.types s g.next g.value.fields) in
+    let e : c.args.p + 1 + n ≡ c.args.p + suc n = omega arith in
+    placed_last head c.place_fields.ensures (rw (v, e)) (rw v)

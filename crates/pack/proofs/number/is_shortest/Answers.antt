@@ -1,15 +1,11 @@
 use Rattle.pack.specs.Items.{shortest}
-use borrow.Author.Tests.{lt-ltb, le-ltb, eq-eqb, ne_eqb}
+use borrow.Author.Tests.{lt-ltb, le-ltb}
 use Rattle.pack.proofs.number.is_shortest.Goals as goal
 
-pub returns-then-s-e-eq0 : goal.returns-then-s-e-eq0
+pub returns-then-at-e : goal.returns-then-at-e
 unfolding shortest
-returns-then-s-e-eq0 c = simp (lt-ltb _ _ c.if-at-e.true, eq-eqb _ _ c.if-s-e-eq0.true)
+returns-then-at-e c = simp (lt-ltb _ _ c.if-at-e.true)
 
-pub returns-else-s-e-eq0 : goal.returns-else-s-e-eq0
+pub returns : goal.returns
 unfolding shortest
-returns-else-s-e-eq0 c = simp (lt-ltb _ _ c.if-at-e.true, ne_eqb _ _ c.if-s-e-eq0.false)
-
-pub returns-else-at-e : goal.returns-else-at-e
-unfolding shortest
-returns-else-at-e c = simp (le-ltb _ _ c.if-at-e.false)
+returns c = simp (le-ltb _ _ c.if-at-e.false)

@@ -1,10 +1,19 @@
-use Rattle.pack.proofs.Positions.{lookup_law, lookup_room}
-use native.Mathlib.Omega.{arith}
+use Rattle.pack.proofs.Positions.{lookup_law, lookup_stands}
+use Rattle.pack.proofs.ReaderLaws.{same_Ok}
+use Rattle.pack.proofs.Standing.{reads_there}
+use Rattle.pack.specs.Records.{read_lookup}
+use mathlib.Core.Path.{◌∙◌, sym}
+use Rattle.std.specs.Prelude.{None}
 use Rattle.pack.proofs.of.lookup_of.Goals as goal
 
-pub offset-at-requires : goal.offset-at-requires
-offset-at-requires c = omega (arith, lookup_room c.requires)
+pub reader-requires : goal.reader-requires
+reader-requires c = let t = lookup_stands c.requires in record { place = t.place; inside = t.inside }
+
+pub unreachable-requires : goal.unreachable-requires
+unreachable-requires c =
+    c.in_default.not-Ok _ (reads_there (read_lookup None) ((lookup_stands c.requires)) c.reader.ensures.bytes c.reader.ensures.at c.lookup.ensures)
 
 pub returns : goal.returns
 returns c =
-    rw (c.lookup_at.ensures, c.offset-at.ensures) (lookup_law c.requires)
+    let e = reads_there (read_lookup None) ((lookup_stands c.requires)) c.reader.ensures.bytes c.reader.ensures.at c.lookup.ensures in
+    rw (same_Ok _ _ (sym c.in-Ok.is ∙ e)) ((lookup_law c.requires))

@@ -1,10 +1,18 @@
-use Rattle.pack.proofs.Positions.{pgn_law, pgn_room}
-use native.Mathlib.Omega.{arith}
+use Rattle.pack.proofs.Positions.{pgn_law, pgn_stands}
+use Rattle.pack.proofs.ReaderLaws.{same_Ok}
+use Rattle.pack.proofs.Standing.{reads_there}
+use Rattle.pack.specs.Records.{read_pgn}
+use mathlib.Core.Path.{◌∙◌, sym}
 use Rattle.pack.proofs.of.pgn_of.Goals as goal
 
-pub offset-at-requires : goal.offset-at-requires
-offset-at-requires c = omega (arith, pgn_room c.requires)
+pub reader-requires : goal.reader-requires
+reader-requires c = let t = pgn_stands c.requires in record { place = t.place; inside = t.inside }
+
+pub unreachable-requires : goal.unreachable-requires
+unreachable-requires c =
+    c.in_default.not-Ok _ (reads_there read_pgn ((pgn_stands c.requires)) c.reader.ensures.bytes c.reader.ensures.at c.pgn.ensures)
 
 pub returns : goal.returns
 returns c =
-    rw (c.pgn_at.ensures, c.offset-at.ensures) (pgn_law c.requires)
+    let e = reads_there read_pgn ((pgn_stands c.requires)) c.reader.ensures.bytes c.reader.ensures.at c.pgn.ensures in
+    rw (same_Ok _ _ (sym c.in-Ok.is ∙ e)) ((pgn_law c.requires))

@@ -1,6 +1,5 @@
 use Rattle.pack.specs.Notation.{◌≐◌}
 use lib.ListN.{length, drop}
-use Prim.Native.Nat.{◌-◌}
 use mathlib.Core.Path.{◌≡◌}
 use Rattle.pack.proofs.text.same.Given as goal
 

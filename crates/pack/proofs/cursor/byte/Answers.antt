@@ -1,9 +1,0 @@
-use native.Mathlib.Omega.{arith}
-use mathlib.Core.Path.{refl}
-use Rattle.pack.proofs.cursor.byte.Goals as goal
-
-pub overflow_cast-result : goal.overflow_cast-result
-overflow_cast-result c = omega (arith, c.shared_slice_known-1.given c.args.at)
-
-pub returns : goal.returns
-returns c = record { is = refl; small = omega (arith, c.shared_slice_known-1.given c.args.at) }

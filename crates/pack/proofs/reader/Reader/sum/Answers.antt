@@ -1,0 +1,15 @@
+use Rattle.std.specs.Prelude.{ℕ, ◌+◌}
+use Rattle.pack.specs.Notation.{◌≤ᵇ◌}
+use Rattle.pack.specs.Items.{read_sum, largest32}
+use Rattle.pack.proofs.ReaderItems.{checked, reads_judged, judged_out}
+use Rattle.pack.proofs.reader.Reader.sum.Goals as goal
+
+pub returns-in_err-n : goal.returns-in_err-n
+unfolding read_sum
+returns-in_err-n c = judged_out (λ (v : ℕ). c.args.other + v ≤ᵇ largest32) 6 c.in_err-n.ensures c.from_residual.ensures.1
+
+pub returns : goal.returns
+unfolding read_sum
+returns c =
+    let e = rw (c.is_some.ensures, checked c.checked_add.result (c.args.other + c.in_ok-n.n) c.checked_add.ensures) at c.judged.ensures in
+    reads_judged (λ (v : ℕ). c.args.other + v ≤ᵇ largest32) 6 c.in_ok-n.ensures e

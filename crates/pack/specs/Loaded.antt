@@ -1,0 +1,66 @@
+-- What the iterators over an accepted pack have still to give.
+use Rattle.std.specs.Prelude.{ℕ, ◌-◌, List, length, map, drop}
+use Rattle.std.specs.List.{range_with_len}
+use Rattle.pack.specs.Value.{FieldType, Entry, Field, pgns_of}
+use Rattle.pack.specs.Meaning.{type_meaning, entry_meaning, field_meaning, pack_of}
+use Rattle.pack.specs.Ready.{lookup_in, pgn_in}
+use Rattle.pack.specs.declared.loaded.LookupRef.{LookupRef}
+use Rattle.pack.specs.declared.loaded.PgnRef.{PgnRef}
+use Rattle.pack.specs.declared.loaded.TypeRef.{TypeRef}
+use Rattle.pack.specs.declared.loaded.EntryRef.{EntryRef}
+use Rattle.pack.specs.declared.loaded.FieldRef.{FieldRef}
+use Rattle.pack.specs.declared.loaded.Types.{Types}
+use Rattle.pack.specs.declared.loaded.Lookups.{Lookups}
+use Rattle.pack.specs.declared.loaded.Entries.{Entries}
+use Rattle.pack.specs.declared.loaded.Pgns.{Pgns}
+use Rattle.pack.specs.declared.loaded.Fields.{Fields}
+
+-- which lookup of which pack
+pub record LookupSpot : Type 0 where
+  pub bytes : List ℕ
+  pub work : List ℕ
+  pub item : ℕ
+
+-- which PGN of which tree of which pack
+pub record PgnSpot : Type 0 where
+  pub bytes : List ℕ
+  pub work : List ℕ
+  pub tree : ℕ
+  pub item : ℕ
+
+-- those from i on, of n
+abbrev pub lookup_spots : (s w : List ℕ) (i n : ℕ) → List LookupSpot
+lookup_spots s w i n = map (λ k. record { bytes = s; work = w; item = k }) (range_with_len i (n - i))
+
+abbrev pub pgn_spots : (s w : List ℕ) (t i n : ℕ) → List PgnSpot
+pgn_spots s w t i n = map (λ k. record { bytes = s; work = w; tree = t; item = k }) (range_with_len i (n - i))
+
+abbrev pub lookup_spot : LookupRef → LookupSpot
+lookup_spot l = record { bytes = l.bytes.now; work = l.work.now; item = l.lookup.item }
+
+abbrev pub pgn_spot : PgnRef → PgnSpot
+pgn_spot g = record { bytes = g.bytes.now; work = g.work.now; tree = g.pgn.tree; item = g.pgn.item }
+
+abbrev pub type_said : TypeRef → FieldType
+type_said t = type_meaning t.bytes.now t.view
+
+abbrev pub entry_said : EntryRef → Entry
+entry_said e = entry_meaning e.bytes.now e.view
+
+abbrev pub field_said : FieldRef → Field
+field_said f = field_meaning f.bytes.now f.view
+
+abbrev pub types_left : Types → List FieldType
+types_left i = drop i.item (pack_of i.pack.bytes.now).fieldtypes
+
+abbrev pub lookups_left : Lookups → List LookupSpot
+lookups_left i = lookup_spots i.pack.bytes.now i.pack.work.now i.item (length (pack_of i.pack.bytes.now).lookups)
+
+abbrev pub entries_left : Entries → List Entry
+entries_left i = drop i.item (lookup_in i.of.bytes.now i.of.lookup).entries
+
+abbrev pub pgns_left : Pgns → List PgnSpot
+pgns_left i = pgn_spots i.pack.bytes.now i.pack.work.now i.tree i.item (length (pgns_of (pack_of i.pack.bytes.now) i.tree))
+
+abbrev pub fields_left : Fields → List Field
+fields_left i = drop i.item (pgn_in i.of.bytes.now i.of.pgn).fields
