@@ -11,8 +11,6 @@ use Rattle.pack.specs.Notation.{◌≤ᵇ◌}
 use Rattle.pack.specs.Value.{Bytes}
 use Rattle.pack.specs.Load.{loaded}
 use Rattle.pack.specs.Meaning.{pack_of}
-use Rattle.pack.specs.declared.load.Loaded.{Loaded}
-use Rattle.pack.specs.declared.load.Loaded.TheVariants as load
 use Rattle.rules.specs.PlaceCall.{fitted, placed}
 use Rattle.rules.specs.PlaceText.{place_text}
 use Rattle.rules.specs.declared.place_text.Placed.TheVariants.{Written}
@@ -28,7 +26,7 @@ pub written_fits : (s : List ℕ) (m place tree item n k : ℕ) → placed s m p
 unfolding placed
 written_fits s m place tree item n k h = go (loaded s m) refl (place_text (pack_of s) place tree item) refl
   where
-    go : (l : Loaded) → loaded s m ≡ l → (o : Option Bytes) → place_text (pack_of s) place tree item ≡ o → k ≤ n
-    go (load.Refused r) x o y = let u : ◌≡◌ {A = ℕ} 0 1 = (let z = rw x at h in cc) in absurd (omega arith)
-    go (load.Accepted i) x None y = let u : ◌≡◌ {A = ℕ} 0 1 = (let z = rw (x, y) at h in cc) in absurd (omega arith)
-    go (load.Accepted i) x (Some b) y = fitted_fits b n k (rw (x, y) at h)
+    go : (l : Result Index Refusal) → loaded s m ≡ l → (o : Option Bytes) → place_text (pack_of s) place tree item ≡ o → k ≤ n
+    go (Err r) x o y = let u : ◌≡◌ {A = ℕ} 0 1 = (let z = rw x at h in cc) in absurd (omega arith)
+    go (Ok i) x None y = let u : ◌≡◌ {A = ℕ} 0 1 = (let z = rw (x, y) at h in cc) in absurd (omega arith)
+    go (Ok i) x (Some b) y = fitted_fits b n k (rw (x, y) at h)

@@ -22,8 +22,6 @@ use Rattle.rules.specs.PlaceCall.{named, placed, text_left, text_after, place_an
 use Rattle.rules.specs.PlaceText.{place_text}
 use Rattle.rules.specs.declared.place_text.Placed.{Placed}
 use Rattle.rules.specs.declared.place_text.Placed.TheVariants.{Refused, Written}
-use Rattle.pack.specs.declared.load.Loaded.{Loaded}
-use Rattle.pack.specs.declared.load.Loaded.TheVariants as load
 
 pub record Named (o : Option Bytes) (w : List ℕ) (r : Placed) (w' : List ℕ) : Type 0 where
   pub answer : r ≡ named o (length w)
@@ -54,11 +52,11 @@ pub record Answered (s : List ℕ) (m place t item : ℕ) (w : List ℕ) (r : Pl
   pub text : w' ≡ text_after s m place t item w
 
 module _ (s : List ℕ) (m place t item : ℕ) (w : List ℕ) where
-  pub not_loaded : (r : Refusal) → loaded s m ≡ load.Refused r → Answered s m place t item w (Refused r) w
+  pub not_loaded : (r : Refusal) → loaded s m ≡ Err r → Answered s m place t item w (Refused r) w
   unfolding placed text_after
   not_loaded r e = record { answer = (rw e); text = (rw e) }
 
-  pub is_loaded : (i : Index) → loaded s m ≡ load.Accepted i → (r : Placed) (w' : List ℕ) → r ≡ named (place_text (pack_of s) place t item) (length w)
+  pub is_loaded : (i : Index) → loaded s m ≡ Ok i → (r : Placed) (w' : List ℕ) → r ≡ named (place_text (pack_of s) place t item) (length w)
       → w' ≡ text_left (named (place_text (pack_of s) place t item) (length w)) (place_text (pack_of s) place t item) w → Answered s m place t item w r w'
   unfolding placed text_after
   is_loaded i e r w' a b = record { answer = (rw e a); text = (rw e b) }
@@ -78,9 +76,9 @@ place_told s m place t item n = go (loaded s m) refl
     rest : Answer
     rest = text_tells (place_text (pack_of s) place t item) n
 
-    go : (l : Loaded) → loaded s m ≡ l → place_answer (placed s m place t item n) ≡ place_tells s m place t item n
-    go (load.Refused r) e = rw e (after_refused s m r e rest)
-    go (load.Accepted i) e = rw e (named_told (place_text (pack_of s) place t item) n ∙ after_accepted s m i e rest)
+    go : (l : Result Index Refusal) → loaded s m ≡ l → place_answer (placed s m place t item n) ≡ place_tells s m place t item n
+    go (Err r) e = rw e (after_refused s m r e rest)
+    go (Ok i) e = rw e (named_told (place_text (pack_of s) place t item) n ∙ after_accepted s m i e rest)
 
 pub promised : (s : List ℕ) (place t item : ℕ) (w o w' o' : List ℕ) (r : Placed) → Answered s (length w) place t item o r o' → w' ≡ work_after s w
     → Places s place t item w o w' o' r

@@ -12,8 +12,6 @@ use Rattle.pack.specs.Notation.{◌≤ᵇ◌}
 use Rattle.pack.specs.Load.{Answer, loaded, over, work_after}
 use Rattle.pack.specs.Meaning.{pack_of}
 use Rattle.pack.specs.declared.load.Index.{Index}
-use Rattle.pack.specs.declared.load.Loaded.{Loaded}
-use Rattle.pack.specs.declared.load.Loaded.TheVariants as load
 use Rattle.pack.specs.declared.load.Refusal.{Refusal}
 use Rattle.pack.specs.declared.load.Refusal.TheVariants.{Findings}
 use Rattle.pack.proofs.Stores.{sets_append, sets_over}
@@ -115,11 +113,11 @@ pub record Answers (s w o : List ℕ) (r : Checked) (o' : List ℕ) : Type 0 whe
   pub answer : r ≡ checked s (length w) (length o)
   pub out : o' ≡ findings_after s (length w) o
 
-pub not_loaded : (s w o : List ℕ) (q : Refusal) → loaded s (length w) ≡ load.Refused q → Answers s w o (Refused q) o
+pub not_loaded : (s w o : List ℕ) (q : Refusal) → loaded s (length w) ≡ Err q → Answers s w o (Refused q) o
 unfolding checked findings_after
 not_loaded s w o q e = record { answer = rw e; out = rw e }
 
-pub is_loaded : (s w o : List ℕ) (i : Index) {r : Checked} {o' : List ℕ} → loaded s (length w) ≡ load.Accepted i
+pub is_loaded : (s w o : List ℕ) (i : Index) {r : Checked} {o' : List ℕ} → loaded s (length w) ≡ Ok i
     → r ≡ judged (check (pack_of s)) (length o) → o' ≡ findings_left (judged (check (pack_of s)) (length o)) (all_numbers (check (pack_of s))) o
     → Answers s w o r o'
 unfolding checked findings_after
@@ -139,9 +137,9 @@ check_told s m n = go (loaded s m) refl
     rest : Answer
     rest = findings_tell (check (pack_of s)) n
 
-    go : (l : Loaded) → loaded s m ≡ l → check_answer (checked s m n) ≡ check_tells s m n
-    go (load.Refused r) e = rw e (after_refused s m r e rest)
-    go (load.Accepted i) e = rw e (judged_told (check (pack_of s)) n ∙ after_accepted s m i e rest)
+    go : (l : Result Index Refusal) → loaded s m ≡ l → check_answer (checked s m n) ≡ check_tells s m n
+    go (Err r) e = rw e (after_refused s m r e rest)
+    go (Ok i) e = rw e (judged_told (check (pack_of s)) n ∙ after_accepted s m i e rest)
 
 pub promised : (s w o w' o' : List ℕ) (r : Checked) → Answers s w o r o' → w' ≡ work_after s w → Checks s w o w' o' r
 promised s w o w' o' r a e =

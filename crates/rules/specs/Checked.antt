@@ -3,8 +3,6 @@ use Rattle.std.specs.Prelude.{ℕ, ◌*◌, ◌≡◌, List, [], ◌∷◌, ◌+
 use Rattle.pack.specs.Notation.{◌≤ᵇ◌}
 use Rattle.pack.specs.Load.{Answer, refuses, gives, after, refusal_answer, loaded, load_tells, over, work_after}
 use Rattle.pack.specs.Meaning.{pack_of}
-use Rattle.pack.specs.declared.load.Loaded.{Loaded}
-use Rattle.pack.specs.declared.load.Loaded.TheVariants as load
 use Rattle.pack.specs.declared.load.Refusal.TheVariants.{Findings}
 use Rattle.rules.specs.declared.Finding.{Finding}
 use Rattle.rules.specs.declared.check.Checked.{Checked}
@@ -18,9 +16,9 @@ abbrev pub judged : List Finding → ℕ → Checked
 judged fs n = if 8 * length fs ≤ᵇ n then Reported (length fs) (errors fs) else Refused (Findings (8 * length fs))
 
 -- "Input refusals come before these; then 21, .. 22."
-abbrev pub after_load : Loaded → List Finding → ℕ → Checked
-after_load (load.Refused r) fs n = Refused r
-after_load (load.Accepted i) fs n = judged fs n
+abbrev pub after_load : Result Index Refusal → List Finding → ℕ → Checked
+after_load (Err r) fs n = Refused r
+after_load (Ok i) fs n = judged fs n
 
 -- `check` of the pack s with a work buffer of m numbers and a findings buffer of n
 unfoldable pub checked : List ℕ → (m n : ℕ) → Checked

@@ -5,8 +5,6 @@ use Rattle.pack.specs.Notation.{◌≤ᵇ◌}
 use Rattle.pack.specs.Load.{Answer, refuses, gives, after, refusal_answer, loaded, load_tells, over, work_after}
 use Rattle.pack.specs.Meaning.{pack_of}
 use Rattle.pack.specs.Value.{Bytes}
-use Rattle.pack.specs.declared.load.Loaded.{Loaded}
-use Rattle.pack.specs.declared.load.Loaded.TheVariants as load
 use Rattle.pack.specs.declared.load.Refusal.TheVariants.{Absent, Place}
 use Rattle.rules.specs.declared.place_text.Placed.{Placed}
 use Rattle.rules.specs.declared.place_text.Placed.TheVariants.{Refused, Written}
@@ -22,9 +20,9 @@ named None n = Refused Absent
 named (Some b) n = fitted b n
 
 -- "Input refusals come before these; then 21, 23, .. 24"
-abbrev pub after_load : Loaded → Option Bytes → ℕ → Placed
-after_load (load.Refused r) b n = Refused r
-after_load (load.Accepted i) b n = named b n
+abbrev pub after_load : Result Index Refusal → Option Bytes → ℕ → Placed
+after_load (Err r) b n = Refused r
+after_load (Ok i) b n = named b n
 
 -- the text of a finding's place, of the pack s with a work buffer of m numbers and a text buffer of n bytes
 unfoldable pub placed : List ℕ → (m place tree item n : ℕ) → Placed

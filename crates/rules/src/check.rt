@@ -15,7 +15,7 @@ use crate::spn_names::check_spn_names;
 use crate::spns::check_spns;
 use crate::trees::{check_trees, check_trees_continues};
 use pack::buffers::copy;
-use pack::load::{Index, Loaded, Refusal, load};
+use pack::load::{Index, Refusal, load};
 
 #[derive(Clone, Copy)]
 pub enum Checked {

@@ -7,7 +7,7 @@ ghost use Rattle.rules.specs.PlaceText.{place_text};
 
 use crate::locs::put_loc;
 use crate::places::find_loc;
-use pack::load::{Index, Loaded, Refusal, load};
+use pack::load::{Index, Refusal, load};
 
 #[derive(Clone, Copy)]
 pub enum Placed {

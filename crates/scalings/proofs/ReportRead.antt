@@ -12,8 +12,6 @@ use Rattle.pack.specs.Load.{Answer, refusal_number, loaded}
 use Rattle.pack.specs.Meaning.{pack_of}
 use Rattle.pack.specs.Value.{Pack}
 use Rattle.pack.specs.declared.load.Refusal.{Refusal}
-use Rattle.pack.specs.declared.load.Loaded.{Loaded}
-use Rattle.pack.specs.declared.load.Loaded.TheVariants as load
 use Rattle.pack.proofs.Told.{numbered, after_refused, after_accepted}
 use Rattle.rules.specs.declared.Finding.{Finding}
 use Rattle.rules.specs.declared.check.Checked.{Checked}
@@ -82,9 +80,9 @@ report_whole : (s : List ℕ) (m k n e : ℕ) → checked s m k ≡ Reported n e
 unfolding checked
 report_whole s m k n e h = go (loaded s m) refl
   where
-    go : (l : Loaded) → loaded s m ≡ l → Whole (pack_of s) n k
-    go (load.Refused r) x = absurd (false≢true (ap is_report (rw x at h)))
-    go (load.Accepted i) x = judged_whole (pack_of s) k n e (rw x at h)
+    go : (l : Result Index Refusal) → loaded s m ≡ l → Whole (pack_of s) n k
+    go (Err r) x = absurd (false≢true (ap is_report (rw x at h)))
+    go (Ok i) x = judged_whole (pack_of s) k n e (rw x at h)
 
 -- the report has a cause exactly if check finds it
 report_read : (rule cause : ℕ) (s : List ℕ) (m : ℕ) (o : List ℕ) (n e : ℕ) → checked s m (length o) ≡ Reported n e
@@ -123,7 +121,7 @@ answer_says s w o w' o' (Reported n e) c =
 -- ---- in 01's numbers, as the exported call tells them
 
 -- where the pack is not loaded the number is not 0
-not_done : (s : List ℕ) (m n : ℕ) (r : Refusal) → loaded s m ≡ load.Refused r → (check_tells s m n).number ≡ 0 → ⊥
+not_done : (s : List ℕ) (m n : ℕ) (r : Refusal) → loaded s m ≡ Err r → (check_tells s m n).number ≡ 0 → ⊥
 unfolding check_tells
 not_done s m n r x h =
     let z : refusal_number r ≡ 0 = ap (λ (a : Answer). a.number) (after_refused s m r x (findings_tell (check (pack_of s)) n)) ∙ h in
@@ -138,11 +136,11 @@ done s m n h = go (loaded s m) refl (8 * length (check (pack_of s)) ≤ᵇ n) re
     fs : List Finding
     fs = check (pack_of s)
 
-    go : (l : Loaded) → loaded s m ≡ l → (b : Bool) → (8 * length fs ≤ᵇ n) ≡ b
+    go : (l : Result Index Refusal) → loaded s m ≡ l → (b : Bool) → (8 * length fs ≤ᵇ n) ≡ b
         → checked s m n ≡ Reported (get_or (check_tells s m n).values 0 0) (errors fs)
-    go (load.Refused r) x b y = absurd (not_done s m n r x h)
-    go (load.Accepted i) x true y = let t = after_accepted s m i x (findings_tell fs n) in rw (← t, x, y)
-    go (load.Accepted i) x false y =
+    go (Err r) x b y = absurd (not_done s m n r x h)
+    go (Ok i) x true y = let t = after_accepted s m i x (findings_tell fs n) in rw (← t, x, y)
+    go (Ok i) x false y =
         let t = after_accepted s m i x (findings_tell fs n) in
         let z : ◌≡◌ {A = ℕ} 22 0 = rw (← t, y) at h in
         absurd (omega (arith, z))

@@ -11,8 +11,6 @@ use Rattle.pack.specs.Notation.{◌≤ᵇ◌}
 use Rattle.pack.proofs.Told.{after_refused, after_accepted}
 use Rattle.pack.specs.Meaning.{pack_of}
 use Rattle.pack.specs.declared.load.Index.{Index}
-use Rattle.pack.specs.declared.load.Loaded.{Loaded}
-use Rattle.pack.specs.declared.load.Loaded.TheVariants as load
 use Rattle.pack.specs.declared.load.Refusal.{Refusal}
 use Rattle.pack.specs.Value.{pgn_at}
 use Rattle.walk.specs.Held.{held}
@@ -49,11 +47,11 @@ module _ (s w : List ℕ) (t i : ℕ) (x : Option Refusal) where
   }
 
 module _ (s : List ℕ) (m t i : ℕ) where
-  pub refused_by_load : (r : Refusal) → loaded s m ≡ load.Refused r → Some r ≡ naming_refusal s m t i
+  pub refused_by_load : (r : Refusal) → loaded s m ≡ Err r → Some r ≡ naming_refusal s m t i
   unfolding naming_refusal
   refused_by_load r e = rw (naming_refusal, e)
 
-  pub named_loaded : (w : List ℕ) (x : Index) → loaded s m ≡ load.Accepted x → (r : Result PgnPlace Refusal)
+  pub named_loaded : (w : List ℕ) (x : Index) → loaded s m ≡ Ok x → (r : Result PgnPlace Refusal)
       → NamedIs s w t i (absence (in_pack (pack_of s) t i)) r → NamedIs s w t i (naming_refusal s m t i) r
   unfolding naming_refusal
   named_loaded w x e r n = rw (naming_refusal, e) n
@@ -78,21 +76,21 @@ module _ (s : List ℕ) (m t i : ℕ) where
   unfolding walked naming_refusal
   walk_named readings n = go (loaded s m) refl (in_pack (pack_of s) t i) refl
     where
-      go : (l : Loaded) → loaded s m ≡ l → (b : Bool) → in_pack (pack_of s) t i ≡ b
+      go : (l : Result Index Refusal) → loaded s m ≡ l → (b : Bool) → in_pack (pack_of s) t i ≡ b
           → walked s m t i readings n ≡ after_naming (naming_refusal s m t i) (judged true (length readings) n (walk_of s t i readings))
-      go (load.Refused r) e b q = rw (e, walked, naming_refusal)
-      go (load.Accepted x) e true q = rw (e, q, walked, naming_refusal)
-      go (load.Accepted x) e false q = rw (e, q, walked, naming_refusal)
+      go (Err r) e b q = rw (e, walked, naming_refusal)
+      go (Ok x) e true q = rw (e, q, walked, naming_refusal)
+      go (Ok x) e false q = rw (e, q, walked, naming_refusal)
 
   held_named : held_told s m t i ≡ held_after_naming (naming_refusal s m t i) (held (pack_of s) (pgn_at (pack_of s) t i))
   unfolding held_told naming_refusal
   held_named = go (loaded s m) refl (in_pack (pack_of s) t i) refl
     where
-      go : (l : Loaded) → loaded s m ≡ l → (b : Bool) → in_pack (pack_of s) t i ≡ b
+      go : (l : Result Index Refusal) → loaded s m ≡ l → (b : Bool) → in_pack (pack_of s) t i ≡ b
           → held_told s m t i ≡ held_after_naming (naming_refusal s m t i) (held (pack_of s) (pgn_at (pack_of s) t i))
-      go (load.Refused r) e b q = rw (e, held_told, naming_refusal)
-      go (load.Accepted x) e true q = rw (e, q, held_told, naming_refusal)
-      go (load.Accepted x) e false q = rw (e, q, held_told, naming_refusal)
+      go (Err r) e b q = rw (e, held_told, naming_refusal)
+      go (Ok x) e true q = rw (e, q, held_told, naming_refusal)
+      go (Ok x) e false q = rw (e, q, held_told, naming_refusal)
 
   -- n is what naming the PGN answered
   module _ (w₀ : List ℕ) (n : Result PgnPlace Refusal) (named : NamedIs s w₀ t i (naming_refusal s m t i) n) where
@@ -157,9 +155,9 @@ module _ (s : List ℕ) (m t i : ℕ) where
       rest : Numbers
       rest = visits_tell there (length readings) n (walk_of s t i readings)
 
-      go : (l : Loaded) → loaded s m ≡ l → walk_answer (walked s m t i readings n) ≡ walk_tells s m t i readings n
-      go (load.Refused r) e = rw e (after_refused s m r e rest)
-      go (load.Accepted x) e = rw e (judged_told there (length readings) n (walk_of s t i readings) ∙ after_accepted s m x e rest)
+      go : (l : Result Index Refusal) → loaded s m ≡ l → walk_answer (walked s m t i readings n) ≡ walk_tells s m t i readings n
+      go (Err r) e = rw e (after_refused s m r e rest)
+      go (Ok x) e = rw e (judged_told there (length readings) n (walk_of s t i readings) ∙ after_accepted s m x e rest)
 
   held_numbers : held_answer (held_told s m t i) ≡ held_tells s m t i
   unfolding held_told held_tells
@@ -171,9 +169,9 @@ module _ (s : List ℕ) (m t i : ℕ) where
       h : Bool
       h = held (pack_of s) (pgn_at (pack_of s) t i)
 
-      go : (l : Loaded) → loaded s m ≡ l → held_answer (held_told s m t i) ≡ held_tells s m t i
-      go (load.Refused r) e = rw e (after_refused s m r e (held_tell there h))
-      go (load.Accepted x) e = rw e (held_judged_told there h ∙ after_accepted s m x e (held_tell there h))
+      go : (l : Result Index Refusal) → loaded s m ≡ l → held_answer (held_told s m t i) ≡ held_tells s m t i
+      go (Err r) e = rw e (after_refused s m r e (held_tell there h))
+      go (Ok x) e = rw e (held_judged_told there h ∙ after_accepted s m x e (held_tell there h))
 
 pub walk_promised : (s : List ℕ) (t i : ℕ) (readings w o w' o' : List ℕ) (r : Walked) → Answers s (length w) t i readings o r o'
     → w' ≡ work_after s w → Walks s t i readings w o w' o' r

@@ -5,8 +5,6 @@ use Rattle.pack.specs.Load.{loaded}
 use Rattle.pack.specs.Meaning.{pack_of}
 use Rattle.pack.specs.Ready.{PgnAt, IndexIs}
 use Rattle.pack.specs.Value.{Pgn, pgn_at}
-use Rattle.pack.specs.declared.load.Loaded.{Loaded}
-use Rattle.pack.specs.declared.load.Loaded.TheVariants as load
 use Rattle.pack.specs.declared.load.Refusal.{Refusal}
 use Rattle.pack.specs.declared.load.Refusal.TheVariants.{Absent}
 use Rattle.walk.specs.Layout.{layout}
@@ -21,9 +19,9 @@ use Rattle.walk.specs.declared.walk.Walked.{Walked}
 abbrev pub absence : (there : Bool) → Option Refusal
 absence there = if there then None else Some Absent
 
-abbrev pub refusal_after : Loaded → (there : Bool) → Option Refusal
-refusal_after (load.Refused r) there = Some r
-refusal_after (load.Accepted i) there = absence there
+abbrev pub refusal_after : Result Index Refusal → (there : Bool) → Option Refusal
+refusal_after (Err r) there = Some r
+refusal_after (Ok i) there = absence there
 
 -- "Input refusals come before these; then 21, 23": of PGN i of tree t of the pack s, with a work buffer of m numbers
 unfoldable pub naming_refusal : List ℕ → (m t i : ℕ) → Option Refusal

@@ -4,8 +4,6 @@ use Rattle.pack.specs.Notation.{◌<ᵇ◌, ◌≤ᵇ◌}
 use Rattle.pack.specs.Load.{Answer as Numbers, refuses, gives, after, refusal_answer, loaded, load_tells, over, work_after}
 use Rattle.pack.specs.Meaning.{pack_of}
 use Rattle.pack.specs.Value.{Pack, pgns_of, pgn_at}
-use Rattle.pack.specs.declared.load.Loaded.{Loaded}
-use Rattle.pack.specs.declared.load.Loaded.TheVariants as load
 use Rattle.pack.specs.declared.load.Refusal.TheVariants.{Absent, Visits}
 use Rattle.walk.specs.Walk.{End, whole, used_up, stop, Answer, walk}
 use Rattle.walk.specs.Held.{held}
@@ -41,9 +39,9 @@ abbrev pub judged : Bool → (readings room : ℕ) → Answer → Walked
 judged there readings room a = if there then (if readings ≤ᵇ room then told a else Refused (Visits readings)) else Refused Absent
 
 -- "Input refusals come before these; then 21, 23, 25"
-abbrev pub after_load : Loaded → Walked → Walked
-after_load (load.Refused r) a = Refused r
-after_load (load.Accepted i) a = a
+abbrev pub after_load : Result Index Refusal → Walked → Walked
+after_load (Err r) a = Refused r
+after_load (Ok i) a = a
 
 abbrev pub walk_of : List ℕ → (tree pgn : ℕ) → List ℕ → Answer
 walk_of s t i readings = walk (pack_of s) (pgn_at (pack_of s) t i) readings
@@ -100,9 +98,9 @@ pub record Walks (s : List ℕ) (t i : ℕ) (readings w o w' o' : List ℕ) (r :
 abbrev pub held_judged : Bool → Bool → HeldAnswer
 held_judged there h = if there then held-case.Held h else held-case.Refused Absent
 
-abbrev pub held_after : Loaded → HeldAnswer → HeldAnswer
-held_after (load.Refused r) a = held-case.Refused r
-held_after (load.Accepted i) a = a
+abbrev pub held_after : Result Index Refusal → HeldAnswer → HeldAnswer
+held_after (Err r) a = held-case.Refused r
+held_after (Ok i) a = a
 
 unfoldable pub held_told : List ℕ → (m t i : ℕ) → HeldAnswer
 held_told s m t i = held_after (loaded s m) (held_judged (in_pack (pack_of s) t i) (held (pack_of s) (pgn_at (pack_of s) t i)))

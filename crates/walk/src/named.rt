@@ -7,7 +7,7 @@ ghost use Rattle.walk.specs.Naming.{IsPlaced, IsFound, NamedIs, absence, naming_
 ghost use Rattle.walk.specs.WalkCall.{in_pack};
 
 use crate::sets::{Sets, sets_of};
-use pack::load::{Index, Loaded, Refusal, load};
+use pack::load::{Index, Refusal, load};
 use pack::of::pgn_of;
 use pack::protocol::Protocol;
 use rules::places::pgn_position;
