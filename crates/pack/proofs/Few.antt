@@ -6,6 +6,9 @@ use lib.ListN.{length}
 use lib.Seq.{take-length}
 use Rattle.pack.specs.Value.{Pgn, Pack, pgns_of, pgn_at, lookup_at}
 use Rattle.pack.specs.Format.{offsets}
+use Rattle.pack.specs.Trees.{tree_number}
+use Rattle.pack.specs.declared.protocol.Protocol.{Protocol}
+use Rattle.pack.specs.declared.protocol.Protocol.TheVariants.{Nmea2000, J1939, Quick}
 use Rattle.pack.specs.Meaning.{pack_of}
 use Rattle.pack.specs.Ready.{Ready, PgnAt, LookupAt, place_of_lookup, pgn_records_below}
 use Rattle.pack.proofs.Positions.{type_stands, pgn_room, lookup_room}
@@ -39,3 +42,8 @@ lookups_few {s} {w} {l} a = omega (arith, entries_few a, a.place, lookups_grow (
 
 pub types_few : {s w : List ℕ} → Ready s w → (i : ℕ) → i < length (pack_of s).fieldtypes → i < 1048576
 types_few {s} {w} r i h = omega (arith, (type_stands s (offsets s) (own r) i h).place, records_bound s w r)
+
+pub tree_small : (p : Protocol) → tree_number p < 3
+tree_small Nmea2000 = omega arith
+tree_small J1939 = omega arith
+tree_small Quick = omega arith

@@ -6,6 +6,7 @@ use mathlib.Core.Path.{◌≡◌, refl, ap, ◌∙◌, sym}
 use mathlib.Core.List.{List, [], ◌∷◌}
 use Rattle.pack.specs.Loaded.{LookupSpot, PgnSpot, lookup_spots, pgn_spots, lookup_spot, pgn_spot}
 use Rattle.pack.specs.Loaded.{lookups_left, pgns_left}
+use Rattle.pack.specs.Trees.{tree_number}
 use Rattle.pack.specs.declared.loaded.Lookups.{Lookups}
 use Rattle.pack.specs.declared.loaded.Pgns.{Pgns}
 use Rattle.pack.specs.declared.loaded.LookupRef.{LookupRef}
@@ -14,9 +15,9 @@ use Rattle.pack.specs.declared.loaded.PgnRef.{PgnRef}
 -- x is lookup i of n, and the others are left
 pub record LookupTurn (s w : List ℕ) (i n : ℕ) (x : LookupRef) (rest : List LookupSpot) : Type 0 where
   pub inside : i < n
-  pub bytes : x.bytes.now ≡ s
-  pub work : x.work.now ≡ w
-  pub item : x.lookup.item ≡ i
+  pub bytes : x.pack.bytes.now ≡ s
+  pub work : x.pack.work.now ≡ w
+  pub item : x.item ≡ i
   pub left : rest ≡ lookup_spots s w (i + 1) n
 
 pub lookup_turn : (s w : List ℕ) (i n : ℕ) (x : LookupRef) (rest : List LookupSpot) → lookup_spots s w i n ≡ lookup_spot x ∷ rest → LookupTurn s w i n x rest
@@ -46,10 +47,10 @@ lookups_end s w i n e = go (n - i) refl e
 -- x is PGN i of n of tree t, and the others are left
 pub record PgnTurn (s w : List ℕ) (t i n : ℕ) (x : PgnRef) (rest : List PgnSpot) : Type 0 where
   pub inside : i < n
-  pub bytes : x.bytes.now ≡ s
-  pub work : x.work.now ≡ w
-  pub tree : x.pgn.tree ≡ t
-  pub item : x.pgn.item ≡ i
+  pub bytes : x.pack.bytes.now ≡ s
+  pub work : x.pack.work.now ≡ w
+  pub tree : tree_number x.protocol ≡ t
+  pub item : x.item ≡ i
   pub left : rest ≡ pgn_spots s w t (i + 1) n
 
 pub pgn_turn : (s w : List ℕ) (t i n : ℕ) (x : PgnRef) (rest : List PgnSpot) → pgn_spots s w t i n ≡ pgn_spot x ∷ rest → PgnTurn s w t i n x rest

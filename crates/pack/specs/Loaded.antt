@@ -1,9 +1,9 @@
--- What the iterators over an accepted pack have still to give.
+-- Which records an accepted pack's references are of, and what the iterators over it have still to give.
 use Rattle.std.specs.Prelude.{ℕ, ◌-◌, List, length, map, drop}
 use Rattle.std.specs.List.{range_with_len}
-use Rattle.pack.specs.Value.{FieldType, Entry, Field, pgns_of}
+use Rattle.pack.specs.Value.{FieldType, Entry, Field, Lookup, Pgn, pgns_of, lookup_at, pgn_at}
 use Rattle.pack.specs.Meaning.{type_meaning, entry_meaning, field_meaning, pack_of}
-use Rattle.pack.specs.Ready.{lookup_in, pgn_in}
+use Rattle.pack.specs.Trees.{tree_number}
 use Rattle.pack.specs.declared.loaded.LookupRef.{LookupRef}
 use Rattle.pack.specs.declared.loaded.PgnRef.{PgnRef}
 use Rattle.pack.specs.declared.loaded.TypeRef.{TypeRef}
@@ -14,6 +14,16 @@ use Rattle.pack.specs.declared.loaded.Lookups.{Lookups}
 use Rattle.pack.specs.declared.loaded.Entries.{Entries}
 use Rattle.pack.specs.declared.loaded.Pgns.{Pgns}
 use Rattle.pack.specs.declared.loaded.Fields.{Fields}
+
+-- the lookup and the PGN that a reference is of
+abbrev pub lookup_value : LookupRef → Lookup
+lookup_value l = lookup_at (pack_of l.pack.bytes.now).lookups l.item
+
+abbrev pub tree_of : PgnRef → ℕ
+tree_of g = tree_number g.protocol
+
+abbrev pub pgn_value : PgnRef → Pgn
+pgn_value g = pgn_at (pack_of g.pack.bytes.now) (tree_number g.protocol) g.item
 
 -- which lookup of which pack
 pub record LookupSpot : Type 0 where
@@ -36,10 +46,10 @@ abbrev pub pgn_spots : (s w : List ℕ) (t i n : ℕ) → List PgnSpot
 pgn_spots s w t i n = map (λ k. record { bytes = s; work = w; tree = t; item = k }) (range_with_len i (n - i))
 
 abbrev pub lookup_spot : LookupRef → LookupSpot
-lookup_spot l = record { bytes = l.bytes.now; work = l.work.now; item = l.lookup.item }
+lookup_spot l = record { bytes = l.pack.bytes.now; work = l.pack.work.now; item = l.item }
 
 abbrev pub pgn_spot : PgnRef → PgnSpot
-pgn_spot g = record { bytes = g.bytes.now; work = g.work.now; tree = g.pgn.tree; item = g.pgn.item }
+pgn_spot g = record { bytes = g.pack.bytes.now; work = g.pack.work.now; tree = tree_number g.protocol; item = g.item }
 
 abbrev pub type_said : TypeRef → FieldType
 type_said t = type_meaning t.bytes.now t.view
@@ -57,10 +67,12 @@ abbrev pub lookups_left : Lookups → List LookupSpot
 lookups_left i = lookup_spots i.pack.bytes.now i.pack.work.now i.item (length (pack_of i.pack.bytes.now).lookups)
 
 abbrev pub entries_left : Entries → List Entry
-entries_left i = drop i.item (lookup_in i.of.bytes.now i.of.lookup).entries
+entries_left i = drop i.item (lookup_value i.of).entries
 
 abbrev pub pgns_left : Pgns → List PgnSpot
-pgns_left i = pgn_spots i.pack.bytes.now i.pack.work.now i.tree i.item (length (pgns_of (pack_of i.pack.bytes.now) i.tree))
+pgns_left i =
+    pgn_spots i.pack.bytes.now i.pack.work.now (tree_number i.protocol) i.item
+    (length (pgns_of (pack_of i.pack.bytes.now) (tree_number i.protocol)))
 
 abbrev pub fields_left : Fields → List Field
-fields_left i = drop i.item (pgn_in i.of.bytes.now i.of.pgn).fields
+fields_left i = drop i.item (pgn_value i.of).fields

@@ -6,17 +6,17 @@ ghost use Rattle.std.specs.Prelude.{Ok, Err};
 ghost use Rattle.pack.specs.Items.{bytes_of};
 ghost use Rattle.pack.specs.Load.{Loads};
 ghost use Rattle.pack.specs.Meaning.{type_meaning, entry_meaning, field_meaning, pack_of};
-ghost use Rattle.pack.specs.Ready.{Ready, IndexIs, place_of_lookup, place_of_pgn, lookup_in, LookupRecordIs, pgn_in, PgnRecordIs};
+ghost use Rattle.pack.specs.Ready.{Ready, IndexIs, LookupAt, LookupIs, PgnAt, PgnIs, place_of_lookup, place_of_pgn};
 ghost use Rattle.pack.specs.Trees.{tree_number};
-ghost use Rattle.pack.specs.Value.{pgns_of};
+ghost use Rattle.pack.specs.Value.{no_field_type, no_entry, pgns_of, pgn_at, field_at, lookup_at};
 
 use crate::entry::EntryView;
 use crate::field::FieldView;
 use crate::field_type::FieldTypeView;
 use crate::load::{Index, Refusal, load};
-use crate::lookup::LookupRecord;
-use crate::of::{entry_of, field_of, lookup_of, pgn_of, type_of};
-use crate::pgn::PgnRecord;
+use crate::lookup::LookupView;
+use crate::of::{entry_of, field_id_of, field_name_of, field_of, lookup_of, pgn_of, type_of};
+use crate::pgn::PgnView;
 use crate::protocol::Protocol;
 use crate::text::{Text, part};
 
@@ -29,22 +29,27 @@ pub struct Pack<'a> {
     pub ghost indexed: { IndexIs (pack_of bytes.now) index },
 }
 
-// A lookup of an accepted pack.
+// A lookup of an accepted pack: which one, its work position, and the view.
 #[derive(Clone, Copy)]
 pub struct LookupRef<'a> {
-    pub bytes: &'a [u8],
-    pub work: &'a [u32],
-    pub lookup: LookupRecord,
-    pub ghost is: { LookupRecordIs bytes.now work.now lookup },
+    pub pack: Pack<'a>,
+    pub item: u32,
+    pub place: usize,
+    pub view: LookupView,
+    pub ghost at: { LookupAt pack.bytes.now pack.work.now item place },
+    pub ghost is: { LookupIs pack.bytes.now (lookup_at (pack_of pack.bytes.now).lookups item) view },
 }
 
-// A PGN of an accepted pack.
+// A PGN of an accepted pack: its tree, which one of it, its work position, and the view.
 #[derive(Clone, Copy)]
 pub struct PgnRef<'a> {
-    pub bytes: &'a [u8],
-    pub work: &'a [u32],
-    pub pgn: PgnRecord,
-    pub ghost is: { PgnRecordIs bytes.now work.now pgn },
+    pub pack: Pack<'a>,
+    pub protocol: Protocol,
+    pub item: u32,
+    pub place: usize,
+    pub view: PgnView,
+    pub ghost at: { PgnAt pack.bytes.now pack.work.now (tree_number protocol) item place },
+    pub ghost is: { PgnIs pack.bytes.now (pgn_at (pack_of pack.bytes.now) (tree_number protocol) item) view },
 }
 
 // A field type, an entry and a field as they are read, and the byte at which each begins.
@@ -93,13 +98,12 @@ pub struct Entries<'a> {
 #[derive(Clone, Copy)]
 pub struct Pgns<'a> {
     pub(crate) pack: Pack<'a>,
-    pub(crate) tree: u32,
+    pub(crate) protocol: Protocol,
     pub(crate) count: u32,
     pub(crate) item: u32,
     pub(crate) place: usize,
-    ghost of_tree: { tree < 3 },
-    ghost counted: { count ≡ length (pgns_of (pack_of pack.bytes.now) tree) },
-    ghost placed: { place ≡ place_of_pgn (pack_of pack.bytes.now) tree item },
+    ghost counted: { count ≡ length (pgns_of (pack_of pack.bytes.now) (tree_number protocol)) },
+    ghost placed: { place ≡ place_of_pgn (pack_of pack.bytes.now) (tree_number protocol) item },
 }
 
 #[derive(Clone, Copy)]
@@ -126,8 +130,16 @@ impl<'a> Pack<'a> {
         part(self.bytes, text)
     }
 
+    // Field type i.
+    pub fn field_type(&self, i: u32) -> FieldTypeView
+        requires { i < length (pack_of self.now.bytes.now).fieldtypes }
+        ensures { type_meaning self.now.bytes.now result ≡ get_or (pack_of self.now.bytes.now).fieldtypes i no_field_type }
+    {
+        type_of(self.bytes, self.work, i)
+    }
+
     // None past the last.
-    pub fn field_type(&self, i: u32) -> Option<FieldTypeView>
+    pub fn get_field_type(&self, i: u32) -> Option<FieldTypeView>
         ensures { option_map (type_meaning self.now.bytes.now) result ≡ slice_get (pack_of self.now.bytes.now).fieldtypes i }
     {
         if self.index.types.count <= i {
@@ -162,7 +174,7 @@ impl<'a> Pack<'a> {
         let section = protocol.section(self.index);
         Pgns {
             pack: *self,
-            tree: protocol.tree(),
+            protocol,
             count: section.count,
             item: 0,
             place: section.place,
@@ -171,63 +183,106 @@ impl<'a> Pack<'a> {
 }
 
 impl<'a> LookupRef<'a> {
-    ghost use Rattle.pack.specs.Loaded.{entries_left};
+    ghost use Rattle.pack.specs.Loaded.{entries_left, lookup_value};
 
     // The byte at which it begins.
     pub fn at(&self) -> u32
-        ensures { result ≡ get_or self.now.work.now self.now.lookup.place 0 }
+        ensures { result ≡ get_or self.now.pack.work.now self.now.place 0 }
     {
-        self.work[self.lookup.place]
+        self.pack.work[self.place]
     }
 
     pub fn entries(&self) -> Entries<'a>
-        ensures { entries_left result ≡ (lookup_in self.now.bytes.now self.now.lookup).entries }
+        ensures { entries_left result ≡ (lookup_value self.now).entries }
     {
         Entries { of: *self, item: 0 }
     }
 
-    // None past the last.
-    pub fn entry(&self, k: u32) -> Option<EntryView>
-        ensures { option_map (entry_meaning self.now.bytes.now) result ≡ slice_get (lookup_in self.now.bytes.now self.now.lookup).entries k }
+    // Entry k.
+    pub fn entry(&self, k: u32) -> EntryView
+        requires { k < self.now.view.entries }
+        ensures { entry_meaning self.now.pack.bytes.now result ≡ get_or (lookup_value self.now).entries k no_entry }
     {
-        let LookupRecord { item, place, view } = self.lookup;
-        if view.entries <= k {
-            return None;
-        }
-        Some(entry_of(self.bytes, self.work, item, place, view.kind, k))
+        entry_of(
+            self.pack.bytes,
+            self.pack.work,
+            self.item,
+            self.place,
+            self.view.kind,
+            k,
+        )
     }
 }
 
 impl<'a> PgnRef<'a> {
-    ghost use Rattle.pack.specs.Loaded.{fields_left};
+    ghost use Rattle.pack.specs.Loaded.{fields_left, pgn_value};
 
     // The byte at which it begins.
     pub fn at(&self) -> u32
-        ensures { result ≡ get_or self.now.work.now self.now.pgn.place 0 }
+        ensures { result ≡ get_or self.now.pack.work.now self.now.place 0 }
     {
-        self.work[self.pgn.place]
+        self.pack.work[self.place]
     }
 
     pub fn fields(&self) -> Fields<'a>
-        ensures { fields_left result ≡ (pgn_in self.now.bytes.now self.now.pgn).fields }
+        ensures { fields_left result ≡ (pgn_value self.now).fields }
     {
         Fields { of: *self, item: 0 }
     }
 
-    // None past the last.
-    pub fn field(&self, k: u32) -> Option<FieldView>
-        ensures { option_map (field_meaning self.now.bytes.now) result ≡ slice_get (pgn_in self.now.bytes.now self.now.pgn).fields k }
+    // Field k.
+    pub fn field(&self, k: u32) -> FieldView
+        requires { k < self.now.view.fields }
+        ensures { field_meaning self.now.pack.bytes.now result ≡ field_at (pgn_value self.now) k }
     {
-        let PgnRecord {
-            tree,
-            item,
-            place,
-            view,
-        } = self.pgn;
-        if view.fields <= k {
+        field_of(
+            self.pack.bytes,
+            self.pack.work,
+            self.protocol.tree(),
+            self.item,
+            self.place,
+            k,
+        )
+    }
+
+    // The id of field k.
+    pub fn field_id(&self, k: u32) -> Text
+        requires { k < self.now.view.fields }
+        ensures { bytes_of self.now.pack.bytes.now result ≡ (field_at (pgn_value self.now) k).id }
+    {
+        field_id_of(
+            self.pack.bytes,
+            self.pack.work,
+            self.protocol.tree(),
+            self.item,
+            self.place,
+            k,
+        )
+    }
+
+    // Its name.
+    pub fn field_name(&self, k: u32) -> Text
+        requires { k < self.now.view.fields }
+        ensures { bytes_of self.now.pack.bytes.now result ≡ (field_at (pgn_value self.now) k).name }
+    {
+        field_name_of(
+            self.pack.bytes,
+            self.pack.work,
+            self.protocol.tree(),
+            self.item,
+            self.place,
+            k,
+        )
+    }
+
+    // Field k; None past the last.
+    pub fn get_field(&self, k: u32) -> Option<FieldView>
+        ensures { option_map (field_meaning self.now.pack.bytes.now) result ≡ slice_get (pgn_value self.now).fields k }
+    {
+        if self.view.fields <= k {
             return None;
         }
-        Some(field_of(self.bytes, self.work, tree, item, place, k))
+        Some(self.field(k))
     }
 }
 
@@ -281,9 +336,10 @@ impl<'a> Iterator for Lookups<'a> {
             place: place + 1 + view.entries as usize,
         };
         Some(LookupRef {
-            bytes: pack.bytes,
-            work: pack.work,
-            lookup: LookupRecord { item, place, view },
+            pack,
+            item,
+            place,
+            view,
         })
     }
 }
@@ -300,22 +356,17 @@ impl<'a> Iterator for Entries<'a> {
 
     fn next(&mut self) -> Option<EntryRef<'a>> {
         let Entries { of, item } = *self;
-        let LookupRecord {
-            item: lookup,
-            place,
-            view,
-        } = of.lookup;
-        let count = view.entries;
+        let count = of.view.entries;
         if count <= item {
             return None;
         }
-        let at = of.work[place + 1 + item as usize];
-        let entry = entry_of(of.bytes, of.work, lookup, place, view.kind, item);
+        let at = of.pack.work[of.place + 1 + item as usize];
+        let view = of.entry(item);
         self.item = item + 1;
         Some(EntryRef {
-            bytes: of.bytes,
+            bytes: of.pack.bytes,
             at,
-            view: entry,
+            view,
         })
     }
 }
@@ -333,7 +384,7 @@ impl<'a> Iterator for Pgns<'a> {
     fn next(&mut self) -> Option<PgnRef<'a>> {
         let Pgns {
             pack,
-            tree,
+            protocol,
             count,
             item,
             place,
@@ -341,23 +392,20 @@ impl<'a> Iterator for Pgns<'a> {
         if count <= item {
             return None;
         }
-        let view = pgn_of(pack.bytes, pack.work, tree, item, place);
+        let view = pgn_of(pack.bytes, pack.work, protocol.tree(), item, place);
         *self = Pgns {
             pack,
-            tree,
+            protocol,
             count,
             item: item + 1,
             place: place + 1 + view.fields as usize,
         };
         Some(PgnRef {
-            bytes: pack.bytes,
-            work: pack.work,
-            pgn: PgnRecord {
-                tree,
-                item,
-                place,
-                view,
-            },
+            pack,
+            protocol,
+            item,
+            place,
+            view,
         })
     }
 }
@@ -374,23 +422,17 @@ impl<'a> Iterator for Fields<'a> {
 
     fn next(&mut self) -> Option<FieldRef<'a>> {
         let Fields { of, item } = *self;
-        let PgnRecord {
-            tree,
-            item: pgn,
-            place,
-            view,
-        } = of.pgn;
-        let count = view.fields;
+        let count = of.view.fields;
         if count <= item {
             return None;
         }
-        let at = of.work[place + 1 + item as usize];
-        let field = field_of(of.bytes, of.work, tree, pgn, place, item);
+        let at = of.pack.work[of.place + 1 + item as usize];
+        let view = of.field(item);
         self.item = item + 1;
         Some(FieldRef {
-            bytes: of.bytes,
+            bytes: of.pack.bytes,
             at,
-            view: field,
+            view,
         })
     }
 }

@@ -4,7 +4,7 @@ use native.Mathlib.Omega.{arith}
 use Rattle.pack.proofs.loaded.PgnRef.at.Goals as goal
 
 pub offset_bounds-self-self : goal.offset_bounds-self-self
-offset_bounds-self-self c = omega (arith, fields_few c.args.self.now.is.at)
+offset_bounds-self-self c = omega (arith, fields_few c.args.self.now.at)
 
 pub bounds-self-self : goal.bounds-self-self
-bounds-self-self c = omega (arith, pgn_room c.args.self.now.is.at)
+bounds-self-self c = omega (arith, pgn_room c.args.self.now.at)
