@@ -7,7 +7,6 @@ pub mod Model
 pub mod Emit
 pub mod PlaceText
 pub mod Locs
-pub mod PlaceCall
 -- R02
 pub mod PgnRange
 -- R04
@@ -54,7 +53,6 @@ pub mod Continues
 -- R44
 pub mod TrailingZero
 pub mod Check
-pub mod Checked
 -- laws
 pub mod SearchLaws
 pub mod PlaceLaws
@@ -65,4 +63,3 @@ pub mod Bound
 -- examples
 pub mod Computed
 pub mod ExamplePacks
-mod Examples

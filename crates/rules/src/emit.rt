@@ -1,10 +1,21 @@
 // Findings put into a buffer one after the other. A finding is stored only where its eight numbers fit; all are counted.
 ghost use Rattle.std.specs.Prelude.{◌≡◌, [], ◌∷◌, ◌+◌, ◌≤◌, length};
 ghost use Rattle.std.proofs.lemmas.List.Edits.{sets};
+ghost use Rattle.pack.specs.Loaded.{tree_of};
+ghost use Rattle.pack.specs.Trees.{tree_number};
 ghost use Rattle.rules.specs.Findings.{report_if, fieldtype_error, pgn_error, pgn_warning, lookup_error, lookup_warning, group_error};
-ghost use Rattle.rules.specs.Emit.{numbers, Emitted, Fits};
+ghost use Rattle.rules.specs.Emit.{numbers, stored, none_in, found_in, Emitted};
 
 use crate::Finding;
+use pack::loaded::PgnRef;
+use pack::protocol::Protocol;
+
+// What was found so far: as many findings as fit, and how many there are.
+#[derive(Drop)]
+pub struct Findings<'a> {
+    pub numbers: &'a mut [u32],
+    pub count: usize,
+}
 
 fn write(out: &mut [u32], at: usize, f: Finding)
     requires { at + 8 ≤ length out.old }
@@ -15,28 +26,40 @@ fn write(out: &mut [u32], at: usize, f: Finding)
     ]);
 }
 
-// The finding behind n others; answers how many there are then.
+// The finding behind n others.
 #[tactic(auto, unfolding(crate::specs::Emit::stored))]
-pub fn put(out: &mut [u32], n: usize, f: Finding) -> usize
-    requires { Fits n (f ∷ []) }
-    ensures { Emitted out.old n (f ∷ []) out.new result }
+fn store(out: &mut [u32], n: usize, f: Finding)
+    ensures { out.new ≡ stored out.old n f }
 {
-    let at = 8 * n;
-    if at + 8 <= out.len() {
-        write(out, at, f);
+    if n < out.len() / 8 {
+        write(out, 8 * n, f);
     }
-    n + 1
 }
 
-// The finding, if it is to be reported.
-pub fn put_if(out: &mut [u32], n: usize, report: bool, f: Finding) -> usize
-    requires { Fits n (report_if report f) }
-    ensures { Emitted out.old n (report_if report f) out.new result }
-{
-    if report {
-        return put(out, n, f);
+impl<'a> Findings<'a> {
+    pub fn new(numbers: &'a mut [u32]) -> Findings<'a>
+        ensures same { result.numbers.ghost_name ≡ numbers.entry.ghost_name }
+        ensures found { found_in result ≡ none_in numbers.old }
+    {
+        Findings { numbers, count: 0 }
     }
-    n
+
+    #[tactic(auto, unfolding(crate::specs::Emit::put_one))]
+    pub fn put(&mut self, f: Finding)
+        ensures { Emitted self.old (f ∷ []) self.new }
+    {
+        store(self.numbers, self.count, f);
+        self.count = self.count.saturating_add(1);
+    }
+
+    // The finding, if it is to be reported.
+    pub fn put_if(&mut self, report: bool, f: Finding)
+        ensures { Emitted self.old (report_if report f) self.new }
+    {
+        if report {
+            self.put(f);
+        }
+    }
 }
 
 // An error at a field type.
@@ -55,29 +78,29 @@ pub fn fieldtype_error(rule: u32, cause: u32, item: u32) -> Finding
     }
 }
 
-// An error at a PGN of a tree.
-pub fn pgn_error(rule: u32, cause: u32, tree: u32, item: u32, part: u32, other: u32) -> Finding
-    ensures { result ≡ pgn_error rule cause tree item part other }
+// An error at a PGN.
+pub fn pgn_error(rule: u32, cause: u32, pgn: &PgnRef, part: u32, other: u32) -> Finding
+    ensures { result ≡ pgn_error rule cause (tree_of pgn.now) pgn.now.item part other }
 {
     Finding {
         rule,
         severity: 1,
         cause,
         place: 1,
-        tree,
-        item,
+        tree: pgn.protocol.tree(),
+        item: pgn.item,
         part,
         other,
     }
 }
 
-// A warning at a PGN of a tree.
-pub fn pgn_warning(rule: u32, cause: u32, tree: u32, item: u32, part: u32, other: u32) -> Finding
-    ensures { result ≡ pgn_warning rule cause tree item part other }
+// A warning at a PGN.
+pub fn pgn_warning(rule: u32, cause: u32, pgn: &PgnRef, part: u32, other: u32) -> Finding
+    ensures { result ≡ pgn_warning rule cause (tree_of pgn.now) pgn.now.item part other }
 {
     Finding {
         severity: 0,
-        ..pgn_error(rule, cause, tree, item, part, other)
+        ..pgn_error(rule, cause, pgn, part, other)
     }
 }
 
@@ -108,15 +131,21 @@ pub fn lookup_warning(rule: u32, cause: u32, item: u32, part: u32, other: u32) -
 }
 
 // An error at the PGNs of a number.
-pub fn group_error(rule: u32, cause: u32, tree: u32, number: u32, other: u32) -> Finding
-    ensures { result ≡ group_error rule cause tree number other }
+pub fn group_error(
+    rule: u32,
+    cause: u32,
+    protocol: Protocol,
+    number: u32,
+    other: u32,
+) -> Finding
+    ensures { result ≡ group_error rule cause (tree_number protocol) number other }
 {
     Finding {
         rule,
         severity: 1,
         cause,
         place: 3,
-        tree,
+        tree: protocol.tree(),
         item: number,
         part: 0,
         other,
