@@ -3,23 +3,19 @@ use Prim.Native.Nat.{ℕ, zero, suc, ◌-◌, ◌≤◌}
 use native.Mathlib.Omega.{arith}
 use mathlib.Core.List.{◌++◌}
 use mathlib.Core.Path.{◌≡◌, refl}
-use borrow.Author.Tests.{ne_eqb}
-use lib.ListN.{length, take, replicate, length-append, length-replicate}
-use Rattle.pack.specs.Trees.{protocol_of, prefix_of}
+use lib.ListN.{length, replicate, length-append, length-replicate}
+use Rattle.pack.specs.Trees.{tree_number, prefix_of}
+use Rattle.pack.specs.declared.protocol.Protocol.{Protocol}
+use Rattle.pack.specs.declared.protocol.Protocol.TheVariants.{Nmea2000, J1939, Quick}
 use Rattle.rules.proofs.DigitLaws.{ten_digits}
 use Rattle.rules.specs.Digits.{digits, six_digits}
 use Rattle.rules.specs.PlaceText.{check_prefix}
 use Rattle.rules.specs.Texts.{bytes}
 
-pub prefix_is : (t : ℕ) → take (prefix_of (protocol_of t)).len (prefix_of (protocol_of t)).bytes ≡ check_prefix t
-prefix_is zero = refl
-prefix_is (suc zero) = refl
-prefix_is (suc (suc t)) = rw (ne_eqb (suc (suc t)) 0 (λ z. omega arith), ne_eqb (suc (suc t)) 1 (λ z. omega arith))
-
-pub prefix_within : (t : ℕ) → (prefix_of (protocol_of t)).len ≤ length (prefix_of (protocol_of t)).bytes
-prefix_within zero = omega arith
-prefix_within (suc zero) = omega arith
-prefix_within (suc (suc t)) = rw (ne_eqb (suc (suc t)) 0 (λ z. omega arith), ne_eqb (suc (suc t)) 1 (λ z. omega arith)) (omega arith)
+pub prefix_is : (p : Protocol) → prefix_of p ≡ check_prefix (tree_number p)
+prefix_is Nmea2000 = refl
+prefix_is J1939 = refl
+prefix_is Quick = refl
 
 pub prefix_short : (t : ℕ) → length (check_prefix t) ≤ 6
 prefix_short zero = omega arith

@@ -10,6 +10,7 @@ mod emit;
 mod floats;
 mod locs;
 mod min_length;
+mod places;
 mod searches;
 mod special_values;
 pub mod widths;
