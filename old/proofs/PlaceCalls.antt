@@ -5,7 +5,7 @@ use native.Mathlib.Omega.{arith}
 use mathlib.Core.Path.{◌≡◌, refl, ap, ◌∙◌}
 use mathlib.Core.Bool.{Bool, true, false}
 use mathlib.Core.List.{List}
-use Rattle.std.specs.Prelude.{Option, None, Some}
+use Rattle.std.specs.Prelude.{Option, None, Some, Result, Ok, Err}
 use lib.ListN.{length}
 use borrow.Author.Tests.{le-leb, lt-leb}
 use Rattle.pack.specs.Notation.{◌≤ᵇ◌}
@@ -20,24 +20,22 @@ use Rattle.pack.proofs.Stores.{sets_over}
 use Rattle.pack.proofs.Told.{after_refused, after_accepted}
 use Rattle.rules.specs.PlaceCall.{named, placed, text_left, text_after, place_answer, text_tells, place_tells, Places}
 use Rattle.rules.specs.PlaceText.{place_text}
-use Rattle.rules.specs.declared.place_text.Placed.{Placed}
-use Rattle.rules.specs.declared.place_text.Placed.TheVariants.{Refused, Written}
 
-pub record Named (o : Option Bytes) (w : List ℕ) (r : Placed) (w' : List ℕ) : Type 0 where
+pub record Named (o : Option Bytes) (w : List ℕ) (r : Result ℕ Refusal) (w' : List ℕ) : Type 0 where
   pub answer : r ≡ named o (length w)
   pub text : w' ≡ text_left (named o (length w)) o w
 
 module _ (o : Option Bytes) (w : List ℕ) where
-  pub not_there : None ≡ o → Named o w (Refused Absent) w
+  pub not_there : None ≡ o → Named o w (Err Absent) w
   not_there e = rw (← e) (record { answer = refl; text = refl })
 
   module _ (x : Bytes) (e : Some x ≡ o) where
-    pub too_short : (n : ℕ) → n ≡ 0 + length x → length w < n → Named o w (Refused (Place n)) w
+    pub too_short : (n : ℕ) → n ≡ 0 + length x → length w < n → Named o w (Err (Place n)) w
     too_short n c l =
         let k : n ≡ length x = omega arith in
         rw (← e, k) (record { answer = (rw (lt-leb (length x) (length w) (omega arith))); text = (rw (lt-leb (length x) (length w) (omega arith))) })
 
-    pub all_written : (n : ℕ) → n ≡ 0 + length x → n ≤ length w → (w' : List ℕ) (m : ℕ) → Stored w 0 x w' m → Named o w (Written n) w'
+    pub all_written : (n : ℕ) → n ≡ 0 + length x → n ≤ length w → (w' : List ℕ) (m : ℕ) → Stored w 0 x w' m → Named o w (Ok n) w'
     all_written n c l w' m a =
         let k : n ≡ length x = omega arith in
         rw (← e, k)
@@ -47,16 +45,16 @@ module _ (o : Option Bytes) (w : List ℕ) where
         })
 
 -- answer and text buffer of the call
-pub record Answered (s : List ℕ) (m place t item : ℕ) (w : List ℕ) (r : Placed) (w' : List ℕ) : Type 0 where
+pub record Answered (s : List ℕ) (m place t item : ℕ) (w : List ℕ) (r : Result ℕ Refusal) (w' : List ℕ) : Type 0 where
   pub answer : r ≡ placed s m place t item (length w)
   pub text : w' ≡ text_after s m place t item w
 
 module _ (s : List ℕ) (m place t item : ℕ) (w : List ℕ) where
-  pub not_loaded : (r : Refusal) → loaded s m ≡ Err r → Answered s m place t item w (Refused r) w
+  pub not_loaded : (r : Refusal) → loaded s m ≡ Err r → Answered s m place t item w (Err r) w
   unfolding placed text_after
   not_loaded r e = record { answer = (rw e); text = (rw e) }
 
-  pub is_loaded : (i : Index) → loaded s m ≡ Ok i → (r : Placed) (w' : List ℕ) → r ≡ named (place_text (pack_of s) place t item) (length w)
+  pub is_loaded : (i : Index) → loaded s m ≡ Ok i → (r : Result ℕ Refusal) (w' : List ℕ) → r ≡ named (place_text (pack_of s) place t item) (length w)
       → w' ≡ text_left (named (place_text (pack_of s) place t item) (length w)) (place_text (pack_of s) place t item) w → Answered s m place t item w r w'
   unfolding placed text_after
   is_loaded i e r w' a b = record { answer = (rw e a); text = (rw e b) }
@@ -80,7 +78,7 @@ place_told s m place t item n = go (loaded s m) refl
     go (Err r) e = rw e (after_refused s m r e rest)
     go (Ok i) e = rw e (named_told (place_text (pack_of s) place t item) n ∙ after_accepted s m i e rest)
 
-pub promised : (s : List ℕ) (place t item : ℕ) (w o w' o' : List ℕ) (r : Placed) → Answered s (length w) place t item o r o' → w' ≡ work_after s w
+pub promised : (s : List ℕ) (place t item : ℕ) (w o w' o' : List ℕ) (r : Result ℕ Refusal) → Answered s (length w) place t item o r o' → w' ≡ work_after s w
     → Places s place t item w o w' o' r
 promised s place t item w o w' o' r a e =
     record {

@@ -1,5 +1,5 @@
 -- The findings in their buffer: eight numbers each from its start, and how many of them are errors.
-use Rattle.std.specs.Prelude.{◌==◌, if◌then◌else◌}
+use Rattle.std.specs.Prelude.{Result, Ok, Err, ◌==◌, if◌then◌else◌}
 use Prim.Native.Nat.{ℕ, zero, suc, ◌+◌, ◌*◌, ◌≤◌, ◌<◌}
 use native.Mathlib.Omega.{arith}
 use mathlib.Core.Path.{◌≡◌, refl, sym, ap, ◌∙◌}
@@ -19,8 +19,7 @@ use Rattle.pack.proofs.Told.{after_refused, after_accepted}
 use Rattle.rules.specs.declared.Finding.{Finding}
 use Rattle.rules.specs.Checked.{all_numbers, judged, checked, findings_left, findings_after, check_answer, findings_tell, check_tells, Checks}
 use Rattle.rules.specs.Check.{check}
-use Rattle.rules.specs.declared.check.Checked.{Checked}
-use Rattle.rules.specs.declared.check.Checked.TheVariants.{Refused, Reported}
+use Rattle.rules.specs.declared.check.Reported.{Reported}
 use Rattle.rules.specs.Emit.{numbers, stored, put_findings, Emitted}
 use Rattle.rules.specs.Findings.{errors}
 use Rattle.rules.specs.Search.{count_below}
@@ -91,17 +90,17 @@ errors_read (f ∷ fs) rest =
 
 -- ---- the two ends of a report
 
-pub record Judges (fs : List Finding) (o : List ℕ) (r : Checked) (o' : List ℕ) : Type 0 where
+pub record Judges (fs : List Finding) (o : List ℕ) (r : Result Reported Refusal) (o' : List ℕ) : Type 0 where
   pub answer : r ≡ judged fs (length o)
   pub out : o' ≡ findings_left (judged fs (length o)) (all_numbers fs) o
 
-pub buffer_short : (fs : List Finding) (o : List ℕ) (n : ℕ) → n ≡ length fs → length o < 8 * n → Judges fs o (Refused (Findings (8 * n))) o
+pub buffer_short : (fs : List Finding) (o : List ℕ) (n : ℕ) → n ≡ length fs → length o < 8 * n → Judges fs o (Err (Findings (8 * n))) o
 buffer_short fs o n e h =
     let t = lt-leb (8 * length fs) (length o) (omega arith) in
     record { answer = rw (e, t); out = rw t }
 
 pub all_put : (fs : List Finding) (o o' : List ℕ) (n k : ℕ) → n ≡ length fs → 8 * n ≤ length o → o' ≡ over (all_numbers fs) o
-    → k ≡ count_below (λ i. get_or o' (8 * i + 1) 0 == 1) n → Judges fs o (Reported n k) o'
+    → k ≡ count_below (λ i. get_or o' (8 * i + 1) 0 == 1) n → Judges fs o (Ok (record { findings = n; errors = k })) o'
 all_put fs o o' n k e h y c =
     let t = le-leb (8 * length fs) (length o) (omega arith) in
     let z : k ≡ errors fs = c ∙ (rw (y, e) (errors_read fs _)) in
@@ -109,15 +108,15 @@ all_put fs o o' n k e h y c =
 
 -- ---- and of the call
 
-pub record Answers (s w o : List ℕ) (r : Checked) (o' : List ℕ) : Type 0 where
+pub record Answers (s w o : List ℕ) (r : Result Reported Refusal) (o' : List ℕ) : Type 0 where
   pub answer : r ≡ checked s (length w) (length o)
   pub out : o' ≡ findings_after s (length w) o
 
-pub not_loaded : (s w o : List ℕ) (q : Refusal) → loaded s (length w) ≡ Err q → Answers s w o (Refused q) o
+pub not_loaded : (s w o : List ℕ) (q : Refusal) → loaded s (length w) ≡ Err q → Answers s w o (Err q) o
 unfolding checked findings_after
 not_loaded s w o q e = record { answer = rw e; out = rw e }
 
-pub is_loaded : (s w o : List ℕ) (i : Index) {r : Checked} {o' : List ℕ} → loaded s (length w) ≡ Ok i
+pub is_loaded : (s w o : List ℕ) (i : Index) {r : Result Reported Refusal} {o' : List ℕ} → loaded s (length w) ≡ Ok i
     → r ≡ judged (check (pack_of s)) (length o) → o' ≡ findings_left (judged (check (pack_of s)) (length o)) (all_numbers (check (pack_of s))) o
     → Answers s w o r o'
 unfolding checked findings_after
@@ -141,6 +140,6 @@ check_told s m n = go (loaded s m) refl
     go (Err r) e = rw e (after_refused s m r e rest)
     go (Ok i) e = rw e (judged_told (check (pack_of s)) n ∙ after_accepted s m i e rest)
 
-pub promised : (s w o w' o' : List ℕ) (r : Checked) → Answers s w o r o' → w' ≡ work_after s w → Checks s w o w' o' r
+pub promised : (s w o w' o' : List ℕ) (r : Result Reported Refusal) → Answers s w o r o' → w' ≡ work_after s w → Checks s w o w' o' r
 promised s w o w' o' r a e =
     record { answer = a.answer; told = ap check_answer a.answer ∙ check_told s (length w) (length o); work = e; findings = a.out }

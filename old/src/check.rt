@@ -17,11 +17,11 @@ use crate::trees::{check_trees, check_trees_continues};
 use pack::buffers::copy;
 use pack::load::{Index, Refusal, load};
 
-#[derive(Clone, Copy)]
-pub enum Checked {
-    Refused(Refusal),
-    // how many, and how many of them have severity 1
-    Reported { findings: usize, errors: usize },
+// How many findings, and how many of them have severity 1.
+#[derive(Clone, Copy, PartialEq, Eq, Debug)]
+pub struct Reported {
+    pub findings: usize,
+    pub errors: usize,
 }
 
 // Every finding, behind n others, in the order in which the Rust reports.
@@ -84,7 +84,12 @@ fn deliver(
 }
 
 // Into a short list first, since after 22 the buffer has not changed.
-fn report(pack: &[u8], work: &[u32], findings: &mut [u32], index: Index) -> Checked
+fn report(
+    pack: &[u8],
+    work: &[u32],
+    findings: &mut [u32],
+    index: Index,
+) -> Result<Reported, Refusal>
     requires { record { ready : Ready pack.now work.now; index : IndexIs (pack_of pack.now) index } }
     ensures { record {
       answer : result ≡ judged (check (pack_of pack.now)) (length findings.old);
@@ -96,21 +101,19 @@ fn report(pack: &[u8], work: &[u32], findings: &mut [u32], index: Index) -> Chec
     let count = check_all(&mut short, 0, pack, work, index);
     let needed = 8 * count;
     if findings.len() < needed {
-        return Checked::Refused(Refusal::Findings(needed));
+        return Err(Refusal::Findings(needed));
     }
     deliver(pack, work, findings, index, &short, count);
     let errors = count_errors(findings, count);
-    Checked::Reported {
+    Ok(Reported {
         findings: count,
         errors,
-    }
+    })
 }
 
-pub fn check(pack: &[u8], work: &mut [u32], findings: &mut [u32]) -> Checked
+pub fn check(pack: &[u8], work: &mut [u32], findings: &mut [u32]) -> Result<Reported, Refusal>
     ensures { Checks pack.now work.old findings.old work.new findings.new result }
 {
-    match load(pack, work) {
-        Loaded::Refused(refusal) => Checked::Refused(refusal),
-        Loaded::Accepted(index) => report(pack, work, findings, index),
-    }
+    let index = load(pack, work)?;
+    report(pack, work, findings, index)
 }

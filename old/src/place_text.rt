@@ -1,4 +1,4 @@
-// The place text call.
+// The place text call: it answers how long the text is.
 ghost use Rattle.std.specs.Prelude.{◌≡◌, length};
 ghost use Rattle.pack.specs.Meaning.{pack_of};
 ghost use Rattle.pack.specs.Ready.{Ready, IndexIs};
@@ -9,13 +9,6 @@ use crate::locs::put_loc;
 use crate::places::find_loc;
 use pack::load::{Index, Refusal, load};
 
-#[derive(Clone, Copy)]
-pub enum Placed {
-    Refused(Refusal),
-    // how long the text is
-    Written(usize),
-}
-
 // Over an empty part of the buffer the text is only measured: after 24 it has not changed.
 fn write_named(
     pack: &[u8],
@@ -25,7 +18,7 @@ fn write_named(
     tree: u32,
     item: u32,
     text: &mut [u8],
-) -> Placed
+) -> Result<usize, Refusal>
     requires { record { ready : Ready pack.now work.now; index : IndexIs (pack_of pack.now) index } }
     ensures { record {
       answer : result ≡ named (place_text (pack_of pack.now) place tree item) (length text.old);
@@ -35,14 +28,14 @@ fn write_named(
     } }
 {
     let Some(loc) = find_loc(pack, work, index, place, tree, item) else {
-        return Placed::Refused(Refusal::Absent);
+        return Err(Refusal::Absent);
     };
     let needed = put_loc(&mut text[..0], pack, loc);
     if text.len() < needed {
-        return Placed::Refused(Refusal::Place(needed));
+        return Err(Refusal::Place(needed));
     }
     put_loc(text, pack, loc);
-    Placed::Written(needed)
+    Ok(needed)
 }
 
 pub fn place_text(
@@ -52,11 +45,9 @@ pub fn place_text(
     tree: u32,
     item: u32,
     text: &mut [u8],
-) -> Placed
+) -> Result<usize, Refusal>
     ensures { Places pack.now place tree item work.old text.old work.new text.new result }
 {
-    match load(pack, work) {
-        Loaded::Refused(refusal) => Placed::Refused(refusal),
-        Loaded::Accepted(index) => write_named(pack, work, index, place, tree, item, text),
-    }
+    let index = load(pack, work)?;
+    write_named(pack, work, index, place, tree, item, text)
 }
