@@ -33,6 +33,7 @@ fn in_first_tree(tree: u32, item: u32, count: u32) -> bool
 }
 
 // Place 1.
+#[tactic(auto, unfolding(crate::specs::PlaceText::pgn_loc, crate::specs::Locs::pgn_text))]
 fn pgn_loc(pack: &Pack, tree: u32, item: u32) -> Option<Loc>
     ensures { option_map (loc_text pack.now.bytes.now) result ≡ then_some
         ((tree <ᵇ 3) && (item <ᵇ length (pgns_of (pack_of pack.now.bytes.now) tree)))
@@ -73,6 +74,7 @@ fn group_loc(pack: &Pack, tree: u32, item: u32) -> Option<Loc>
 }
 
 // "The place text call names a finding by place, tree and item"
+#[tactic(auto, unfolding(crate::specs::PlaceText::place_text))]
 pub(crate) fn find_loc(pack: &Pack, place: u32, tree: u32, item: u32) -> Option<Loc>
     ensures { option_map (loc_text pack.now.bytes.now) result ≡ place_text (pack_of pack.now.bytes.now) place tree item }
 {
