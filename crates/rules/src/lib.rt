@@ -10,8 +10,10 @@ mod emit;
 mod floats;
 mod locs;
 mod min_length;
+pub mod model;
 mod searches;
 mod special_values;
+pub mod targets;
 pub mod widths;
 
 // A finding's eight numbers.
