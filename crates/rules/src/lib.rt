@@ -6,6 +6,7 @@ ghost use Rattle.rules.specs.Proprietary.{is_manufacturer_pgn};
 pub mod bools;
 mod bytes_out;
 mod digits;
+pub mod dynamic_length;
 mod emit;
 mod floats;
 mod locs;
