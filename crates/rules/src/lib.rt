@@ -5,6 +5,7 @@ ghost use Rattle.rules.specs.Proprietary.{is_manufacturer_pgn};
 
 pub mod bools;
 mod bytes_out;
+pub mod continues;
 mod digits;
 pub mod dynamic_length;
 mod emit;
