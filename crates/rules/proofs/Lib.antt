@@ -3,6 +3,7 @@ pub mod DigitLaws
 pub mod Emits
 pub mod Extremes
 pub mod Groups
+pub mod Loops
 pub mod Marking
 pub mod MatchKeys
 pub mod OptionMaps
@@ -17,4 +18,3 @@ pub mod SpnRanks
 pub mod TwoPlaces
 pub mod Types
 pub mod VariantLaws
-pub mod Loops

@@ -5,14 +5,18 @@ ghost use Rattle.rules.specs.Proprietary.{is_manufacturer_pgn};
 
 pub mod bools;
 mod bytes_out;
+pub mod continues;
 mod digits;
+pub mod dynamic_length;
 mod emit;
 mod floats;
 mod locs;
 mod min_length;
-mod places;
+pub mod model;
+pub mod places;
 mod searches;
 mod special_values;
+pub mod targets;
 pub mod widths;
 
 // A finding's eight numbers.

@@ -1,4 +1,3 @@
-use Rattle.rules.specs.Continues.{continued_found_at, continues_at}
 use Rattle.rules.specs.SearchLaws.{first_is}
 use borrow.Author.Rules.{rules}
 use Prim.Native.Nat.{◌<◌}
@@ -6,7 +5,6 @@ use mathlib.Core.Path.{◌∙◌, sym}
 use Rattle.rules.proofs.continues.continues_at.Goals as goal
 
 pub continued_at-requires : goal.continued_at-requires
-unfolding continues_at continued_found_at
 continued_at-requires c =
     let earlier : c.in-Some-first_with_id.earlier < c.args.k = (first_is _ _ _ (sym c.first_with_id.ensures ∙ c.in-Some-first_with_id.is)).0 in
     search rules

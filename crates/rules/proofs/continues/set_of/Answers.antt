@@ -1,10 +1,12 @@
 use Rattle.std.specs.Prelude.{Option, None}
+use Rattle.pack.proofs.Few.{fields_few}
 use Rattle.pack.proofs.Sets.{places_are, set_is}
 use Rattle.pack.specs.declared.pgn.RepeatingView.{RepeatingView}
 use Rattle.pack.specs.declared.pgn.PgnView.{PgnView}
-use Rattle.pack.specs.Meaning.{optional_repeating, pack_of}
+use Rattle.pack.specs.Loaded.{pgn_value}
+use Rattle.pack.specs.Meaning.{optional_repeating}
 use Rattle.pack.specs.Ready.{PgnIs}
-use Rattle.pack.specs.Value.{Pgn, pgn_at}
+use Rattle.pack.specs.Value.{Pgn}
 use Rattle.rules.specs.Continues.{holds_order, place_number, set_of}
 use Rattle.rules.specs.Search.{latest_below}
 use Prim.Native.Nat.{ℕ, zero, suc, ◌+◌, ◌-◌, ◌<◌}
@@ -29,22 +31,25 @@ module _ (q : ℕ → Bool) where
   missed zero h e = absurd (omega arith)
   missed (suc j) h e = let d : suc j - 1 ≡ j = omega arith in rw (d, rw d at e)
 
+pub order-order-requires : goal.order-order-requires
+order-order-requires c = omega (arith, c.requires, c.args.pgn.now.is.fields, fields_few c.args.pgn.now.at)
+
 pub loop-j-init : goal.loop-j-init
 loop-j-init c =
-    let p = pgn_at (pack_of c.args.s.now) c.args.g.tree c.args.g.item in
-    ap (latest_below (at_place p c.args.k)) (sym (places_are c.requires.is))
+    let p = pgn_value c.args.pgn.now in
+    ap (latest_below (at_place p c.args.k)) (sym (places_are c.args.pgn.now.is))
 
 pub returns-then-holds_order : goal.returns-then-holds_order
 unfolding set_of
 returns-then-holds_order c =
-    let k = c.args.k in let v = c.args.g.view in
-    let p = pgn_at (pack_of c.args.s.now) c.args.g.tree c.args.g.item in
-    let e = tried _ p v c.requires.is k (c.loop-j.j - 1) _ (omega (arith, c)) c.order-order.ensures _ c.set_at.ensures _ c.holds_order.ensures in
+    let k = c.args.k in let v = c.args.pgn.now.view in
+    let p = pgn_value c.args.pgn.now in
+    let e = tried _ p v c.args.pgn.now.is k (c.loop-j.j - 1) _ (omega (arith, c)) c.order-order.ensures _ c.set_at.ensures _ c.holds_order.ensures in
     sym (ap place_number c.loop-j.invariant ∙ hit (at_place p k) c.loop-j.j c.loop-j-test.true (sym e ∙ c.if-holds_order.true))
 
 pub loop-j-preserved : goal.loop-j-preserved
 loop-j-preserved c =
-    let k = c.args.k in let v = c.args.g.view in
-    let p = pgn_at (pack_of c.args.s.now) c.args.g.tree c.args.g.item in
-    let e = tried _ p v c.requires.is k (c.loop-j.j - 1) _ (omega (arith, c)) c.order-order.ensures _ c.set_at.ensures _ c.holds_order.ensures in
+    let k = c.args.k in let v = c.args.pgn.now.view in
+    let p = pgn_value c.args.pgn.now in
+    let e = tried _ p v c.args.pgn.now.is k (c.loop-j.j - 1) _ (omega (arith, c)) c.order-order.ensures _ c.set_at.ensures _ c.holds_order.ensures in
     c.loop-j.invariant ∙ missed (at_place p k) c.loop-j.j c.loop-j-test.true (sym e ∙ c.if-holds_order.false)

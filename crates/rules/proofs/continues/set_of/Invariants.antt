@@ -1,5 +1,5 @@
-use Rattle.pack.specs.Meaning.{pack_of}
-use Rattle.pack.specs.Value.{Pgn, pgn_at, set_place}
+use Rattle.pack.specs.Loaded.{pgn_value}
+use Rattle.pack.specs.Value.{Pgn, set_place}
 use Rattle.rules.specs.Continues.{holds_order}
 use Rattle.rules.specs.Search.{latest_below}
 use Prim.Native.Nat.{ℕ, ◌+◌}
@@ -13,6 +13,4 @@ abbrev pub at_place : Pgn → ℕ → ℕ → Bool
 at_place p k j = holds_order (set_place p j) (k + 1)
 
 abbrev pub invariant-loop-j : goal.invariant-loop-j
-invariant-loop-j l =
-    latest_below (at_place (pgn_at (pack_of l.s) l.g.tree l.g.item) l.k) (length (pgn_at (pack_of l.s) l.g.tree l.g.item).sets)
-    ≡ latest_below (at_place (pgn_at (pack_of l.s) l.g.tree l.g.item) l.k) l.j
+invariant-loop-j l = latest_below (at_place (pgn_value l.pgn) l.k) (length (pgn_value l.pgn).sets) ≡ latest_below (at_place (pgn_value l.pgn) l.k) l.j

@@ -2,20 +2,19 @@
 ghost use Rattle.std.specs.Prelude.{◌≡◌, ◌<◌, length, get_or};
 ghost use Rattle.pack.specs.Items.{bytes_of};
 ghost use Rattle.pack.specs.Meaning.{optional_bytes, field_meaning, pack_of};
-ghost use Rattle.pack.specs.Ready.{Ready};
 ghost use Rattle.pack.specs.Value.{no_field_type};
 ghost use Rattle.rules.specs.Model.{is_text, value_bits};
 
 use pack::field::FieldView;
-use pack::of::type_of;
+use pack::loaded::Pack;
 use pack::text::{Text, same_text};
 
 // The name of the root of field type ft.
-pub fn root_of(s: &[u8], work: &[u32], ft: u32) -> Text
-    requires { record { ready : Ready s.now work.now; type : ft < length (pack_of s.now).fieldtypes } }
-    ensures { bytes_of s.now result ≡ (get_or (pack_of s.now).fieldtypes ft no_field_type).root_name }
+pub fn root_of(pack: &Pack, ft: u32) -> Text
+    requires { ft < length (pack_of pack.now.bytes.now).fieldtypes }
+    ensures { bytes_of pack.now.bytes.now result ≡ (get_or (pack_of pack.now.bytes.now).fieldtypes ft no_field_type).root_name }
 {
-    let v = type_of(s, work, ft);
+    let v = pack.field_type(ft);
     v.root
 }
 
