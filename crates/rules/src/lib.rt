@@ -9,6 +9,7 @@ mod digits;
 mod emit;
 mod floats;
 mod locs;
+pub mod lookups;
 mod min_length;
 mod searches;
 mod special_values;
