@@ -11,8 +11,10 @@ mod floats;
 mod locs;
 pub mod lookups;
 mod min_length;
+pub mod model;
 mod searches;
 mod special_values;
+pub mod targets;
 pub mod widths;
 
 // A finding's eight numbers.
