@@ -1,7 +1,9 @@
--- Loops over an accepted pack's lookups, or a tree's PGNs, that report.
-use Prim.Native.Nat.{ℕ, ◌+◌}
+-- Loops over an accepted pack's lookups, or a tree's PGNs, that report or search.
+use Rattle.std.specs.Prelude.{None, Some}
+use Prim.Native.Nat.{ℕ, zero, suc, ◌+◌, ◌<◌}
 use native.Mathlib.Omega.{arith}
-use mathlib.Core.Path.{◌≡◌, sym}
+use mathlib.Core.Bool.{Bool, true, false}
+use mathlib.Core.Path.{◌≡◌, refl, ap, ◌∙◌, sym}
 use mathlib.Core.List.{List, [], ◌∷◌, ◌++◌}
 use lib.ListN.{length, length-append}
 use Rattle.pack.specs.Loaded.{lookup_spot, pgn_spot, lookups_left, pgns_left}
@@ -16,6 +18,8 @@ use Rattle.pack.proofs.Turns.{LookupTurn, LookupsGiven, lookups_turn, lookups_gi
 use Rattle.rules.specs.declared.Finding.{Finding}
 use Rattle.rules.specs.declared.emit.Findings.{Findings}
 use Rattle.rules.specs.Emit.{Emitted}
+use Rattle.rules.specs.Search.{any_below, first_below}
+use Rattle.rules.specs.SearchLaws.{any_turn, any_hit, any_missed, first_hit}
 use Rattle.rules.proofs.Emits.{emitted_turn}
 
 one_more : {A : Type 0} (ys : List A) (x : A) → length (ys ++ x ∷ []) ≡ length ys + 1
@@ -54,3 +58,64 @@ lookups_reported {turn = turn} {ys = ys} x e p h own =
 pub all_lookups : {o o' : Findings} {s w : List ℕ} {turn : ℕ → List Finding} {ys : List LookupRef} {d : Lookups}
     → OverLookups o s w turn ys d o' → lookups_left d ≡ [] → Emitted o (concat_below turn (length (pack_of s).lookups)) o'
 all_lookups p h = rw (← lookups_given p.given h) p.emitted
+
+-- ---- searches
+
+first_none : (p : ℕ → Bool) (n : ℕ) → ((k : ℕ) → k < n → p k ≡ false) → first_below p n ≡ None
+first_none p zero h = refl
+first_none p (suc n) h = rw (first_none p n (λ k l. h k (omega arith)), h n (omega arith))
+
+-- the invariant: the lookups ys were given, none of them has p, and d gives the others
+pub record NoneOfLookups (s w : List ℕ) (p : ℕ → Bool) (ys : List LookupRef) (d : Lookups) : Type 0 where
+  pub given : LookupsGiven s w (length (pack_of s).lookups) (length ys) d
+  pub none_yet : any_below p (length ys) ≡ false
+
+module _ {s w : List ℕ} {p : ℕ → Bool} {ys : List LookupRef} {d : Lookups} (a : NoneOfLookups s w p ys d) where
+  pub lookup_missed : (x : LookupRef) (e : Lookups) → lookups_left d ≡ lookup_spot x ∷ lookups_left e
+      → (LookupTurn s w (length ys) (length (pack_of s).lookups) x (lookups_left e) → p (length ys) ≡ false) → NoneOfLookups s w p (ys ++ x ∷ []) e
+  lookup_missed x e h own =
+      let u = lookups_turn x e a.given h in
+      record { given = (rw (one_more ys x) u.1); none_yet = (rw (one_more ys x, any_turn p (length ys), a.none_yet) (own u.0)) }
+
+  pub lookup_hit : (x : LookupRef) (e : Lookups) → lookups_left d ≡ lookup_spot x ∷ lookups_left e
+      → (LookupTurn s w (length ys) (length (pack_of s).lookups) x (lookups_left e) → p (length ys) ≡ true)
+      → any_below p (length (pack_of s).lookups) ≡ true
+  lookup_hit x e h own =
+      let u = lookups_turn x e a.given h in
+      any_hit p (length (pack_of s).lookups) (length ys) u.0.inside (own u.0)
+
+  pub lookup_hit_first : (x : LookupRef) (e : Lookups) → lookups_left d ≡ lookup_spot x ∷ lookups_left e
+      → (LookupTurn s w (length ys) (length (pack_of s).lookups) x (lookups_left e) → p (length ys) ≡ true)
+      → first_below p (length (pack_of s).lookups) ≡ Some x.item
+  lookup_hit_first x e h own =
+      let u = lookups_turn x e a.given h in
+      first_hit p (length (pack_of s).lookups) (length ys) u.0.inside (first_none p (length ys) (any_missed p (length ys) a.none_yet)) (own u.0)
+      ∙ ap Some (sym u.0.item)
+
+  pub no_lookup : lookups_left d ≡ [] → any_below p (length (pack_of s).lookups) ≡ false
+  no_lookup h = rw (← lookups_given a.given h) a.none_yet
+
+  pub no_lookup_first : lookups_left d ≡ [] → first_below p (length (pack_of s).lookups) ≡ None
+  no_lookup_first h = first_none p (length (pack_of s).lookups) (any_missed p (length (pack_of s).lookups) (no_lookup h))
+
+-- the same of the PGNs of tree t
+pub record NoneOfPgns (s w : List ℕ) (t : ℕ) (p : ℕ → Bool) (ys : List PgnRef) (d : Pgns) : Type 0 where
+  pub given : PgnsGiven s w t (length (pgns_of (pack_of s) t)) (length ys) d
+  pub none_yet : any_below p (length ys) ≡ false
+
+module _ {s w : List ℕ} {t : ℕ} {p : ℕ → Bool} {ys : List PgnRef} {d : Pgns} (a : NoneOfPgns s w t p ys d) where
+  pub pgn_missed : (x : PgnRef) (e : Pgns) → pgns_left d ≡ pgn_spot x ∷ pgns_left e
+      → (PgnTurn s w t (length ys) (length (pgns_of (pack_of s) t)) x (pgns_left e) → p (length ys) ≡ false) → NoneOfPgns s w t p (ys ++ x ∷ []) e
+  pgn_missed x e h own =
+      let u = pgns_turn x e a.given h in
+      record { given = (rw (one_more ys x) u.1); none_yet = (rw (one_more ys x, any_turn p (length ys), a.none_yet) (own u.0)) }
+
+  pub pgn_hit : (x : PgnRef) (e : Pgns) → pgns_left d ≡ pgn_spot x ∷ pgns_left e
+      → (PgnTurn s w t (length ys) (length (pgns_of (pack_of s) t)) x (pgns_left e) → p (length ys) ≡ true)
+      → any_below p (length (pgns_of (pack_of s) t)) ≡ true
+  pgn_hit x e h own =
+      let u = pgns_turn x e a.given h in
+      any_hit p (length (pgns_of (pack_of s) t)) (length ys) u.0.inside (own u.0)
+
+  pub no_pgn : pgns_left d ≡ [] → any_below p (length (pgns_of (pack_of s) t)) ≡ false
+  no_pgn h = rw (← pgns_given a.given h) a.none_yet

@@ -1,0 +1,22 @@
+// Lookups by name: the Rust's `db.lookups.get(name)`.
+ghost use Rattle.std.specs.Prelude.{◌≡◌, IfSome};
+ghost use Rattle.std.specs.Option.{option_map};
+ghost use Rattle.pack.specs.Items.{bytes_of};
+ghost use Rattle.pack.specs.Meaning.{pack_of};
+ghost use Rattle.rules.specs.Model.{find_lookup};
+
+use pack::loaded::{LookupRef, Pack};
+use pack::text::{Text, same_text};
+
+// The lookup of that name.
+pub fn find_lookup<'a>(pack: &Pack<'a>, name: Text) -> Option<LookupRef<'a>>
+    ensures found { option_map (λ l. l.item) result ≡ find_lookup (pack_of pack.now.bytes.now).lookups (bytes_of pack.now.bytes.now name) }
+    ensures same { IfSome result (λ l. record { bytes : l.pack.bytes.now ≡ pack.now.bytes.now; work : l.pack.work.now ≡ pack.now.work.now }) }
+{
+    for lookup in pack.lookups() {
+        if same_text(pack.bytes, lookup.view.name, name) {
+            return Some(lookup);
+        }
+    }
+    None
+}

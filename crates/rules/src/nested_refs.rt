@@ -1,0 +1,78 @@
+// R08, causes 6 and 7: what the entries of fieldtype lookups name.
+ghost use Rattle.std.specs.Prelude.{◌≡◌, length};
+ghost use Rattle.pack.specs.Notation.{concat_below};
+ghost use Rattle.pack.specs.Items.{bytes_of};
+ghost use Rattle.pack.specs.Loaded.{lookup_value};
+ghost use Rattle.pack.specs.Meaning.{optional_bytes, entry_meaning, pack_of};
+ghost use Rattle.pack.specs.Value.{lookup_at};
+ghost use Rattle.rules.specs.Emit.{Emitted};
+ghost use Rattle.rules.specs.LookupWiring.{is_fieldtype, nested_lookup_at, fieldtype_entry_at, check_nested_refs};
+
+use crate::emit::{Findings, lookup_error};
+use crate::lookups::find_lookup;
+use pack::entry::EntryView;
+use pack::loaded::{LookupRef, Pack};
+use pack::text::{Text, same_text};
+
+// `db.fieldtype(name)`
+#[tactic(auto, using(crate::specs::SearchLaws::any_turn), unfolding(crate::specs::LookupWiring::is_fieldtype))]
+pub fn is_fieldtype(pack: &Pack, name: Text) -> bool
+    ensures { result ≡ is_fieldtype (pack_of pack.now.bytes.now).fieldtypes (bytes_of pack.now.bytes.now name) }
+{
+    for j in 0..pack.index.types.count {
+        let v = pack.field_type(j);
+        if same_text(pack.bytes, v.name, name) {
+            return true;
+        }
+    }
+    false
+}
+
+// Cause 7: the nested lookup of entry e of lookup l.
+#[tactic(auto, unfolding(crate::specs::LookupWiring::nested_lookup_at))]
+fn nested_lookup_at(out: &mut Findings, pack: &Pack, l: u32, e: u32, nested: Option<Text>)
+    ensures { Emitted out.old
+        (nested_lookup_at (pack_of pack.now.bytes.now).lookups l e (optional_bytes pack.now.bytes.now nested)) out.new }
+{
+    let Some(name) = nested else {
+        return;
+    };
+    let missing = find_lookup(pack, name).is_none();
+    out.put_if(missing, lookup_error(8, 7, l, e, 0));
+}
+
+// Entry e of lookup l.
+#[tactic(auto, unfolding(crate::specs::LookupWiring::fieldtype_entry_at))]
+fn fieldtype_entry_at(out: &mut Findings, pack: &Pack, l: u32, e: u32, entry: EntryView)
+    ensures { Emitted out.old (fieldtype_entry_at (pack_of pack.now.bytes.now) l e (entry_meaning pack.now.bytes.now entry)) out.new }
+{
+    let known = is_fieldtype(pack, entry.fieldtype);
+    out.put_if(!known, lookup_error(8, 6, l, e, 0));
+    nested_lookup_at(out, pack, l, e, entry.nested);
+}
+
+// One lookup.
+fn check_nested_refs(out: &mut Findings, lookup: &LookupRef)
+    ensures { Emitted out.old
+        (check_nested_refs (pack_of lookup.now.pack.bytes.now) lookup.now.item (lookup_value lookup.now)) out.new }
+{
+    if lookup.view.kind != 3 {
+        return;
+    }
+    for e in 0..lookup.view.entries {
+        let entry = lookup.entry(e);
+        fieldtype_entry_at(out, &lookup.pack, lookup.item, e, entry);
+    }
+}
+
+// Every lookup.
+pub(crate) fn check_all_nested_refs(out: &mut Findings, pack: &Pack)
+    ensures { Emitted out.old
+        (concat_below
+        (λ l. check_nested_refs (pack_of pack.now.bytes.now) l (lookup_at (pack_of pack.now.bytes.now).lookups l))
+        (length (pack_of pack.now.bytes.now).lookups)) out.new }
+{
+    for lookup in pack.lookups() {
+        check_nested_refs(out, &lookup);
+    }
+}
