@@ -7,14 +7,16 @@ pub mod Loops
 pub mod Marking
 pub mod MatchKeys
 pub mod OptionMaps
-pub mod Parts
+pub mod PlaceCalls
 pub mod PlaceTexts
 pub mod Ranks
+pub mod Reports
 pub mod RuleNumbers
 pub mod Sections
 pub mod SpnClashLaws
 pub mod SpnLaws
 pub mod SpnRanks
+pub mod Totals
 pub mod TwoPlaces
 pub mod Types
 pub mod VariantLaws

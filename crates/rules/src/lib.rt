@@ -5,6 +5,7 @@ ghost use Rattle.rules.specs.Proprietary.{is_manufacturer_pgn};
 
 pub mod bools;
 mod bytes_out;
+pub mod check;
 pub mod continues;
 mod digits;
 pub mod dynamic_length;
@@ -17,6 +18,7 @@ pub mod matches;
 mod min_length;
 pub mod model;
 pub mod nested_refs;
+pub mod place_text;
 pub mod places;
 mod searches;
 mod special_values;

@@ -4,7 +4,7 @@ use Prim.Native.Nat.{ℕ, ◌+◌, ◌≤◌, ◌<◌}
 use native.Mathlib.Omega.{arith}
 use mathlib.Core.Path.{◌≡◌, refl, ap, ◌∙◌}
 use mathlib.Core.Bool.{Bool, true, false}
-use mathlib.Core.List.{List}
+use mathlib.Core.List.{List, [], ◌∷◌, ◌++◌}
 use Rattle.std.specs.Prelude.{Option, None, Some, Result, Ok, Err}
 use lib.ListN.{length}
 use borrow.Author.Tests.{le-leb, lt-leb}
@@ -20,6 +20,11 @@ use Rattle.pack.proofs.Stores.{sets_over}
 use Rattle.pack.proofs.Told.{after_refused, after_accepted}
 use Rattle.rules.specs.PlaceCall.{named, placed, text_left, text_after, place_answer, text_tells, place_tells, Places}
 use Rattle.rules.specs.PlaceText.{place_text}
+
+-- over an empty part of a buffer nothing is written, and the buffer is what it was
+pub empty_part : (p o : List ℕ) → length p ≡ 0 → p ++ o ≡ o
+empty_part [] o e = refl
+empty_part (x ∷ p) o e = absurd (omega arith)
 
 pub record Named (o : Option Bytes) (w : List ℕ) (r : Result ℕ Refusal) (w' : List ℕ) : Type 0 where
   pub answer : r ≡ named o (length w)

@@ -11,11 +11,11 @@ returns-in_err-index c =
     let a = not_loaded c.args.pack.now c.args.work.now c.args.findings.now q (sym c.load.ensures.answer ∙ c.in_err-index.was) in
     rw (y.1, y.2) (promised _ _ _ _ _ _ a c.load.ensures.work)
 
-pub report-requires : goal.report-requires
-report-requires c =
+pub invariant_of-loaded : goal.invariant_of-loaded
+invariant_of-loaded c =
     let pack = c.args.pack.now in
     let l = load_law pack c.args.work.now c.in_ok-index.index (sym c.load.ensures.answer ∙ c.in_ok-index.was) in
-    record { ready = rw c.load.ensures.work l.0; index = rw l.1 (index_law pack) }
+    record { ready = rw c.load.ensures.work l.0; indexed = rw l.1 (index_law pack) }
 
 pub returns : goal.returns
 returns c =

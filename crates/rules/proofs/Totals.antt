@@ -14,7 +14,6 @@ use Rattle.pack.proofs.Sets.{sets_few}
 use Rattle.pack.proofs.Values.{tree_place}
 use Rattle.rules.specs.Bound.{most_findings, check_most}
 use Rattle.rules.specs.Check.{check}
-use Rattle.rules.specs.Emit.{Fits}
 use Rattle.rules.specs.Search.{sum_below}
 
 lookups_total : (P : Pack) (n : ℕ) → place_of_lookup P n ≡ length P.fieldtypes + n + sum_below (λ l. length (lookup_at P.lookups l).entries) n
@@ -36,7 +35,7 @@ places_total s t (suc n) = omega (arith, places_total s t n, sets_few s t n)
 square_few : (n : ℕ) → n ≤ 1048576 → n * (n + 9) ≤ 1099521064960
 square_few n h = let k : n + 9 ≤ 1048585 = omega arith in mul-le-mul h k
 
-pub findings_few : (s w : List ℕ) → Ready s w → Fits 0 (check (pack_of s))
+pub findings_few : (s w : List ℕ) → Ready s w → length (check (pack_of s)) ≤ 1152921504606846975
 unfolding most_findings
 findings_few s w r =
     let P = pack_of s in
@@ -51,4 +50,4 @@ findings_few s w r =
     let q0 = square_few (length (pgns_of P 0)) (omega arith) in
     let q1 = square_few (length (pgns_of P 1)) (omega arith) in
     let q2 = square_few (length (pgns_of P 2)) (omega arith) in
-    record { small = omega (arith, check_most P) }
+    omega (arith, check_most P)

@@ -1,7 +1,8 @@
 -- The findings in their buffer: eight numbers each from its start, and how many of them are errors.
 use Rattle.std.specs.Prelude.{Result, Ok, Err, ◌==◌, if◌then◌else◌}
-use Prim.Native.Nat.{ℕ, zero, suc, ◌+◌, ◌*◌, ◌≤◌, ◌<◌}
+use Prim.Native.Nat.{ℕ, zero, suc, ◌+◌, ◌*◌, ◌≤◌, ◌<◌, min}
 use native.Mathlib.Omega.{arith}
+use native.Mathlib.Nat.{min-eq_left}
 use mathlib.Core.Path.{◌≡◌, refl, sym, ap, ◌∙◌}
 use mathlib.Core.Bool.{Bool, true, false}
 use mathlib.Core.List.{List, [], ◌∷◌, ◌++◌}
@@ -20,7 +21,7 @@ use Rattle.rules.specs.declared.Finding.{Finding}
 use Rattle.rules.specs.Checked.{all_numbers, judged, checked, findings_left, findings_after, check_answer, findings_tell, check_tells, Checks}
 use Rattle.rules.specs.Check.{check}
 use Rattle.rules.specs.declared.check.Reported.{Reported}
-use Rattle.rules.specs.Emit.{numbers, stored, put_findings, Emitted}
+use Rattle.rules.specs.Emit.{numbers, Found, none_in, stored, put_one, put_all}
 use Rattle.rules.specs.Findings.{errors}
 use Rattle.rules.specs.Search.{count_below}
 
@@ -28,31 +29,47 @@ stored_fits : (o : List ℕ) (n : ℕ) (f : Finding) → 8 * n + 8 ≤ length o 
 unfolding stored
 stored_fits o n f h = rw (le-leb (8 * n + 8) (length o) h)
 
+one_more : (n : ℕ) → n + 1 ≤ 18446744073709551615 → min (n + 1) 18446744073709551615 ≡ n + 1
+one_more n h = min-eq_left h
+
+-- all are counted
+pub counted : (fs : List Finding) (o : Found) → o.count + length fs ≤ 18446744073709551615 → (put_all o fs).count ≡ o.count + length fs
+unfolding put_one
+counted [] o h = omega arith
+counted (f ∷ fs) o h =
+    let e = one_more o.count (omega (arith, h)) in
+    omega (arith, e, counted fs (put_one o f) (omega (arith, e, h)))
+
 -- where all fit, they are stored one behind the other
-put_fits : (fs : List Finding) (o : List ℕ) (n : ℕ) → 8 * (n + length fs) ≤ length o → put_findings o n fs ≡ sets o (8 * n) (all_numbers fs)
-put_fits [] o n h = refl
-put_fits (f ∷ fs) o n h =
-    let o₁ = sets o (8 * n) (numbers f) in
-    let e : 8 * (n + 1) ≡ 8 * n + length (numbers f) = omega arith in
-    let a : stored o n f ≡ o₁ = stored_fits o n f (omega arith) in
-    let b : put_findings o₁ (n + 1) fs ≡ sets o₁ (8 * (n + 1)) (all_numbers fs) = put_fits fs o₁ (n + 1) (omega (arith, length-sets o (8 * n) (numbers f))) in
-    ap (λ (x : List ℕ). put_findings x (n + 1) fs) a ∙ b ∙ ap (λ (k : ℕ). sets o₁ k (all_numbers fs)) e
-    ∙ sym (sets_append o (8 * n) (numbers f) (all_numbers fs))
+put_fits : (fs : List Finding) (o : Found) → o.count + length fs ≤ 18446744073709551615 → 8 * (o.count + length fs) ≤ length o.numbers
+    → (put_all o fs).numbers ≡ sets o.numbers (8 * o.count) (all_numbers fs)
+unfolding put_one
+put_fits [] o few h = refl
+put_fits (f ∷ fs) o few h =
+    let o₁ = sets o.numbers (8 * o.count) (numbers f) in
+    let m = one_more o.count (omega (arith, few)) in
+    let e : 8 * (o.count + 1) ≡ 8 * o.count + length (numbers f) = omega arith in
+    let a : stored o.numbers o.count f ≡ o₁ = stored_fits o.numbers o.count f (omega (arith, h)) in
+    let b : put_one o f ≡ record { numbers = o₁; count = o.count + 1 } = rw (a, m) in
+    ap (λ (x : Found). (put_all x fs).numbers) b
+    ∙ put_fits fs (record { numbers = o₁; count = o.count + 1 }) (omega (arith, few)) (omega (arith, h, length-sets o.numbers (8 * o.count) (numbers f)))
+    ∙ ap (λ (k : ℕ). sets o₁ k (all_numbers fs)) e
+    ∙ sym (sets_append o.numbers (8 * o.count) (numbers f) (all_numbers fs))
 
 length_numbers : (fs : List Finding) → length (all_numbers fs) ≡ 8 * length fs
 length_numbers [] = refl
 length_numbers (f ∷ fs) = omega (arith, length-append (numbers f) (all_numbers fs), length_numbers fs)
 
-pub put_all : (fs : List Finding) (o : List ℕ) → 8 * length fs ≤ length o → put_findings o 0 fs ≡ over (all_numbers fs) o
-put_all fs o h = put_fits fs o 0 (omega arith) ∙ sets_over o (all_numbers fs) (omega (arith, length_numbers fs))
+pub all_stored : (fs : List Finding) (o : List ℕ) → length fs ≤ 18446744073709551615 → 8 * length fs ≤ length o
+    → (put_all (none_in o) fs).numbers ≡ over (all_numbers fs) o
+all_stored fs o few h = put_fits fs (none_in o) (omega (arith, few)) (omega (arith, h)) ∙ sets_over o (all_numbers fs) (omega (arith, h, length_numbers fs))
 
 -- the short list begins with them, if it has room
-pub put_front : (fs : List Finding) (o o' : List ℕ) (n : ℕ) → Emitted o 0 fs o' n → 8 * n ≤ length o → take (8 * n) o' ≡ all_numbers fs
-put_front fs o o' n e h =
-    let k : n ≡ length fs = omega (arith, e.count) in
-    let x : o' ≡ over (all_numbers fs) o = e.out ∙ put_all fs o (omega arith) in
-    let l : 8 * n ≡ length (all_numbers fs) = omega (arith, length_numbers fs) in
-    rw (x, l) (take-append_seam (all_numbers fs) (drop (length (all_numbers fs)) o))
+pub put_front : (fs : List Finding) (o : List ℕ) → length fs ≤ 18446744073709551615 → 8 * length fs ≤ length o
+    → take (8 * length fs) (put_all (none_in o) fs).numbers ≡ all_numbers fs
+put_front fs o few h =
+    let l : 8 * length fs ≡ length (all_numbers fs) = omega (arith, length_numbers fs) in
+    rw (all_stored fs o few h, l) (take-append_seam (all_numbers fs) (drop (length (all_numbers fs)) o))
 
 -- ---- errors
 

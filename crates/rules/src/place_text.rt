@@ -1,40 +1,37 @@
 // The place text call: it answers how long the text is.
 ghost use Rattle.std.specs.Prelude.{◌≡◌, length};
 ghost use Rattle.pack.specs.Meaning.{pack_of};
-ghost use Rattle.pack.specs.Ready.{Ready, IndexIs};
 ghost use Rattle.rules.specs.PlaceCall.{named, text_left, Places};
 ghost use Rattle.rules.specs.PlaceText.{place_text};
 
 use crate::locs::put_loc;
 use crate::places::find_loc;
-use pack::load::{Index, Refusal, load};
+use pack::load::{Refusal, load};
+use pack::loaded::Pack;
 
 // Over an empty part of the buffer the text is only measured: after 24 it has not changed.
 fn write_named(
-    pack: &[u8],
-    work: &[u32],
-    index: Index,
+    pack: &Pack,
     place: u32,
     tree: u32,
     item: u32,
     text: &mut [u8],
 ) -> Result<usize, Refusal>
-    requires { record { ready : Ready pack.now work.now; index : IndexIs (pack_of pack.now) index } }
     ensures { record {
-      answer : result ≡ named (place_text (pack_of pack.now) place tree item) (length text.old);
+      answer : result ≡ named (place_text (pack_of pack.now.bytes.now) place tree item) (length text.old);
       text : text.new ≡ text_left
-          (named (place_text (pack_of pack.now) place tree item) (length text.old))
-          (place_text (pack_of pack.now) place tree item) text.old;
+          (named (place_text (pack_of pack.now.bytes.now) place tree item) (length text.old))
+          (place_text (pack_of pack.now.bytes.now) place tree item) text.old;
     } }
 {
-    let Some(loc) = find_loc(pack, work, index, place, tree, item) else {
+    let Some(loc) = find_loc(pack, place, tree, item) else {
         return Err(Refusal::Absent);
     };
-    let needed = put_loc(&mut text[..0], pack, loc);
+    let needed = put_loc(&mut text[..0], pack.bytes, loc);
     if text.len() < needed {
         return Err(Refusal::Place(needed));
     }
-    put_loc(text, pack, loc);
+    put_loc(text, pack.bytes, loc);
     Ok(needed)
 }
 
@@ -49,5 +46,10 @@ pub fn place_text(
     ensures { Places pack.now place tree item work.old text.old work.new text.new result }
 {
     let index = load(pack, work)?;
-    write_named(pack, work, index, place, tree, item, text)
+    let loaded = Pack {
+        bytes: pack,
+        work,
+        index,
+    };
+    write_named(&loaded, place, tree, item, text)
 }
