@@ -3,19 +3,28 @@
 ghost use Rattle.std.specs.Prelude.{◌≡◌};
 ghost use Rattle.rules.specs.Proprietary.{is_manufacturer_pgn};
 
+mod bit_length_field;
 pub mod bools;
 mod bytes_out;
 pub mod continues;
 mod digits;
 pub mod dynamic_length;
 mod emit;
+mod field_count;
+mod field_type_overrides;
 mod floats;
+mod frame_length;
 mod locs;
 mod min_length;
 pub mod model;
+mod pgn_range;
+mod proprietary;
+mod repeating;
+mod reserved_ids;
 mod searches;
 mod special_values;
 pub mod targets;
+mod trailing_zero;
 pub mod widths;
 
 // A finding's eight numbers.
