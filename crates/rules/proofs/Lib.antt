@@ -2,6 +2,7 @@ pub mod Candidates
 pub mod DigitLaws
 pub mod Emits
 pub mod Extremes
+pub mod Fields
 pub mod Groups
 pub mod Loops
 pub mod Marking

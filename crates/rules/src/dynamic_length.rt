@@ -56,7 +56,7 @@ fn dynamic_length_at(
 
 // R06: DYNAMIC_FIELD_VALUE needs an earlier length source; overhead only on length fields; dynamicFieldLength only on
 // DYNAMIC_FIELD_LENGTH fields.
-#[tactic(auto, unfolding(crate::specs::DynamicLength::check_dynamic_length))]
+#[tactic(auto, using(crate::proofs::Fields::type_there), unfolding(crate::specs::DynamicLength::check_dynamic_length))]
 pub(crate) fn check_dynamic_length(out: &mut Findings, pgn: &PgnRef)
     ensures { Emitted out.old
         (check_dynamic_length (pack_of pgn.now.pack.bytes.now).fieldtypes (tree_of pgn.now) pgn.now.item (pgn_value pgn.now)) out.new }

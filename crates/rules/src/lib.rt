@@ -3,6 +3,7 @@
 ghost use Rattle.std.specs.Prelude.{◌≡◌};
 ghost use Rattle.rules.specs.Proprietary.{is_manufacturer_pgn};
 
+mod bit_length_field;
 pub mod bools;
 mod bytes_out;
 pub mod check;
@@ -10,7 +11,10 @@ pub mod continues;
 mod digits;
 pub mod dynamic_length;
 mod emit;
+mod field_count;
+mod field_type_overrides;
 mod floats;
+mod frame_length;
 mod locs;
 pub mod lookups;
 mod match_values;
@@ -18,11 +22,16 @@ pub mod matches;
 mod min_length;
 pub mod model;
 pub mod nested_refs;
+mod pgn_range;
 pub mod place_text;
 pub mod places;
+mod proprietary;
+mod repeating;
+mod reserved_ids;
 mod searches;
 mod special_values;
 pub mod targets;
+mod trailing_zero;
 pub mod widths;
 
 // A finding's eight numbers.
