@@ -7,6 +7,7 @@ pub mod Marking
 pub mod MatchKeys
 pub mod OptionMaps
 pub mod Parts
+pub mod PgnSearches
 pub mod PlaceTexts
 pub mod Ranks
 pub mod RuleNumbers

@@ -9,9 +9,13 @@ mod digits;
 mod emit;
 mod floats;
 mod locs;
+mod match_keys;
 mod min_length;
 mod searches;
 mod special_values;
+pub mod targets;
+mod unique_ids;
+mod variants;
 pub mod widths;
 
 // A finding's eight numbers.

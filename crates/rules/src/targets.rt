@@ -1,0 +1,43 @@
+// The fields that other fields name by their ids.
+ghost use Rattle.std.specs.Prelude.{◌≡◌, ◌||◌, ◌≤◌};
+ghost use Rattle.pack.specs.Notation.{◌≐◌};
+ghost use Rattle.pack.specs.Items.{bytes_of};
+ghost use Rattle.pack.specs.Loaded.{pgn_value};
+ghost use Rattle.pack.specs.Value.{field_at};
+ghost use Rattle.rules.specs.Search.{first_below};
+ghost use Rattle.rules.specs.Model.{target};
+ghost use Rattle.rules.specs.Texts.{NUMBER, LOOKUP};
+
+use pack::field_type::FieldTypeView;
+use pack::loaded::PgnRef;
+use pack::text::{Text, same_text, text_is};
+
+// The first of n fields of a PGN with that id.
+#[tactic(auto, using(crate::specs::SearchLaws::first_turn))]
+pub(crate) fn first_with_id(pgn: &PgnRef, n: u32, id: Text) -> Option<u32>
+    requires { n ≤ pgn.now.view.fields }
+    ensures { result ≡ first_below (λ j. (field_at (pgn_value pgn.now) j).id ≐ bytes_of pgn.now.pack.bytes.now id) n }
+{
+    for j in 0..n {
+        let other = pgn.field_id(j);
+        if same_text(pgn.pack.bytes, other, id) {
+            return Some(j);
+        }
+    }
+    None
+}
+
+// "A target is the first field with that id", of a PGN's fields.
+#[tactic(auto, unfolding(crate::specs::Model::target))]
+pub fn target(pgn: &PgnRef, id: Text) -> Option<u32>
+    ensures { result ≡ target (pgn_value pgn.now) (bytes_of pgn.now.pack.bytes.now id) }
+{
+    first_with_id(pgn, pgn.view.fields, id)
+}
+
+// `integer`: NUMBER or LOOKUP, by the root's name of a field type.
+pub(crate) fn integer(s: &[u8], v: FieldTypeView) -> bool
+    ensures { result ≡ ((bytes_of s.now v.root ≐ NUMBER) || (bytes_of s.now v.root ≐ LOOKUP)) }
+{
+    text_is(s, v.root, b"NUMBER") || text_is(s, v.root, b"LOOKUP")
+}
