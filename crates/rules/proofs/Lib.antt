@@ -8,6 +8,7 @@ pub mod Loops
 pub mod Marking
 pub mod MatchKeys
 pub mod OptionMaps
+pub mod PgnSearches
 pub mod PlaceCalls
 pub mod PlaceTexts
 pub mod Ranks

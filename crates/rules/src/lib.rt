@@ -17,6 +17,7 @@ mod floats;
 mod frame_length;
 mod locs;
 pub mod lookups;
+mod match_keys;
 mod match_values;
 pub mod matches;
 mod min_length;
@@ -32,6 +33,8 @@ mod searches;
 mod special_values;
 pub mod targets;
 mod trailing_zero;
+mod unique_ids;
+mod variants;
 pub mod widths;
 
 // A finding's eight numbers.
