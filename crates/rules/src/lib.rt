@@ -33,6 +33,7 @@ mod searches;
 mod special_values;
 pub mod targets;
 mod trailing_zero;
+mod trees;
 mod unique_ids;
 mod variants;
 pub mod widths;
