@@ -12,7 +12,7 @@ use Rattle.rules.proofs.field_type_overrides.check_field_type_overrides.Given as
 
 -- the findings of field k
 abbrev pub of_field : PgnRef → ℕ → List Finding
-of_field g k = 
+of_field g k =
     overrides_at (tree_of g) g.item k (field_at (pgn_value g) k) (fieldtype_of (pack_of g.pack.bytes.now).fieldtypes (field_at (pgn_value g) k))
 
 abbrev pub invariant-loop-k : goal.invariant-loop-k
