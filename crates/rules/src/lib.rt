@@ -13,6 +13,8 @@ mod match_keys;
 mod min_length;
 mod searches;
 mod special_values;
+mod spn_clashes;
+mod spn_names;
 pub mod targets;
 mod unique_ids;
 mod variants;
