@@ -15,6 +15,7 @@ mod searches;
 mod special_values;
 mod spn_clashes;
 mod spn_names;
+mod spns;
 pub mod targets;
 mod unique_ids;
 mod variants;

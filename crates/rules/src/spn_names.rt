@@ -36,7 +36,7 @@ pub fn is_number(n: Option<u32>, v: u32) -> bool
 
 // The first field of a PGN that carries the SPN.
 #[tactic(auto, using(crate::specs::SearchLaws::first_turn), unfolding(crate::specs::SpnNames::spn_field))]
-fn spn_field(pgn: &PgnRef, spn: u32) -> Option<u32>
+pub fn spn_field(pgn: &PgnRef, spn: u32) -> Option<u32>
     ensures { result ≡ spn_field (pgn_value pgn.now) spn }
 {
     for k in 0..pgn.view.fields {
