@@ -26,6 +26,11 @@ module _ {s w : List ℕ} {t : ℕ} {P : ℕ → Type 0} {ys : List PgnRef} {d :
       let u = pgns_turn x e p.given h in
       record { given = (rw (one_more ys x) u.1); holds = (rw (one_more ys x) (own u.0 p.holds)) }
 
+  -- which of them the item is
+  pub searched_at : (x : PgnRef) (e : Pgns) → Searched s w t P ys d → pgns_left d ≡ pgn_spot x ∷ pgns_left e
+      → PgnTurn s w t (length ys) (length (pgns_of (pack_of s) t)) x (pgns_left e)
+  searched_at x e p h = let u = pgns_turn x e p.given h in u.0
+
   -- what ends at an item, and what ends with the last
   pub searched_to : (x : PgnRef) (e : Pgns) → Searched s w t P ys d → pgns_left d ≡ pgn_spot x ∷ pgns_left e → P x.item
   searched_to x e p h = let u = pgns_turn x e p.given h in rw u.0.item p.holds
