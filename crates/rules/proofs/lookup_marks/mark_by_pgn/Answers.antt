@@ -1,0 +1,29 @@
+use Rattle.pack.specs.Loaded.{pgn_value}
+use Rattle.pack.specs.Meaning.{optional_reference, pack_of}
+use Rattle.pack.specs.Value.{Field}
+use Rattle.rules.specs.LookupWiring.{ref_is, referenced_by_pgn}
+use Rattle.rules.specs.Search.{any_below}
+use native.Mathlib.Omega.{arith}
+use mathlib.Core.Path.{◌≡◌, ap}
+use lib.ListN.{length}
+use Rattle.rules.proofs.Marking.{marked_none, marked_as, marked_turn}
+use Rattle.rules.proofs.lookup_marks.mark_by_pgn.Invariants.{refers}
+use Rattle.rules.proofs.lookup_marks.mark_by_pgn.Goals as goal
+
+pub loop-k-init : goal.loop-k-init
+loop-k-init c = marked_none (pack_of c.args.pgn.now.pack.bytes.now) c.args.marks.now
+
+pub loop-k-preserved : goal.loop-k-preserved
+loop-k-preserved c =
+    let g = c.args.pgn.now in
+    marked_turn (refers g) c.loop-k.k c.loop-k.invariant
+    (marked_as (λ n. ref_is (optional_reference g.pack.bytes.now c.field-f.result.links.reference) n)
+    (λ n. refers g n c.loop-k.k) (λ n. ap (λ (F : Field). ref_is F.reference n) c.field-f.ensures) c.mark_reference.ensures)
+
+pub returns : goal.returns
+unfolding referenced_by_pgn
+returns c =
+    let g = c.args.pgn.now in
+    let q : c.loop-k.k ≡ length (pgn_value g).fields = omega (arith, g.is.fields, c.loop-k.auto.k-end, c.loop-k-test.false) in
+    marked_as (λ n. any_below (refers g n) c.loop-k.k) (λ n. referenced_by_pgn n (pgn_value g)) (λ n. ap (any_below (refers g n)) q)
+    c.loop-k.invariant
