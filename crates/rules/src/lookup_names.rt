@@ -15,16 +15,11 @@ use pack::loaded::{LookupRef, Pack};
 use pack::text::{same_text, text_is};
 
 // One name, of a triplet under one first value.
+#[tactic(auto, unfolding(crate::specs::LookupNames::same_name))]
 fn same_name(s: &[u8], kind: u32, a: EntryView, b: EntryView) -> bool
     ensures { result ≡ same_name kind (entry_meaning s.now a) (entry_meaning s.now b) }
 {
-    if !same_text(s, a.name, b.name) {
-        return false;
-    }
-    if kind == 1 {
-        return a.first == b.first;
-    }
-    true
+    (kind != 1 || a.first == b.first) && same_text(s, a.name, b.name)
 }
 
 // The latest entry before e of its name.

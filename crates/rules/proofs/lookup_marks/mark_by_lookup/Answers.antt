@@ -19,9 +19,6 @@ returns-then-lookup-ne3 c =
     (λ n. sym (not_nesting x.pack.bytes.now n (lookup_value x) x.view x.is c.if-lookup-ne3.true))
     (marked_none (pack_of x.pack.bytes.now) c.args.marks.now)
 
-pub loop-e-init : goal.loop-e-init
-loop-e-init c = marked_none (pack_of c.args.lookup.now.pack.bytes.now) c.args.marks.now
-
 pub loop-e-preserved : goal.loop-e-preserved
 loop-e-preserved c =
     let x = c.args.lookup.now in

@@ -10,9 +10,6 @@ use Rattle.rules.proofs.Marking.{marked_none, marked_as, marked_turn}
 use Rattle.rules.proofs.lookup_marks.mark_by_pgn.Invariants.{refers}
 use Rattle.rules.proofs.lookup_marks.mark_by_pgn.Goals as goal
 
-pub loop-k-init : goal.loop-k-init
-loop-k-init c = marked_none (pack_of c.args.pgn.now.pack.bytes.now) c.args.marks.now
-
 pub loop-k-preserved : goal.loop-k-preserved
 loop-k-preserved c =
     let g = c.args.pgn.now in

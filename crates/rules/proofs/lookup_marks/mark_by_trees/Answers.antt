@@ -7,9 +7,6 @@ use Rattle.rules.proofs.Marking.{marked_none, marked_as, marked_turn}
 use Rattle.rules.proofs.lookup_marks.mark_by_trees.Invariants.{has}
 use Rattle.rules.proofs.lookup_marks.mark_by_trees.Goals as goal
 
-pub loop-protocol-init : goal.loop-protocol-init
-loop-protocol-init c = marked_none (pack_of c.args.pack.now.bytes.now) c.args.marks.now
-
 pub loop-protocol-preserved : goal.loop-protocol-preserved
 loop-protocol-preserved c =
     marked_turn (has c.args.pack.now.bytes.now) c.loop-protocol.protocol-index c.loop-protocol.invariant
