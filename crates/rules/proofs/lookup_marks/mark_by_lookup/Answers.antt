@@ -19,12 +19,6 @@ returns-then-lookup-ne3 c =
     (λ n. sym (not_nesting x.pack.bytes.now n (lookup_value x) x.view x.is c.if-lookup-ne3.true))
     (marked_none (pack_of x.pack.bytes.now) c.args.marks.now)
 
-pub loop-e-preserved : goal.loop-e-preserved
-loop-e-preserved c =
-    let x = c.args.lookup.now in
-    marked_turn (nests x) c.loop-e.e c.loop-e.invariant (marked_as (λ n. is_text (optional_bytes x.pack.bytes.now c.entry-entry.result.nested) n)
-    (λ n. nests x n c.loop-e.e) (λ n. ap (λ (E : Entry). is_text E.nested n) c.entry-entry.ensures) c.mark_nested.ensures)
-
 pub returns : goal.returns
 returns c =
     let x = c.args.lookup.now in

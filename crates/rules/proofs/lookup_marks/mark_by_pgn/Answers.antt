@@ -10,13 +10,6 @@ use Rattle.rules.proofs.Marking.{marked_none, marked_as, marked_turn}
 use Rattle.rules.proofs.lookup_marks.mark_by_pgn.Invariants.{refers}
 use Rattle.rules.proofs.lookup_marks.mark_by_pgn.Goals as goal
 
-pub loop-k-preserved : goal.loop-k-preserved
-loop-k-preserved c =
-    let g = c.args.pgn.now in
-    marked_turn (refers g) c.loop-k.k c.loop-k.invariant
-    (marked_as (λ n. ref_is (optional_reference g.pack.bytes.now c.field-f.result.links.reference) n)
-    (λ n. refers g n c.loop-k.k) (λ n. ap (λ (F : Field). ref_is F.reference n) c.field-f.ensures) c.mark_reference.ensures)
-
 pub returns : goal.returns
 unfolding referenced_by_pgn
 returns c =

@@ -33,13 +33,6 @@ returns-then-is_text c =
     sym (nesting x.pack.bytes.now name (lookup_value x) x.view x.is c.if-lookup-ne3.false
     ∙ any_hit (nests x name) (length (lookup_value x).entries) c.loop-e.e (omega (arith, c.loop-e-test.true, x.is.entries)) (h ∙ c.if-is_text.true))
 
-pub loop-e-preserved : goal.loop-e-preserved
-loop-e-preserved c =
-    let x = c.args.lookup.now in
-    let name = bytes_of x.pack.bytes.now c.args.name in
-    let h = said x name c.loop-e.e c.entry-entry.result c.is_text.result c.entry-entry.ensures c.is_text.ensures in
-    any_turn (nests x name) c.loop-e.e ∙ (rw (c.loop-e.invariant, h ∙ c.if-is_text.false))
-
 pub returns : goal.returns
 returns c =
     let x = c.args.lookup.now in
