@@ -24,7 +24,7 @@ use Rattle.rules.specs.Search.{any_below, first_below}
 use Rattle.rules.specs.SearchLaws.{any_turn, any_hit, any_missed, first_hit}
 use Rattle.rules.proofs.Emits.{emitted_turn}
 
-one_more : {A : Type 0} (ys : List A) (x : A) → length (ys ++ x ∷ []) ≡ length ys + 1
+pub one_more : {A : Type 0} (ys : List A) (x : A) → length (ys ++ x ∷ []) ≡ length ys + 1
 one_more ys x = length-append ys (x ∷ [])
 
 -- the invariant: the PGNs ys of tree t were given, what they say was found, and d gives the others

@@ -65,3 +65,4 @@ pub mod Bound
 -- examples
 pub mod Computed
 pub mod ExamplePacks
+mod Examples

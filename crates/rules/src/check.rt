@@ -8,6 +8,12 @@ ghost use Rattle.rules.specs.Emit.{none_in, put_all, Emitted};
 ghost use Rattle.rules.specs.Search.{count_below};
 
 use crate::emit::Findings;
+use crate::fieldtypes::check_fieldtypes;
+use crate::lookup_names::check_lookup_names;
+use crate::lookup_wiring::check_lookup_wiring;
+use crate::spn_names::check_spn_names;
+use crate::spns::check_spns;
+use crate::trees::{check_trees, check_trees_continues};
 use pack::buffers::copy;
 use pack::load::{Refusal, load};
 use pack::loaded::Pack;
@@ -23,6 +29,13 @@ pub struct Reported {
 fn check_all(out: &mut Findings, pack: &Pack)
     ensures { Emitted out.old (check (pack_of pack.now.bytes.now)) out.new }
 {
+    check_fieldtypes(out, pack);
+    check_lookup_wiring(out, pack);
+    check_spn_names(out, pack);
+    check_lookup_names(out, pack);
+    check_trees(out, pack);
+    check_spns(out, pack);
+    check_trees_continues(out, pack);
 }
 
 // Those that the buffer has room for, from its beginning; answers how many there are.
