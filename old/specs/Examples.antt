@@ -1,12 +1,11 @@
 -- The report example of document 01, its edges, and for each of its errors to shut out an example that the wrong reading fails.
 use Rattle.std.specs.Prelude.{ℕ, zero, suc, Bool, true, false, ◌&&◌, List, [], ◌∷◌, ◌++◌, map, ◌≡◌, refl}
 use Rattle.std.proofs.Common.{arith, le-leb}
-use Rattle.std.specs.Prelude.{Option, None, Some}
+use Rattle.std.specs.Prelude.{Option, None, Some, Ok, Err}
 use Rattle.pack.specs.Notation.{◌≐◌, tab}
 use Rattle.pack.specs.Value.{Bytes, Entry, Lookup, Repeating, Reference, Field, Pgn, Pack}
 use Rattle.pack.specs.declared.load.Refusal.TheVariants.{Absent, Place}
 use Rattle.rules.specs.declared.Finding.{Finding}
-use Rattle.rules.specs.declared.place_text.Placed.TheVariants.{Refused, Written}
 use Rattle.rules.specs.Check.{check}
 use Rattle.rules.specs.Computed.{computed}
 use Rattle.rules.specs.Continues.{set_of}
@@ -394,10 +393,10 @@ unfolding computed
 place_numbers = refl
 
 -- 23 before 24, the length needed, and nothing written behind the text
-place_ends : (named (place_text reported 1 0 1) 0 ≡ Refused Absent)
-    × (named (place_text reported 1 0 0) 17 ≡ Refused (Place 18))
-    × (named (place_text reported 1 0 0) 18 ≡ Written 18)
-    × (text_left (Written 15) (place_text reported 0 0 0) (tab (λ i. i) 17) ≡ bytes "fieldtypes.yaml" ++ (15 ∷ 16 ∷ []))
+place_ends : (named (place_text reported 1 0 1) 0 ≡ Err Absent)
+    × (named (place_text reported 1 0 0) 17 ≡ Err (Place 18))
+    × (named (place_text reported 1 0 0) 18 ≡ Ok 18)
+    × (text_left (Ok 15) (place_text reported 0 0 0) (tab (λ i. i) 17) ≡ bytes "fieldtypes.yaml" ++ (15 ∷ 16 ∷ []))
 unfolding computed
 place_ends = (refl, refl, refl, refl)
 

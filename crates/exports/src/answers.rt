@@ -6,26 +6,25 @@ ghost use Rattle.rules.specs.Checked.{check_answer};
 ghost use Rattle.rules.specs.PlaceCall.{place_answer};
 ghost use Rattle.walk.specs.WalkCall.{ending_number, walk_answer, yes_number, held_answer};
 
-use pack::load::Loaded;
-use rules::check::Checked;
-use rules::place_text::Placed;
-use walk::walk::{End, HeldAnswer, Walked};
+use pack::load::{Index, Refusal};
+use rules::check::Reported;
+use walk::walk::{End, Ended};
 
-pub fn load_number(l: Loaded) -> u32
+pub fn load_number(l: Result<Index, Refusal>) -> u32
     ensures { result ≡ (load_answer l).number }
 {
     match l {
-        Loaded::Refused(r) => r.number(),
-        Loaded::Accepted(_) => 0,
+        Err(r) => r.number(),
+        Ok(_) => 0,
     }
 }
 
-pub fn load_answer(l: Loaded) -> [u64; 11]
+pub fn load_answer(l: Result<Index, Refusal>) -> [u64; 11]
     ensures { result ≡ filled 11 (load_answer l).values }
 {
     match l {
-        Loaded::Refused(r) => [r.detail() as u64, 0, 0, 0, 0, 0, 0, 0, 0, 0, 0],
-        Loaded::Accepted(i) => [
+        Err(r) => [r.detail() as u64, 0, 0, 0, 0, 0, 0, 0, 0, 0, 0],
+        Ok(i) => [
             i.records as u64,
             i.types.count as u64,
             i.types.place as u64,
@@ -41,42 +40,39 @@ pub fn load_answer(l: Loaded) -> [u64; 11]
     }
 }
 
-pub fn check_number(c: Checked) -> u32
+pub fn check_number(c: Result<Reported, Refusal>) -> u32
     ensures { result ≡ (check_answer c).number }
 {
     match c {
-        Checked::Refused(r) => r.number(),
-        Checked::Reported {
-            findings: _,
-            errors: _,
-        } => 0,
+        Err(r) => r.number(),
+        Ok(_) => 0,
     }
 }
 
-pub fn check_answer(c: Checked) -> [u64; 2]
+pub fn check_answer(c: Result<Reported, Refusal>) -> [u64; 2]
     ensures { result ≡ filled 2 (check_answer c).values }
 {
     match c {
-        Checked::Refused(r) => [r.detail() as u64, 0],
-        Checked::Reported { findings, errors } => [findings as u64, errors as u64],
+        Err(r) => [r.detail() as u64, 0],
+        Ok(reported) => [reported.findings as u64, reported.errors as u64],
     }
 }
 
-pub fn place_number(p: Placed) -> u32
+pub fn place_number(p: Result<usize, Refusal>) -> u32
     ensures { result ≡ (place_answer p).number }
 {
     match p {
-        Placed::Refused(r) => r.number(),
-        Placed::Written(_) => 0,
+        Err(r) => r.number(),
+        Ok(_) => 0,
     }
 }
 
-pub fn place_answer(p: Placed) -> [u64; 1]
+pub fn place_answer(p: Result<usize, Refusal>) -> [u64; 1]
     ensures { result ≡ filled 1 (place_answer p).values }
 {
     match p {
-        Placed::Refused(r) => [r.detail() as u64],
-        Placed::Written(n) => [n as u64],
+        Err(r) => [r.detail() as u64],
+        Ok(n) => [n as u64],
     }
 }
 
@@ -90,30 +86,30 @@ fn end_number(e: End) -> u64
     }
 }
 
-pub fn walk_number(w: Walked) -> u32
+pub fn walk_number(w: Result<Ended, Refusal>) -> u32
     ensures { result ≡ (walk_answer w).number }
 {
     match w {
-        Walked::Refused(r) => r.number(),
-        Walked::Ended { end: _, visits: _ } => 0,
+        Err(r) => r.number(),
+        Ok(_) => 0,
     }
 }
 
-pub fn walk_answer(w: Walked) -> [u64; 2]
+pub fn walk_answer(w: Result<Ended, Refusal>) -> [u64; 2]
     ensures { result ≡ filled 2 (walk_answer w).values }
 {
     match w {
-        Walked::Refused(r) => [r.detail() as u64, 0],
-        Walked::Ended { end, visits } => [end_number(end), visits as u64],
+        Err(r) => [r.detail() as u64, 0],
+        Ok(ended) => [end_number(ended.end), ended.visits as u64],
     }
 }
 
-pub fn held_number(h: HeldAnswer) -> u32
+pub fn held_number(h: Result<bool, Refusal>) -> u32
     ensures { result ≡ (held_answer h).number }
 {
     match h {
-        HeldAnswer::Refused(r) => r.number(),
-        HeldAnswer::Held(_) => 0,
+        Err(r) => r.number(),
+        Ok(_) => 0,
     }
 }
 
@@ -123,11 +119,11 @@ fn yes_or_no(b: bool) -> u64
     if b { 1 } else { 0 }
 }
 
-pub fn held_answer(h: HeldAnswer) -> [u64; 1]
+pub fn held_answer(h: Result<bool, Refusal>) -> [u64; 1]
     ensures { result ≡ filled 1 (held_answer h).values }
 {
     match h {
-        HeldAnswer::Refused(r) => [r.detail() as u64],
-        HeldAnswer::Held(b) => [yes_or_no(b)],
+        Err(r) => [r.detail() as u64],
+        Ok(b) => [yes_or_no(b)],
     }
 }

@@ -16,12 +16,12 @@ use Rattle.pack.specs.Format.{types, type_offsets, entries, entry_offsets, looku
 use Rattle.pack.specs.Format.{field_next, fields}
 use Rattle.pack.specs.Format.{field_offsets, pgn_next, pgn_records, pgns, pgn_offsets}
 use Rattle.pack.specs.Reads.{told, Reads}
-use Rattle.pack.specs.Placing.{Room, Placing}
+use Rattle.pack.specs.Placing.{Room, Stored, Placing}
 use Rattle.pack.specs.declared.reader.Reader.{Reader}
 use Rattle.pack.specs.declared.reader.InputRefusal.{InputRefusal}
 use Rattle.pack.proofs.Reading.{Moves, stays, type_reader, entry_reader, lookup_steps, field_steps, pgn_next_reader}
 use Rattle.pack.proofs.ReaderLaws.{told_ok, told_err, cursor_is, Ok-Err, same_Ok}
-use Rattle.pack.proofs.Stores.{Stored, stored_none, stored_append, stored_one}
+use Rattle.pack.proofs.Stores.{stored_none, stored_append, stored_one}
 
 -- Nothing was refused so far: the reader has come from r to the cursor `end`, and the offsets xs were stored from p on.
 pub record Along (r : Reader) (w : List ℕ) (p : ℕ) (end : Cursor) (xs : List ℕ) (r' : Reader) (w' : List ℕ) (p' : ℕ) : Type 0 where

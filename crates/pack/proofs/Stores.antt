@@ -7,11 +7,7 @@ use mathlib.Core.List.{List, [], ◌∷◌, ◌++◌}
 use lib.ListN.{length, set, take, drop, length-append}
 use lib.Seq.{sets, sets-eq, take-append_seam}
 use Rattle.pack.specs.Load.{over}
-
--- the numbers xs stored from p on, as far as the buffer has room
-pub record Stored (w : List ℕ) (p : ℕ) (xs w' : List ℕ) (p' : ℕ) : Type 0 where
-  pub count : p' ≡ p + length xs
-  pub work : w' ≡ sets w p xs
+use Rattle.pack.specs.Placing.{Stored}
 
 pub sets_append : (w : List ℕ) (p : ℕ) (xs ys : List ℕ) → sets w p (xs ++ ys) ≡ sets (sets w p xs) (p + length xs) ys
 sets_append w p [] ys = let e : p + 0 ≡ p = omega arith in rw e

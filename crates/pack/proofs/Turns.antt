@@ -4,9 +4,16 @@ use native.Mathlib.Omega.{arith}
 use native.Mathlib.Decide.{dec_lt}
 use mathlib.Core.Path.{◌≡◌, refl, ap, ◌∙◌, sym}
 use mathlib.Core.List.{List, [], ◌∷◌}
+use Rattle.std.specs.Bool.{then_some}
+use Rattle.std.specs.Prelude.{None, Some}
+use borrow.Author.Tests.{le-leb, lt-leb}
+use Rattle.pack.specs.Notation.{◌<ᵇ◌}
 use Rattle.pack.specs.Loaded.{LookupSpot, PgnSpot, lookup_spots, pgn_spots, lookup_spot, pgn_spot}
 use Rattle.pack.specs.Loaded.{lookups_left, pgns_left}
 use Rattle.pack.specs.Trees.{tree_number}
+use Rattle.pack.specs.Meaning.{pack_of}
+use Rattle.pack.specs.Ready.{LookupIs, PgnIs}
+use Rattle.pack.specs.Value.{lookup_at, pgn_at}
 use Rattle.pack.specs.declared.loaded.Lookups.{Lookups}
 use Rattle.pack.specs.declared.loaded.Pgns.{Pgns}
 use Rattle.pack.specs.declared.loaded.LookupRef.{LookupRef}
@@ -107,3 +114,29 @@ pgns_turn {s} {w} {t} {n} {i} x e g h =
 
 pub pgns_given : {s w : List ℕ} {t n i : ℕ} {d : Pgns} → PgnsGiven s w t n i d → pgns_left d ≡ [] → i ≡ n
 pgns_given {s} {w} {t} {n} {i} g h = omega (arith, g.turns, pgns_end s w t i n (sym g.left ∙ h))
+
+-- A search for an item: the turn that finds it, and the end.
+pub lookup_found : {s w : List ℕ} {i n : ℕ} {x : LookupRef} {rest : List LookupSpot} (item : ℕ) → LookupTurn s w i n x rest → x.item ≡ item
+    → Some (lookup_spot x) ≡ then_some (item <ᵇ n) (record { bytes = s; work = w; item = item })
+lookup_found {n = n} item u e =
+    let h : suc item ≤ n = omega (arith, u.inside, u.item, e) in
+    rw (le-leb (suc item) n h, u.bytes, u.work, e)
+
+pub pgn_found : {s w : List ℕ} {t i n : ℕ} {x : PgnRef} {rest : List PgnSpot} (item : ℕ) → PgnTurn s w t i n x rest → x.item ≡ item
+    → Some (pgn_spot x) ≡ then_some (item <ᵇ n) (record { bytes = s; work = w; tree = t; item = item })
+pgn_found {n = n} item u e =
+    let h : suc item ≤ n = omega (arith, u.inside, u.item, e) in
+    rw (le-leb (suc item) n h, u.bytes, u.work, u.tree, e)
+
+pub not_found : {A : Type 0} (item n : ℕ) (x : A) → n ≤ item → None ≡ then_some (item <ᵇ n) x
+not_found item n x h = let k : n < suc item = omega (arith, h) in rw (lt-leb (suc item) n k)
+
+-- what the view of a record is, of which one is known which it is
+pub lookup_there : {s w : List ℕ} {i : ℕ} (x : LookupRef) → lookup_spot x ≡ record { bytes = s; work = w; item = i }
+    → LookupIs s (lookup_at (pack_of s).lookups i) x.view
+lookup_there x e = rw (ap (λ (o : LookupSpot). o.bytes) e, ap (λ (o : LookupSpot). o.item) e) at x.is
+
+pub pgn_there : {s w : List ℕ} {t i : ℕ} (x : PgnRef) → pgn_spot x ≡ record { bytes = s; work = w; tree = t; item = i }
+    → PgnIs s (pgn_at (pack_of s) t i) x.view
+pgn_there x e =
+    rw (ap (λ (o : PgnSpot). o.bytes) e, ap (λ (o : PgnSpot). o.tree) e, ap (λ (o : PgnSpot). o.item) e) at x.is

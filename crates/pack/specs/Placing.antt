@@ -18,6 +18,11 @@ pub record Room (r : Reader) (p : ℕ) : Type 0 where
   pub short : length r.bytes.now < 4294967296
   pub few : p ≤ r.at
 
+-- the numbers xs stored from p on, as far as the buffer has room
+pub record Stored (w : List ℕ) (p : ℕ) (xs w' : List ℕ) (p' : ℕ) : Type 0 where
+  pub count : p' ≡ p + length xs
+  pub work : w' ≡ sets w p xs
+
 -- Records are read whose offsets xs are placed from p on; the answer tells the work position behind them. After a refusal nothing is said of
 -- the buffer.
 pub record Placing {A : Type 0} (form : Form A) (behind : A → ℕ) (xs : List ℕ → Cursor → List ℕ) (r : Reader) (w : List ℕ) (p : ℕ)

@@ -1,7 +1,9 @@
 // An accepted pack with what `load` left in the work buffer: its records by their index, each with the facts that a reader of it asks.
 ghost use Rattle.std.specs.Prelude.{◌≡◌, ◌≤◌, ◌<◌, length, get_or, IfOk, IfErr};
 ghost use Rattle.std.specs.List.{slice_get};
+ghost use Rattle.std.specs.Bool.{then_some};
 ghost use Rattle.std.specs.Option.{option_map};
+ghost use Rattle.pack.specs.Notation.{◌<ᵇ◌};
 ghost use Rattle.std.specs.Prelude.{Ok, Err};
 ghost use Rattle.pack.specs.Items.{bytes_of};
 ghost use Rattle.pack.specs.Load.{Loads};
@@ -179,6 +181,36 @@ impl<'a> Pack<'a> {
             item: 0,
             place: section.place,
         }
+    }
+}
+
+impl<'a> Pack<'a> {
+    ghost use Rattle.pack.specs.Loaded.{lookup_spot, pgn_spot};
+
+    // That lookup; None past the last.
+    pub fn lookup(&self, item: u32) -> Option<LookupRef<'a>>
+        ensures { option_map lookup_spot result ≡ then_some (item <ᵇ length (pack_of self.now.bytes.now).lookups)
+            (record { bytes = self.now.bytes.now; work = self.now.work.now; item = item }) }
+    {
+        for lookup in self.lookups() {
+            if lookup.item == item {
+                return Some(lookup);
+            }
+        }
+        None
+    }
+
+    // That PGN of that tree; None past the last.
+    pub fn pgn(&self, protocol: Protocol, item: u32) -> Option<PgnRef<'a>>
+        ensures { option_map pgn_spot result ≡ then_some (item <ᵇ length (pgns_of (pack_of self.now.bytes.now) (tree_number protocol)))
+            (record { bytes = self.now.bytes.now; work = self.now.work.now; tree = tree_number protocol; item = item }) }
+    {
+        for pgn in self.pgns(protocol) {
+            if pgn.item == item {
+                return Some(pgn);
+            }
+        }
+        None
     }
 }
 

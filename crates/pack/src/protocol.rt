@@ -1,4 +1,5 @@
 // The three trees, and a field's index and order.
+ghost use Rattle.std.specs.Bool.{then_some};
 ghost use Rattle.std.specs.Prelude.{◌≡◌, ◌&&◌, ◌+◌, ◌<◌, ◌==◌};
 ghost use Rattle.pack.specs.Notation.{◌<ᵇ◌, ◌≤ᵇ◌};
 ghost use Rattle.pack.specs.Trees.{tree_number, protocol_of, prefix_of, section_of};
@@ -12,29 +13,19 @@ pub enum Protocol {
     Quick,
 }
 
-// The prefix of a tree's place texts: `len` of the bytes.
-#[derive(Clone, Copy)]
-pub struct Prefix {
-    pub bytes: [u8; 6],
-    pub len: usize,
-}
-
 impl Protocol {
-    pub const COUNT: usize = 3;
-
     pub const ALL: [Protocol; 3] = [Protocol::Nmea2000, Protocol::J1939, Protocol::Quick];
 
-    // The tree of that number; Quick for every other.
-    pub fn of_tree(tree: u32) -> Protocol
-        ensures { result ≡ protocol_of tree }
+    // The tree of that number.
+    pub fn of_tree(tree: u32) -> Option<Protocol>
+        ensures { result ≡ then_some (tree <ᵇ 3) (protocol_of tree) }
     {
-        if tree == 0 {
-            return Protocol::Nmea2000;
+        match tree {
+            0 => Some(Protocol::Nmea2000),
+            1 => Some(Protocol::J1939),
+            2 => Some(Protocol::Quick),
+            _ => None,
         }
-        if tree == 1 {
-            return Protocol::J1939;
-        }
-        Protocol::Quick
     }
 
     pub fn tree(self) -> u32
@@ -48,22 +39,13 @@ impl Protocol {
     }
 
     // `check_prefix`, before `pgns/`.
-    pub fn prefix(protocol: Protocol) -> Prefix
-        ensures { result ≡ prefix_of protocol }
+    pub fn prefix(self) -> &'static [u8]
+        ensures { result.now ≡ prefix_of self }
     {
-        match protocol {
-            Protocol::Nmea2000 => Prefix {
-                bytes: [0, 0, 0, 0, 0, 0],
-                len: 0,
-            },
-            Protocol::J1939 => Prefix {
-                bytes: *b"j1939/",
-                len: 6,
-            },
-            Protocol::Quick => Prefix {
-                bytes: *b"quick/",
-                len: 6,
-            },
+        match self {
+            Protocol::Nmea2000 => b"",
+            Protocol::J1939 => b"j1939/",
+            Protocol::Quick => b"quick/",
         }
     }
 

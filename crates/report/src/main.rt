@@ -4,8 +4,8 @@
 use listing::input::read_pack;
 use listing::words::Refused;
 use pack::load::Refusal;
-use rules::check::{Checked, check};
-use rules::place_text::{Placed, place_text};
+use rules::check::{Reported, check};
+use rules::place_text::place_text;
 use std::alloc::{AllocError, Global};
 use std::io;
 use std::io::{BufWriter, Write};
@@ -22,6 +22,12 @@ const TEXT: usize = 65_536;
 enum Ended {
     Refused(Refusal),
     Io(io::Error),
+}
+
+impl From<Refusal> for Ended {
+    fn from(refusal: Refusal) -> Ended {
+        Ended::Refused(refusal)
+    }
 }
 
 impl From<io::Error> for Ended {
@@ -58,31 +64,23 @@ fn write_finding(
 ) -> Result<(), Ended> {
     let [rule, severity, cause, place, tree, item, part, other] = *finding;
     let severity = if severity == 1 { "error" } else { "warning" };
-    match place_text(pack, work, place, tree, item, text) {
-        Placed::Refused(refusal) => Err(Ended::Refused(refusal)),
-        Placed::Written(n) => {
-            write!(out, "R{rule:02} {severity} ")?;
-            out.write_all(&text[..n])?;
-            writeln!(out, " {cause} {part} {other}")?;
-            Ok(())
-        }
-    }
+    let n = place_text(pack, work, place, tree, item, text)?;
+    write!(out, "R{rule:02} {severity} ")?;
+    out.write_all(&text[..n])?;
+    writeln!(out, " {cause} {part} {other}")?;
+    Ok(())
 }
 
 // Every finding, and how many there are.
 fn report(out: &mut impl Write, alloc: Global, pack: &[u8]) -> Result<(), Ended> {
     let mut buffers = Buffers::new(alloc).map_err(io::Error::from)?;
-    match check(pack, &mut buffers.work, &mut buffers.findings) {
-        Checked::Refused(refusal) => Err(Ended::Refused(refusal)),
-        Checked::Reported { findings, errors } => {
-            let (numbers, _) = buffers.findings.as_chunks::<8>();
-            for finding in numbers.iter().take(findings) {
-                write_finding(out, pack, &mut buffers.work, &mut buffers.text, finding)?;
-            }
-            writeln!(out, "findings {findings} errors {errors}")?;
-            Ok(())
-        }
+    let Reported { findings, errors } = check(pack, &mut buffers.work, &mut buffers.findings)?;
+    let (numbers, _) = buffers.findings.as_chunks::<8>();
+    for finding in numbers.iter().take(findings) {
+        write_finding(out, pack, &mut buffers.work, &mut buffers.text, finding)?;
     }
+    writeln!(out, "findings {findings} errors {errors}")?;
+    Ok(())
 }
 
 fn main(rt: HostRuntime) -> io::Result<()> {

@@ -2,24 +2,27 @@
 use Prim.Native.Nat.{ℕ, zero, suc, ◌-◌, ◌≤◌}
 use native.Mathlib.Omega.{arith}
 use mathlib.Core.List.{◌++◌}
-use mathlib.Core.Path.{◌≡◌, refl}
-use borrow.Author.Tests.{ne_eqb}
-use lib.ListN.{length, take, replicate, length-append, length-replicate}
-use Rattle.pack.specs.Trees.{protocol_of, prefix_of}
+use mathlib.Core.Path.{◌≡◌, refl, ap, sym, ◌∙◌}
+use lib.ListN.{length, replicate, length-append, length-replicate}
+use Rattle.std.specs.Bool.{then_some}
+use Rattle.std.specs.Prelude.{Some}
+use Rattle.std.proofs.lemmas.Option.{none-some, same_Some}
+use Rattle.std.proofs.lemmas.Bool.{false≢true}
+use borrow.Author.Tests.{lt-leb}
+use mathlib.Core.Bool.{Bool, true, false}
+use Rattle.pack.specs.Notation.{◌<ᵇ◌}
+use Rattle.pack.specs.Trees.{tree_number, protocol_of, prefix_of}
+use Rattle.pack.specs.declared.protocol.Protocol.{Protocol}
+use Rattle.pack.specs.declared.protocol.Protocol.TheVariants.{Nmea2000, J1939, Quick}
 use Rattle.rules.proofs.DigitLaws.{ten_digits}
 use Rattle.rules.specs.Digits.{digits, six_digits}
 use Rattle.rules.specs.PlaceText.{check_prefix}
 use Rattle.rules.specs.Texts.{bytes}
 
-pub prefix_is : (t : ℕ) → take (prefix_of (protocol_of t)).len (prefix_of (protocol_of t)).bytes ≡ check_prefix t
-prefix_is zero = refl
-prefix_is (suc zero) = refl
-prefix_is (suc (suc t)) = rw (ne_eqb (suc (suc t)) 0 (λ z. omega arith), ne_eqb (suc (suc t)) 1 (λ z. omega arith))
-
-pub prefix_within : (t : ℕ) → (prefix_of (protocol_of t)).len ≤ length (prefix_of (protocol_of t)).bytes
-prefix_within zero = omega arith
-prefix_within (suc zero) = omega arith
-prefix_within (suc (suc t)) = rw (ne_eqb (suc (suc t)) 0 (λ z. omega arith), ne_eqb (suc (suc t)) 1 (λ z. omega arith)) (omega arith)
+pub prefix_is : (p : Protocol) → prefix_of p ≡ check_prefix (tree_number p)
+prefix_is Nmea2000 = refl
+prefix_is J1939 = refl
+prefix_is Quick = refl
 
 pub prefix_short : (t : ℕ) → length (check_prefix t) ≤ 6
 prefix_short zero = omega arith
@@ -35,3 +38,19 @@ six_short n =
 pub number_short : (t n : ℕ) → length (check_prefix t ++ bytes "pgns/" ++ six_digits n) ≤ 27
 number_short t n =
     omega (arith, length-append (check_prefix t ++ bytes "pgns/") (six_digits n), length-append (check_prefix t) (bytes "pgns/"), prefix_short t, six_short n)
+
+-- what an option that is there says of the test behind it
+pub some_then : {A : Type 0} (b : Bool) {x y : A} → Some x ≡ then_some b y → (b ≡ true) × (x ≡ y)
+some_then true {x = x} {y = y} e = (refl, same_Some x y e)
+some_then false {x = x} e = absurd (none-some x (sym e))
+
+protocol_number : (t : ℕ) → (t <ᵇ 3) ≡ true → tree_number (protocol_of t) ≡ t
+protocol_number zero h = refl
+protocol_number (suc zero) h = refl
+protocol_number (suc (suc zero)) h = refl
+protocol_number (suc (suc (suc t))) h = absurd (false≢true (sym (lt-leb (suc (suc (suc (suc t)))) 3 (omega arith)) ∙ h))
+
+pub tree_read : (t : ℕ) (p : Protocol) → Some p ≡ then_some (t <ᵇ 3) (protocol_of t) → (tree_number p ≡ t) × ((t <ᵇ 3) ≡ true)
+tree_read t p e =
+    let b = some_then (t <ᵇ 3) e in
+    (ap tree_number b.1 ∙ protocol_number t b.0, b.0)

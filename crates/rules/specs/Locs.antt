@@ -1,6 +1,7 @@
 -- What a place text is made of, as the code that writes it is told.
 use Rattle.std.specs.Prelude.{ℕ, List, ◌++◌}
 use Rattle.pack.specs.Items.{bytes_of}
+use Rattle.pack.specs.Trees.{tree_number}
 use Rattle.pack.specs.Value.{Bytes}
 use Rattle.rules.specs.Digits.{six_digits}
 use Rattle.rules.specs.PlaceText.{check_prefix, group_loc, lookup_loc}
@@ -14,6 +15,6 @@ pgn_text t number id = check_prefix t ++ bytes "pgns/" ++ six_digits number ++ b
 
 abbrev pub loc_text : List ℕ → Loc → Bytes
 loc_text s FieldTypes = bytes "fieldtypes.yaml"
-loc_text s (Pgn t number id) = pgn_text t number (bytes_of s id)
+loc_text s (Pgn protocol number id) = pgn_text (tree_number protocol) number (bytes_of s id)
 loc_text s (Lookup name) = lookup_loc (bytes_of s name)
-loc_text s (Group t number) = group_loc t number
+loc_text s (Group protocol number) = group_loc (tree_number protocol) number

@@ -2,6 +2,7 @@
 ghost use Rattle.std.specs.Prelude.{◌++◌};
 ghost use Rattle.pack.specs.Items.{bytes_of};
 ghost use Rattle.pack.specs.Placing.{Stored};
+ghost use Rattle.pack.specs.Trees.{tree_number};
 ghost use Rattle.rules.specs.Digits.{six_digits};
 ghost use Rattle.rules.specs.Locs.{pgn_text, loc_text};
 ghost use Rattle.rules.specs.PlaceText.{check_prefix, group_loc, lookup_loc};
@@ -15,36 +16,33 @@ use pack::text::{Text, part};
 #[derive(Clone, Copy)]
 pub enum Loc {
     FieldTypes,
-    Pgn { tree: u32, number: u32, id: Text },
+    Pgn { protocol: Protocol, number: u32, id: Text },
     Lookup(Text),
-    Group { tree: u32, number: u32 },
+    Group { protocol: Protocol, number: u32 },
 }
 
 // What stands before the id of a PGN.
-fn put_number(out: &mut [u8], tree: u32, number: u32) -> usize
-    ensures { Stored out.old 0 (check_prefix tree ++ bytes "pgns/" ++ six_digits number) out.new result }
+fn put_number(out: &mut [u8], protocol: Protocol, number: u32) -> usize
+    ensures { Stored out.old 0 (check_prefix (tree_number protocol) ++ bytes "pgns/" ++ six_digits number) out.new result }
 {
-    let prefix = Protocol::prefix(Protocol::of_tree(tree));
-    let bytes = prefix.bytes;
-    let len = prefix.len;
-    let a = put_bytes(out, 0, &bytes[..len]);
+    let a = put_bytes(out, 0, protocol.prefix());
     let b = put_bytes(out, a, b"pgns/");
     put_six_digits(out, b, number)
 }
 
-fn put_pgn(out: &mut [u8], s: &[u8], tree: u32, number: u32, id: Text) -> usize
-    ensures { Stored out.old 0 (pgn_text tree number (bytes_of s.now id)) out.new result }
+fn put_pgn(out: &mut [u8], s: &[u8], protocol: Protocol, number: u32, id: Text) -> usize
+    ensures { Stored out.old 0 (pgn_text (tree_number protocol) number (bytes_of s.now id)) out.new result }
 {
-    let a = put_number(out, tree, number);
+    let a = put_number(out, protocol, number);
     let b = put_bytes(out, a, b"-");
     let c = put_bytes(out, b, part(s, id));
     put_bytes(out, c, b".yaml")
 }
 
-fn put_group(out: &mut [u8], tree: u32, number: u32) -> usize
-    ensures { Stored out.old 0 (group_loc tree number) out.new result }
+fn put_group(out: &mut [u8], protocol: Protocol, number: u32) -> usize
+    ensures { Stored out.old 0 (group_loc (tree_number protocol) number) out.new result }
 {
-    let a = put_number(out, tree, number);
+    let a = put_number(out, protocol, number);
     put_bytes(out, a, b"-*.yaml")
 }
 
@@ -62,8 +60,8 @@ pub fn put_loc(out: &mut [u8], s: &[u8], loc: Loc) -> usize
 {
     match loc {
         Loc::FieldTypes => put_bytes(out, 0, b"fieldtypes.yaml"),
-        Loc::Pgn { tree, number, id } => put_pgn(out, s, tree, number, id),
+        Loc::Pgn { protocol, number, id } => put_pgn(out, s, protocol, number, id),
         Loc::Lookup(name) => put_lookup(out, s, name),
-        Loc::Group { tree, number } => put_group(out, tree, number),
+        Loc::Group { protocol, number } => put_group(out, protocol, number),
     }
 }

@@ -1,5 +1,5 @@
 -- The findings read back from their buffer: a report has a cause exactly if `check` finds it.
-use Rattle.std.specs.Prelude.{◌==◌}
+use Rattle.std.specs.Prelude.{Result, Ok, Err, ◌==◌}
 use Prim.Native.Nat.{ℕ, zero, suc, ◌+◌, ◌*◌, ◌≤◌}
 use native.Mathlib.Omega.{arith}
 use mathlib.Core.Bool.{Bool, true, false, ◌&&◌, ◌||◌, false≢true}
@@ -11,11 +11,11 @@ use Rattle.pack.specs.Notation.{◌≤ᵇ◌}
 use Rattle.pack.specs.Load.{Answer, refusal_number, loaded}
 use Rattle.pack.specs.Meaning.{pack_of}
 use Rattle.pack.specs.Value.{Pack}
+use Rattle.pack.specs.declared.load.Index.{Index}
 use Rattle.pack.specs.declared.load.Refusal.{Refusal}
 use Rattle.pack.proofs.Told.{numbered, after_refused, after_accepted}
 use Rattle.rules.specs.declared.Finding.{Finding}
-use Rattle.rules.specs.declared.check.Checked.{Checked}
-use Rattle.rules.specs.declared.check.Checked.TheVariants.{Refused, Reported}
+use Rattle.rules.specs.declared.check.Reported.{Reported}
 use Rattle.rules.specs.Check.{check}
 use Rattle.rules.specs.Checked.{all_numbers, judged, checked, findings_after, findings_tell, check_tells, Checks}
 use Rattle.rules.specs.Findings.{errors}
@@ -54,42 +54,42 @@ causes_read rule cause (f ∷ fs) rest =
 
 -- ---- check's answer
 
-abbrev count : Checked → ℕ
-count (Refused r) = 0
-count (Reported n e) = n
+abbrev count : Result Reported Refusal → ℕ
+count (Err r) = 0
+count (Ok x) = x.findings
 
-abbrev is_report : Checked → Bool
-is_report (Refused r) = false
-is_report (Reported n e) = true
+abbrev is_report : Result Reported Refusal → Bool
+is_report (Err r) = false
+is_report (Ok x) = true
 
 -- a report counts the findings, and the buffer holds them
 pub record Whole (P : Pack) (n m : ℕ) : Type 0 where
   pub counted : n ≡ length (check P)
   pub room : 8 * n ≤ m
 
-judged_whole : (P : Pack) (m n e : ℕ) → judged (check P) m ≡ Reported n e → Whole P n m
-judged_whole P m n e h = go (8 * length (check P) ≤ᵇ m) refl
+judged_whole : (P : Pack) (m : ℕ) (r : Reported) → judged (check P) m ≡ Ok r → Whole P r.findings m
+judged_whole P m r h = go (8 * length (check P) ≤ᵇ m) refl
   where
-    go : (b : Bool) → (8 * length (check P) ≤ᵇ m) ≡ b → Whole P n m
+    go : (b : Bool) → (8 * length (check P) ≤ᵇ m) ≡ b → Whole P r.findings m
     go true x =
-        let c : length (check P) ≡ n = ap count (rw x at h) in
+        let c : length (check P) ≡ r.findings = ap count (rw x at h) in
         record { counted = sym c; room = omega (arith, leb-true (8 * length (check P)) m x) }
     go false x = absurd (false≢true (ap is_report (rw x at h)))
 
-report_whole : (s : List ℕ) (m k n e : ℕ) → checked s m k ≡ Reported n e → Whole (pack_of s) n k
+report_whole : (s : List ℕ) (m k : ℕ) (r : Reported) → checked s m k ≡ Ok r → Whole (pack_of s) r.findings k
 unfolding checked
-report_whole s m k n e h = go (loaded s m) refl
+report_whole s m k r h = go (loaded s m) refl
   where
-    go : (l : Result Index Refusal) → loaded s m ≡ l → Whole (pack_of s) n k
-    go (Err r) x = absurd (false≢true (ap is_report (rw x at h)))
-    go (Ok i) x = judged_whole (pack_of s) k n e (rw x at h)
+    go : (l : Result Index Refusal) → loaded s m ≡ l → Whole (pack_of s) r.findings k
+    go (Err q) x = absurd (false≢true (ap is_report (rw x at h)))
+    go (Ok i) x = judged_whole (pack_of s) k r (rw x at h)
 
 -- the report has a cause exactly if check finds it
-report_read : (rule cause : ℕ) (s : List ℕ) (m : ℕ) (o : List ℕ) (n e : ℕ) → checked s m (length o) ≡ Reported n e
-    → reports rule cause n (findings_after s m o) ≡ has_cause rule cause (check (pack_of s))
+report_read : (rule cause : ℕ) (s : List ℕ) (m : ℕ) (o : List ℕ) (r : Reported) → checked s m (length o) ≡ Ok r
+    → reports rule cause r.findings (findings_after s m o) ≡ has_cause rule cause (check (pack_of s))
 unfolding findings_after
-report_read rule cause s m o n e h =
-    rw (h, (report_whole s m (length o) n e h).counted) (causes_read rule cause (check (pack_of s)) (drop (length (all_numbers (check (pack_of s)))) o))
+report_read rule cause s m o r h =
+    rw (h, (report_whole s m (length o) r h).counted) (causes_read rule cause (check (pack_of s)) (drop (length (all_numbers (check (pack_of s)))) o))
 
 -- ---- what its reader may conclude
 
@@ -102,21 +102,21 @@ concludes P n o e =
       found = λ h. met_unlike P (sym (by_rule P 3) ∙ sym e ∙ h);
     }
 
-pub by_answer : (s w o w' o' : List ℕ) (n e : ℕ) → Checks s w o w' o' (Reported n e) → Concludes (pack_of s) n o'
-by_answer s w o w' o' n e c =
-    concludes (pack_of s) n o'
-    (ap (reports 42 3 n) c.findings ∙ report_read 42 3 s (length w) o n e (sym c.answer))
+pub by_answer : (s w o w' o' : List ℕ) (r : Reported) → Checks s w o w' o' (Ok r) → Concludes (pack_of s) r.findings o'
+by_answer s w o w' o' r c =
+    concludes (pack_of s) r.findings o'
+    (ap (reports 42 3 r.findings) c.findings ∙ report_read 42 3 s (length w) o r (sym c.answer))
 
 -- of the call's answer
-pub answer_room : (s w o w' o' : List ℕ) (r : Checked) → Checks s w o w' o' r → Room r (length o)
-answer_room s w o w' o' (Refused r) c = tt
-answer_room s w o w' o' (Reported n e) c = (report_whole s (length w) (length o) n e (sym c.answer)).room
+pub answer_room : (s w o w' o' : List ℕ) (r : Result Reported Refusal) → Checks s w o w' o' r → Room r (length o)
+answer_room s w o w' o' (Err r) c = tt
+answer_room s w o w' o' (Ok r) c = (report_whole s (length w) (length o) r (sym c.answer)).room
 
-pub answer_says : (s w o w' o' : List ℕ) (r : Checked) → Checks s w o w' o' r → Says (pack_of s) r (silent r o')
-answer_says s w o w' o' (Refused r) c = refl
-answer_says s w o w' o' (Reported n e) c =
-    let a = by_answer s w o w' o' n e c in
-    (λ h. a.silent.0 (not-true (reports 42 3 n o') h), λ h. a.found (not-false (reports 42 3 n o') h))
+pub answer_says : (s w o w' o' : List ℕ) (r : Result Reported Refusal) → Checks s w o w' o' r → Says (pack_of s) r (silent r o')
+answer_says s w o w' o' (Err r) c = refl
+answer_says s w o w' o' (Ok r) c =
+    let a = by_answer s w o w' o' r c in
+    (λ h. a.silent.0 (not-true (reports 42 3 r.findings o') h), λ h. a.found (not-false (reports 42 3 r.findings o') h))
 
 -- ---- in 01's numbers, as the exported call tells them
 
@@ -129,7 +129,7 @@ not_done s m n r x h =
 
 -- where it is 0, check's answer is a report, and the first value counts its findings
 done : (s : List ℕ) (m n : ℕ) → (check_tells s m n).number ≡ 0
-    → checked s m n ≡ Reported (get_or (check_tells s m n).values 0 0) (errors (check (pack_of s)))
+    → checked s m n ≡ Ok (record { findings = get_or (check_tells s m n).values 0 0; errors = errors (check (pack_of s)) })
 unfolding checked check_tells
 done s m n h = go (loaded s m) refl (8 * length (check (pack_of s)) ≤ᵇ n) refl
   where
@@ -137,7 +137,7 @@ done s m n h = go (loaded s m) refl (8 * length (check (pack_of s)) ≤ᵇ n) re
     fs = check (pack_of s)
 
     go : (l : Result Index Refusal) → loaded s m ≡ l → (b : Bool) → (8 * length fs ≤ᵇ n) ≡ b
-        → checked s m n ≡ Reported (get_or (check_tells s m n).values 0 0) (errors fs)
+        → checked s m n ≡ Ok (record { findings = get_or (check_tells s m n).values 0 0; errors = errors fs })
     go (Err r) x b y = absurd (not_done s m n r x h)
     go (Ok i) x true y = let t = after_accepted s m i x (findings_tell fs n) in rw (← t, x, y)
     go (Ok i) x false y =
@@ -148,4 +148,4 @@ done s m n h = go (loaded s m) refl (8 * length (check (pack_of s)) ≤ᵇ n) re
 pub by_numbers : (s : List ℕ) (m : ℕ) (o : List ℕ) → (check_tells s m (length o)).number ≡ 0
     → Concludes (pack_of s) (get_or (check_tells s m (length o)).values 0 0) (findings_after s m o)
 by_numbers s m o h =
-    concludes (pack_of s) _ (findings_after s m o) (report_read 42 3 s m o _ _ (done s m (length o) h))
+    concludes (pack_of s) _ (findings_after s m o) (report_read 42 3 s m o _ (done s m (length o) h))

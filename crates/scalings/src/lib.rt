@@ -6,12 +6,13 @@ ghost use Rattle.pack.specs.Meaning.{pack_of};
 ghost use Rattle.rules.specs.Checked.{Checks};
 ghost use Rattle.scalings.specs.Report.{finding_is, reports, Room, silent, Says};
 
-use rules::check::{Checked, check};
+use pack::load::Refusal;
+use rules::check::{Reported, check};
 
 // check's answer, and whether it is a report in which R42 has no cause 3.
 #[derive(Clone, Copy)]
 pub struct CheckedAlike {
-    pub checked: Checked,
+    pub checked: Result<Reported, Refusal>,
     pub alike: bool,
 }
 
@@ -40,16 +41,13 @@ fn reports(findings: &[u32], n: usize, rule: u32, cause: u32) -> bool
 }
 
 // A report, no refusal, and R42 has no cause 3 in it.
-fn silent(checked: Checked, findings: &[u32]) -> bool
+fn silent(checked: Result<Reported, Refusal>, findings: &[u32]) -> bool
     requires { Room checked (length findings.now) }
     ensures { result ≡ silent checked findings.now }
 {
     match checked {
-        Checked::Refused(_) => false,
-        Checked::Reported {
-            findings: count,
-            errors: _,
-        } => !reports(findings, count, 42, 3),
+        Err(_) => false,
+        Ok(reported) => !reports(findings, reported.findings, 42, 3),
     }
 }
 

@@ -6,11 +6,11 @@ use listing::words::{Counted, Refused, protocol_name, text};
 use pack::loaded::{Pack, PgnRef};
 use pack::pgn::PgnRecord;
 use pack::protocol::{FieldIndex, Protocol};
-use rules::check::{Checked, check};
+use rules::check::{Reported, check};
 use std::alloc::{AllocError, Global};
 use std::io::Write;
 use std::{fmt, io};
-use walk::walk::{End, HeldAnswer, Stop, Walked, held, walk};
+use walk::walk::{End, Ended, Stop, held, walk};
 
 const FINDINGS: usize = 16_384;
 
@@ -57,7 +57,7 @@ fn meaning(held: bool, clean: bool) -> &'static str {
 // How many errors the pack has. Whether it has none: a check that is refused, by 22 here, shows nothing.
 fn show_errors(out: &mut impl Write, pack: &[u8], buffers: &mut Buffers) -> io::Result<bool> {
     match check(pack, &mut buffers.work, &mut buffers.findings) {
-        Checked::Refused(refusal) => {
+        Err(refusal) => {
             writeln!(
                 out,
                 "its pack's errors are not counted: {}",
@@ -65,7 +65,7 @@ fn show_errors(out: &mut impl Write, pack: &[u8], buffers: &mut Buffers) -> io::
             )?;
             Ok(false)
         }
-        Checked::Reported { findings, errors } => {
+        Ok(Reported { findings, errors }) => {
             let found = Counted::new(findings, "finding", "findings");
             let wrong = Counted::new(errors, "error", "errors");
             writeln!(out, "its pack has {found}, {wrong}")?;
@@ -144,8 +144,8 @@ fn show_walk(
         readings,
         &mut buffers.visits,
     ) {
-        Walked::Refused(refusal) => writeln!(out, "{}", Refused(refusal)),
-        Walked::Ended { end, visits } => {
+        Err(refusal) => writeln!(out, "{}", Refused(refusal)),
+        Ok(Ended { end, visits }) => {
             let mut passes = Passes::none();
             for (k, reading) in buffers.visits.iter().zip(readings).take(visits) {
                 show_visit(out, pack, found, &mut passes, *k, *reading)?;
@@ -174,8 +174,8 @@ fn show_found(
     out.flush()?;
     let clean = show_errors(out, pack.bytes, &mut buffers)?;
     match held(pack.bytes, &mut buffers.work, tree, item) {
-        HeldAnswer::Refused(refusal) => writeln!(out, "{}", Refused(refusal)),
-        HeldAnswer::Held(held) => writeln!(out, "{}", meaning(held, clean)),
+        Err(refusal) => writeln!(out, "{}", Refused(refusal)),
+        Ok(held) => writeln!(out, "{}", meaning(held, clean)),
     }
 }
 

@@ -1,4 +1,5 @@
 -- Demand 3 from the contracts of the two calls and the guarantee.
+use Rattle.std.specs.Prelude.{Result}
 use Prim.Native.Nat.{ℕ, ◌*◌}
 use mathlib.Core.Path.{◌≡◌, refl}
 use mathlib.Core.Bool.{Bool, true, false, false≢true}
@@ -9,17 +10,18 @@ use borrow.Author.Tests.{ltb-true, leb-false, eqb-true}
 use Rattle.pack.specs.Load.{Verdict, refused, accepted, verdict, load_index, loaded}
 use Rattle.pack.specs.Meaning.{pack_of}
 use Rattle.pack.specs.Value.{Pgn, Pack, pgns_of, pgn_at}
+use Rattle.pack.specs.declared.load.Refusal.{Refusal}
 use Rattle.rules.specs.Check.{check}
 use Rattle.rules.specs.Clean.{errors_clean}
 use Rattle.rules.specs.Checked.{checked}
 use Rattle.rules.specs.Findings.{errors, without_error}
-use Rattle.rules.specs.declared.check.Checked.{Checked}
+use Rattle.rules.specs.declared.check.Reported.{Reported}
 use Rattle.walk.specs.Demand3.{clean, Kept, work_short, visits_short, walked_whole, walked_used_up, Demand3}
 use Rattle.walk.specs.Guarantee.{Unstopped, ends_whole, ends_used_up}
 use Rattle.walk.specs.Held.{held}
 use Rattle.walk.specs.HeldReadings.{held_nonempty, held_letter, held_letter_nonempty, held_where_nested, held_widest}
 use Rattle.walk.specs.WalkCall.{in_pack, walk_of, walked, visits_after}
-use Rattle.walk.specs.declared.walk.Walked.{Walked}
+use Rattle.walk.specs.declared.walk.Ended.{Ended}
 use Rattle.walk.proofs.Tests.{and_l, and_r}
 use Rattle.walk.proofs.HeldWidest.{held_implies_widest, nonempty_implies_widest, letter_of_pack, letter_nonempty_of_pack, where_nested_of_pack}
 use Rattle.walk.proofs.NoStop.{guarantee_widest}
@@ -57,7 +59,7 @@ kept s m t i readings w ev there u = go (leb (load_index s).records m) refl (leb
     go true ea true eb (ends_used_up q l) = walked_used_up (rw (ev, ea, there, eb, q)) q l (rw (ev, ea, there, eb))
 
 -- the two calls' answers, by their contracts
-module _ (s : List ℕ) (t i : ℕ) (readings w : List ℕ) (k m n : ℕ) (c : Checked) (r : Walked) (w' : List ℕ) (ec : c ≡ checked s k n)
+module _ (s : List ℕ) (t i : ℕ) (readings w : List ℕ) (k m n : ℕ) (c : Result Reported Refusal) (r : Result Ended Refusal) (w' : List ℕ) (ec : c ≡ checked s k n)
     (er : r ≡ walked s m t i readings (length w)) (ew : w' ≡ visits_after s m t i readings w) where
   abbrev P : Pack
   P = pack_of s

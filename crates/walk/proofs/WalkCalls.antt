@@ -22,13 +22,10 @@ use Rattle.walk.specs.WalkCall.{walk_tells, Walks}
 use Rattle.walk.specs.WalkCall.{held_judged, held_told, held_answer, held_tell, held_tells, TellsHeld}
 use Rattle.walk.specs.declared.named.FoundPgn.{FoundPgn}
 use Rattle.walk.specs.declared.named.PgnPlace.{PgnPlace}
-use Rattle.walk.specs.declared.walk.Walked.{Walked}
-use Rattle.walk.specs.declared.walk.Walked.TheVariants.{Refused}
-use Rattle.walk.specs.declared.walk.HeldAnswer.{HeldAnswer}
-use Rattle.walk.specs.declared.walk.HeldAnswer.TheVariants as held-case
+use Rattle.walk.specs.declared.walk.Ended.{Ended}
 
 -- of a walk A over n readings, of a PGN that is in the pack
-pub record Judges (n : ℕ) (A : Answer) (w : List ℕ) (r : Walked) (w' : List ℕ) : Type 0 where
+pub record Judges (n : ℕ) (A : Answer) (w : List ℕ) (r : Result Ended Refusal) (w' : List ℕ) : Type 0 where
   pub answer : r ≡ judged true n (length w) A
   pub out : w' ≡ visits_left (judged true n (length w) A) A.visits w
 
@@ -58,15 +55,15 @@ module _ (s : List ℕ) (m t i : ℕ) where
 
 -- ---- the calls, by what naming the PGN answers
 
-abbrev after_naming : Option Refusal → Walked → Walked
+abbrev after_naming : Option Refusal → Result Ended Refusal → Result Ended Refusal
 after_naming None a = a
-after_naming (Some r) a = Refused r
+after_naming (Some r) a = Err r
 
-abbrev held_after_naming : Option Refusal → Bool → HeldAnswer
-held_after_naming None h = held-case.Held h
-held_after_naming (Some r) h = held-case.Refused r
+abbrev held_after_naming : Option Refusal → Bool → Result Bool Refusal
+held_after_naming None h = Ok h
+held_after_naming (Some r) h = Err r
 
-pub record Answers (s : List ℕ) (m t i : ℕ) (readings w : List ℕ) (r : Walked) (w' : List ℕ) : Type 0 where
+pub record Answers (s : List ℕ) (m t i : ℕ) (readings w : List ℕ) (r : Result Ended Refusal) (w' : List ℕ) : Type 0 where
   pub answer : r ≡ walked s m t i readings (length w)
   pub out : w' ≡ visits_after s m t i readings w
 
@@ -100,11 +97,11 @@ module _ (s : List ℕ) (m t i : ℕ) where
     is_found : (f : PgnPlace) → n ≡ Ok f → naming_refusal s m t i ≡ None
     is_found f e = sym named.refusal ∙ ap refusal_of e
 
-    pub walk_refused : (r : Refusal) → n ≡ Err r → (readings w : List ℕ) → Answers s m t i readings w (Refused r) w
+    pub walk_refused : (r : Refusal) → n ≡ Err r → (readings w : List ℕ) → Answers s m t i readings w (Err r) w
     unfolding visits_after
     walk_refused r e readings w = record { answer = rw (walk_named, refused r e); out = rw (walk_named, refused r e) }
 
-    pub held_refused : (r : Refusal) → n ≡ Err r → held-case.Refused r ≡ held_told s m t i
+    pub held_refused : (r : Refusal) → n ≡ Err r → Err r ≡ held_told s m t i
     held_refused r e = rw (held_named, refused r e)
 
     -- f is the PGN at that place
@@ -115,14 +112,14 @@ module _ (s : List ℕ) (m t i : ℕ) where
       pgn : f.pgn ≡ i
       pgn = same_pgn ∙ named.pgn at e
 
-      pub walk_answers : (readings w : List ℕ) (r : Walked) (w' : List ℕ)
+      pub walk_answers : (readings w : List ℕ) (r : Result Ended Refusal) (w' : List ℕ)
           → Judges (length readings) (walk_of s f.tree f.pgn readings) w r w' → Answers s m t i readings w r w'
       unfolding visits_after
       walk_answers readings w r w' j =
           let k : Judges (length readings) (walk_of s t i readings) w r w' = rw (← tree, ← pgn) j in
           record { answer = rw (walk_named, is_found at e) k.answer; out = rw (walk_named, is_found at e) k.out }
 
-      pub held_answers : (h : Bool) → h ≡ held (pack_of s) (pgn_at (pack_of s) f.tree f.pgn) → held-case.Held h ≡ held_told s m t i
+      pub held_answers : (h : Bool) → h ≡ held (pack_of s) (pgn_at (pack_of s) f.tree f.pgn) → Ok h ≡ held_told s m t i
       held_answers h q = rw (held_named, is_found at e, q, tree, pgn)
 
 -- ---- in 01's numbers
@@ -173,7 +170,7 @@ module _ (s : List ℕ) (m t i : ℕ) where
       go (Err r) e = rw e (after_refused s m r e (held_tell there h))
       go (Ok x) e = rw e (held_judged_told there h ∙ after_accepted s m x e (held_tell there h))
 
-pub walk_promised : (s : List ℕ) (t i : ℕ) (readings w o w' o' : List ℕ) (r : Walked) → Answers s (length w) t i readings o r o'
+pub walk_promised : (s : List ℕ) (t i : ℕ) (readings w o w' o' : List ℕ) (r : Result Ended Refusal) → Answers s (length w) t i readings o r o'
     → w' ≡ work_after s w → Walks s t i readings w o w' o' r
 walk_promised s t i readings w o w' o' r a e =
     record {
@@ -183,5 +180,5 @@ walk_promised s t i readings w o w' o' r a e =
       visits = a.out;
     }
 
-pub held_promised : (s : List ℕ) (t i : ℕ) (w w' : List ℕ) (r : HeldAnswer) → r ≡ held_told s (length w) t i → w' ≡ work_after s w → TellsHeld s t i w w' r
+pub held_promised : (s : List ℕ) (t i : ℕ) (w w' : List ℕ) (r : Result Bool Refusal) → r ≡ held_told s (length w) t i → w' ≡ work_after s w → TellsHeld s t i w w' r
 held_promised s t i w w' r a e = record { answer = a; told = ap held_answer a ∙ held_numbers s (length w) t i; work = e }

@@ -28,7 +28,6 @@ use Rattle.pack.specs.declared.protocol.FieldOrder.{FieldOrder}
 use Rattle.walk.specs.declared.stops.Stop.{Stop as Reason}
 use Rattle.walk.specs.declared.stops.Stop.TheVariants.{SetMisplaced}
 use Rattle.walk.specs.declared.walk.End.TheVariants.{Whole, UsedUp, Stop}
-use Rattle.walk.specs.declared.walk.Walked.TheVariants.{Ended}
 use Rattle.walk.proofs.SetFacts.{Good, good}
 use Rattle.walk.proofs.Position.{due_order}
 use Rattle.walk.proofs.Agree.{Same, both_past, both_halted, both_due, next_same, first_same, agree}
@@ -152,7 +151,7 @@ ends_at A made e a = record { ends = ap (λ (x : Answer). x.ends) a; visits = ap
 
 -- with the buffer: the call's answer
 told_at : (A : Answer) (w w' made : List ℕ) (n : ℕ) (e : Ending) → EndsWith A made e → n ≡ length made → Written w w' made n → n ≤ length w
-    → Told A w w' (Ended e n)
+    → Told A w w' (record { end = e; visits = n })
 told_at A w w' made n e o k b l = record {
   answer = rw (o.ends, o.visits, end_back e, k);
   out = b.stored.work ∙ sets_over w made (omega arith) ∙ ap (λ (v : List ℕ). over v w) (sym o.visits);
@@ -169,7 +168,7 @@ start_history P p readings e c h = rw h (record {
   same = first_same (layout p) (good (layout p) e);
 })
 
-pub stopped_1 : (P : Pack) (p : Pgn) (readings w : List ℕ) → stop_1 (layout p) ≡ true → Told (walk P p readings) w w (Ended (Stop SetMisplaced) 0)
+pub stopped_1 : (P : Pack) (p : Pgn) (readings w : List ℕ) → stop_1 (layout p) ≡ true → Told (walk P p readings) w w (record { end = Stop SetMisplaced; visits = 0 })
 unfolding walk walk_with
 stopped_1 P p readings w e = rw (walk, walk_with, e) (record { answer = refl; out = refl })
 
@@ -226,11 +225,11 @@ module _ (L : Layout) (laid : stop_1 L ≡ false) (stops : Stops) (A : Answer) (
   pub going_within : Within L c
   going_within = history_within L laid stops A readings g.made n c g.history
 
-  pub going_used : length readings ≤ n → n ≤ length w → (e : Ending) → e ≡ ending (used c) → Told A w w' (Ended e n)
+  pub going_used : length readings ≤ n → n ≤ length w → (e : Ending) → e ≡ ending (used c) → Told A w w' (record { end = e; visits = n })
   going_used l m e q = told_at A w w' g.made n e (history_used L laid stops A readings g.made n c g.history l e q) g.history.count g.buffer m
 
   module _ (low : n < length readings) (r : Stepped) (er : r ≡ one_step L stops c (get_or readings n 0)) where
-    pub going_ended : (e : Ending) → r ≡ ended (end_of e) → n ≤ length w → Told A w w' (Ended e n)
+    pub going_ended : (e : Ending) → r ≡ ended (end_of e) → n ≤ length w → Told A w w' (record { end = e; visits = n })
     going_ended e q m =
         told_at A w w' g.made n e (history_ended L laid stops A readings g.made n c g.history low r er e q) g.history.count g.buffer m
 

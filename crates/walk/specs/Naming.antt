@@ -5,6 +5,7 @@ use Rattle.pack.specs.Load.{loaded}
 use Rattle.pack.specs.Meaning.{pack_of}
 use Rattle.pack.specs.Ready.{PgnAt, IndexIs}
 use Rattle.pack.specs.Value.{Pgn, pgn_at}
+use Rattle.pack.specs.declared.load.Index.{Index}
 use Rattle.pack.specs.declared.load.Refusal.{Refusal}
 use Rattle.pack.specs.declared.load.Refusal.TheVariants.{Absent}
 use Rattle.walk.specs.Layout.{layout}
@@ -13,7 +14,7 @@ use Rattle.walk.specs.Walk.{Answer}
 use Rattle.walk.specs.WalkCall.{in_pack, judged, walk_of}
 use Rattle.walk.specs.declared.named.FoundPgn.{FoundPgn}
 use Rattle.walk.specs.declared.named.PgnPlace.{PgnPlace}
-use Rattle.walk.specs.declared.walk.Walked.{Walked}
+use Rattle.walk.specs.declared.walk.Ended.{Ended}
 
 -- 23, of a PGN that is there or not
 abbrev pub absence : (there : Bool) → Option Refusal
@@ -56,5 +57,5 @@ pub record NamedIs (s w : List ℕ) (t i : ℕ) (x : Option Refusal) (r : Result
 abbrev pub found_walk : List ℕ → FoundPgn → List ℕ → Answer
 found_walk s f readings = walk_of s f.tree f.pgn readings
 
-abbrev pub found_judged : List ℕ → FoundPgn → List ℕ → (n : ℕ) → Walked
+abbrev pub found_judged : List ℕ → FoundPgn → List ℕ → (n : ℕ) → Result Ended Refusal
 found_judged s f readings n = judged true (length readings) n (found_walk s f readings)

@@ -6,14 +6,15 @@ ghost use Rattle.walk.specs.Held.{held};
 ghost use Rattle.walk.specs.HeldReadings.{held_widest};
 ghost use Rattle.walk.specs.WalkCall.{Walks};
 
-use crate::walk::{Walked, walk};
-use rules::check::{Checked, check};
+use crate::walk::{Ended, walk};
+use pack::load::Refusal;
+use rules::check::{Reported, check};
 
 // The answers of the two calls.
 #[derive(Clone, Copy)]
 pub struct TwoAnswers {
-    pub checked: Checked,
-    pub walked: Walked,
+    pub checked: Result<Reported, Refusal>,
+    pub walked: Result<Ended, Refusal>,
 }
 
 // Check, then walk: only the pack bytes are common to both; `scratch` is the work buffer of walk. The claim is demand 3, for `held` and under

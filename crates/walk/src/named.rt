@@ -76,8 +76,6 @@ pub fn named_pgn(pack: &[u8], work: &mut [u32], tree: u32, pgn: u32) -> Result<P
       work : work.new ≡ work_after pack.now work.old;
     } }
 {
-    match load(pack, work) {
-        Loaded::Refused(refusal) => Err(refusal),
-        Loaded::Accepted(index) => find_pgn(pack, work, index, tree, pgn),
-    }
+    let index = load(pack, work)?;
+    find_pgn(pack, work, index, tree, pgn)
 }

@@ -26,17 +26,11 @@ pub enum End {
     Stop(Stop),
 }
 
+// How a walk ended, and how many visits were made.
 #[derive(Clone, Copy)]
-pub enum Walked {
-    Refused(Refusal),
-    // how it ended, and how many visits were made
-    Ended { end: End, visits: usize },
-}
-
-#[derive(Clone, Copy)]
-pub enum HeldAnswer {
-    Refused(Refusal),
-    Held(bool),
+pub struct Ended {
+    pub end: End,
+    pub visits: usize,
 }
 
 // The walk past stop 1, with a memory of what is known of the fields. `settle` is called here alone, so that the compiler inlines it.
@@ -49,7 +43,7 @@ fn walk_on(
     passes: &mut [u64],
     readings: &[u64],
     visits: &mut [u32],
-) -> Walked
+) -> Ended
     requires { record {
       pgn : IsFound s.now work.now found;
       remembered : Remembered (pack_of s.now) (found_pgn s.now found) marks.old bad.old;
@@ -71,7 +65,7 @@ fn walk_on(
         let made = ran.visits;
         if readings.len() <= made {
             let end = used(ran.settling);
-            return Walked::Ended { end, visits: made };
+            return Ended { end, visits: made };
         }
         match step(
             s,
@@ -83,7 +77,7 @@ fn walk_on(
             ran.settling,
             readings[made],
         ) {
-            Stepping::Ended(end) => return Walked::Ended { end, visits: made },
+            Stepping::Ended(end) => return Ended { end, visits: made },
             Stepping::Visited { field, next } => {
                 write_visit(visits, made, field);
                 here = next;
@@ -94,13 +88,13 @@ fn walk_on(
 }
 
 // The walk over a PGN that is found, with a memory for as many fields as a pack can have, and for the readings of the first 128 of them.
-fn walk_at(s: &[u8], work: &[u32], found: FoundPgn, readings: &[u64], visits: &mut [u32]) -> Walked
+fn walk_at(s: &[u8], work: &[u32], found: FoundPgn, readings: &[u64], visits: &mut [u32]) -> Ended
     requires { record { pgn : IsFound s.now work.now found; room : length readings.now ≤ length visits.old } }
     ensures { Told (walk (pack_of s.now) (found_pgn s.now found) readings.now) visits.old
         visits.new result }
 {
     if stop_1(found.sets) {
-        return Walked::Ended {
+        return Ended {
             end: End::Stop(Stop::SetMisplaced),
             visits: 0,
         };
@@ -127,7 +121,7 @@ fn walk_found(
     found: FoundPgn,
     readings: &[u64],
     visits: &mut [u32],
-) -> Walked
+) -> Result<Ended, Refusal>
     requires { IsFound pack.now work.now found }
     ensures { record {
       answer : result ≡ found_judged pack.now found readings.now (length visits.old);
@@ -138,9 +132,9 @@ fn walk_found(
 {
     let needed = readings.len();
     if visits.len() < needed {
-        return Walked::Refused(Refusal::Visits(needed));
+        return Err(Refusal::Visits(needed));
     }
-    walk_at(pack, work, found, readings, visits)
+    Ok(walk_at(pack, work, found, readings, visits))
 }
 
 pub fn walk(
@@ -150,21 +144,19 @@ pub fn walk(
     pgn: u32,
     readings: &[u64],
     visits: &mut [u32],
-) -> Walked
+) -> Result<Ended, Refusal>
     ensures { Walks pack.now tree pgn readings.now work.old visits.old
         work.new visits.new result }
 {
-    match named_pgn(pack, work, tree, pgn) {
-        Err(refusal) => Walked::Refused(refusal),
-        Ok(place) => walk_found(pack, work, found_pgn(pack, work, place), readings, visits),
-    }
+    let place = named_pgn(pack, work, tree, pgn)?;
+    let found = found_pgn(pack, work, place);
+    walk_found(pack, work, found, readings, visits)
 }
 
-pub fn held(pack: &[u8], work: &mut [u32], tree: u32, pgn: u32) -> HeldAnswer
+pub fn held(pack: &[u8], work: &mut [u32], tree: u32, pgn: u32) -> Result<bool, Refusal>
     ensures { TellsHeld pack.now tree pgn work.old work.new result }
 {
-    match named_pgn(pack, work, tree, pgn) {
-        Err(refusal) => HeldAnswer::Refused(refusal),
-        Ok(place) => HeldAnswer::Held(held_at(pack, work, found_pgn(pack, work, place))),
-    }
+    let place = named_pgn(pack, work, tree, pgn)?;
+    let found = found_pgn(pack, work, place);
+    Ok(held_at(pack, work, found))
 }

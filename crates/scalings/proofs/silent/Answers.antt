@@ -4,10 +4,10 @@ use Rattle.scalings.proofs.silent.Goals as goal
 
 pub reports-requires : goal.reports-requires
 reports-requires c =
-    rw c.in-Reported.is at c.requires
+    rw c.in-Ok.is at c.requires
 
-pub returns-in-Refused : goal.returns-in-Refused
-returns-in-Refused c = rw c.in-Refused.is refl
+pub returns-in-Err : goal.returns-in-Err
+returns-in-Err c = rw c.in-Err.is refl
 
-pub returns-in-Reported : goal.returns-in-Reported
-returns-in-Reported c = rw c.in-Reported.is (ap not c.reports.ensures)
+pub returns-in-Ok : goal.returns-in-Ok
+returns-in-Ok c = rw c.in-Ok.is (ap not c.reports.ensures)

@@ -1,7 +1,7 @@
 use Rattle.exports.proofs.answers.held_answer.Goals as goal
 
-pub returns-in-Refused : goal.returns-in-Refused
-returns-in-Refused c = rw (c.in-Refused.is, c.detail.ensures)
+pub returns-in-Err : goal.returns-in-Err
+returns-in-Err c = rw (c.in-Err.is, c.detail.ensures)
 
-pub returns-in-Held : goal.returns-in-Held
-returns-in-Held c = rw (c.in-Held.is, c.yes_or_no.ensures)
+pub returns-in-Ok : goal.returns-in-Ok
+returns-in-Ok c = rw (c.in-Ok.is, c.yes_or_no.ensures)

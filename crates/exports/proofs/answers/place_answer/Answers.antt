@@ -1,7 +1,7 @@
 use Rattle.exports.proofs.answers.place_answer.Goals as goal
 
-pub returns-in-Refused : goal.returns-in-Refused
-returns-in-Refused c = rw (c.in-Refused.is, c.detail.ensures)
+pub returns-in-Err : goal.returns-in-Err
+returns-in-Err c = rw (c.in-Err.is, c.detail.ensures)
 
-pub returns-in-Written : goal.returns-in-Written
-returns-in-Written c = rw c.in-Written.is
+pub returns-in-Ok : goal.returns-in-Ok
+returns-in-Ok c = rw c.in-Ok.is

@@ -1,7 +1,7 @@
 use Rattle.exports.proofs.answers.walk_answer.Goals as goal
 
-pub returns-in-Refused : goal.returns-in-Refused
-returns-in-Refused c = rw (c.in-Refused.is, c.detail.ensures)
+pub returns-in-Err : goal.returns-in-Err
+returns-in-Err c = rw (c.in-Err.is, c.detail.ensures)
 
-pub returns-in-Ended : goal.returns-in-Ended
-returns-in-Ended c = rw (c.in-Ended.is, c.end_number.ensures)
+pub returns-in-Ok : goal.returns-in-Ok
+returns-in-Ok c = rw (c.in-Ok.is, c.end_number.ensures)

@@ -1,4 +1,5 @@
-use Rattle.pack.proofs.Stores.{Stored, stored_none, stored_one, sets_over}
+use Rattle.pack.proofs.Stores.{stored_none, stored_one, sets_over}
+use Rattle.pack.specs.Placing.{Stored}
 use native.Mathlib.Numerals.{add-one}
 use lib.ListN.{length-set, take, set, length, get_or}
 use lib.Seq.{take-suc, length-take-le}

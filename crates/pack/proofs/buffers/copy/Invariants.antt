@@ -1,4 +1,4 @@
-use Rattle.pack.proofs.Stores.{Stored}
+use Rattle.pack.specs.Placing.{Stored}
 use lib.ListN.{take, length}
 use Prim.Native.Nat.{◌≤◌}
 use mathlib.Core.Path.{◌≡◌}

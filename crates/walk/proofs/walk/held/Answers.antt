@@ -1,18 +1,22 @@
+use Rattle.std.proofs.lemmas.Result.{err_from_is_err_and}
 use Rattle.walk.proofs.WalkCalls.{held_refused, held_answers, held_promised}
 use lib.ListN.{length}
+use mathlib.Core.Path.{◌≡◌}
 use Rattle.walk.proofs.walk.held.Goals as goal
 
-pub found_pgn-requires : goal.found_pgn-requires
-found_pgn-requires c =
-    c.named_pgn.ensures.named.found c.in-Ok.place c.in-Ok.is
+pub returns-in_err-place : goal.returns-in_err-place
+returns-in_err-place c =
+    let q = c.in_err-place.field-0.0 in
+    let y = err_from_is_err_and {Q = λ y. y ≡ q} c.from_residual.result c.from_residual.ensures.1 in
+    let a = held_refused c.args.pack.now (length c.args.work.now) c.args.tree c.args.pgn _ c.named_pgn.result
+    c.named_pgn.ensures.named q c.in_err-place.was in
+    rw (y.1, y.2) (held_promised _ _ _ _ _ _ a c.named_pgn.ensures.work)
 
-pub returns-in-Err : goal.returns-in-Err
-returns-in-Err c =
-    held_promised _ _ _ _ _ _ (held_refused c.args.pack.now (length c.args.work.now) c.args.tree c.args.pgn _
-    c.named_pgn.result c.named_pgn.ensures.named c.in-Err.refusal c.in-Err.is) c.named_pgn.ensures.work
+pub found_pgn-found-requires : goal.found_pgn-found-requires
+found_pgn-found-requires c = c.named_pgn.ensures.named.found c.in_ok-place.place c.in_ok-place.was
 
-pub returns-in-Ok : goal.returns-in-Ok
-returns-in-Ok c =
+pub returns : goal.returns
+returns c =
     held_promised _ _ _ _ _ _ (held_answers c.args.pack.now (length c.args.work.now) c.args.tree c.args.pgn _
-    c.named_pgn.result c.named_pgn.ensures.named c.in-Ok.place c.in-Ok.is c.found_pgn.result c.found_pgn.ensures.tree
-    c.found_pgn.ensures.pgn c.held_at.result c.held_at.ensures) c.named_pgn.ensures.work
+    c.named_pgn.result c.named_pgn.ensures.named c.in_ok-place.place c.in_ok-place.was c.found_pgn-found.result c.found_pgn-found.ensures.tree
+    c.found_pgn-found.ensures.pgn c.held_at.result c.held_at.ensures) c.named_pgn.ensures.work

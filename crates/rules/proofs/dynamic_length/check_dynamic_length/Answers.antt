@@ -1,0 +1,48 @@
+use Rattle.rules.proofs.Emits.{reporting_turn}
+use Rattle.rules.specs.Texts.{DYNAMIC_FIELD_KEY}
+use Rattle.rules.specs.Search.{any_below}
+use Rattle.rules.specs.DynamicLength.{length_source, have_length_source}
+use Rattle.pack.specs.Items.{bytes_of}
+use Rattle.pack.specs.Loaded.{pgn_value}
+use Rattle.pack.specs.Meaning.{field_meaning, pack_of}
+use Rattle.pack.specs.Notation.{◌≐◌}
+use Rattle.pack.specs.Value.{no_field_type, field_at}
+use Rattle.pack.specs.declared.field.FieldView.{FieldView}
+use Rattle.pack.specs.declared.loaded.PgnRef.{PgnRef}
+use Prim.Native.Nat.{ℕ, suc}
+use native.Mathlib.Numerals.{add-one}
+use mathlib.Core.Path.{◌≡◌}
+use mathlib.Core.Bool.{◌||◌, Bool}
+use mathlib.Core.List.{List}
+use lib.ListN.{get_or}
+use Rattle.rules.proofs.dynamic_length.check_dynamic_length.Invariants.{source}
+use Rattle.rules.proofs.dynamic_length.check_dynamic_length.Goals as goal
+
+-- a turn of the search for a length source
+found : (g : PgnRef) (k : ℕ) (v : FieldView) (root : List ℕ) (old one : Bool) → field_meaning g.pack.bytes.now v ≡ field_at (pgn_value g) k
+    → root ≡ (get_or (pack_of g.pack.bytes.now).fieldtypes v.ft no_field_type).root_name → old ≡ any_below (source g) k
+    → one ≡ (v.flags.dynamic || (root ≐ DYNAMIC_FIELD_KEY)) → (old || one) ≡ any_below (source g) (suc k)
+unfolding length_source
+found g k v root old one is r o n = rw (n, o, r, ← is)
+
+pub dynamic_length_at-requires : goal.dynamic_length_at-requires
+unfolding have_length_source
+dynamic_length_at-requires c =
+    let g = c.args.pgn.now in
+    record {
+      means = c.field-f.ensures;
+      root = (rw (← c.field-f.ensures) c.root_of-root.ensures);
+      have = found g c.loop-k.k c.field-f.result (bytes_of g.pack.bytes.now c.root_of-root.result) c.loop-k.have _ c.field-f.ensures c.root_of-root.ensures
+          c.loop-k.invariant.have
+          c.length_source-have.ensures;
+    }
+
+pub loop-k-preserved : goal.loop-k-preserved
+loop-k-preserved c =
+    let g = c.args.pgn.now in
+    record {
+      reporting = reporting_turn c.loop-k.invariant.reporting c.loop-k-test.true c.dynamic_length_at.ensures;
+      have = (rw (add-one c.loop-k.k) (found g c.loop-k.k c.field-f.result (bytes_of g.pack.bytes.now c.root_of-root.result) c.loop-k.have _
+          c.field-f.ensures
+          c.root_of-root.ensures c.loop-k.invariant.have c.length_source-have.ensures));
+    }

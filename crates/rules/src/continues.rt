@@ -1,0 +1,222 @@
+// R43
+ghost use Rattle.std.specs.Prelude.{◌≡◌, not, ◌||◌, [], ◌∷◌, ◌<◌, length, ◌==◌, if◌then◌else◌};
+ghost use Rattle.pack.specs.Notation.{◌<ᵇ◌, ◌≐◌};
+ghost use Rattle.pack.specs.Items.{bytes_of};
+ghost use Rattle.pack.specs.Loaded.{tree_of, pgn_value};
+ghost use Rattle.pack.specs.Meaning.{optional_repeating, field_meaning, pack_of};
+ghost use Rattle.pack.specs.Value.{field_at};
+ghost use Rattle.rules.specs.Emit.{Emitted};
+ghost use Rattle.rules.specs.Findings.{report_if, pgn_error};
+ghost use Rattle.rules.specs.Floats.{float_eq, ZERO};
+ghost use Rattle.rules.specs.Texts.{NUMBER};
+ghost use Rattle.rules.specs.Model.{fieldtype_of, root_of, value_bits};
+ghost use Rattle.rules.specs.Continues.{holds_order, set_of, integer, differs_from, not_raw, continued_by, continued_at, continues_at, check_continues};
+
+use crate::Finding;
+use crate::emit::{Findings, pgn_error};
+use crate::floats::{ONE, ZERO, float_eq};
+use crate::model::{is_text, value_bits};
+use crate::searches::counted;
+use crate::targets::{first_with_id, integer};
+use pack::field::FieldView;
+use pack::loaded::{Pack, PgnRef};
+use pack::pgn::{RepeatingView, set_at};
+use pack::protocol::{FieldIndex, FieldOrder, among};
+use pack::text::{Text, text_is};
+
+// The set holds the order.
+pub fn holds_order(set: Option<RepeatingView>, order: FieldOrder) -> bool
+    ensures { result ≡ holds_order (optional_repeating set) order.0 }
+{
+    match set {
+        Some(given) => among(order, given.start, given.count),
+        None => false,
+    }
+}
+
+// The highest place whose set holds field k, from 1; 0 for none.
+#[tactic(auto, unfolding(crate::specs::Continues::set_of))]
+fn set_of(pgn: &PgnRef, k: u32) -> u32
+    requires { k < pgn.now.view.fields }
+    ensures { result ≡ set_of (pgn_value pgn.now) k }
+{
+    let order = FieldIndex(k).order();
+    for j in (0..pgn.view.places).rev() {
+        if holds_order(set_at(pgn.view, j), order) {
+            return j + 1;
+        }
+    }
+    0
+}
+
+// Given, and not the float.
+fn differs_from(o: Option<u64>, c: u64) -> bool
+    ensures { result ≡ differs_from o c }
+{
+    match o {
+        Some(pattern) => !float_eq(pattern, c),
+        None => false,
+    }
+}
+
+// What a continuing field has of its own beside its bits.
+#[tactic(auto, unfolding(crate::specs::Continues::not_raw))]
+fn not_raw(s: &[u8], f: FieldView) -> bool
+    ensures { result ≡ not_raw (field_meaning s.now f) }
+{
+    differs_from(f.authored.resolution, ONE)
+        || differs_from(f.authored.offset, ZERO)
+        || f.flags.unit
+        || f.links.reference.is_some()
+        || f.authored.matched.is_some()
+        || f.authored.spn.is_some()
+}
+
+// How many fields of the PGN do.
+#[tactic(auto, using(crate::specs::SearchLaws::count_turn), unfolding(crate::specs::Continues::continued_by))]
+fn continued_by(pgn: &PgnRef, id: Text) -> u32
+    ensures { result ≡ continued_by (pgn_value pgn.now) (bytes_of pgn.now.pack.bytes.now id) }
+{
+    let fields = pgn.view.fields;
+    let mut count: u32 = 0;
+    for k in 0..fields {
+        let f = pgn.field(k);
+        let hit = is_text(pgn.pack.bytes, f.authored.continues, id);
+        count = counted(count, hit);
+    }
+    count
+}
+
+// Not integers: the field low and the field f that continues it.
+#[tactic(auto, using(crate::proofs::Types::integer_is))]
+fn not_integers(pack: &Pack, low: FieldView, f: FieldView) -> bool
+    requires { record {
+      low_type : low.ft < length (pack_of pack.now.bytes.now).fieldtypes;
+      type : f.ft < length (pack_of pack.now.bytes.now).fieldtypes;
+    } }
+    ensures { result ≡
+        (not (integer (pack_of pack.now.bytes.now).fieldtypes (field_meaning pack.now.bytes.now low)) || not
+        (root_of (pack_of pack.now.bytes.now).fieldtypes (field_meaning pack.now.bytes.now f) ≐ NUMBER)) }
+{
+    let v = pack.field_type(low.ft);
+    let u = pack.field_type(f.ft);
+    !integer(pack.bytes, v) || !text_is(pack.bytes, u.root, b"NUMBER")
+}
+
+// A sign or an offset.
+fn not_plain(pack: &Pack, low: FieldView) -> bool
+    requires { low.ft < length (pack_of pack.now.bytes.now).fieldtypes }
+    ensures { result ≡
+        ((fieldtype_of (pack_of pack.now.bytes.now).fieldtypes (field_meaning pack.now.bytes.now low)).signed || not
+        (float_eq low.scaling.offset ZERO)) }
+{
+    let v = pack.field_type(low.ft);
+    v.signed || !float_eq(low.scaling.offset, ZERO)
+}
+
+// Wider than 64 bits with its continuation.
+fn too_wide(s: &[u8], low: FieldView) -> bool
+    ensures { result ≡ (64 <ᵇ value_bits (field_meaning s.now low)) }
+{
+    64 < value_bits(s, low)
+}
+
+// A field that continues an earlier one, by its id.
+#[derive(Clone, Copy)]
+struct Continuing {
+    field: u32,
+    id: Text,
+    earlier: u32,
+}
+
+fn link_error(cause: u32, pgn: &PgnRef, link: Continuing) -> Finding
+    ensures { result ≡ pgn_error 43 cause (tree_of pgn.now) pgn.now.item link.field link.earlier }
+{
+    pgn_error(43, cause, pgn, link.field, link.earlier)
+}
+
+// Where a field lies that continues another: another set, no fixed distance, or not the only one.
+fn placed_at(out: &mut Findings, pgn: &PgnRef, link: Continuing, continued: bool)
+    requires { record { field : link.field < pgn.now.view.fields; earlier : link.earlier < link.field } }
+    ensures { Emitted out.old
+        (if not (set_of (pgn_value pgn.now) link.earlier == set_of (pgn_value pgn.now) link.field) then pgn_error 43 2
+        (tree_of pgn.now) pgn.now.item link.field link.earlier ∷ [] else (if not continued then pgn_error 43 3
+        (tree_of pgn.now) pgn.now.item link.field link.earlier ∷ [] else report_if
+        (1 <ᵇ continued_by (pgn_value pgn.now) (bytes_of pgn.now.pack.bytes.now link.id))
+        (pgn_error 43 4 (tree_of pgn.now) pgn.now.item link.field link.earlier))) out.new }
+{
+    if set_of(pgn, link.earlier) != set_of(pgn, link.field) {
+        out.put(link_error(2, pgn, link));
+        return;
+    }
+    if !continued {
+        out.put(link_error(3, pgn, link));
+        return;
+    }
+    let count = continued_by(pgn, link.id);
+    out.put_if(1 < count, link_error(4, pgn, link));
+}
+
+// Field f continues the earlier one.
+#[tactic(auto, using(crate::proofs::Fields::type_there))]
+fn continued_at(out: &mut Findings, pgn: &PgnRef, f: FieldView, link: Continuing)
+    requires { record {
+      field : link.field < pgn.now.view.fields;
+      earlier : link.earlier < link.field;
+      means : field_meaning pgn.now.pack.bytes.now f ≡ field_at (pgn_value pgn.now) link.field;
+    } }
+    ensures { Emitted out.old
+        (continued_at (pack_of pgn.now.pack.bytes.now).fieldtypes (tree_of pgn.now) pgn.now.item (pgn_value pgn.now) link.field
+        (field_at (pgn_value pgn.now) link.field) (bytes_of pgn.now.pack.bytes.now link.id) link.earlier
+        (field_at (pgn_value pgn.now) link.earlier)) out.new }
+{
+    let low = pgn.field(link.earlier);
+    let words = not_integers(&pgn.pack, low, f);
+    let dressed = not_raw(pgn.pack.bytes, f);
+    let scaled = not_plain(&pgn.pack, low);
+    let wide = too_wide(pgn.pack.bytes, low);
+    placed_at(out, pgn, link, low.links.continuation.is_some());
+    out.put_if(low.authored.continues.is_some(), link_error(5, pgn, link));
+    out.put_if(words, link_error(6, pgn, link));
+    out.put_if(dressed, link_error(7, pgn, link));
+    out.put_if(scaled, link_error(8, pgn, link));
+    out.put_if(wide, link_error(9, pgn, link));
+}
+
+// Field k, which is f.
+#[tactic(auto, unfolding(crate::specs::Continues::continues_at, crate::specs::Continues::continued_found_at))]
+fn continues_at(out: &mut Findings, pgn: &PgnRef, k: u32, f: FieldView)
+    requires { record {
+      field : k < pgn.now.view.fields;
+      means : field_meaning pgn.now.pack.bytes.now f ≡ field_at (pgn_value pgn.now) k;
+    } }
+    ensures { Emitted out.old
+        (continues_at (pack_of pgn.now.pack.bytes.now).fieldtypes (tree_of pgn.now) pgn.now.item (pgn_value pgn.now) k
+        (field_at (pgn_value pgn.now) k).continues) out.new }
+{
+    let Some(id) = f.authored.continues else {
+        return;
+    };
+    let Some(earlier) = first_with_id(pgn, k, id) else {
+        out.put(pgn_error(43, 1, pgn, k, 0));
+        return;
+    };
+    let link = Continuing {
+        field: k,
+        id,
+        earlier,
+    };
+    continued_at(out, pgn, f, link);
+}
+
+// R43: a `continues:` field adds high bits to an earlier, plain integer field of the same record, at a fixed distance from it.
+#[tactic(auto, unfolding(crate::specs::Continues::check_continues))]
+pub(crate) fn check_continues(out: &mut Findings, pgn: &PgnRef)
+    ensures { Emitted out.old
+        (check_continues (pack_of pgn.now.pack.bytes.now).fieldtypes (tree_of pgn.now) pgn.now.item (pgn_value pgn.now)) out.new }
+{
+    for k in 0..pgn.view.fields {
+        let f = pgn.field(k);
+        continues_at(out, pgn, k, f);
+    }
+}

@@ -1,0 +1,71 @@
+// R06
+ghost use Rattle.std.specs.Prelude.{◌≡◌, ◌||◌};
+ghost use Rattle.pack.specs.Notation.{◌≐◌};
+ghost use Rattle.pack.specs.Items.{bytes_of};
+ghost use Rattle.pack.specs.Loaded.{tree_of, pgn_value};
+ghost use Rattle.pack.specs.Meaning.{field_meaning, pack_of};
+ghost use Rattle.pack.specs.Value.{field_at};
+ghost use Rattle.rules.specs.DynamicLength.{have_length_source, dynamic_length_at, check_dynamic_length};
+ghost use Rattle.rules.specs.Emit.{Emitted};
+ghost use Rattle.rules.specs.Model.{root_of};
+ghost use Rattle.rules.specs.Texts.{DYNAMIC_FIELD_KEY};
+
+use crate::bools::and_not;
+use crate::emit::{Findings, pgn_error};
+use crate::model::root_of;
+use pack::field::FieldView;
+use pack::loaded::PgnRef;
+use pack::text::{Text, text_is};
+
+// Whether a field is a length source: dynamicFieldLength or DYNAMIC_FIELD_KEY.
+pub fn length_source(s: &[u8], dynamic: bool, root: Text) -> bool
+    ensures { result ≡ (dynamic || (bytes_of s.now root ≐ DYNAMIC_FIELD_KEY)) }
+{
+    dynamic || text_is(s, root, b"DYNAMIC_FIELD_KEY")
+}
+
+// Field k with its root's name, and whether there is a length source by then.
+fn dynamic_length_at(
+    out: &mut Findings,
+    pgn: &PgnRef,
+    k: u32,
+    f: FieldView,
+    root: Text,
+    have: bool,
+)
+    requires { record {
+      means : field_meaning pgn.now.pack.bytes.now f ≡ field_at (pgn_value pgn.now) k;
+      root : bytes_of pgn.now.pack.bytes.now root ≡ root_of (pack_of pgn.now.pack.bytes.now).fieldtypes (field_at (pgn_value pgn.now) k);
+      have : have ≡ have_length_source (pack_of pgn.now.pack.bytes.now).fieldtypes (pgn_value pgn.now) k;
+    } }
+    ensures { Emitted out.old
+        (dynamic_length_at (pack_of pgn.now.pack.bytes.now).fieldtypes (tree_of pgn.now) pgn.now.item (pgn_value pgn.now) k
+        (field_at (pgn_value pgn.now) k)) out.new }
+{
+    let s = pgn.pack.bytes;
+    let dynamic = f.flags.dynamic;
+    let is_length = text_is(s, root, b"DYNAMIC_FIELD_LENGTH");
+    let is_value = text_is(s, root, b"DYNAMIC_FIELD_VALUE");
+    out.put_if(and_not(dynamic, is_length), pgn_error(6, 1, pgn, k, 0));
+    out.put_if(
+        and_not(f.flags.overhead, dynamic),
+        pgn_error(6, 2, pgn, k, 0),
+    );
+    out.put_if(and_not(is_value, have), pgn_error(6, 3, pgn, k, 0));
+}
+
+// R06: DYNAMIC_FIELD_VALUE needs an earlier length source; overhead only on length fields; dynamicFieldLength only on
+// DYNAMIC_FIELD_LENGTH fields.
+#[tactic(auto, using(crate::proofs::Fields::type_there), unfolding(crate::specs::DynamicLength::check_dynamic_length))]
+pub(crate) fn check_dynamic_length(out: &mut Findings, pgn: &PgnRef)
+    ensures { Emitted out.old
+        (check_dynamic_length (pack_of pgn.now.pack.bytes.now).fieldtypes (tree_of pgn.now) pgn.now.item (pgn_value pgn.now)) out.new }
+{
+    let mut have = false;
+    for k in 0..pgn.view.fields {
+        let f = pgn.field(k);
+        let root = root_of(&pgn.pack, f.ft);
+        have |= length_source(pgn.pack.bytes, f.flags.dynamic, root);
+        dynamic_length_at(out, pgn, k, f, root, have);
+    }
+}
