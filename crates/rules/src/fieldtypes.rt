@@ -1,5 +1,5 @@
 // R23
-ghost use Rattle.std.specs.Prelude.{◌≡◌, ◌<◌, length, get_or};
+ghost use Rattle.std.specs.Prelude.{◌<◌, length, get_or};
 ghost use Rattle.pack.specs.Meaning.{pack_of};
 ghost use Rattle.pack.specs.Value.{no_field_type};
 ghost use Rattle.rules.specs.Emit.{Emitted};

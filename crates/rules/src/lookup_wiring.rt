@@ -129,7 +129,6 @@ fn check_all_refs(out: &mut Findings, pack: &Pack)
 }
 
 // R08, every reference resolves with the right kind and bit width; R22, every lookup is referenced somewhere.
-#[tactic(auto, unfolding(crate::specs::LookupWiring::check_lookup_wiring))]
 pub fn check_lookup_wiring(out: &mut Findings, pack: &Pack)
     ensures { Emitted out.old (check_lookup_wiring (pack_of pack.now.bytes.now)) out.new }
 {

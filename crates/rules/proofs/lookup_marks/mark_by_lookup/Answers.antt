@@ -1,14 +1,12 @@
 use Rattle.pack.specs.Loaded.{lookup_value}
-use Rattle.pack.specs.Meaning.{optional_bytes, pack_of}
-use Rattle.pack.specs.Value.{Entry}
+use Rattle.pack.specs.Meaning.{pack_of}
 use Rattle.rules.specs.LookupWiring.{referenced_by_lookup}
-use Rattle.rules.specs.Model.{is_text}
 use Rattle.rules.specs.Search.{any_below}
 use native.Mathlib.Omega.{arith}
 use mathlib.Core.Bool.{false}
 use mathlib.Core.Path.{◌≡◌, sym, ◌∙◌, ap}
 use lib.ListN.{length}
-use Rattle.rules.proofs.Marking.{marked_none, marked_as, marked_turn, nesting, not_nesting}
+use Rattle.rules.proofs.Marking.{marked_none, marked_as, nesting, not_nesting}
 use Rattle.rules.proofs.lookup_marks.mark_by_lookup.Invariants.{nests}
 use Rattle.rules.proofs.lookup_marks.mark_by_lookup.Goals as goal
 

@@ -1,12 +1,10 @@
 use Rattle.pack.specs.Loaded.{pgn_value}
-use Rattle.pack.specs.Meaning.{optional_reference, pack_of}
-use Rattle.pack.specs.Value.{Field}
-use Rattle.rules.specs.LookupWiring.{ref_is, referenced_by_pgn}
+use Rattle.rules.specs.LookupWiring.{referenced_by_pgn}
 use Rattle.rules.specs.Search.{any_below}
 use native.Mathlib.Omega.{arith}
 use mathlib.Core.Path.{◌≡◌, ap}
 use lib.ListN.{length}
-use Rattle.rules.proofs.Marking.{marked_none, marked_as, marked_turn}
+use Rattle.rules.proofs.Marking.{marked_as}
 use Rattle.rules.proofs.lookup_marks.mark_by_pgn.Invariants.{refers}
 use Rattle.rules.proofs.lookup_marks.mark_by_pgn.Goals as goal
 

@@ -4,10 +4,10 @@ use Rattle.pack.proofs.Turns.{pgns_turn, pgns_given}
 use Rattle.rules.specs.LookupWiring.{referenced_by_tree}
 use Rattle.rules.specs.Search.{any_below}
 use native.Mathlib.Omega.{arith}
-use mathlib.Core.Path.{◌≡◌, ap}
+use mathlib.Core.Path.{ap}
 use lib.ListN.{length}
 use Rattle.rules.proofs.Loops.{one_more}
-use Rattle.rules.proofs.Marking.{marked_none, marked_as, marked_turn}
+use Rattle.rules.proofs.Marking.{marked_as, marked_turn}
 use Rattle.rules.proofs.lookup_marks.mark_by_tree.Invariants.{has}
 use Rattle.rules.proofs.lookup_marks.mark_by_tree.Goals as goal
 

@@ -3,7 +3,7 @@ use Rattle.pack.specs.Value.{entry_at}
 use Rattle.pack.specs.declared.loaded.LookupRef.{LookupRef}
 use Rattle.rules.specs.LookupNames.{same_name}
 use Rattle.rules.specs.Search.{latest_below}
-use Prim.Native.Nat.{ℕ, ◌≤◌}
+use Prim.Native.Nat.{ℕ}
 use mathlib.Core.Bool.{Bool}
 use mathlib.Core.Path.{◌≡◌}
 use Rattle.rules.proofs.lookup_names.latest_same_name.Given as goal

@@ -8,7 +8,6 @@ use Rattle.rules.specs.Marks.{Clear, Marked}
 use Rattle.rules.specs.declared.Finding.{Finding}
 use Rattle.rules.specs.declared.emit.Findings.{Findings}
 use Prim.Native.Nat.{ℕ}
-use native.Mathlib.Omega.{arith}
 use mathlib.Core.Bool.{Bool, false, not}
 use mathlib.Core.List.{List}
 use mathlib.Core.Path.{◌≡◌, sym, ◌∙◌, ap}

@@ -5,7 +5,7 @@ use Rattle.pack.specs.Value.{entry_at}
 use Rattle.pack.specs.declared.entry.EntryView.{EntryView}
 use Rattle.pack.specs.declared.loaded.LookupRef.{LookupRef}
 use Rattle.rules.specs.Model.{is_text}
-use Rattle.rules.specs.SearchLaws.{any_turn, any_hit}
+use Rattle.rules.specs.SearchLaws.{any_hit}
 use Prim.Native.Nat.{ℕ}
 use native.Mathlib.Omega.{arith}
 use mathlib.Core.Bool.{Bool}

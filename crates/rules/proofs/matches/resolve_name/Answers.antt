@@ -7,7 +7,7 @@ use Rattle.pack.specs.Value.{Bytes, Entry, Lookup, Reference, lookup_at}
 use Rattle.pack.specs.declared.loaded.LookupRef.{LookupRef}
 use mathlib.Core.Bool.{◌||◌, Bool, true, false}
 use Prim.Native.Nat.{ℕ}
-use mathlib.Core.Path.{◌≡◌, refl, ap, sym, ◌∙◌}
+use mathlib.Core.Path.{◌≡◌, refl, ap, ◌∙◌}
 use mathlib.Core.List.{List, []}
 use Rattle.rules.proofs.matches.resolve_name.Goals as goal
 
