@@ -1,11 +1,6 @@
 use Rattle.rules.specs.Continues.{check_continues}
-use Rattle.rules.proofs.Sizes.{fields_few}
-use Rattle.rules.proofs.Emits.{fits_turn, reporting_none, reporting_turn}
-use Rattle.pack.specs.Meaning.{pack_of}
-use Rattle.pack.specs.Value.{pgn_at}
+use Rattle.rules.proofs.Emits.{fits_turn, reporting_turn}
 use native.Mathlib.Omega.{arith}
-use mathlib.Core.Path.{◌≡◌}
-use lib.ListN.{length}
 use Rattle.rules.proofs.continues.check_continues.Invariants.{of_field}
 use Rattle.rules.proofs.continues.check_continues.Goals as goal
 

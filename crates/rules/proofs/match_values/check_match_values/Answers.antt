@@ -1,11 +1,8 @@
-use Rattle.rules.proofs.Sizes.{fields_few}
 use Rattle.rules.specs.MatchValues.{match_value_at, check_match_values}
-use Rattle.rules.proofs.Emits.{fits_turn, reporting_none, reporting_turn}
+use Rattle.rules.proofs.Emits.{fits_turn, reporting_turn}
 use Rattle.pack.specs.Meaning.{pack_of}
 use Rattle.pack.specs.Value.{pgn_at}
 use native.Mathlib.Omega.{arith}
-use mathlib.Core.Path.{◌≡◌}
-use lib.ListN.{length}
 use Rattle.rules.proofs.match_values.check_match_values.Goals as goal
 
 pub match_value_at-m-requires : goal.match_value_at-m-requires

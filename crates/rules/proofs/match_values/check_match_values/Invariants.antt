@@ -2,7 +2,6 @@ use Rattle.rules.specs.Emit.{Reporting}
 use Rattle.rules.specs.MatchValues.{match_value_at}
 use Rattle.pack.specs.Meaning.{pack_of}
 use Rattle.pack.specs.Value.{pgn_at}
-use Prim.Native.Nat.{◌-◌}
 use Rattle.rules.proofs.match_values.check_match_values.Given as goal
 
 abbrev pub invariant-loop-k : goal.invariant-loop-k

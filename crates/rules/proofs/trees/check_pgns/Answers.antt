@@ -1,9 +1,8 @@
 use Rattle.pack.proofs.Positions.{pgn_place_next}
-use Rattle.rules.proofs.Sizes.{at_pgn, fields_few, pgns_few}
+use Rattle.rules.proofs.Sizes.{at_pgn, fields_few}
 use native.Mathlib.Omega.{arith}
-use mathlib.Core.Path.{◌≡◌}
 use Rattle.pack.specs.Meaning.{pack_of}
-use Rattle.rules.proofs.Emits.{fits_turn, reporting_none, reporting_turn}
+use Rattle.rules.proofs.Emits.{fits_turn, reporting_turn}
 use Rattle.rules.proofs.trees.check_pgns.Invariants.{of_pgn}
 use Rattle.rules.proofs.trees.check_pgns.Goals as goal
 

@@ -1,7 +1,7 @@
 use Rattle.rules.specs.Emit.{Reporting}
 use Rattle.rules.specs.Check.{check_pgn}
 use Rattle.pack.specs.Ready.{place_of_pgn}
-use Prim.Native.Nat.{ℕ, ◌-◌}
+use Prim.Native.Nat.{ℕ}
 use mathlib.Core.Path.{◌≡◌}
 use mathlib.Core.List.{List}
 use Rattle.pack.specs.Meaning.{pack_of}

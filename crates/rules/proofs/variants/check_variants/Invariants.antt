@@ -1,7 +1,7 @@
 use Rattle.rules.specs.Emit.{Reporting}
 use Rattle.rules.specs.Search.{ranked}
 use Rattle.rules.specs.Variants.{least_group, group_findings}
-use Prim.Native.Nat.{ℕ, ◌-◌}
+use Prim.Native.Nat.{ℕ}
 use mathlib.Core.Path.{◌≡◌}
 use mathlib.Core.List.{List}
 use Rattle.std.specs.Prelude.{Option}

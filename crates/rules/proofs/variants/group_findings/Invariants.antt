@@ -2,7 +2,7 @@ use Rattle.rules.specs.Emit.{Reporting}
 use Rattle.pack.specs.Ready.{place_of_pgn}
 use Rattle.rules.specs.Variants.{in_group, has_match, variant_at}
 use Rattle.rules.specs.Search.{count_below}
-use Prim.Native.Nat.{ℕ, ◌-◌, ◌≤◌}
+use Prim.Native.Nat.{ℕ, ◌≤◌}
 use mathlib.Core.Path.{◌≡◌}
 use mathlib.Core.Bool.{Bool, not, ◌&&◌}
 use mathlib.Core.List.{List}

@@ -1,7 +1,7 @@
 use Rattle.pack.specs.Ready.{place_of_pgn}
 use Rattle.rules.specs.Variants.{in_group, duplicates}
 use Rattle.rules.specs.Search.{latest_below}
-use Prim.Native.Nat.{ℕ, ◌-◌, ◌≤◌}
+use Prim.Native.Nat.{ℕ, ◌≤◌}
 use mathlib.Core.Path.{◌≡◌}
 use mathlib.Core.Bool.{Bool, ◌&&◌}
 use mathlib.Core.List.{List}
