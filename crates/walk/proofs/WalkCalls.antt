@@ -180,5 +180,6 @@ walk_promised s t i readings w o w' o' r a e =
       visits = a.out;
     }
 
-pub held_promised : (s : List ℕ) (t i : ℕ) (w w' : List ℕ) (r : Result Bool Refusal) → r ≡ held_told s (length w) t i → w' ≡ work_after s w → TellsHeld s t i w w' r
+pub held_promised : (s : List ℕ) (t i : ℕ) (w w' : List ℕ) (r : Result Bool Refusal) → r ≡ held_told s (length w) t i → w' ≡ work_after s w
+    → TellsHeld s t i w w' r
 held_promised s t i w w' r a e = record { answer = a; told = ap held_answer a ∙ held_numbers s (length w) t i; work = e }
