@@ -4,6 +4,7 @@ ghost use Rattle.rules.specs.Emit.{Emitted};
 ghost use Rattle.rules.specs.FrameLength.{check_frame_length};
 
 use crate::emit::{Findings, pgn_error};
+use pack::kinds::MessageType;
 use pack::loaded::PgnRef;
 
 // R04: fixed single-frame PGNs are exactly 8 bytes (ISO Request 59904 excepted); a variable one's fixed part must fit the frame.
@@ -11,7 +12,7 @@ use pack::loaded::PgnRef;
 pub fn check_frame_length(out: &mut Findings, pgn: &PgnRef)
     ensures { Emitted out.old (check_frame_length (tree_of pgn.now) pgn.now.item (pgn_value pgn.now)) out.new }
 {
-    if pgn.view.kind != 0 {
+    if pgn.view.kind != MessageType::Single {
         return;
     }
     let variable = pgn.view.flags.variable;

@@ -11,6 +11,7 @@ ghost use Rattle.rules.specs.Model.{is_text};
 ghost use Rattle.rules.specs.Search.{any_below};
 ghost use Rattle.rules.specs.LookupWiring.{ref_is, referenced_by_pgn, referenced_by_tree, referenced_by_lookup, referenced};
 
+use crate::lookups::has_fieldtypes;
 use pack::field::ReferenceView;
 use pack::loaded::{LookupRef, Pack, PgnRef};
 use pack::protocol::Protocol;
@@ -84,7 +85,7 @@ fn mark_by_lookup(marks: &mut [bool], lookup: &LookupRef)
     requires { length (pack_of lookup.now.pack.bytes.now).lookups ≤ length marks.now }
     ensures { Marked (pack_of lookup.now.pack.bytes.now) marks.old (λ n. referenced_by_lookup n (lookup_value lookup.now)) marks.new }
 {
-    if lookup.view.kind != 3 {
+    if !has_fieldtypes(lookup) {
         return;
     }
     for e in 0..lookup.view.entries {

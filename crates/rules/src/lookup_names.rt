@@ -1,5 +1,6 @@
 // R24
 ghost use Rattle.std.specs.Prelude.{◌≡◌, ◌<◌, length};
+ghost use Rattle.pack.specs.Kinds.{kind_number};
 ghost use Rattle.pack.specs.Loaded.{lookup_value};
 ghost use Rattle.pack.specs.Notation.{concat_below};
 ghost use Rattle.pack.specs.Value.{entry_at, lookup_at};
@@ -11,15 +12,16 @@ ghost use Rattle.rules.specs.LookupNames.{same_name, same_name_as, lookup_names_
 use crate::emit::{Findings, lookup_error};
 use crate::searches::latest;
 use pack::entry::EntryView;
+use pack::kinds::LookupKind;
 use pack::loaded::{LookupRef, Pack};
 use pack::text::{same_text, text_is};
 
 // One name, of a triplet under one first value.
 #[tactic(auto, unfolding(crate::specs::LookupNames::same_name))]
-fn same_name(s: &[u8], kind: u32, a: EntryView, b: EntryView) -> bool
-    ensures { result ≡ same_name kind (entry_meaning s.now a) (entry_meaning s.now b) }
+fn same_name(s: &[u8], kind: LookupKind, a: EntryView, b: EntryView) -> bool
+    ensures { result ≡ same_name (kind_number kind) (entry_meaning s.now a) (entry_meaning s.now b) }
 {
-    (kind != 1 || a.first == b.first) && same_text(s, a.name, b.name)
+    (kind != LookupKind::Triplet || a.first == b.first) && same_text(s, a.name, b.name)
 }
 
 // The latest entry before e of its name.

@@ -15,6 +15,7 @@ ghost use Rattle.rules.specs.LookupWiring.{ref_is, referenced_by_pgn, referenced
 
 use crate::emit::{Findings, lookup_warning};
 use crate::lookup_marks::mark_referenced;
+use crate::lookups::has_fieldtypes;
 use crate::model::is_text;
 use pack::field::ReferenceView;
 use pack::loaded::{LookupRef, Pack, PgnRef};
@@ -70,7 +71,7 @@ fn referenced_by_trees(pack: &Pack, name: Text) -> bool
 fn referenced_by_lookup(lookup: &LookupRef, name: Text) -> bool
     ensures { result ≡ referenced_by_lookup (bytes_of lookup.now.pack.bytes.now name) (lookup_value lookup.now) }
 {
-    if lookup.view.kind != 3 {
+    if !has_fieldtypes(lookup) {
         return false;
     }
     for e in 0..lookup.view.entries {

@@ -1,5 +1,6 @@
 // R08 and R22
 ghost use Rattle.std.specs.Prelude.{◌≡◌, not, ◌&&◌, length, ◌==◌};
+ghost use Rattle.pack.specs.Kinds.{kind_number};
 ghost use Rattle.pack.specs.Notation.{concat_below};
 ghost use Rattle.pack.specs.Value.{pgns_of, pgn_at};
 ghost use Rattle.pack.specs.Loaded.{lookup_value, pgn_value, tree_of};
@@ -16,15 +17,16 @@ use crate::model::value_bits;
 use crate::nested_refs::check_all_nested_refs;
 use crate::widths::exceeds;
 use pack::field::FieldView;
+use pack::kinds::LookupKind;
 use pack::loaded::{LookupRef, Pack, PgnRef};
 use pack::protocol::Protocol;
 
 // A field of this width can't have the value: a bit's position counts from 0.
 #[tactic(auto, unfolding(crate::specs::LookupWiring::beyond_width))]
-fn beyond_width(kind: u32, width: u64, value: u64) -> bool
-    ensures { result ≡ beyond_width kind width value }
+fn beyond_width(kind: LookupKind, width: u64, value: u64) -> bool
+    ensures { result ≡ beyond_width (kind_number kind) width value }
 {
-    if kind == 2 {
+    if kind == LookupKind::Bit {
         return width <= value;
     }
     width < 64 && exceeds(width as u32, value)
@@ -45,10 +47,10 @@ fn unreachable(lookup: &LookupRef, width: u64) -> bool
 }
 
 // Whether an unreachable value is reported: bit positions out of the width are let pass in a shared bit lookup.
-fn is_finding(lost: bool, kind: u32, allowed: bool) -> bool
-    ensures { result ≡ (lost && not ((kind == 2) && allowed)) }
+fn is_finding(lost: bool, kind: LookupKind, allowed: bool) -> bool
+    ensures { result ≡ (lost && not ((kind_number kind == 2) && allowed)) }
 {
-    lost && !(kind == 2 && allowed)
+    lost && !(kind == LookupKind::Bit && allowed)
 }
 
 // Causes 3 to 5, field k, which is f, and the lookup of its reference.

@@ -1,6 +1,7 @@
 // R02
 ghost use Rattle.std.specs.Option.{option_map};
 ghost use Rattle.std.specs.Prelude.{◌≡◌, not, ◌&&◌, ◌||◌, ◌%◌, map, ◌==◌};
+ghost use Rattle.pack.specs.Kinds.{message_type_number};
 ghost use Rattle.pack.specs.Loaded.{tree_of, pgn_value};
 ghost use Rattle.pack.specs.Trees.{tree_number};
 ghost use Rattle.rules.specs.Emit.{Emitted};
@@ -8,24 +9,16 @@ ghost use Rattle.rules.specs.Pdu1.{pdu1, range_of};
 ghost use Rattle.rules.specs.PgnRange.{ranges_of, find_range, quick_range, found_range, check_pgn_range};
 
 use crate::emit::{Findings, pgn_error};
+use pack::kinds::MessageType;
 use pack::loaded::PgnRef;
 use pack::protocol::Protocol;
-
-// The packet types.
-const SINGLE: u32 = 0;
-
-const FAST: u32 = 1;
-
-const ISO: u32 = 2;
-
-const MIXED: u32 = 3;
 
 // The PGNs from start to end, and their packet type. Those of PDU1 go in steps of 256.
 #[derive(Clone, Copy)]
 pub struct Range {
     pub start: u32,
     pub end: u32,
-    pub kind: u32,
+    pub kind: MessageType,
 }
 
 // pgn.h pgnRange[]
@@ -33,42 +26,42 @@ const PGN_RANGES: [Range; 8] = [
     Range {
         start: 0xe800,
         end: 0xee00,
-        kind: SINGLE,
+        kind: MessageType::Single,
     },
     Range {
         start: 0xef00,
         end: 0xef00,
-        kind: SINGLE,
+        kind: MessageType::Single,
     },
     Range {
         start: 0xf000,
         end: 0xfeff,
-        kind: SINGLE,
+        kind: MessageType::Single,
     },
     Range {
         start: 0xff00,
         end: 0xffff,
-        kind: SINGLE,
+        kind: MessageType::Single,
     },
     Range {
         start: 0x1ed00,
         end: 0x1ee00,
-        kind: FAST,
+        kind: MessageType::Fast,
     },
     Range {
         start: 0x1ef00,
         end: 0x1ef00,
-        kind: FAST,
+        kind: MessageType::Fast,
     },
     Range {
         start: 0x1f000,
         end: 0x1feff,
-        kind: MIXED,
+        kind: MessageType::Mixed,
     },
     Range {
         start: 0x1ff00,
         end: 0x1ffff,
-        kind: FAST,
+        kind: MessageType::Fast,
     },
 ];
 
@@ -77,52 +70,52 @@ const J1939_PGN_RANGES: [Range; 10] = [
     Range {
         start: 0x0000,
         end: 0xe700,
-        kind: ISO,
+        kind: MessageType::Iso,
     },
     Range {
         start: 0xe800,
         end: 0xee00,
-        kind: SINGLE,
+        kind: MessageType::Single,
     },
     Range {
         start: 0xef00,
         end: 0xef00,
-        kind: SINGLE,
+        kind: MessageType::Single,
     },
     Range {
         start: 0xf000,
         end: 0xfeff,
-        kind: SINGLE,
+        kind: MessageType::Single,
     },
     Range {
         start: 0xff00,
         end: 0xffff,
-        kind: SINGLE,
+        kind: MessageType::Single,
     },
     Range {
         start: 0x10000,
         end: 0x1ec00,
-        kind: ISO,
+        kind: MessageType::Iso,
     },
     Range {
         start: 0x1ed00,
         end: 0x1ee00,
-        kind: ISO,
+        kind: MessageType::Iso,
     },
     Range {
         start: 0x1ef00,
         end: 0x1ef00,
-        kind: ISO,
+        kind: MessageType::Iso,
     },
     Range {
         start: 0x1f000,
         end: 0x1feff,
-        kind: ISO,
+        kind: MessageType::Iso,
     },
     Range {
         start: 0x1ff00,
         end: 0x1ffff,
-        kind: ISO,
+        kind: MessageType::Iso,
     },
 ];
 
@@ -164,10 +157,10 @@ fn pdu1_unended(pgn: u32) -> bool
 }
 
 // A packet type that does not agree with the range's.
-fn disagrees(range: u32, kind: u32) -> bool
-    ensures { result ≡ not ((range == kind) || (range == 3) || (kind == 2)) }
+fn disagrees(range: MessageType, kind: MessageType) -> bool
+    ensures { result ≡ not ((message_type_number range == message_type_number kind) || (message_type_number range == 3) || (message_type_number kind == 2)) }
 {
-    range != kind && range != MIXED && kind != ISO
+    range != kind && range != MessageType::Mixed && kind != MessageType::Iso
 }
 
 // Quick's "PGN" is an 11-bit CAN identifier, and one frame is the whole message.
@@ -176,7 +169,10 @@ fn quick_range(out: &mut Findings, pgn: &PgnRef)
     ensures { Emitted out.old (quick_range (tree_of pgn.now) pgn.now.item (pgn_value pgn.now)) out.new }
 {
     out.put_if(QUICK_MOST < pgn.view.pgn, pgn_error(2, 1, pgn, 0, 0));
-    out.put_if(pgn.view.kind != SINGLE, pgn_error(2, 2, pgn, 0, 0));
+    out.put_if(
+        pgn.view.kind != MessageType::Single,
+        pgn_error(2, 2, pgn, 0, 0),
+    );
 }
 
 // A PGN beside the range that was found for it.

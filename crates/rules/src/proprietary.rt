@@ -12,6 +12,7 @@ use crate::emit::{Findings, pgn_error};
 use crate::is_manufacturer_pgn;
 use crate::model::root_of;
 use pack::field::FieldView;
+use pack::kinds::LookupKind;
 use pack::loaded::{Pack, PgnRef};
 use pack::text::text_is;
 
@@ -20,7 +21,8 @@ fn is_pair(s: &[u8], f: FieldView, name: &[u8], bits: u32) -> bool
     ensures { result ≡ (pair_is (optional_reference s.now f.links.reference) name.now && (f.scaling.bits == bits)) }
 {
     let reference = f.links.reference;
-    reference.is_some_and(|r| r.kind == 0 && text_is(s, r.name, name)) && f.scaling.bits == bits
+    reference.is_some_and(|r| r.kind == LookupKind::Pair && text_is(s, r.name, name))
+        && f.scaling.bits == bits
 }
 
 // A RESERVED field of so many bits.

@@ -10,11 +10,11 @@ use Rattle.rules.proofs.Marking.{marked_none, marked_as, nesting, not_nesting}
 use Rattle.rules.proofs.lookup_marks.mark_by_lookup.Invariants.{nests}
 use Rattle.rules.proofs.lookup_marks.mark_by_lookup.Goals as goal
 
-pub returns-then-lookup-ne3 : goal.returns-then-lookup-ne3
-returns-then-lookup-ne3 c =
+pub returns-then-not-has_fieldtypes : goal.returns-then-not-has_fieldtypes
+returns-then-not-has_fieldtypes c =
     let x = c.args.lookup.now in
     marked_as (λ n. false) (λ n. referenced_by_lookup n (lookup_value x))
-    (λ n. sym (not_nesting x.pack.bytes.now n (lookup_value x) x.view x.is c.if-lookup-ne3.true))
+    (λ n. sym (not_nesting n (lookup_value x) (sym c.has_fieldtypes.ensures ∙ c.if-not-has_fieldtypes.true)))
     (marked_none (pack_of x.pack.bytes.now) c.args.marks.now)
 
 pub returns : goal.returns
@@ -22,4 +22,4 @@ returns c =
     let x = c.args.lookup.now in
     let q : length (lookup_value x).entries ≡ c.loop-e.e = omega (arith, x.is.entries, c.loop-e.auto.e-end, c.loop-e-test.false) in
     marked_as (λ n. any_below (nests x n) c.loop-e.e) (λ n. referenced_by_lookup n (lookup_value x))
-    (λ n. sym (nesting x.pack.bytes.now n (lookup_value x) x.view x.is c.if-lookup-ne3.false ∙ ap (any_below (nests x n)) q)) c.loop-e.invariant
+    (λ n. sym (nesting n (lookup_value x) (sym c.has_fieldtypes.ensures ∙ c.if-not-has_fieldtypes.false) ∙ ap (any_below (nests x n)) q)) c.loop-e.invariant

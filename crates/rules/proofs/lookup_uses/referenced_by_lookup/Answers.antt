@@ -20,22 +20,22 @@ said : (x : LookupRef) (name : List ℕ) (e : ℕ) (v : EntryView) (r : Bool) �
     → r ≡ is_text (optional_bytes x.pack.bytes.now v.nested) name → nests x name e ≡ r
 said x name e v r y h = sym (h ∙ (λ j. is_text (y j).nested name))
 
-pub returns-then-lookup-ne3 : goal.returns-then-lookup-ne3
-returns-then-lookup-ne3 c =
+pub returns-then-not-has_fieldtypes : goal.returns-then-not-has_fieldtypes
+returns-then-not-has_fieldtypes c =
     let x = c.args.lookup.now in
-    sym (not_nesting x.pack.bytes.now (bytes_of x.pack.bytes.now c.args.name) (lookup_value x) x.view x.is c.if-lookup-ne3.true)
+    sym (not_nesting (bytes_of x.pack.bytes.now c.args.name) (lookup_value x) (sym c.has_fieldtypes.ensures ∙ c.if-not-has_fieldtypes.true))
 
 pub returns-then-is_text : goal.returns-then-is_text
 returns-then-is_text c =
     let x = c.args.lookup.now in
     let name = bytes_of x.pack.bytes.now c.args.name in
     let h = said x name c.loop-e.e c.entry-entry.result c.is_text.result c.entry-entry.ensures c.is_text.ensures in
-    sym (nesting x.pack.bytes.now name (lookup_value x) x.view x.is c.if-lookup-ne3.false
+    sym (nesting name (lookup_value x) (sym c.has_fieldtypes.ensures ∙ c.if-not-has_fieldtypes.false)
     ∙ any_hit (nests x name) (length (lookup_value x).entries) c.loop-e.e (omega (arith, c.loop-e-test.true, x.is.entries)) (h ∙ c.if-is_text.true))
 
 pub returns : goal.returns
 returns c =
     let x = c.args.lookup.now in
     let q : length (lookup_value x).entries ≡ c.loop-e.e = omega (arith, x.is.entries, c.loop-e.auto.e-end, c.loop-e-test.false) in
-    sym (nesting x.pack.bytes.now (bytes_of x.pack.bytes.now c.args.name) (lookup_value x) x.view x.is c.if-lookup-ne3.false
+    sym (nesting (bytes_of x.pack.bytes.now c.args.name) (lookup_value x) (sym c.has_fieldtypes.ensures ∙ c.if-not-has_fieldtypes.false)
     ∙ (rw (q, c.loop-e.invariant)))

@@ -21,21 +21,21 @@ use Rattle.rules.proofs.nested_refs.check_nested_refs.Invariants.{of_entry}
 use Rattle.rules.proofs.nested_refs.check_nested_refs.Goals as goal
 
 module _ (x : LookupRef) where
-  others : (x.view.kind ≡ 3 → ⊥) → check_nested_refs (pack_of x.pack.bytes.now) x.item (lookup_value x) ≡ []
+  others : ((lookup_value x).kind == 3) ≡ false → check_nested_refs (pack_of x.pack.bytes.now) x.item (lookup_value x) ≡ []
   unfolding check_nested_refs fieldtypes
-  others h = let e : ((lookup_value x).kind == 3) ≡ false = ap (λ (L : Lookup). L.kind == 3) (sym x.is.means) ∙ ne_eqb x.view.kind 3 h in rw e
+  others e = rw e
 
-  nesting : x.view.kind ≡ 3 → check_nested_refs (pack_of x.pack.bytes.now) x.item (lookup_value x) ≡ concat_below (of_entry x) (length (lookup_value x).entries)
+  nesting : ((lookup_value x).kind == 3) ≡ true
+      → check_nested_refs (pack_of x.pack.bytes.now) x.item (lookup_value x) ≡ concat_below (of_entry x) (length (lookup_value x).entries)
   unfolding check_nested_refs fieldtypes
-  nesting h =
-      let e : ((lookup_value x).kind == 3) ≡ true = ap (λ (L : Lookup). L.kind == 3) (sym x.is.means) ∙ eq-eqb x.view.kind 3 h in rw e
+  nesting e = rw e
 
   told : {o o' : Findings} (e : ℕ) (v : EntryView) → entry_meaning x.pack.bytes.now v ≡ entry_at (lookup_value x).entries e
       → Emitted o (fieldtype_entry_at (pack_of x.pack.bytes.now) x.item e (entry_meaning x.pack.bytes.now v)) o' → Emitted o (of_entry x e) o'
   told e v is h = rw is at h
 
-pub returns-then-lookup-ne3 : goal.returns-then-lookup-ne3
-returns-then-lookup-ne3 c = rw (others c.args.lookup.now c.if-lookup-ne3.true) (emitted_none c.args.out.now)
+pub returns-then-not-has_fieldtypes : goal.returns-then-not-has_fieldtypes
+returns-then-not-has_fieldtypes c = rw (others c.args.lookup.now (sym c.has_fieldtypes.ensures ∙ c.if-not-has_fieldtypes.true)) (emitted_none c.args.out.now)
 
 pub loop-e-preserved : goal.loop-e-preserved
 loop-e-preserved c =
@@ -46,4 +46,4 @@ pub returns : goal.returns
 returns c =
     let x = c.args.lookup.now in
     let q : length (lookup_value x).entries ≡ c.loop-e.e = omega (arith, x.is.entries, c.loop-e.invariant.turns, c.loop-e-test.false) in
-    rw (nesting x c.if-lookup-ne3.false, q) c.loop-e.invariant.emitted
+    rw (nesting x (sym c.has_fieldtypes.ensures ∙ c.if-not-has_fieldtypes.false), q) c.loop-e.invariant.emitted

@@ -6,6 +6,7 @@ use lib.Seq.{drop-cons}
 use Rattle.std.specs.Prelude.{None, Some}
 use mathlib.Core.List.{List, map}
 use Prim.Native.Nat.{ℕ, ◌+◌, ◌≤◌, ◌<◌}
+use Rattle.pack.specs.declared.kinds.MessageType.TheVariants.{Single}
 use native.Mathlib.Numerals.{add-one}
 use native.Mathlib.Omega.{arith}
 use mathlib.Core.Path.{◌≡◌, ◌∙◌}
@@ -13,7 +14,7 @@ use borrow.Author.Tests.{le-leb, lt-leb}
 use Rattle.rules.proofs.pgn_range.find_range.Goals as goal
 
 abbrev beyond : Range
-beyond = record { start = 0; end = 0; kind = 0 }
+beyond = record { start = 0; end = 0; kind = Single }
 
 -- a table from row j on
 module _ (rs : List Range) (n j : ℕ) where
