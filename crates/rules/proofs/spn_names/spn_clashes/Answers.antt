@@ -24,8 +24,11 @@ pub returns-in_default : goal.returns-in_default
 unfolding check_spn_names
 returns-in_default c =
     let e = c.loop-rank.invariant.ranked ∙ sym c.in_default.ensures in
-    rw (← c.field_total-total.ensures, ended (pack_of c.args.pack.now.bytes.now).pgns_j1939 c.loop-rank.rank c.field_total-total.result
-    c.loop-rank.invariant.reporting.turns e) c.loop-rank.invariant.reporting.emitted
+    rw (
+      ← c.field_total-total.ensures,
+      ended (pack_of c.args.pack.now.bytes.now).pgns_j1939 c.loop-rank.rank c.field_total-total.result
+          c.loop-rank.invariant.reporting.turns e,
+    ) c.loop-rank.invariant.reporting.emitted
 
 pub clash_of-requires : goal.clash_of-requires
 clash_of-requires c = least_named (pack_of c.args.pack.now.bytes.now).pgns_j1939 c.loop-rank.b c.in-Some.spn (sym c.in-Some.ensures)
