@@ -9,7 +9,7 @@ use Rattle.pack.specs.Meaning.{pack_of, field_meaning}
 use Rattle.pack.specs.Value.{Field, pgns_of, field_at}
 use Rattle.pack.specs.declared.field.FieldView.{FieldView}
 use Rattle.pack.specs.declared.loaded.PgnRef.{PgnRef}
-use Rattle.rules.specs.SearchLaws.{any_turn, any_hit}
+use Rattle.rules.specs.SearchLaws.{any_hit}
 use Rattle.rules.specs.SpnClashes.{other_among, clash_from}
 use Rattle.rules.proofs.spn_clashes.clash_from.Invariants.{hit}
 use Rattle.rules.proofs.spn_clashes.clash_from.Goals as goal
@@ -25,11 +25,3 @@ returns-then-other_among c =
     let g = c.args.pgn.now in
     sym (any_hit (hit g) (length (pgn_value g).fields) c.loop-k.k (omega (arith, g.is.fields, c.loop-k-test.true))
     (said g c.loop-k.k c.field-f.result c.other_among.result c.field-f.ensures c.other_among.ensures ∙ c.if-other_among.true))
-
-pub loop-k-preserved : goal.loop-k-preserved
-loop-k-preserved c =
-    any_turn (hit c.args.pgn.now) c.loop-k.k
-    ∙ (rw (
-      c.loop-k.invariant,
-      said c.args.pgn.now c.loop-k.k c.field-f.result c.other_among.result c.field-f.ensures c.other_among.ensures ∙ c.if-other_among.false,
-    ))

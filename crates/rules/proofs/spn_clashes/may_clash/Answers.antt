@@ -1,4 +1,4 @@
-use mathlib.Core.Path.{◌≡◌, sym, ◌∙◌}
+use mathlib.Core.Path.{sym, ◌∙◌}
 use lib.ListN.{length}
 use Rattle.pack.specs.Meaning.{pack_of}
 use Rattle.rules.specs.SearchLaws.{any_turn, any_hit}

@@ -3,7 +3,7 @@ use Rattle.pack.specs.Meaning.{pack_of}
 use Rattle.rules.specs.Namers.{candidate_in, candidate}
 use Rattle.rules.specs.SearchLaws.{max_turn}
 use Rattle.rules.proofs.PgnSearches.{searched_turn, searched_all}
-use mathlib.Core.Path.{◌≡◌, ◌∙◌}
+use mathlib.Core.Path.{◌∙◌}
 use lib.ListN.{length}
 use Rattle.rules.proofs.spn_names.candidate.Goals as goal
 

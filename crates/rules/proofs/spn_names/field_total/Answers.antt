@@ -7,7 +7,6 @@ use Rattle.rules.specs.Search.{sum_below}
 use Rattle.rules.proofs.PgnSearches.{searched_at, searched_turn, searched_all}
 use native.Mathlib.Omega.{arith}
 use Prim.Native.Nat.{zero, suc, ℕ, ◌≤◌}
-use mathlib.Core.Path.{◌≡◌}
 use mathlib.Core.List.{List}
 use lib.ListN.{length}
 use Rattle.rules.proofs.spn_names.field_total.Invariants.{fields_in}

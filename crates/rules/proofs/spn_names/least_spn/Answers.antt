@@ -2,7 +2,7 @@ use Rattle.pack.specs.Meaning.{pack_of}
 use Rattle.rules.specs.SearchLaws.{min_turn}
 use Rattle.rules.specs.SpnNames.{least_spn_in, least_spn}
 use Rattle.rules.proofs.PgnSearches.{searched_turn, searched_all}
-use mathlib.Core.Path.{◌≡◌, ◌∙◌}
+use mathlib.Core.Path.{◌∙◌}
 use lib.ListN.{length}
 use Rattle.rules.proofs.spn_names.least_spn.Goals as goal
 

@@ -2,15 +2,15 @@ use Rattle.std.specs.Prelude.{◌==◌}
 use Rattle.pack.specs.Items.{bytes_of}
 use Rattle.pack.specs.Loaded.{pgn_value}
 use Rattle.pack.specs.Notation.{◌≐◌}
-use Rattle.pack.specs.Value.{Bytes, Pgn}
+use Rattle.pack.specs.Value.{Pgn}
 use Rattle.pack.specs.declared.loaded.PgnRef.{PgnRef}
 use Rattle.rules.specs.PlaceText.{pgn_loc}
 use Rattle.rules.specs.PlaceLaws.{same_place}
 use borrow.Author.Tests.{eq-eqb, ne_eqb}
 use native.Mathlib.Omega.{arith}
-use Prim.Native.Nat.{ℕ, ◌<◌}
+use Prim.Native.Nat.{◌<◌}
 use mathlib.Core.Path.{◌≡◌, sym, ◌∙◌, ap}
-use mathlib.Core.Bool.{Bool, ◌&&◌}
+use mathlib.Core.Bool.{◌&&◌}
 use Rattle.rules.proofs.spn_names.same_place.Goals as goal
 
 -- the test, said of the views

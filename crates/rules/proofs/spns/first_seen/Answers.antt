@@ -4,7 +4,7 @@ use Rattle.rules.specs.SearchLaws.{first_turn, first_hit}
 use Rattle.rules.specs.Spns.{first_seen}
 use Rattle.rules.proofs.PgnSearches.{searched_at, searched_turn, searched_all}
 use mathlib.Core.Bool.{false≢true}
-use mathlib.Core.Path.{◌≡◌, sym, ◌∙◌, ap}
+use mathlib.Core.Path.{sym, ◌∙◌, ap}
 use lib.ListN.{length}
 use Rattle.rules.proofs.spns.first_seen.Invariants.{carried}
 use Rattle.rules.proofs.spns.first_seen.Goals as goal

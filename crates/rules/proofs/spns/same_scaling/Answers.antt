@@ -4,7 +4,7 @@ use Rattle.rules.specs.Floats.{float_eq}
 use Rattle.rules.specs.declared.spns.Scaling.{Scaling}
 use Rattle.pack.specs.declared.field.ScalingView.{ScalingView}
 use Rattle.pack.specs.Meaning.{optional_bytes}
-use borrow.Author.Tests.{eq-eqb, ne_eqb}
+use borrow.Author.Tests.{eq-eqb}
 use mathlib.Core.List.{List}
 use mathlib.Core.Bool.{Bool, true, false, ◌&&◌}
 use mathlib.Core.Path.{◌≡◌, ◌∙◌}
@@ -33,21 +33,17 @@ of_views : (s : List ℕ) (v w : ScalingView) (a b : Scaling) → a ≡ scaling 
 unfolding float_eq
 of_views s v w a b p q r e = e ∙ (λ j. compared s (p j) (q j))
 
--- the four ends of the comparison
-module _ (s : List ℕ) (a b : Scaling) where
-  other_width : (a.width ≡ b.width → ⊥) → false ≡ compared s a b
-  other_width w = rw (ne_eqb _ _ w)
+-- three ends of the comparison
+module _ (s : List ℕ) (a b : Scaling) (w : a.width ≡ b.width) where
+  other_resolution : eq a.resolution b.resolution ≡ false → false ≡ compared s a b
+  other_resolution r = rw (eq-eqb _ _ w, r)
 
-  module _ (w : a.width ≡ b.width) where
-    other_resolution : eq a.resolution b.resolution ≡ false → false ≡ compared s a b
-    other_resolution r = rw (eq-eqb _ _ w, r)
+  other_offset : eq a.resolution b.resolution ≡ true → eq a.offset b.offset ≡ false → false ≡ compared s a b
+  other_offset r o = rw (eq-eqb _ _ w, r, o)
 
-    other_offset : eq a.resolution b.resolution ≡ true → eq a.offset b.offset ≡ false → false ≡ compared s a b
-    other_offset r o = rw (eq-eqb _ _ w, r, o)
-
-    by_unit : eq a.resolution b.resolution ≡ true → eq a.offset b.offset ≡ true
-        → (u : Bool) → u ≡ same_unit (optional_bytes s a.unit) (optional_bytes s b.unit) → u ≡ compared s a b
-    by_unit r o u e = rw (eq-eqb _ _ w, r, o) e
+  by_unit : eq a.resolution b.resolution ≡ true → eq a.offset b.offset ≡ true
+      → (u : Bool) → u ≡ same_unit (optional_bytes s a.unit) (optional_bytes s b.unit) → u ≡ compared s a b
+  by_unit r o u e = rw (eq-eqb _ _ w, r, o) e
 
 pub returns-then-a-b-2 : goal.returns-then-a-b-2
 returns-then-a-b-2 c =
@@ -66,9 +62,3 @@ returns-then-a-b c =
     let s = c.args.s.now in
     of_views s c.args.v c.args.w c.scaling_of-a.result c.scaling_of-b.result c.scaling_of-a.ensures c.scaling_of-b.ensures _
     (other_resolution s c.scaling_of-a.result c.scaling_of-b.result c.if-a-b.true c.if-close.false)
-
-pub returns : goal.returns
-returns c =
-    let s = c.args.s.now in
-    of_views s c.args.v c.args.w c.scaling_of-a.result c.scaling_of-b.result c.scaling_of-a.ensures c.scaling_of-b.ensures _
-    (other_width s c.scaling_of-a.result c.scaling_of-b.result c.if-a-b.false)

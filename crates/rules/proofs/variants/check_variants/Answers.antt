@@ -46,11 +46,3 @@ loop-r-preserved c =
       reporting = reporting_turn c.loop-r.invariant.reporting c.loop-r-test.true (rw (of_some s t c.loop-r.r c.in-Some.number e) c.group_findings.ensures);
       ranked = ranked_turn (least s t) c.loop-r.r ∙ ap (next_rank (least s t)) e;
     }
-
-pub returns : goal.returns
-unfolding check_variants
-returns c =
-    let s = c.args.pack.now.bytes.now in let t = tree_number c.args.protocol in
-    let n = section_count (pack_of s) c.args.pack.now.index c.args.pack.now.indexed c.args.protocol c.section-count.result c.section-count.ensures in
-    let e : length (pgns_of (pack_of s) t) ≡ c.loop-r.r = omega (arith, c.loop-r.invariant.reporting.turns, c.loop-r-test.false, n) in
-    rw e c.loop-r.invariant.reporting.emitted

@@ -1,7 +1,7 @@
 use Rattle.rules.specs.SearchLaws.{latest_turn}
 use Rattle.rules.proofs.PgnSearches.{searched_turn, searched_to, searched_all}
 use native.Mathlib.Omega.{arith}
-use mathlib.Core.Path.{◌≡◌, ◌∙◌}
+use mathlib.Core.Path.{◌∙◌}
 use lib.ListN.{length}
 use Rattle.rules.proofs.variants.latest_duplicate.Invariants.{copies}
 use Rattle.rules.proofs.variants.latest_duplicate.Goals as goal

@@ -4,7 +4,7 @@ use Rattle.pack.specs.Value.{pgn_at}
 use Rattle.rules.specs.SearchLaws.{min_turn}
 use Rattle.rules.specs.Variants.{least_group}
 use Rattle.rules.proofs.PgnSearches.{searched_turn, searched_all}
-use mathlib.Core.Path.{◌≡◌, ◌∙◌}
+use mathlib.Core.Path.{◌∙◌}
 use lib.ListN.{length}
 use Rattle.rules.proofs.variants.least_group.Invariants.{counts}
 use Rattle.rules.proofs.variants.least_group.Goals as goal

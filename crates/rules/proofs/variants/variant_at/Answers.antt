@@ -1,13 +1,8 @@
-use Rattle.std.specs.Prelude.{None}
-use Prim.Native.Nat.{ℕ}
-use mathlib.Core.Path.{◌≡◌, sym, ◌∙◌}
-use mathlib.Core.Bool.{true}
-use mathlib.Core.List.{List, []}
-use lib.ListN.{length, get_or}
+use mathlib.Core.Path.{sym, ◌∙◌}
 use Rattle.pack.specs.Loaded.{tree_of}
 use Rattle.pack.specs.Meaning.{pack_of}
-use Rattle.pack.specs.Value.{Pgn, pgns_of}
-use Rattle.rules.specs.Variants.{has_match, in_group, variant_at, duplicate_of}
+use Rattle.pack.specs.Value.{pgns_of}
+use Rattle.rules.specs.Variants.{variant_at, duplicate_of}
 use Rattle.rules.proofs.Emits.{emitted_none}
 use Rattle.rules.proofs.Groups.{unmatched}
 use Rattle.rules.proofs.variants.variant_at.Goals as goal
