@@ -1,7 +1,6 @@
 use Rattle.walk.proofs.Parts.{target_below}
 use Rattle.pack.proofs.Few.{fields_few}
 use Rattle.pack.specs.Items.{bytes_of}
-use Rattle.pack.specs.Meaning.{pack_of}
 use Rattle.pack.specs.Loaded.{pgn_value}
 use native.Mathlib.Omega.{arith}
 use mathlib.Core.Path.{sym}

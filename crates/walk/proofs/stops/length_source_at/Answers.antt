@@ -4,7 +4,6 @@ use Rattle.pack.specs.Loaded.{pgn_value}
 use Rattle.pack.specs.Value.{Field, field_at}
 use native.Mathlib.Omega.{arith}
 use mathlib.Core.Path.{◌≡◌, ap}
-use Rattle.pack.specs.Meaning.{pack_of}
 use Rattle.walk.proofs.stops.length_source_at.Goals as goal
 
 pub root_of-root-requires : goal.root_of-root-requires
