@@ -11,25 +11,30 @@ use lib.ListN.{length}
 use lib.Dec.{ltb}
 use lib.Pow.{pow_pos}
 use borrow.Author.Tests.{ltb-true, ltb-false, lt-ltb, le-ltb, le-leb, lt-leb}
+use Rattle.pack.proofs.Few.{fields_few}
 use Rattle.pack.specs.Notation.{◌<ᵇ◌, ◌≤ᵇ◌, ◌≐◌}
 use Rattle.pack.specs.Value.{Bytes, Reference, Field, Pgn, Pack, field_at}
 use Rattle.pack.specs.Meaning.{pack_of}
+use Rattle.pack.specs.declared.loaded.LookupRef.{LookupRef}
+use Rattle.pack.specs.declared.loaded.PgnRef.{PgnRef}
 use Rattle.pack.specs.declared.protocol.FieldIndex.{FieldIndex}
 use Rattle.rules.specs.Search.{or_else, any_below}
 use Rattle.rules.specs.SearchLaws.{any_hit, first_is}
 use Rattle.rules.specs.Model.{lookup_ref, find_lookup, target}
 use Rattle.rules.specs.DynamicLength.{length_source}
-use Rattle.rules.specs.declared.lookups.FoundLookup.{FoundLookup}
 use Rattle.rules.proofs.Types.{some_is}
 use Rattle.walk.specs.Layout.{Layout, layout, sets_hold}
 use Rattle.walk.specs.ByPlace.{placed}
 use Rattle.walk.specs.Held.{dynamic_value_held}
 use Rattle.walk.specs.Stops.{is_missing, lookup_missing, unfit, match_unfit, reference_names_missing, is_dynamic_value, lacks_length, stop_at}
 use Rattle.walk.specs.StopParts.{Named, IsSource, field_stop, need_stop, lookup_names_missing, holds_also}
-use Rattle.walk.specs.declared.stops.FieldtypeLookup.{FieldtypeLookup}
 use Rattle.walk.specs.declared.stops.Stop.{Stop}
 use Rattle.walk.specs.declared.stops.Stop.TheVariants.{LookupMissing, MatchUnfit, EntryNamesMissing}
 use Rattle.walk.proofs.Tests.{and_i}
+
+-- a field's index has an order behind it
+pub order_fits : (g : PgnRef) (k : ℕ) → k < g.view.fields → k < 4294967295
+order_fits g k h = omega (arith, h, g.is.fields, fields_few g.at)
 
 -- ---- the whole
 
@@ -63,20 +68,20 @@ module _ (P : Pack) (p : Pgn) (current : ℕ → Bool) (i reading : ℕ) where
         pub by_need : b ≡ false → (o : Option Stop) → o ≡ need_stop P p current i → o ≡ stop_at P p current i reading
         by_need x o y = rw (parts, ← is, ← free, ← h, x) y
 
-pub named_field : {s w : List ℕ} {l : Option FieldtypeLookup} (F G : Field) → F ≡ G → Named s w (lookup_ref F) l → Named s w (lookup_ref G) l
+pub named_field : {s : List ℕ} {l : Option LookupRef} (F G : Field) → F ≡ G → Named s (lookup_ref F) l → Named s (lookup_ref G) l
 named_field F G e N = rw (← e) N
 
 -- 5, by the fieldtype lookup that the reference names
-pub named_reading : {s w : List ℕ} {r : Option Reference} {l : Option FieldtypeLookup} → Named s w r l → (reading : ℕ) (b : Bool)
+pub named_reading : {s : List ℕ} {r : Option Reference} {l : Option LookupRef} → Named s r l → (reading : ℕ) (b : Bool)
     → b ≡ lookup_names_missing (pack_of s) l reading → b ≡ reference_names_missing (pack_of s) r reading
 named_reading N reading b e = e ∙ sym (N.decide reading)
 
 -- ---- 3 and 4
 
-pub missing_is : (P : Pack) (name : Bytes) (l : Option FoundLookup) → option_map (λ v. v.index) l ≡ find_lookup P.lookups name
+pub missing_is : (P : Pack) (name : Bytes) (l : Option LookupRef) → option_map (λ v. v.item) l ≡ find_lookup P.lookups name
     → is_missing P (Some name) ≡ not (is_some l)
 unfolding is_missing
-missing_is P name l e = rw (← e, some_is (λ (v : FoundLookup). v.index) l)
+missing_is P name l e = rw (← e, some_is (λ (v : LookupRef). v.item) l)
 
 less_one : (a b : ℕ) → 0 < a → (a - 1 <ᵇ b) ≡ (a ≤ᵇ b)
 less_one a b h = go (ltb b a) refl

@@ -14,6 +14,7 @@ use borrow.Author.Tests.{ltb-true, ltb-false, leb-true, eqb-true, not-true, eq-e
 use Rattle.pack.specs.Notation.{◌<ᵇ◌, ◌≤ᵇ◌}
 use Rattle.pack.specs.Meaning.{pack_of}
 use Rattle.pack.specs.Value.{Entry, Pgn, Pack, field_at, lookup_at, entry_at}
+use Rattle.pack.specs.declared.loaded.LookupRef.{LookupRef}
 use Rattle.rules.specs.Model.{lookup_ref}
 use Rattle.rules.specs.SearchLaws.{any_turn, any_hit, below_suc}
 use Rattle.walk.proofs.Parts.{any_same}
@@ -22,7 +23,6 @@ use Rattle.walk.specs.ByPlace.{placed}
 use Rattle.walk.specs.Layout.{layout}
 use Rattle.walk.specs.StopParts.{Named, OnlyByReading, SameBut, Collected, Remembered, among, lets_pass}
 use Rattle.walk.specs.Stops.{names_missing, entries_name_missing, stop_at}
-use Rattle.walk.specs.declared.stops.FieldtypeLookup.{FieldtypeLookup}
 use Rattle.walk.specs.declared.stops.Stop.{Stop}
 use Rattle.walk.specs.declared.stops.Stop.TheVariants.{EntryNamesMissing}
 
@@ -171,17 +171,17 @@ collected_none P es at bad = record { few = omega arith; others = same_all at ba
 
 -- ---- what a field that stops by its reading alone lets pass
 
-module _ {s w : List ℕ} {p : Pgn} {k : ℕ} (O : OnlyByReading (pack_of s) p k) where
+module _ {s : List ℕ} {p : Pgn} {k : ℕ} (O : OnlyByReading (pack_of s) p k) where
   -- every reading, if it names no fieldtype lookup
-  pub none_without : Named s w (lookup_ref (field_at p k)) None → (reading : ℕ) → stop_at (pack_of s) p (placed (layout p) (suc k)) k reading ≡ None
+  pub none_without : Named s (lookup_ref (field_at p k)) None → (reading : ℕ) → stop_at (pack_of s) p (placed (layout p) (suc k)) k reading ≡ None
   none_without N reading = O.only reading ∙ ap (λ (b : Bool). if b then Some EntryNamesMissing else None) (N.decide reading)
 
-  module _ {l : FieldtypeLookup} (N : Named s w (lookup_ref (field_at p k)) (Some l)) where
+  module _ {l : LookupRef} (N : Named s (lookup_ref (field_at p k)) (Some l)) where
     abbrev stops : ℕ → Option Stop
     stops reading = stop_at (pack_of s) p (placed (layout p) (suc k)) k reading
 
     abbrev entries : List Entry
-    entries = (lookup_at (pack_of s).lookups l.index).entries
+    entries = (lookup_at (pack_of s).lookups l.item).entries
 
     -- every reading but the values of the entries that name something missing
     pub none_else : (bad : List ℕ) (at n : ℕ)

@@ -1,126 +1,88 @@
--- The ends of the calls `walk` and `held`: answer and visit buffer. Both first name a PGN.
+-- The ends of the calls `walk` and `held`: answer and visit buffer. Both load the pack and name a PGN.
 use Prim.Native.Nat.{ℕ}
-use native.Mathlib.Omega.{arith}
 use mathlib.Core.Path.{◌≡◌, refl, sym, ap, ◌∙◌}
 use mathlib.Core.Bool.{Bool, true, false}
 use mathlib.Core.List.{List}
-use Rattle.std.specs.Prelude.{Option, None, Some, Result, Ok, Err}
+use Rattle.std.specs.Prelude.{Result, Ok, Err}
+use Rattle.std.specs.Result.{result_ok, result_err}
+use Rattle.std.proofs.lemmas.Option.{none-some, same_Some}
 use lib.ListN.{length}
 use Rattle.pack.specs.Load.{Answer as Numbers, loaded, work_after}
 use Rattle.pack.specs.Notation.{◌≤ᵇ◌}
 use Rattle.pack.proofs.Told.{after_refused, after_accepted}
+use Rattle.pack.specs.Loaded.{PgnSpot, pgn_spot, pgn_value}
 use Rattle.pack.specs.Meaning.{pack_of}
 use Rattle.pack.specs.declared.load.Index.{Index}
+use Rattle.pack.specs.declared.loaded.PgnRef.{PgnRef}
 use Rattle.pack.specs.declared.load.Refusal.{Refusal}
-use Rattle.pack.specs.Value.{pgn_at}
+use Rattle.pack.specs.declared.load.Refusal.TheVariants.{Absent}
+use Rattle.pack.specs.Value.{Pgn, Pack, pgn_at}
 use Rattle.walk.specs.Held.{held}
-use Rattle.walk.specs.Naming.{absence, naming_refusal, refusal_of, NamedIs}
-use Rattle.walk.specs.Walk.{End, whole, used_up, stop, Answer}
-use Rattle.walk.specs.WalkCall.{in_pack, ending, judged, walk_of, walked, visits_left}
+use Rattle.walk.specs.Naming.{naming, Judges}
+use Rattle.walk.specs.Walk.{End, whole, used_up, stop, Answer, walk}
+use Rattle.walk.specs.WalkCall.{in_pack, ending, judged, walk_of, walked}
 use Rattle.walk.specs.WalkCall.{visits_after, end_number, ending_number, walk_answer, visits_tell}
 use Rattle.walk.specs.WalkCall.{walk_tells, Walks}
 use Rattle.walk.specs.WalkCall.{held_judged, held_told, held_answer, held_tell, held_tells, TellsHeld}
-use Rattle.walk.specs.declared.named.FoundPgn.{FoundPgn}
-use Rattle.walk.specs.declared.named.PgnPlace.{PgnPlace}
 use Rattle.walk.specs.declared.walk.Ended.{Ended}
-
--- of a walk A over n readings, of a PGN that is in the pack
-pub record Judges (n : ℕ) (A : Answer) (w : List ℕ) (r : Result Ended Refusal) (w' : List ℕ) : Type 0 where
-  pub answer : r ≡ judged true n (length w) A
-  pub out : w' ≡ visits_left (judged true n (length w) A) A.visits w
 
 -- ---- naming a PGN
 
-not_found : (r : Refusal) (f : PgnPlace) → ◌≡◌ {A = Result PgnPlace Refusal} (Err r) (Ok f) → ⊥
-not_found r f q = let e = ap refusal_of q in let z : ◌≡◌ {A = ℕ} 0 1 = cc in omega arith
+naming_absent : (there : Bool) (x : PgnSpot) (r : Refusal) → Err r ≡ naming there x → (there ≡ false) × (r ≡ Absent)
+naming_absent true x r e = absurd (let z = ap result_err e in none-some r (sym z))
+naming_absent false x r e = (refl, same_Some r Absent (ap result_err e))
 
-module _ (s w : List ℕ) (t i : ℕ) (x : Option Refusal) where
-  pub named_refused : (r : Refusal) → Some r ≡ x → NamedIs s w t i x (Err r)
-  named_refused r e = record {
-    refusal = e;
-    tree = λ f q. absurd (not_found r f q);
-    pgn = λ f q. absurd (not_found r f q);
-    found = λ f q. absurd (not_found r f q);
-  }
+naming_there : (there : Bool) (x y : PgnSpot) → Ok y ≡ naming there x → (there ≡ true) × (y ≡ x)
+naming_there true x y e = (refl, same_Some y x (ap result_ok e))
+naming_there false x y e = absurd (none-some y (sym (ap result_ok e)))
 
-module _ (s : List ℕ) (m t i : ℕ) where
-  pub refused_by_load : (r : Refusal) → loaded s m ≡ Err r → Some r ≡ naming_refusal s m t i
-  unfolding naming_refusal
-  refused_by_load r e = rw (naming_refusal, e)
-
-  pub named_loaded : (w : List ℕ) (x : Index) → loaded s m ≡ Ok x → (r : Result PgnPlace Refusal)
-      → NamedIs s w t i (absence (in_pack (pack_of s) t i)) r → NamedIs s w t i (naming_refusal s m t i) r
-  unfolding naming_refusal
-  named_loaded w x e r n = rw (naming_refusal, e) n
-
--- ---- the calls, by what naming the PGN answers
-
-abbrev after_naming : Option Refusal → Result Ended Refusal → Result Ended Refusal
-after_naming None a = a
-after_naming (Some r) a = Err r
-
-abbrev held_after_naming : Option Refusal → Bool → Result Bool Refusal
-held_after_naming None h = Ok h
-held_after_naming (Some r) h = Err r
+-- ---- the calls, by what the load and the naming of the PGN answer
 
 pub record Answers (s : List ℕ) (m t i : ℕ) (readings w : List ℕ) (r : Result Ended Refusal) (w' : List ℕ) : Type 0 where
   pub answer : r ≡ walked s m t i readings (length w)
   pub out : w' ≡ visits_after s m t i readings w
 
 module _ (s : List ℕ) (m t i : ℕ) where
-  walk_named : (readings : List ℕ) (n : ℕ)
-      → walked s m t i readings n ≡ after_naming (naming_refusal s m t i) (judged true (length readings) n (walk_of s t i readings))
-  unfolding walked naming_refusal
-  walk_named readings n = go (loaded s m) refl (in_pack (pack_of s) t i) refl
-    where
-      go : (l : Result Index Refusal) → loaded s m ≡ l → (b : Bool) → in_pack (pack_of s) t i ≡ b
-          → walked s m t i readings n ≡ after_naming (naming_refusal s m t i) (judged true (length readings) n (walk_of s t i readings))
-      go (Err r) e b q = rw (e, walked, naming_refusal)
-      go (Ok x) e true q = rw (e, q, walked, naming_refusal)
-      go (Ok x) e false q = rw (e, q, walked, naming_refusal)
+  pub walk_refused : (r : Refusal) → loaded s m ≡ Err r → (readings w : List ℕ) → Answers s m t i readings w (Err r) w
+  unfolding walked visits_after
+  walk_refused r e readings w = record { answer = rw (walked, e); out = rw (visits_after, walked, e) }
 
-  held_named : held_told s m t i ≡ held_after_naming (naming_refusal s m t i) (held (pack_of s) (pgn_at (pack_of s) t i))
-  unfolding held_told naming_refusal
-  held_named = go (loaded s m) refl (in_pack (pack_of s) t i) refl
-    where
-      go : (l : Result Index Refusal) → loaded s m ≡ l → (b : Bool) → in_pack (pack_of s) t i ≡ b
-          → held_told s m t i ≡ held_after_naming (naming_refusal s m t i) (held (pack_of s) (pgn_at (pack_of s) t i))
-      go (Err r) e b q = rw (e, held_told, naming_refusal)
-      go (Ok x) e true q = rw (e, q, held_told, naming_refusal)
-      go (Ok x) e false q = rw (e, q, held_told, naming_refusal)
+  pub held_refused : (r : Refusal) → loaded s m ≡ Err r → Err r ≡ held_told s m t i
+  unfolding held_told
+  held_refused r e = rw (held_told, e)
 
-  -- n is what naming the PGN answered
-  module _ (w₀ : List ℕ) (n : Result PgnPlace Refusal) (named : NamedIs s w₀ t i (naming_refusal s m t i) n) where
-    refused : (r : Refusal) → n ≡ Err r → naming_refusal s m t i ≡ Some r
-    refused r e = sym named.refusal ∙ ap refusal_of e
+  module _ (x : Index) (e : loaded s m ≡ Ok x) (work : List ℕ) where
+    abbrev spot : PgnSpot
+    spot = record { bytes = s; work = work; tree = t; item = i }
 
-    is_found : (f : PgnPlace) → n ≡ Ok f → naming_refusal s m t i ≡ None
-    is_found f e = sym named.refusal ∙ ap refusal_of e
+    module _ (r : Refusal) (n : Err r ≡ naming (in_pack (pack_of s) t i) spot) where
+      pub walk_absent : (readings w : List ℕ) → Answers s m t i readings w (Err r) w
+      unfolding walked visits_after
+      walk_absent readings w =
+          let q = naming_absent (in_pack (pack_of s) t i) spot r n in
+          record { answer = rw (walked, e, q.0, q.1); out = rw (visits_after, walked, e, q.0) }
 
-    pub walk_refused : (r : Refusal) → n ≡ Err r → (readings w : List ℕ) → Answers s m t i readings w (Err r) w
-    unfolding visits_after
-    walk_refused r e readings w = record { answer = rw (walk_named, refused r e); out = rw (walk_named, refused r e) }
+      pub held_absent : Err r ≡ held_told s m t i
+      unfolding held_told
+      held_absent = let q = naming_absent (in_pack (pack_of s) t i) spot r n in rw (held_told, e, q.0, q.1)
 
-    pub held_refused : (r : Refusal) → n ≡ Err r → Err r ≡ held_told s m t i
-    held_refused r e = rw (held_named, refused r e)
+    module _ (g : PgnRef) (n : Ok (pgn_spot g) ≡ naming (in_pack (pack_of s) t i) spot) where
+      there : in_pack (pack_of s) t i ≡ true
+      there = (naming_there (in_pack (pack_of s) t i) spot (pgn_spot g) n).0
 
-    -- f is the PGN at that place
-    module _ (at : PgnPlace) (e : n ≡ Ok at) (f : FoundPgn) (same_tree : f.tree ≡ at.tree) (same_pgn : f.pgn ≡ at.pgn) where
-      tree : f.tree ≡ t
-      tree = same_tree ∙ named.tree at e
-
-      pgn : f.pgn ≡ i
-      pgn = same_pgn ∙ named.pgn at e
+      same : {A : Type 0} (f : Pack → Pgn → A) → f (pack_of g.pack.bytes.now) (pgn_value g) ≡ f (pack_of s) (pgn_at (pack_of s) t i)
+      same f = ap (λ (o : PgnSpot). f (pack_of o.bytes) (pgn_at (pack_of o.bytes) o.tree o.item)) (naming_there (in_pack (pack_of s) t i) spot (pgn_spot g) n).1
 
       pub walk_answers : (readings w : List ℕ) (r : Result Ended Refusal) (w' : List ℕ)
-          → Judges (length readings) (walk_of s f.tree f.pgn readings) w r w' → Answers s m t i readings w r w'
-      unfolding visits_after
+          → Judges (walk (pack_of g.pack.bytes.now) (pgn_value g) readings) (length readings) w w' r → Answers s m t i readings w r w'
+      unfolding walked visits_after
       walk_answers readings w r w' j =
-          let k : Judges (length readings) (walk_of s t i readings) w r w' = rw (← tree, ← pgn) j in
-          record { answer = rw (walk_named, is_found at e) k.answer; out = rw (walk_named, is_found at e) k.out }
+          let k : Judges (walk_of s t i readings) (length readings) w w' r = rw (← same (λ P p. walk P p readings)) j in
+          record { answer = rw (walked, e, there) k.answer; out = rw (visits_after, walked, e, there) k.out }
 
-      pub held_answers : (h : Bool) → h ≡ held (pack_of s) (pgn_at (pack_of s) f.tree f.pgn) → Ok h ≡ held_told s m t i
-      held_answers h q = rw (held_named, is_found at e, q, tree, pgn)
+      pub held_answers : (h : Bool) → h ≡ held (pack_of g.pack.bytes.now) (pgn_value g) → Ok h ≡ held_told s m t i
+      unfolding held_told
+      held_answers h y = rw (held_told, e, there) (ap Ok (y ∙ same held))
 
 -- ---- in 01's numbers
 

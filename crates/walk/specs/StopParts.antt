@@ -5,15 +5,14 @@ use Rattle.std.specs.Prelude.{Option, None, Some, IfSome}
 use Rattle.pack.specs.Notation.{◌<ᵇ◌}
 use Rattle.pack.specs.Value.{Entry, Reference, Field, Pgn, Pack, field_at, lookup_at, entry_at}
 use Rattle.pack.specs.Meaning.{pack_of}
-use Rattle.pack.specs.Ready.{LookupAt}
 use Rattle.rules.specs.DynamicLength.{length_source}
 use Rattle.rules.specs.Model.{lookup_ref}
 use Rattle.rules.specs.Search.{any_below}
 use Rattle.walk.specs.ByPlace.{placed}
+use Rattle.pack.specs.declared.loaded.LookupRef.{LookupRef}
 use Rattle.pack.specs.declared.protocol.FieldIndex.{FieldIndex}
 use Rattle.walk.specs.Layout.{Layout, layout, sets_hold}
 use Rattle.walk.specs.Stops.{lookup_missing, match_unfit, names_missing, entries_name_missing, reference_names_missing, lacks, lacks_length, stop_at}
-use Rattle.walk.specs.declared.stops.FieldtypeLookup.{FieldtypeLookup}
 use Rattle.walk.specs.declared.stops.Stop.{Stop}
 use Rattle.walk.specs.declared.stops.Stop.TheVariants.{LookupMissing, MatchUnfit, EntryNamesMissing, LengthNotCurrent}
 use Rattle.walk.specs.declared.stops.Stop.TheVariants.{ContinuedNotCurrent, NoLengthSource, TrailingNotCurrent}
@@ -22,20 +21,14 @@ use Rattle.walk.specs.declared.stops.Stop.TheVariants.{ContinuedNotCurrent, NoLe
 unfoldable pub field_stop : Pack → Field → Option Stop
 field_stop P f = if lookup_missing P f then Some LookupMissing else (if match_unfit P f then Some MatchUnfit else None)
 
--- v is a fieldtype lookup's: its work position, its kind and the number of its entries
-pub record IsFieldtypeLookup (s w : List ℕ) (v : FieldtypeLookup) : Type 0 where
-  pub place : LookupAt s w v.index v.place
-  pub kind : 3 ≡ (lookup_at (pack_of s).lookups v.index).kind
-  pub entries : v.entries ≡ length (lookup_at (pack_of s).lookups v.index).entries
-
 -- an entry of the lookup, if there is one, is for the reading and names something missing
-abbrev pub lookup_names_missing : Pack → Option FieldtypeLookup → (reading : ℕ) → Bool
+abbrev pub lookup_names_missing : Pack → Option LookupRef → (reading : ℕ) → Bool
 lookup_names_missing P None reading = false
-lookup_names_missing P (Some v) reading = entries_name_missing P (lookup_at P.lookups v.index).entries reading
+lookup_names_missing P (Some l) reading = entries_name_missing P (lookup_at P.lookups l.item).entries reading
 
--- 5: the fieldtype lookup that a reference names is r's, if there is one, and its entries decide; where there is none no reading stops
-pub record Named (s w : List ℕ) (r : Option Reference) (l : Option FieldtypeLookup) : Type 0 where
-  pub lookup : IfSome l (λ v. IsFieldtypeLookup s w v)
+-- 5: the fieldtype lookup of the pack s that a reference names is r's, if there is one, and its entries decide; where there is none no reading stops
+pub record Named (s : List ℕ) (r : Option Reference) (l : Option LookupRef) : Type 0 where
+  pub pack : IfSome l (λ v. v.pack.bytes.now ≡ s)
   pub decide : (reading : ℕ) → reference_names_missing (pack_of s) r reading ≡ lookup_names_missing (pack_of s) l reading
 
 -- 8: the giver, if there is one, is a length source before field k

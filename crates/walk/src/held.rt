@@ -1,11 +1,11 @@
 // Which PGNs are held.
 ghost use Rattle.std.specs.Prelude.{◌≡◌, IfSome, is_some, not, ◌&&◌, ◌||◌, suc, ◌<◌, length};
+ghost use Rattle.pack.specs.Loaded.{pgn_value};
 ghost use Rattle.pack.specs.Meaning.{field_meaning, pack_of};
 ghost use Rattle.pack.specs.Value.{field_at};
 ghost use Rattle.walk.specs.Held.{shares_held, count_field_held, count_fields_held, bit_length_held, dynamic_value_held, held};
 ghost use Rattle.rules.specs.DynamicLength.{length_source};
 ghost use Rattle.walk.specs.Layout.{Layout, layout, set_at, holds, sets_hold, nested_in};
-ghost use Rattle.walk.specs.Naming.{IsFound, found_pgn};
 ghost use Rattle.walk.specs.SetsOf.{SetsAre};
 ghost use Rattle.walk.specs.StopParts.{IsSource, holds_also};
 ghost use Rattle.rules.specs.Search.{any_below, every_below};
@@ -14,7 +14,6 @@ use crate::named::FoundPgn;
 use crate::sets::{Sets, clashes, holds, nested_in, sets_hold};
 use crate::stops::{is_value, length_giver};
 use pack::field::FieldView;
-use pack::of::field_of;
 use pack::protocol::{FieldIndex, FieldOrder};
 use rules::targets::target;
 
@@ -68,19 +67,17 @@ fn count_fields_held(sets: Sets) -> bool
 }
 
 // Whether the sets of the bitLengthField target of field k, which is f, hold field k.
-fn bit_length_held(s: &[u8], work: &[u32], found: FoundPgn, k: u32, f: FieldView) -> bool
+fn bit_length_held(found: &FoundPgn, k: u32, f: FieldView) -> bool
     requires { record {
-      pgn : IsFound s.now work.now found;
-      field : k < length (found_pgn s.now found).fields;
-      means : field_meaning s.now f ≡ field_at (found_pgn s.now found) k;
+      field : k < found.now.pgn.view.fields;
+      means : field_meaning found.now.pgn.pack.bytes.now f ≡ field_at (pgn_value found.now.pgn) k;
     } }
-    ensures { result ≡ bit_length_held (found_pgn s.now found) k }
+    ensures { result ≡ bit_length_held (pgn_value found.now.pgn) k }
 {
     let Some(id) = f.links.length else {
         return true;
     };
-    let fields = found.sets.fields;
-    let Some(aim) = target(s, work, found.tree, found.pgn, found.place, fields, id) else {
+    let Some(aim) = target(&found.pgn, id) else {
         return true;
     };
     let own = FieldIndex(k).order();
@@ -88,15 +85,14 @@ fn bit_length_held(s: &[u8], work: &[u32], found: FoundPgn, k: u32, f: FieldView
 }
 
 // "a bitLengthField target's nonempty sets hold its user"
-fn bit_lengths_held(s: &[u8], work: &[u32], found: FoundPgn) -> bool
-    requires { IsFound s.now work.now found }
-    ensures { result ≡ every_below (λ k. bit_length_held (found_pgn s.now found) k)
-        (length (found_pgn s.now found).fields) }
+fn bit_lengths_held(found: &FoundPgn) -> bool
+    ensures { result ≡ every_below (λ k. bit_length_held (pgn_value found.now.pgn) k)
+        (length (pgn_value found.now.pgn).fields) }
 {
-    let fields = found.sets.fields;
+    let fields = found.pgn.view.fields;
     for k in 0..fields {
-        let f = field_of(s, work, found.tree, found.pgn, found.place, k);
-        if !bit_length_held(s, work, found, k, f) {
+        let f = found.pgn.field(k);
+        if !bit_length_held(found, k, f) {
             return false;
         }
     }
@@ -116,46 +112,38 @@ fn still_gives(sets: Sets, giver: Option<FieldIndex>, k: u32) -> bool
 
 // A giver of field k's length, if there is one. The latest one found is asked first: as sets are ranges, a search is then made at most a few times
 // a PGN, and not for each value.
-fn latest_giver(
-    s: &[u8],
-    work: &[u32],
-    found: FoundPgn,
-    k: u32,
-    giver: Option<FieldIndex>,
-) -> Option<FieldIndex>
+fn latest_giver(found: &FoundPgn, k: u32, giver: Option<FieldIndex>) -> Option<FieldIndex>
     requires { record {
-      pgn : IsFound s.now work.now found;
-      field : k < length (found_pgn s.now found).fields;
-      source : IsSource (pack_of s.now) (found_pgn s.now found) k giver;
+      field : k < found.now.pgn.view.fields;
+      source : IsSource (pack_of found.now.pgn.pack.bytes.now) (pgn_value found.now.pgn) k giver;
     } }
     ensures { record {
       given : is_some result ≡ any_below
-          (λ j. length_source (pack_of s.now).fieldtypes (field_at (found_pgn s.now found) j) && sets_hold
-          (layout (found_pgn s.now found)) (suc j) (suc k)) k;
-      source : IsSource (pack_of s.now) (found_pgn s.now found) k result;
+          (λ j. length_source (pack_of found.now.pgn.pack.bytes.now).fieldtypes (field_at (pgn_value found.now.pgn) j) && sets_hold
+          (layout (pgn_value found.now.pgn)) (suc j) (suc k)) k;
+      source : IsSource (pack_of found.now.pgn.pack.bytes.now) (pgn_value found.now.pgn) k result;
     } }
 {
     if still_gives(found.sets, giver, k) {
         return giver;
     }
-    length_giver(s, work, found, k)
+    length_giver(found, k)
 }
 
 // "each DYNAMIC_FIELD_VALUE has a lower-order dynamicFieldLength or DYNAMIC_FIELD_KEY field whose nonempty sets hold it": then it is never
 // without one that is current.
-fn dynamic_values_held(s: &[u8], work: &[u32], found: FoundPgn) -> bool
-    requires { IsFound s.now work.now found }
-    ensures { result ≡ every_below (λ k. dynamic_value_held (pack_of s.now) (found_pgn s.now found) k)
-        (length (found_pgn s.now found).fields) }
+fn dynamic_values_held(found: &FoundPgn) -> bool
+    ensures { result ≡ every_below (λ k. dynamic_value_held (pack_of found.now.pgn.pack.bytes.now) (pgn_value found.now.pgn) k)
+        (length (pgn_value found.now.pgn).fields) }
 {
-    let fields = found.sets.fields;
+    let fields = found.pgn.view.fields;
     let mut giver = None;
     for k in 0..fields {
-        let f = field_of(s, work, found.tree, found.pgn, found.place, k);
-        if !is_value(s, work, found, k, f) {
+        let f = found.pgn.field(k);
+        if !is_value(&found.pgn, k, f) {
             continue;
         }
-        giver = latest_giver(s, work, found, k, giver);
+        giver = latest_giver(found, k, giver);
         if giver.is_none() {
             return false;
         }
@@ -165,12 +153,11 @@ fn dynamic_values_held(s: &[u8], work: &[u32], found: FoundPgn) -> bool
 
 // Whether the PGN is held.
 #[tactic(auto, unfolding(crate::specs::Held::held))]
-pub fn held_at(s: &[u8], work: &[u32], found: FoundPgn) -> bool
-    requires { IsFound s.now work.now found }
-    ensures { result ≡ held (pack_of s.now) (found_pgn s.now found) }
+pub fn held_at(found: &FoundPgn) -> bool
+    ensures { result ≡ held (pack_of found.now.pgn.pack.bytes.now) (pgn_value found.now.pgn) }
 {
     shares_held(found.sets)
         && count_fields_held(found.sets)
-        && bit_lengths_held(s, work, found)
-        && dynamic_values_held(s, work, found)
+        && bit_lengths_held(found)
+        && dynamic_values_held(found)
 }

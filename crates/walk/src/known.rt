@@ -2,21 +2,19 @@
 // more. By the law of position only stop 5 goes by more than the field; at most four readings are kept for it, of the first fields. A field that
 // stops at more, or has no room for them, is read at each visit.
 ghost use Rattle.std.specs.Prelude.{◌≡◌, true, ◌&&◌, suc, ◌+◌, ◌*◌, ◌<◌, ◌≤◌, length, get_or, set, ◌==◌, if◌then◌else◌};
+ghost use Rattle.pack.specs.Loaded.{lookup_value, pgn_value};
 ghost use Rattle.pack.specs.Meaning.{pack_of};
 ghost use Rattle.pack.specs.Notation.{◌<ᵇ◌, ◌≤ᵇ◌};
-ghost use Rattle.pack.specs.Ready.{IndexIs};
-ghost use Rattle.pack.specs.Value.{field_at, lookup_at};
+ghost use Rattle.pack.specs.Value.{field_at};
 ghost use Rattle.rules.specs.Model.{lookup_ref};
 ghost use Rattle.walk.specs.ByPlace.{placed};
 ghost use Rattle.walk.specs.Layout.{layout};
-ghost use Rattle.walk.specs.Naming.{IsFound, found_pgn};
-ghost use Rattle.walk.specs.StopParts.{IsFieldtypeLookup, Named, OnlyByReading, Collected, Remembered, among, lets_pass};
+ghost use Rattle.walk.specs.StopParts.{Named, OnlyByReading, Collected, Remembered, among, lets_pass};
 ghost use Rattle.walk.specs.Stops.{stop_at};
 
 use crate::named::FoundPgn;
-use crate::stops::{FieldtypeLookup, Stop, judge, names_missing};
-use pack::load::Index;
-use pack::of::entry_of;
+use crate::stops::{Stop, judge, names_missing};
+use pack::loaded::LookupRef;
 
 // The marks: of a field that stops at no reading; of one whose readings are not kept; of one that names a fieldtype lookup and was visited once.
 const FREE: u8 = 1;
@@ -106,26 +104,15 @@ fn keep(bad: &mut [u64], at: usize, n: usize, hit: bool, v: u64) -> usize
 }
 
 // The readings for which an entry of a fieldtype lookup names something missing, from `at` on, and how many these are; 5 for more than four.
-fn collect(
-    s: &[u8],
-    work: &[u32],
-    index: Index,
-    l: FieldtypeLookup,
-    bad: &mut [u64],
-    at: usize,
-) -> usize
-    requires { record {
-      lookup : IsFieldtypeLookup s.now work.now l;
-      small : at ≤ 17179869180;
-      index : IndexIs (pack_of s.now) index;
-    } }
-    ensures { Collected (pack_of s.now) (lookup_at (pack_of s.now).lookups l.index).entries l.entries at
+fn collect(lookup: &LookupRef, bad: &mut [u64], at: usize) -> usize
+    requires { at ≤ 17179869180 }
+    ensures { Collected (pack_of lookup.now.pack.bytes.now) (lookup_value lookup.now).entries lookup.now.view.entries at
         bad.old bad.new result }
 {
     let mut n: usize = 0;
-    for e in 0..l.entries {
-        let entry = entry_of(s, work, l.index, l.place, 3, e);
-        let hit = names_missing(s, work, index, entry);
+    for e in 0..lookup.view.entries {
+        let entry = lookup.entry(e);
+        let hit = names_missing(&lookup.pack, entry);
         n = keep(bad, at, n, hit, entry.value);
         if 4 < n {
             return 5;
@@ -149,24 +136,15 @@ fn mark_of(n: usize, k: u32, room: usize) -> u8
 }
 
 // Field k, which stops by its reading alone, is marked; where it names a fieldtype lookup its readings are collected at the second visit.
-fn remember(
-    s: &[u8],
-    work: &[u32],
-    found: FoundPgn,
-    marks: &mut [u8],
-    bad: &mut [u64],
-    k: u32,
-    l: Option<FieldtypeLookup>,
-)
+fn remember(found: &FoundPgn, marks: &mut [u8], bad: &mut [u64], k: u32, lookup: &Option<LookupRef>)
     requires { record {
-      pgn : IsFound s.now work.now found;
-      remembered : Remembered (pack_of s.now) (found_pgn s.now found) marks.old bad.old;
-      named : Named s.now work.now (lookup_ref (field_at (found_pgn s.now found) k)) l;
-      only : OnlyByReading (pack_of s.now) (found_pgn s.now found) k;
+      remembered : Remembered (pack_of found.now.pgn.pack.bytes.now) (pgn_value found.now.pgn) marks.old bad.old;
+      named : Named found.now.pgn.pack.bytes.now (lookup_ref (field_at (pgn_value found.now.pgn) k)) lookup.now;
+      only : OnlyByReading (pack_of found.now.pgn.pack.bytes.now) (pgn_value found.now.pgn) k;
     } }
-    ensures { Remembered (pack_of s.now) (found_pgn s.now found) marks.new bad.new }
+    ensures { Remembered (pack_of found.now.pgn.pack.bytes.now) (pgn_value found.now.pgn) marks.new bad.new }
 {
-    let Some(l) = l else {
+    let Some(lookup) = lookup else {
         mark(marks, k, FREE);
         return;
     };
@@ -178,38 +156,35 @@ fn remember(
     if m != SEEN {
         return;
     }
-    let n = collect(s, work, found.index, l, bad, 4 * k as usize);
+    let n = collect(lookup, bad, 4 * k as usize);
     let new = mark_of(n, k, bad.len());
     mark(marks, k, new);
 }
 
 // The stop at field k of a PGN, with this reading.
 pub fn stop_at(
-    s: &[u8],
-    work: &[u32],
-    found: FoundPgn,
+    found: &FoundPgn,
     marks: &mut [u8],
     bad: &mut [u64],
     k: u32,
     reading: u64,
 ) -> Option<Stop>
     requires { record {
-      pgn : IsFound s.now work.now found;
-      remembered : Remembered (pack_of s.now) (found_pgn s.now found) marks.old bad.old;
-      field : k < length (found_pgn s.now found).fields;
+      remembered : Remembered (pack_of found.now.pgn.pack.bytes.now) (pgn_value found.now.pgn) marks.old bad.old;
+      field : k < found.now.pgn.view.fields;
     } }
     ensures { record {
-      stop : result ≡ stop_at (pack_of s.now) (found_pgn s.now found)
-          (placed (layout (found_pgn s.now found)) (suc k)) k reading;
-      remembered : Remembered (pack_of s.now) (found_pgn s.now found) marks.new bad.new;
+      stop : result ≡ stop_at (pack_of found.now.pgn.pack.bytes.now) (pgn_value found.now.pgn)
+          (placed (layout (pgn_value found.now.pgn)) (suc k)) k reading;
+      remembered : Remembered (pack_of found.now.pgn.pack.bytes.now) (pgn_value found.now.pgn) marks.new bad.new;
     } }
 {
     if lets_pass(marks, bad, k, reading) {
         return None;
     }
-    match judge(s, work, found, k, reading) {
-        Ok(l) => {
-            remember(s, work, found, marks, bad, k, l);
+    match judge(found, k, reading) {
+        Ok(lookup) => {
+            remember(found, marks, bad, k, &lookup);
             None
         }
         Err(stop) => Some(stop),

@@ -1,81 +1,41 @@
 // The PGN that a call names.
-ghost use Rattle.std.specs.Prelude.{◌≡◌, length};
-ghost use Rattle.pack.specs.Load.{work_after};
+ghost use Rattle.std.specs.Prelude.{◌≡◌};
+ghost use Rattle.std.specs.Result.{result_map_both};
+ghost use Rattle.pack.specs.Loaded.{pgn_spot, pgn_value};
 ghost use Rattle.pack.specs.Meaning.{pack_of};
-ghost use Rattle.pack.specs.Ready.{Ready, IndexIs};
-ghost use Rattle.walk.specs.Naming.{IsPlaced, IsFound, NamedIs, absence, naming_refusal};
+ghost use Rattle.walk.specs.Layout.{layout};
+ghost use Rattle.walk.specs.Naming.{naming};
+ghost use Rattle.walk.specs.SetsOf.{SetsAre};
 ghost use Rattle.walk.specs.WalkCall.{in_pack};
 
 use crate::sets::{Sets, sets_of};
-use pack::load::{Index, Refusal, load};
-use pack::of::pgn_of;
+use pack::load::Refusal;
+use pack::loaded::{Pack, PgnRef};
 use pack::protocol::Protocol;
-use rules::places::pgn_position;
 
-// Where a PGN of the pack is: the pack's index, what names it, and its work position.
+// A PGN of an accepted pack, with its sets.
 #[derive(Clone, Copy)]
-pub struct PgnPlace {
-    pub index: Index,
-    pub tree: u32,
-    pub pgn: u32,
-    pub place: usize,
-}
-
-// The same with its sets.
-#[derive(Clone, Copy)]
-pub struct FoundPgn {
-    pub index: Index,
-    pub tree: u32,
-    pub pgn: u32,
-    pub place: usize,
+pub struct FoundPgn<'a> {
+    pub pgn: PgnRef<'a>,
     pub sets: Sets,
+    pub ghost sets_are: { SetsAre (layout (pgn_value pgn)) sets },
 }
 
 // The PGN that is named, if it is in the pack: 23.
-fn find_pgn(s: &[u8], work: &[u32], index: Index, tree: u32, pgn: u32) -> Result<PgnPlace, Refusal>
-    requires { record { ready : Ready s.now work.now; index : IndexIs (pack_of s.now) index } }
-    ensures { NamedIs s.now work.now tree pgn (absence (in_pack (pack_of s.now) tree pgn)) result }
+pub fn find_pgn<'a>(pack: &Pack<'a>, tree: u32, pgn: u32) -> Result<PgnRef<'a>, Refusal>
+    ensures { result_map_both pgn_spot (λ r. r) result ≡ naming (in_pack (pack_of pack.now.bytes.now) tree pgn)
+        (record { bytes = pack.now.bytes.now; work = pack.now.work.now; tree = tree; item = pgn }) }
 {
-    if Protocol::COUNT <= tree as usize {
+    let Some(protocol) = Protocol::of_tree(tree) else {
         return Err(Refusal::Absent);
-    }
-    let section = Protocol::of_tree(tree).section(index);
-    if section.count <= pgn {
-        return Err(Refusal::Absent);
-    }
-    let place = pgn_position(s, work, tree, section.place, pgn);
-    Ok(PgnPlace {
-        index,
-        tree,
-        pgn,
-        place,
-    })
+    };
+    pack.pgn(protocol, pgn).ok_or(Refusal::Absent)
 }
 
 // The PGN that is there, with its sets.
-pub fn found_pgn(s: &[u8], work: &[u32], at: PgnPlace) -> FoundPgn
-    requires { IsPlaced s.now work.now at }
-    ensures { record { tree : result.tree ≡ at.tree; pgn : result.pgn ≡ at.pgn; found : IsFound s.now work.now result } }
+pub fn found_pgn<'a>(pgn: &PgnRef<'a>) -> FoundPgn<'a>
+    ensures { result.pgn ≡ pgn.now }
 {
-    let g = pgn_of(s, work, at.tree, at.pgn, at.place);
-    let sets = sets_of(s, work, at, g);
-    let index = at.index;
-    FoundPgn {
-        index,
-        tree: at.tree,
-        pgn: at.pgn,
-        place: at.place,
-        sets,
-    }
-}
-
-// The pack is loaded, and the PGN found: "Input refusals come before these; then 21, 23"
-pub fn named_pgn(pack: &[u8], work: &mut [u32], tree: u32, pgn: u32) -> Result<PgnPlace, Refusal>
-    ensures { record {
-      named : NamedIs pack.now work.new tree pgn (naming_refusal pack.now (length work.old) tree pgn) result;
-      work : work.new ≡ work_after pack.now work.old;
-    } }
-{
-    let index = load(pack, work)?;
-    find_pgn(pack, work, index, tree, pgn)
+    let sets = sets_of(pgn);
+    FoundPgn { pgn: *pgn, sets }
 }

@@ -1,16 +1,16 @@
 // The repeating sets of a PGN as values: "sets and countField use orders".
 ghost use Rattle.std.specs.Prelude.{◌≡◌, IfSome, ◌&&◌, ◌||◌, suc, ◌+◌, ◌<◌, ◌==◌};
-ghost use Rattle.pack.specs.Meaning.{optional_repeating, pack_of};
+ghost use Rattle.pack.specs.Loaded.{pgn_value};
+ghost use Rattle.pack.specs.Meaning.{optional_repeating};
 ghost use Rattle.pack.specs.Notation.{◌<ᵇ◌};
-ghost use Rattle.pack.specs.Ready.{PgnAt, PgnIs};
-ghost use Rattle.pack.specs.Value.{pgn_at, set_place};
+ghost use Rattle.pack.specs.Value.{set_place};
 ghost use Rattle.walk.specs.ByPlace.{placed};
 ghost use Rattle.rules.specs.Search.{any_below};
 ghost use Rattle.walk.specs.Layout.{Layout, layout, no_set, set_or_empty, sets_hold, nested_in, inside_previous, misplaced, clash, stop_1};
 ghost use Rattle.walk.specs.SetsOf.{SetIs, SetsAre, has_orders, in_set, holds_both, sets_share, set_misplaced, set_inside};
 
-use crate::named::PgnPlace;
-use pack::pgn::{PgnView, RepeatingView, set_at};
+use pack::loaded::PgnRef;
+use pack::pgn::{RepeatingView, set_at};
 use pack::protocol::{FieldIndex, FieldOrder, precedes};
 
 // The orders from `start` to before `end`, none in an empty set; and the order of its countField.
@@ -59,34 +59,26 @@ fn set_of(o: Option<RepeatingView>) -> Set
 }
 
 // The set at place k; an empty one where the PGN has no such place.
-fn set_in(s: &[u8], work: &[u32], found: PgnPlace, g: PgnView, k: u32) -> Set
-    requires { record {
-      at : PgnAt s.now work.now found.tree found.pgn found.place;
-      is : PgnIs s.now (pgn_at (pack_of s.now) found.tree found.pgn) g;
-      four : k < 4;
-    } }
-    ensures { SetIs (set_or_empty (set_place (pgn_at (pack_of s.now) found.tree found.pgn) k)) result }
+fn set_in(pgn: &PgnRef, k: u32) -> Set
+    requires { k < 4 }
+    ensures { SetIs (set_or_empty (set_place (pgn_value pgn.now) k)) result }
 {
-    if k < g.places {
-        return set_of(set_at(g, k));
+    if k < pgn.view.places {
+        return set_of(set_at(pgn.view, k));
     }
     no_set()
 }
 
-// The sets of the PGN with that view.
-pub fn sets_of(s: &[u8], work: &[u32], found: PgnPlace, g: PgnView) -> Sets
-    requires { record {
-      at : PgnAt s.now work.now found.tree found.pgn found.place;
-      is : PgnIs s.now (pgn_at (pack_of s.now) found.tree found.pgn) g;
-    } }
-    ensures { SetsAre (layout (pgn_at (pack_of s.now) found.tree found.pgn)) result }
+// The sets of a PGN.
+pub fn sets_of(pgn: &PgnRef) -> Sets
+    ensures { SetsAre (layout (pgn_value pgn.now)) result }
 {
-    let first = set_in(s, work, found, g, 0);
-    let second = set_in(s, work, found, g, 1);
-    let third = set_in(s, work, found, g, 2);
-    let fourth = set_in(s, work, found, g, 3);
+    let first = set_in(pgn, 0);
+    let second = set_in(pgn, 1);
+    let third = set_in(pgn, 2);
+    let fourth = set_in(pgn, 3);
     Sets {
-        fields: g.fields,
+        fields: pgn.view.fields,
         sets: [first, second, third, fourth],
     }
 }

@@ -1,10 +1,10 @@
 // One step of the walk, and several steps in a run.
 ghost use Rattle.std.specs.Prelude.{◌≡◌, true, ℕ, suc, ◌≤◌, ◌<◌, List, length, if◌then◌else◌};
 ghost use Rattle.std.specs.Prelude.{None};
+ghost use Rattle.pack.specs.Loaded.{pgn_value};
 ghost use Rattle.pack.specs.Meaning.{pack_of};
 ghost use Rattle.walk.specs.ByPlace.{placed};
 ghost use Rattle.walk.specs.Layout.{Layout, layout};
-ghost use Rattle.walk.specs.Naming.{IsFound, found_pgn};
 ghost use Rattle.walk.specs.SetsOf.{SetsAre};
 ghost use Rattle.walk.specs.State.{place_of, memory_of, settled_of};
 ghost use Rattle.walk.specs.Steps.{Run, one_step, used, step_of, next_of, Within};
@@ -41,9 +41,7 @@ pub struct Ran {
 
 // At a due field, with its reading.
 fn step_at(
-    s: &[u8],
-    work: &[u32],
-    found: FoundPgn,
+    found: &FoundPgn,
     marks: &mut [u8],
     bad: &mut [u64],
     passes: &mut [u64],
@@ -51,22 +49,21 @@ fn step_at(
     reading: u64,
 ) -> Stepping
     requires { record {
-      pgn : IsFound s.now work.now found;
-      remembered : Remembered (pack_of s.now) (found_pgn s.now found) marks.old bad.old;
+      remembered : Remembered (pack_of found.now.pgn.pack.bytes.now) (pgn_value found.now.pgn) marks.old bad.old;
       sixteen : length passes.old ≡ 16;
       first : 1 ≤ o.0;
-      within : o.0 ≤ length (found_pgn s.now found).fields;
+      within : o.0 ≤ length (pgn_value found.now.pgn).fields;
     } }
     ensures { record {
-      step : step_of (layout (found_pgn s.now found)) result passes.new ≡ one_step (layout (found_pgn s.now found))
-          (stop_at (pack_of s.now) (found_pgn s.now found))
+      step : step_of (layout (pgn_value found.now.pgn)) result passes.new ≡ one_step (layout (pgn_value found.now.pgn))
+          (stop_at (pack_of found.now.pgn.pack.bytes.now) (pgn_value found.now.pgn))
           (due (place_of o.0 passes.old) (memory_of passes.old)) reading;
       ahead : 1 ≤ next_of result;
-      remembered : Remembered (pack_of s.now) (found_pgn s.now found) marks.new bad.new;
+      remembered : Remembered (pack_of found.now.pgn.pack.bytes.now) (pgn_value found.now.pgn) marks.new bad.new;
     } }
 {
     let field = index_of(o);
-    if let Some(stop) = stop_at(s, work, found, marks, bad, field.0, reading) {
+    if let Some(stop) = stop_at(found, marks, bad, field.0, reading) {
         return Stepping::Ended(End::Stop(stop));
     }
     visit(found.sets, passes, o, reading);
@@ -76,9 +73,7 @@ fn step_at(
 
 // One step of the walk over a PGN.
 pub fn step(
-    s: &[u8],
-    work: &[u32],
-    found: FoundPgn,
+    found: &FoundPgn,
     marks: &mut [u8],
     bad: &mut [u64],
     passes: &mut [u64],
@@ -86,20 +81,19 @@ pub fn step(
     reading: u64,
 ) -> Stepping
     requires { record {
-      pgn : IsFound s.now work.now found;
-      remembered : Remembered (pack_of s.now) (found_pgn s.now found) marks.old bad.old;
+      remembered : Remembered (pack_of found.now.pgn.pack.bytes.now) (pgn_value found.now.pgn) marks.old bad.old;
       sixteen : length passes.old ≡ 16;
-      within : Within (layout (found_pgn s.now found)) (settled_of settling passes.old);
+      within : Within (layout (pgn_value found.now.pgn)) (settled_of settling passes.old);
     } }
     ensures { record {
-      step : step_of (layout (found_pgn s.now found)) result passes.new ≡ one_step (layout (found_pgn s.now found))
-          (stop_at (pack_of s.now) (found_pgn s.now found)) (settled_of settling passes.old) reading;
+      step : step_of (layout (pgn_value found.now.pgn)) result passes.new ≡ one_step (layout (pgn_value found.now.pgn))
+          (stop_at (pack_of found.now.pgn.pack.bytes.now) (pgn_value found.now.pgn)) (settled_of settling passes.old) reading;
       ahead : 1 ≤ next_of result;
-      remembered : Remembered (pack_of s.now) (found_pgn s.now found) marks.new bad.new;
+      remembered : Remembered (pack_of found.now.pgn.pack.bytes.now) (pgn_value found.now.pgn) marks.new bad.new;
     } }
 {
     match settling {
-        Settling::Due(order) => step_at(s, work, found, marks, bad, passes, order, reading),
+        Settling::Due(order) => step_at(found, marks, bad, passes, order, reading),
         Settling::Halted => Stepping::Ended(End::Stop(Stop::CounterNotCurrent)),
         Settling::Past => Stepping::Ended(End::Whole),
     }

@@ -2,7 +2,7 @@ use Rattle.walk.proofs.Parts.{no_value_held, a_value_held, source_later}
 use Rattle.walk.specs.Held.{dynamic_value_held}
 use Rattle.rules.specs.SearchLaws.{every_turn, every_missed}
 use Rattle.rules.specs.Search.{every_below}
-use Rattle.pack.specs.Value.{pgn_at}
+use Rattle.pack.specs.Loaded.{pgn_value}
 use borrow.Author.Rules.{rules}
 use native.Mathlib.Omega.{arith}
 use Rattle.std.specs.Prelude.{is_some}
@@ -14,7 +14,7 @@ use Rattle.walk.proofs.held.dynamic_values_held.Goals as goal
 
 pub loop-k-preserved-then-not-is_value : goal.loop-k-preserved-then-not-is_value
 loop-k-preserved-then-not-is_value c =
-    let P = pack_of c.args.s.now in let p = pgn_at P c.args.found.tree c.args.found.pgn in let k = c.loop-k.k in
+    let P = pack_of c.args.found.now.pgn.pack.bytes.now in let p = pgn_value c.args.found.now.pgn in let k = c.loop-k.k in
     record {
       so_far = every_turn (dynamic_value_held P p) k
           ∙ (rw c.loop-k.invariant.so_far (sym (no_value_held P p k c.is_value.result c.is_value.ensures c.if-not-is_value.true)));
@@ -23,15 +23,15 @@ loop-k-preserved-then-not-is_value c =
 
 pub returns-then-is_none : goal.returns-then-is_none
 returns-then-is_none c =
-    let P = pack_of c.args.s.now in let p = pgn_at P c.args.found.tree c.args.found.pgn in let k = c.loop-k.k in
+    let P = pack_of c.args.found.now.pgn.pack.bytes.now in let p = pgn_value c.args.found.now.pgn in let k = c.loop-k.k in
     let g = is_some c.latest_giver-giver.result in
     let e : g ≡ false = search rules in
-    sym (every_missed (dynamic_value_held P p) (length p.fields) k (omega (arith, c.requires.sets.fields))
+    sym (every_missed (dynamic_value_held P p) (length p.fields) k (omega (arith, c.args.found.now.pgn.is.fields))
     (sym (a_value_held P p k c.is_value.result c.is_value.ensures c.if-not-is_value.false g c.latest_giver-giver.ensures.given) ∙ e))
 
 pub loop-k-preserved : goal.loop-k-preserved
 loop-k-preserved c =
-    let P = pack_of c.args.s.now in let p = pgn_at P c.args.found.tree c.args.found.pgn in let k = c.loop-k.k in
+    let P = pack_of c.args.found.now.pgn.pack.bytes.now in let p = pgn_value c.args.found.now.pgn in let k = c.loop-k.k in
     let g = is_some c.latest_giver-giver.result in
     let e : g ≡ true = search rules in
     record {
@@ -42,6 +42,6 @@ loop-k-preserved c =
 
 pub returns : goal.returns
 returns c =
-    let s = c.args.s.now in let t = c.args.found.tree in let i = c.args.found.pgn in
-    let q : length (pgn_at (pack_of s) t i).fields ≡ c.loop-k.k = omega (arith, c.requires.sets.fields) in
-    sym (ap (every_below (dynamic_value_held (pack_of s) (pgn_at (pack_of s) t i))) q ∙ c.loop-k.invariant.so_far)
+    let P = pack_of c.args.found.now.pgn.pack.bytes.now in let p = pgn_value c.args.found.now.pgn in
+    let q : length p.fields ≡ c.loop-k.k = omega (arith, c.args.found.now.pgn.is.fields) in
+    sym (ap (every_below (dynamic_value_held P p)) q ∙ c.loop-k.invariant.so_far)

@@ -27,12 +27,11 @@ loop-e-preserved c =
     record {
       few = omega (arith, c.if-n-gt4.false);
       same = c.keep-n.auto.bad ∙ c.loop-e.invariant.same;
-      collected = turned c.args.s.now c.entry_of-entry.result c.names_missing-hit.result c.loop-e.invariant.collected c.loop-e.invariant.few
-          c.entry_of-entry.ensures
-          c.names_missing-hit.ensures c.keep-n.ensures.count c.keep-n.ensures.values;
+      collected = turned c.args.lookup.now.pack.bytes.now c.entry-entry.result c.names_missing-hit.result c.loop-e.invariant.collected c.loop-e.invariant.few
+          c.entry-entry.ensures c.names_missing-hit.ensures c.keep-n.ensures.count c.keep-n.ensures.values;
     }
 
 pub returns : goal.returns
 returns c =
-    let q : c.args.l.entries ≡ c.loop-e.e = omega arith in
+    let q : c.args.lookup.now.view.entries ≡ c.loop-e.e = omega arith in
     rw q c.loop-e.invariant.collected

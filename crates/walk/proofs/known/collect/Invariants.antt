@@ -1,5 +1,5 @@
 use Rattle.walk.specs.StopParts.{Collected}
-use Rattle.pack.specs.Value.{lookup_at}
+use Rattle.pack.specs.Loaded.{lookup_value}
 use Rattle.pack.specs.Meaning.{pack_of}
 use lib.ListN.{length}
 use mathlib.Core.Path.{◌≡◌}
@@ -11,5 +11,5 @@ invariant-loop-e l =
     record {
       few : l.n ≤ 4;
       same : length l.bad ≡ length l.initial.bad;
-      collected : Collected (pack_of l.s) (lookup_at (pack_of l.s).lookups l.l.index).entries l.e l.at l.initial.bad l.bad l.n;
+      collected : Collected (pack_of l.lookup.pack.bytes.now) (lookup_value l.lookup).entries l.e l.at l.initial.bad l.bad l.n;
     }

@@ -6,8 +6,9 @@ use native.Mathlib.Omega.{arith}
 use Rattle.walk.specs.SetsOf.{SetIs}
 use Rattle.walk.specs.Layout.{no_set, set_or_empty}
 use Rattle.walk.specs.declared.sets.Set.{Set}
-use Rattle.pack.specs.Value.{Repeating, Pgn, pgn_at, set_place}
-use Rattle.pack.specs.Meaning.{repeating_meaning, optional_repeating, pack_of}
+use Rattle.pack.specs.Loaded.{pgn_value}
+use Rattle.pack.specs.Value.{Repeating, Pgn, set_place}
+use Rattle.pack.specs.Meaning.{repeating_meaning, optional_repeating}
 use Rattle.pack.specs.declared.pgn.RepeatingView.{RepeatingView}
 use Rattle.pack.proofs.SetSums.{SetFits, pgn_sets_law}
 use Rattle.pack.proofs.Sets.{places_are, set_is}
@@ -28,16 +29,16 @@ absent p k h v is = rw (get_or-eq_default p.sets None h) is
 pub set_of-requires : goal.set_of-requires
 set_of-requires c =
     let k = c.args.k in
-    fits c.set_at.result _ (ap optional_repeating c.set_at.ensures ∙ set_is c.requires.is k c.if-k-g.true)
-    (pgn_sets_law c.requires.at k)
+    fits c.set_at.result _ (ap optional_repeating c.set_at.ensures ∙ set_is c.args.pgn.now.is k c.if-k-pgn.true)
+    (pgn_sets_law c.args.pgn.now.at k)
 
-pub returns-then-k-g : goal.returns-then-k-g
-returns-then-k-g c =
+pub returns-then-k-pgn : goal.returns-then-k-pgn
+returns-then-k-pgn c =
     told c.set_at.result _
-    (ap optional_repeating c.set_at.ensures ∙ set_is c.requires.is c.args.k c.if-k-g.true) c.set_of.result
+    (ap optional_repeating c.set_at.ensures ∙ set_is c.args.pgn.now.is c.args.k c.if-k-pgn.true) c.set_of.result
     c.set_of.ensures
 
 pub returns : goal.returns
 returns c =
-    absent (pgn_at (pack_of c.args.s.now) c.args.found.tree c.args.found.pgn) c.args.k
-    (omega (arith, places_are c.requires.is, c.if-k-g.false)) c.no_set.result c.no_set.ensures
+    absent (pgn_value c.args.pgn.now) c.args.k
+    (omega (arith, places_are c.args.pgn.now.is, c.if-k-pgn.false)) c.no_set.result c.no_set.ensures

@@ -1,7 +1,7 @@
+use Rattle.pack.specs.Loaded.{pgn_value}
 use Rattle.pack.specs.Meaning.{pack_of}
-use Rattle.rules.proofs.Sizes.{fields_few}
+use Rattle.pack.proofs.Few.{fields_few}
 use Rattle.walk.specs.Layout.{layout}
-use Rattle.walk.specs.Naming.{found_pgn}
 use Rattle.walk.specs.Walk.{settled}
 use Rattle.walk.specs.State.{place_of, memory_of}
 use Rattle.walk.specs.Stops.{stop_at}
@@ -13,9 +13,9 @@ use Rattle.walk.proofs.steps.step_at.Goals as goal
 
 pub returns-in-Some : goal.returns-in-Some
 returns-in-Some c =
-    let s = c.args.s.now in let w = c.args.passes.now in
-    let P = pack_of s in
-    let p = found_pgn s c.args.found in
+    let f = c.args.found.now in let w = c.args.passes.now in
+    let P = pack_of f.pgn.pack.bytes.now in
+    let p = pgn_value f.pgn in
     record {
       step = step_stops (layout p) (stop_at P p) (place_of c.args.o.0 w) (memory_of w) c.args.reading c.index_of-field.result.0 c.index_of-field.ensures
           c.requires.first c.in-Some.ensures.stop refl;
@@ -25,13 +25,13 @@ returns-in-Some c =
 
 pub next_order-next-requires : goal.next_order-next-requires
 next_order-next-requires c =
-    omega (arith, c.requires.within, fields_few c.requires.pgn.place)
+    omega (arith, c.requires.within, fields_few c.args.found.now.pgn.at)
 
 pub returns : goal.returns
 returns c =
-    let s = c.args.s.now in let w = c.args.passes.now in let reading = c.args.reading in
-    let P = pack_of s in
-    let p = found_pgn s c.args.found in
+    let f = c.args.found.now in let w = c.args.passes.now in let reading = c.args.reading in
+    let P = pack_of f.pgn.pack.bytes.now in
+    let p = pgn_value f.pgn in
     let w' = c.visit.new.passes in
     record {
       step = step_visits (layout p) (stop_at P p) (place_of c.args.o.0 w) (memory_of w) reading c.index_of-field.result.0 c.index_of-field.ensures
@@ -39,7 +39,7 @@ returns c =
           (settled (layout p) (by_place (layout p)) (place_of c.next_order-next.result.0 w') (memory_of w'))
           (goes_onward (layout p) (place_of c.args.o.0 w) (place_of c.next_order-next.result.0 w') (memory_of w) (memory_of w') reading
           (same_left w w' c.visit.ensures.left c.args.o.0 c.next_order-next.result.0 c.next_order-next.ensures)
-          (c.visit.ensures.memory (layout p) c.requires.pgn.sets));
+          (c.visit.ensures.memory (layout p) f.sets_are));
       ahead = omega (arith, c.next_order-next.ensures);
       remembered = c.in_default.ensures.remembered;
     }

@@ -19,5 +19,5 @@ hits s l reading e =
 abbrev pub invariant-loop-e : goal.invariant-loop-e
 invariant-loop-e l =
     record {
-      none_yet : any_below (hits l.s l.l.index l.reading) l.e ≡ false;
+      none_yet : any_below (hits l.lookup.pack.bytes.now l.lookup.item l.reading) l.e ≡ false;
     }

@@ -6,7 +6,7 @@ use Rattle.rules.specs.Model.{find_lookup, fieldtypes}
 use Rattle.pack.specs.Items.{bytes_of}
 use Rattle.pack.specs.Meaning.{optional_reference, pack_of}
 use Rattle.pack.specs.declared.field.ReferenceView.{ReferenceView}
-use Rattle.walk.specs.declared.stops.FieldtypeLookup.{FieldtypeLookup}
+use Rattle.pack.specs.declared.loaded.LookupRef.{LookupRef}
 use Rattle.pack.specs.Value.{Lookup, lookup_at}
 use Rattle.pack.specs.Ready.{LookupIs}
 use mathlib.Core.Bool.{true, false}
@@ -17,17 +17,17 @@ use mathlib.Core.Path.{◌≡◌, refl, sym, ◌∙◌, ap}
 use mathlib.Core.List.{List}
 use Rattle.walk.proofs.stops.fieldtype_lookup.Goals as goal
 
-module _ (s w : List ℕ) where
-  nobody : (r : Option ReferenceView) {l : Option FieldtypeLookup} → l ≡ None
-      → ((reading : ℕ) → reference_names_missing (pack_of s) (optional_reference s r) reading ≡ false) → Named s w (optional_reference s r) l
-  nobody r n h = rw n (record { lookup = tt; decide = h })
+module _ (s : List ℕ) where
+  nobody : (r : Option ReferenceView) {l : Option LookupRef} → l ≡ None
+      → ((reading : ℕ) → reference_names_missing (pack_of s) (optional_reference s r) reading ≡ false) → Named s (optional_reference s r) l
+  nobody r n h = rw n (record { pack = tt; decide = h })
 
-  no_reference : {r : Option ReferenceView} {l : Option FieldtypeLookup} → r ≡ None → l ≡ None → Named s w (optional_reference s r) l
+  no_reference : {r : Option ReferenceView} {l : Option LookupRef} → r ≡ None → l ≡ None → Named s (optional_reference s r) l
   unfolding reference_names_missing
   no_reference {r} e n = nobody r n (λ reading. rw e)
 
   module _ {r : Option ReferenceView} {v : ReferenceView} (e : r ≡ Some v) where
-    unknown : {l : Option FieldtypeLookup} → None ≡ find_lookup (pack_of s).lookups (bytes_of s v.name) → l ≡ None → Named s w (optional_reference s r) l
+    unknown : {l : Option LookupRef} → None ≡ find_lookup (pack_of s).lookups (bytes_of s v.name) → l ≡ None → Named s (optional_reference s r) l
     unfolding reference_names_missing lookup_names_missing
     unknown f n = nobody r n (λ reading. rw (e, ← f))
 
@@ -48,25 +48,24 @@ module _ (s w : List ℕ) where
           rw (e, ← f, q)
 
 pub returns-in_err-r : goal.returns-in_err-r
-returns-in_err-r c = no_reference c.args.s.now c.args.work.now c.in_err-r.was (search rules)
+returns-in_err-r c = no_reference c.args.pack.now.bytes.now c.in_err-r.was (search rules)
 
-pub returns-in_err-found : goal.returns-in_err-found
-returns-in_err-found c =
-    let f = rw c.in_err-found.was at c.find_lookup.ensures.found in
-    unknown c.args.s.now c.args.work.now c.in_ok-r.was f (search rules)
+pub returns-in_err-lookup : goal.returns-in_err-lookup
+returns-in_err-lookup c =
+    let f = rw c.in_err-lookup.was at c.find_lookup.ensures.found in
+    unknown c.args.pack.now.bytes.now c.in_ok-r.was f (search rules)
 
-pub returns-then-l-ne3 : goal.returns-then-l-ne3
-returns-then-l-ne3 c =
-    nobody c.args.s.now c.args.work.now c.args.r refl (others c.args.s.now c.args.work.now c.in_ok-r.was c.in_ok-found.ensures.found c.lookup_of-l.ensures
-    c.if-l-ne3.true)
+pub returns-then-lookup-ne3 : goal.returns-then-lookup-ne3
+returns-then-lookup-ne3 c =
+    let l = c.in_ok-lookup.lookup in
+    let is = rw c.in_ok-lookup.ensures.same.bytes at l.is in
+    nobody c.args.pack.now.bytes.now c.args.r refl (others c.args.pack.now.bytes.now c.in_ok-r.was c.in_ok-lookup.ensures.found is c.if-lookup-ne3.true)
 
 pub returns : goal.returns
 returns c =
+    let l = c.in_ok-lookup.lookup in
+    let is = rw c.in_ok-lookup.ensures.same.bytes at l.is in
     record {
-      lookup = record {
-        place = c.in_ok-found.ensures.at;
-        kind = sym c.if-l-ne3.false ∙ ap (λ (M : Lookup). M.kind) c.lookup_of-l.ensures.means;
-        entries = c.lookup_of-l.ensures.entries;
-      };
-      decide = known c.args.s.now c.args.work.now c.in_ok-r.was c.in_ok-found.ensures.found c.lookup_of-l.ensures c.if-l-ne3.false;
+      pack = c.in_ok-lookup.ensures.same.bytes;
+      decide = known c.args.pack.now.bytes.now c.in_ok-r.was c.in_ok-lookup.ensures.found is c.if-lookup-ne3.false;
     }

@@ -4,7 +4,8 @@ use Rattle.walk.specs.Stops.{is_dynamic_value}
 use Rattle.pack.proofs.Positions.{field_ft_law}
 use Rattle.pack.specs.Items.{bytes_of}
 use Rattle.pack.specs.Notation.{◌≐◌}
-use Rattle.pack.specs.Value.{Bytes, Field, Pack, pgn_at, field_at}
+use Rattle.pack.specs.Loaded.{pgn_value}
+use Rattle.pack.specs.Value.{Bytes, Field, Pack, field_at}
 use native.Mathlib.Omega.{arith}
 use mathlib.Core.Path.{◌≡◌, ap}
 use mathlib.Core.Bool.{Bool}
@@ -18,13 +19,13 @@ told P F G is root r b e = rw (← is, ← r) e
 pub root_of-root-requires : goal.root_of-root-requires
 root_of-root-requires c =
     let k = c.args.k in
-    let e : c.args.f.ft ≡ (field_at (pgn_at (pack_of c.args.s.now) c.args.found.tree c.args.found.pgn) k).ft =
+    let e : c.args.f.ft ≡ (field_at (pgn_value c.args.pgn.now) k).ft =
     ap (λ (F : Field). F.ft) c.requires.means in
-    record { ready = c.requires.pgn.place.ready; type = omega (arith, e, field_ft_law c.requires.pgn.place k c.requires.field) }
+    omega (arith, e, field_ft_law c.args.pgn.now.at k (omega (arith, c.requires.field, c.args.pgn.now.is.fields)))
 
 pub returns : goal.returns
 returns c =
-    let s = c.args.s.now in
+    let s = c.args.pgn.now.pack.bytes.now in
     told (pack_of s) (field_meaning s c.args.f)
-    (field_at (pgn_at (pack_of s) c.args.found.tree c.args.found.pgn) c.args.k) c.requires.means
+    (field_at (pgn_value c.args.pgn.now) c.args.k) c.requires.means
     (bytes_of s c.root_of-root.result) c.root_of-root.ensures c.text_is.result c.text_is.ensures

@@ -4,15 +4,16 @@ use Rattle.walk.specs.ByPlace.{placed}
 use Rattle.walk.specs.Layout.{layout}
 use Prim.Native.Nat.{suc}
 use Rattle.pack.specs.Meaning.{pack_of, field_meaning}
-use Rattle.pack.specs.Value.{field_at, pgn_at}
+use Rattle.pack.specs.Loaded.{pgn_value}
+use Rattle.pack.specs.Value.{field_at}
 use Rattle.walk.proofs.stops.judge.Goals as goal
 
 pub returns-in-Some : goal.returns-in-Some
 returns-in-Some c =
-    let s = c.args.s.now in let k = c.args.k in let P = pack_of s in
-    let p = pgn_at P c.args.found.tree c.args.found.pgn in
+    let s = c.args.found.now.pgn.pack.bytes.now in let k = c.args.k in let P = pack_of s in
+    let p = pgn_value c.args.found.now.pgn in
     record {
-      stop = by_field P p (placed (layout p) (suc k)) k c.args.reading (field_meaning s c.field_of-f.result) c.field_of-f.ensures
+      stop = by_field P p (placed (layout p) (suc k)) k c.args.reading (field_meaning s c.field-f.result) c.field-f.ensures
           c.in-Some.stop c.in-Some.ensures;
       named = tt;
       only = tt;
@@ -20,11 +21,11 @@ returns-in-Some c =
 
 pub returns-then-lookup_names_missing : goal.returns-then-lookup_names_missing
 returns-then-lookup_names_missing c =
-    let s = c.args.s.now in let k = c.args.k in let P = pack_of s in let reading = c.args.reading in
-    let p = pgn_at P c.args.found.tree c.args.found.pgn in
+    let s = c.args.found.now.pgn.pack.bytes.now in let k = c.args.k in let P = pack_of s in let reading = c.args.reading in
+    let p = pgn_value c.args.found.now.pgn in
     record {
-      stop = by_reading P p (placed (layout p) (suc k)) k reading (field_meaning s c.field_of-f.result) c.field_of-f.ensures c.in_default.ensures
-          c.lookup_names_missing.result (named_reading c.fieldtype_lookup-l.ensures reading c.lookup_names_missing.result c.lookup_names_missing.ensures)
+      stop = by_reading P p (placed (layout p) (suc k)) k reading (field_meaning s c.field-f.result) c.field-f.ensures c.in_default.ensures
+          c.lookup_names_missing.result (named_reading c.fieldtype_lookup-lookup.ensures reading c.lookup_names_missing.result c.lookup_names_missing.ensures)
           c.if-lookup_names_missing.true;
       named = tt;
       only = tt;
@@ -32,11 +33,11 @@ returns-then-lookup_names_missing c =
 
 pub returns-in-Some-need_stop : goal.returns-in-Some-need_stop
 returns-in-Some-need_stop c =
-    let s = c.args.s.now in let k = c.args.k in let P = pack_of s in let reading = c.args.reading in
-    let p = pgn_at P c.args.found.tree c.args.found.pgn in
+    let s = c.args.found.now.pgn.pack.bytes.now in let k = c.args.k in let P = pack_of s in let reading = c.args.reading in
+    let p = pgn_value c.args.found.now.pgn in
     record {
-      stop = by_need P p (placed (layout p) (suc k)) k reading (field_meaning s c.field_of-f.result) c.field_of-f.ensures c.in_default.ensures
-          c.lookup_names_missing.result (named_reading c.fieldtype_lookup-l.ensures reading c.lookup_names_missing.result c.lookup_names_missing.ensures)
+      stop = by_need P p (placed (layout p) (suc k)) k reading (field_meaning s c.field-f.result) c.field-f.ensures c.in_default.ensures
+          c.lookup_names_missing.result (named_reading c.fieldtype_lookup-lookup.ensures reading c.lookup_names_missing.result c.lookup_names_missing.ensures)
           c.if-lookup_names_missing.false (Some c.in-Some-need_stop.stop) c.in-Some-need_stop.ensures;
       named = tt;
       only = tt;
@@ -44,15 +45,15 @@ returns-in-Some-need_stop c =
 
 pub returns : goal.returns
 returns c =
-    let s = c.args.s.now in let k = c.args.k in let P = pack_of s in let reading = c.args.reading in
-    let p = pgn_at P c.args.found.tree c.args.found.pgn in
+    let s = c.args.found.now.pgn.pack.bytes.now in let k = c.args.k in let P = pack_of s in let reading = c.args.reading in
+    let p = pgn_value c.args.found.now.pgn in
     record {
-      stop = by_need P p (placed (layout p) (suc k)) k reading (field_meaning s c.field_of-f.result) c.field_of-f.ensures c.in_default.ensures
-          c.lookup_names_missing.result (named_reading c.fieldtype_lookup-l.ensures reading c.lookup_names_missing.result c.lookup_names_missing.ensures)
+      stop = by_need P p (placed (layout p) (suc k)) k reading (field_meaning s c.field-f.result) c.field-f.ensures c.in_default.ensures
+          c.lookup_names_missing.result (named_reading c.fieldtype_lookup-lookup.ensures reading c.lookup_names_missing.result c.lookup_names_missing.ensures)
           c.if-lookup_names_missing.false None c.in_default-need_stop.ensures;
-      named = named_field (field_meaning s c.field_of-f.result) (field_at p k) c.field_of-f.ensures c.fieldtype_lookup-l.ensures;
+      named = named_field (field_meaning s c.field-f.result) (field_at p k) c.field-f.ensures c.fieldtype_lookup-lookup.ensures;
       only = record {
-        only = λ other. by_reading_only P p (placed (layout p) (suc k)) k other (field_meaning s c.field_of-f.result) c.field_of-f.ensures
+        only = λ other. by_reading_only P p (placed (layout p) (suc k)) k other (field_meaning s c.field-f.result) c.field-f.ensures
             c.in_default.ensures c.in_default-need_stop.ensures;
       };
     }

@@ -1,7 +1,7 @@
 use Rattle.walk.proofs.Parts.{a_value}
 use Rattle.walk.specs.Layout.{layout}
+use Rattle.pack.specs.Loaded.{pgn_value}
 use Rattle.pack.specs.Meaning.{pack_of}
-use Rattle.pack.specs.Value.{pgn_at}
 use Rattle.std.specs.Prelude.{is_some}
 use borrow.Author.Rules.{rules}
 use mathlib.Core.Bool.{not}
@@ -10,8 +10,7 @@ use Rattle.walk.proofs.stops.lacks_length.Goals as goal
 
 pub returns-then-is_value : goal.returns-then-is_value
 returns-then-is_value c =
-    let s = c.args.s.now in let t = c.args.found.tree in let i = c.args.found.pgn in
+    let P = pack_of c.args.found.now.pgn.pack.bytes.now in let p = pgn_value c.args.found.now.pgn in
     let g = is_some c.length_giver.result in
     let e : c.is_none.result ≡ not g = search rules in
-    e ∙ sym (a_value (pack_of s) (pgn_at (pack_of s) t i) (layout (pgn_at (pack_of s) t i)) c.args.k c.is_value.result c.is_value.ensures
-    c.if-is_value.true g c.length_giver.ensures.given)
+    e ∙ sym (a_value P p (layout p) c.args.k c.is_value.result c.is_value.ensures c.if-is_value.true g c.length_giver.ensures.given)

@@ -1,0 +1,5 @@
+use Rattle.walk.proofs.Parts.{order_fits}
+use Rattle.walk.proofs.stops.need_stop.Goals as goal
+
+pub order-own-requires : goal.order-own-requires
+order-own-requires c = order_fits c.args.found.now.pgn c.args.k c.requires.field
