@@ -24,7 +24,7 @@ pub fn find_lookup<'a>(pack: &Pack<'a>, name: Text) -> Option<LookupRef<'a>>
 }
 
 // Whether its entries name field types, and lookups nested in them.
-pub(crate) fn has_fieldtypes(lookup: &LookupRef) -> bool
+pub fn has_fieldtypes(lookup: &LookupRef) -> bool
     ensures { result ≡ ((lookup_value lookup.now).kind == 3) }
 {
     lookup.view.kind == LookupKind::Fieldtype
