@@ -144,10 +144,6 @@ module _ (s w : List ℕ) (r : Ready s w) where
       rw (type_cursor i l) (sym (type_is s i l))
 
 -- a name with none before it
-name_first : (s : List ℕ) (c : Cursor) → read_name None s c ≡ read_text s c
-unfolding read_name
-name_first s c = if_all (λ (t : Item Text). t ≡ read_text s c) ((read_text s c).next.refused == 0) _ _ (λ _. refl) (λ _. refl)
-
 module _ {s w : List ℕ} {i p : ℕ} (a : LookupAt s w i p) where
   listed : i < (lookup_list s).value
   listed = omega (arith, lookups_are s, a.lookup)
@@ -174,14 +170,6 @@ module _ {s w : List ℕ} {i p : ℕ} (a : LookupAt s w i p) where
       let l = length_lookup s (lookup_start s i) in
       stands s w a.ready p (fresh (get_or w p 0)) _ (omega (arith, a.place)) refl (rw lookup_view lookup_head_clean)
 
-  pub lookup_name_stands : Stands s w p (λ c. (read_text s c).next)
-  unfolding read_lookup ◌▷◌ give
-  lookup_name_stands =
-      let l = lookup_stands in
-      let c = fresh (get_or w p 0) in
-      let n : (read_name None s c).next.refused ≡ 0 = back (code_reader s 3) _ (back (number_reader s) _ (back (number_reader s) _ l.clean)) in
-      record { place = l.place; inside = l.inside; clean = rw (name_first s c) at n }
-
   pub lookup_room : p + 1 + length (lookup_at (pack_of s).lookups i).entries ≤ length w
   lookup_room =
       let l = length_lookup s (lookup_start s i) in
@@ -190,13 +178,6 @@ module _ {s w : List ℕ} {i p : ℕ} (a : LookupAt s w i p) where
   pub lookup_law : LookupIs s (lookup_at (pack_of s).lookups i) (read_lookup None s (fresh (get_or w p 0))).value
   unfolding lookup_of_pack
   lookup_law = rw lookup_view (record { means = (rw (lookup_is s i listed)); entries = sym (entries_are s i listed) })
-
-  pub lookup_name_law : bytes_of s (read_text s (fresh (get_or w p 0))).value ≡ (lookup_at (pack_of s).lookups i).name
-  unfolding read_lookup ◌▷◌ give
-  lookup_name_law =
-      let e : bytes_of s (read_lookup None s (fresh (get_or w p 0))).value.name ≡ (lookup_at (pack_of s).lookups i).name
-      = ap (λ (L : Lookup). L.name) lookup_law.means in
-      rw (← name_first s (fresh (get_or w p 0))) e
 
   kind_is : (lookup_at (pack_of s).lookups i).kind ≡ kind_number (lookup_head s i).value.kind
   unfolding lookup_of_pack

@@ -8,9 +8,7 @@ use Rattle.pack.specs.Trees.{protocol_of, section_of}
 use Rattle.pack.specs.declared.load.Index.{Index}
 use Rattle.pack.specs.declared.load.Section.{Section}
 use Rattle.pack.specs.declared.lookup.LookupView.{LookupView}
-use Rattle.pack.specs.declared.lookup.LookupRecord.{LookupRecord}
 use Rattle.pack.specs.declared.pgn.PgnView.{PgnView}
-use Rattle.pack.specs.declared.pgn.PgnRecord.{PgnRecord}
 
 -- accepted, and the work list begins with the record offsets
 pub record Ready (s w : List ℕ) : Type 0 where
@@ -77,21 +75,3 @@ pub record PgnIs (s : List ℕ) (G : Pgn) (v : PgnView) : Type 0 where
   pub means : pgn_meaning s v G.fields ≡ G
   pub fields : v.fields ≡ length G.fields
   pub places : v.places ≤ 4
-
--- the lookup that a lookup record is of
-abbrev pub lookup_in : List ℕ → LookupRecord → Lookup
-lookup_in s l = lookup_at (pack_of s).lookups l.item
-
--- a lookup record has its lookup's work position and view
-pub record LookupRecordIs (s w : List ℕ) (l : LookupRecord) : Type 0 where
-  pub at : LookupAt s w l.item l.place
-  pub is : LookupIs s (lookup_in s l) l.view
-
--- the PGN that a PGN record is of
-abbrev pub pgn_in : List ℕ → PgnRecord → Pgn
-pgn_in s g = pgn_at (pack_of s) g.tree g.item
-
--- a PGN record has its PGN's work position and view
-pub record PgnRecordIs (s w : List ℕ) (g : PgnRecord) : Type 0 where
-  pub at : PgnAt s w g.tree g.item g.place
-  pub is : PgnIs s (pgn_in s g) g.view

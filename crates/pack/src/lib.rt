@@ -12,7 +12,6 @@ pub mod load;
 pub mod loaded;
 pub mod lookup;
 mod number;
-pub mod of;
 pub mod pgn;
 pub mod protocol;
 pub mod reader;

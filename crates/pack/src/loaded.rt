@@ -1,14 +1,16 @@
 // An accepted pack with what `load` left in the work buffer: its records by their index, each with the facts that a reader of it asks.
-ghost use Rattle.std.specs.Prelude.{◌≡◌, ◌≤◌, ◌<◌, length, get_or, IfOk, IfErr};
+ghost use Rattle.std.specs.Prelude.{◌≡◌, ◌+◌, ◌≤◌, ◌<◌, length, get_or, IfOk, IfErr};
 ghost use Rattle.std.specs.List.{slice_get};
 ghost use Rattle.std.specs.Bool.{then_some};
 ghost use Rattle.std.specs.Option.{option_map};
 ghost use Rattle.pack.specs.Notation.{◌<ᵇ◌};
 ghost use Rattle.std.specs.Prelude.{Ok, Err};
-ghost use Rattle.pack.specs.Items.{bytes_of};
+ghost use Rattle.pack.specs.Items.{bytes_of, fresh};
 ghost use Rattle.pack.specs.Load.{Loads};
 ghost use Rattle.pack.specs.Meaning.{type_meaning, entry_meaning, field_meaning, pack_of};
 ghost use Rattle.pack.specs.Ready.{Ready, IndexIs, LookupAt, LookupIs, PgnAt, PgnIs, place_of_lookup, place_of_pgn};
+ghost use Rattle.pack.specs.Reads.{told};
+ghost use Rattle.pack.specs.Records.{read_second_text};
 ghost use Rattle.pack.specs.Trees.{tree_number};
 ghost use Rattle.pack.specs.Value.{no_field_type, no_entry, pgns_of, pgn_at, field_at, lookup_at};
 
@@ -17,9 +19,9 @@ use crate::field::FieldView;
 use crate::field_type::FieldTypeView;
 use crate::load::{Index, Refusal, load};
 use crate::lookup::LookupView;
-use crate::of::{entry_of, field_id_of, field_name_of, field_of, lookup_of, pgn_of, type_of};
 use crate::pgn::PgnView;
 use crate::protocol::Protocol;
+use crate::reader::{InputRefusal, Reader};
 use crate::text::{Text, part};
 
 #[derive(Clone, Copy)]
@@ -114,6 +116,14 @@ pub struct Fields<'a> {
     pub(crate) item: u32,
 }
 
+// The text behind the one that a record begins with: a field's name.
+fn second_text(mut r: Reader) -> Result<Text, InputRefusal>
+    ensures { result ≡ told (read_second_text r.entry.bytes.now (fresh r.entry.at)) }
+{
+    r.text()?;
+    r.text()
+}
+
 impl<'a> Pack<'a> {
     ghost use Rattle.pack.specs.Loaded.{types_left, lookups_left, pgns_left, lookup_spots, pgn_spots};
 
@@ -132,12 +142,48 @@ impl<'a> Pack<'a> {
         part(self.bytes, text)
     }
 
+    // A reader at the record whose offset the work list has at p.
+    fn reader(&self, p: usize) -> Reader<'a>
+        requires { record { place : p < length self.now.work.now; inside : get_or self.now.work.now p 0 ≤ length self.now.bytes.now } }
+        ensures { record { bytes : result.bytes.now ≡ self.now.bytes.now; at : result.at ≡ get_or self.now.work.now p 0 } }
+    {
+        Reader {
+            bytes: self.bytes,
+            at: self.work[p] as usize,
+        }
+    }
+
+    // The lookup of that index, at that work position.
+    fn lookup_view(&self, item: u32, place: usize) -> LookupView
+        requires { LookupAt self.now.bytes.now self.now.work.now item place }
+        ensures { LookupIs self.now.bytes.now (lookup_at (pack_of self.now.bytes.now).lookups item) result }
+    {
+        let Ok(lookup) = self.reader(place).lookup(None) else {
+            unreachable!()
+        };
+        lookup
+    }
+
+    // The PGN of that tree and index, at that work position.
+    fn pgn_view(&self, protocol: Protocol, item: u32, place: usize) -> PgnView
+        requires { PgnAt self.now.bytes.now self.now.work.now (tree_number protocol) item place }
+        ensures { PgnIs self.now.bytes.now (pgn_at (pack_of self.now.bytes.now) (tree_number protocol) item) result }
+    {
+        let Ok(pgn) = self.reader(place).pgn() else {
+            unreachable!()
+        };
+        pgn
+    }
+
     // Field type i.
     pub fn field_type(&self, i: u32) -> FieldTypeView
         requires { i < length (pack_of self.now.bytes.now).fieldtypes }
         ensures { type_meaning self.now.bytes.now result ≡ get_or (pack_of self.now.bytes.now).fieldtypes i no_field_type }
     {
-        type_of(self.bytes, self.work, i)
+        let Ok(field_type) = self.reader(i as usize).field_type() else {
+            unreachable!()
+        };
+        field_type
     }
 
     // None past the last.
@@ -147,7 +193,7 @@ impl<'a> Pack<'a> {
         if self.index.types.count <= i {
             return None;
         }
-        Some(type_of(self.bytes, self.work, i))
+        Some(self.field_type(i))
     }
 
     pub fn types(&self) -> Types<'a>
@@ -235,14 +281,14 @@ impl<'a> LookupRef<'a> {
         requires { k < self.now.view.entries }
         ensures { entry_meaning self.now.pack.bytes.now result ≡ get_or (lookup_value self.now).entries k no_entry }
     {
-        entry_of(
-            self.pack.bytes,
-            self.pack.work,
-            self.item,
-            self.place,
-            self.view.kind,
-            k,
-        )
+        let Ok(entry) = self
+            .pack
+            .reader(self.place + 1 + k as usize)
+            .entry(self.view.kind)
+        else {
+            unreachable!()
+        };
+        entry
     }
 }
 
@@ -262,19 +308,23 @@ impl<'a> PgnRef<'a> {
         Fields { of: *self, item: 0 }
     }
 
+    // A reader at field k.
+    fn reader(&self, k: u32) -> Reader<'a>
+        requires { k < self.now.view.fields }
+        ensures { record { bytes : result.bytes.now ≡ self.now.pack.bytes.now; at : result.at ≡ get_or self.now.pack.work.now (self.now.place + 1 + k) 0 } }
+    {
+        self.pack.reader(self.place + 1 + k as usize)
+    }
+
     // Field k.
     pub fn field(&self, k: u32) -> FieldView
         requires { k < self.now.view.fields }
         ensures { field_meaning self.now.pack.bytes.now result ≡ field_at (pgn_value self.now) k }
     {
-        field_of(
-            self.pack.bytes,
-            self.pack.work,
-            self.protocol.tree(),
-            self.item,
-            self.place,
-            k,
-        )
+        let Ok(field) = self.reader(k).field(0x1_0000_0000, 0) else {
+            unreachable!()
+        };
+        field
     }
 
     // The id of field k.
@@ -282,14 +332,10 @@ impl<'a> PgnRef<'a> {
         requires { k < self.now.view.fields }
         ensures { bytes_of self.now.pack.bytes.now result ≡ (field_at (pgn_value self.now) k).id }
     {
-        field_id_of(
-            self.pack.bytes,
-            self.pack.work,
-            self.protocol.tree(),
-            self.item,
-            self.place,
-            k,
-        )
+        let Ok(id) = self.reader(k).text() else {
+            unreachable!()
+        };
+        id
     }
 
     // Its name.
@@ -297,14 +343,10 @@ impl<'a> PgnRef<'a> {
         requires { k < self.now.view.fields }
         ensures { bytes_of self.now.pack.bytes.now result ≡ (field_at (pgn_value self.now) k).name }
     {
-        field_name_of(
-            self.pack.bytes,
-            self.pack.work,
-            self.protocol.tree(),
-            self.item,
-            self.place,
-            k,
-        )
+        let Ok(name) = second_text(self.reader(k)) else {
+            unreachable!()
+        };
+        name
     }
 
     // Field k; None past the last.
@@ -335,7 +377,7 @@ impl<'a> Iterator for Types<'a> {
             return None;
         }
         let at = pack.work[item as usize];
-        let view = type_of(pack.bytes, pack.work, item);
+        let view = pack.field_type(item);
         self.item = item + 1;
         Some(TypeRef {
             bytes: pack.bytes,
@@ -361,7 +403,7 @@ impl<'a> Iterator for Lookups<'a> {
         if count <= item {
             return None;
         }
-        let view = lookup_of(pack.bytes, pack.work, item, place);
+        let view = pack.lookup_view(item, place);
         *self = Lookups {
             pack,
             item: item + 1,
@@ -424,7 +466,7 @@ impl<'a> Iterator for Pgns<'a> {
         if count <= item {
             return None;
         }
-        let view = pgn_of(pack.bytes, pack.work, protocol.tree(), item, place);
+        let view = pack.pgn_view(protocol, item, place);
         *self = Pgns {
             pack,
             protocol,

@@ -15,14 +15,6 @@ pub struct LookupView {
     pub entries: u32,
 }
 
-// A lookup at hand: which one, the work position, and the view.
-#[derive(Clone, Copy)]
-pub struct LookupRecord {
-    pub item: u32,
-    pub place: usize,
-    pub view: LookupView,
-}
-
 impl Reader<'_> {
     // A lookup up to its entries, its name above the one before it.
     pub(crate) fn lookup(&mut self, before: Option<Text>) -> Result<LookupView, InputRefusal>

@@ -39,15 +39,6 @@ pub struct PgnView {
     pub fields: u32,
 }
 
-// A PGN at hand: its tree, which one of it, the work position, and the view.
-#[derive(Clone, Copy)]
-pub struct PgnRecord {
-    pub tree: u32,
-    pub item: u32,
-    pub place: usize,
-    pub view: PgnView,
-}
-
 // The set at place k.
 pub fn set_at(g: PgnView, k: u32) -> Option<RepeatingView>
     requires { k < 4 }

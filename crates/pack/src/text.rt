@@ -32,35 +32,14 @@ pub fn part(s: &[u8], t: Text) -> &[u8]
 pub(crate) fn same(a: &[u8], b: &[u8]) -> bool
     ensures { result ≡ a.now ≐ b.now }
 {
-    if a.len() != b.len() {
-        return false;
-    }
-    for i in 0..a.len() {
-        if a[i] != b[i] {
-            return false;
-        }
-    }
-    true
+    a == b
 }
 
 // Whether a stands before b in byte order, a shorter prefix first.
 pub(crate) fn precedes(a: &[u8], b: &[u8]) -> bool
     ensures { result ≡ a.now ≺ b.now }
 {
-    let mut i = 0;
-    while i < a.len() {
-        if b.len() <= i {
-            return false;
-        }
-        if a[i] < b[i] {
-            return true;
-        }
-        if b[i] < a[i] {
-            return false;
-        }
-        i += 1;
-    }
-    i < b.len()
+    a < b
 }
 
 pub fn same_text(s: &[u8], t: Text, u: Text) -> bool

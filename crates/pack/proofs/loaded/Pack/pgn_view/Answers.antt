@@ -3,16 +3,16 @@ use Rattle.pack.proofs.ReaderLaws.{same_Ok}
 use Rattle.pack.proofs.Standing.{reads_there}
 use Rattle.pack.specs.Records.{read_pgn}
 use mathlib.Core.Path.{◌∙◌, sym}
-use Rattle.pack.proofs.of.pgn_of.Goals as goal
+use Rattle.pack.proofs.loaded.Pack.pgn_view.Goals as goal
 
 pub reader-requires : goal.reader-requires
 reader-requires c = let t = pgn_stands c.requires in record { place = t.place; inside = t.inside }
 
 pub unreachable-requires : goal.unreachable-requires
 unreachable-requires c =
-    c.in_default.not-Ok _ (reads_there read_pgn ((pgn_stands c.requires)) c.reader.ensures.bytes c.reader.ensures.at c.pgn.ensures)
+    c.in_default.not-Ok _ (reads_there read_pgn (pgn_stands c.requires) c.reader.ensures.bytes c.reader.ensures.at c.pgn.ensures)
 
 pub returns : goal.returns
 returns c =
-    let e = reads_there read_pgn ((pgn_stands c.requires)) c.reader.ensures.bytes c.reader.ensures.at c.pgn.ensures in
-    rw (same_Ok _ _ (sym c.in-Ok.is ∙ e)) ((pgn_law c.requires))
+    let e = reads_there read_pgn (pgn_stands c.requires) c.reader.ensures.bytes c.reader.ensures.at c.pgn.ensures in
+    rw (same_Ok _ _ (sym c.in-Ok.is ∙ e)) (pgn_law c.requires)

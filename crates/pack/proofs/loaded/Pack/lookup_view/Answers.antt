@@ -4,16 +4,16 @@ use Rattle.pack.proofs.Standing.{reads_there}
 use Rattle.pack.specs.Records.{read_lookup}
 use mathlib.Core.Path.{◌∙◌, sym}
 use Rattle.std.specs.Prelude.{None}
-use Rattle.pack.proofs.of.lookup_of.Goals as goal
+use Rattle.pack.proofs.loaded.Pack.lookup_view.Goals as goal
 
 pub reader-requires : goal.reader-requires
 reader-requires c = let t = lookup_stands c.requires in record { place = t.place; inside = t.inside }
 
 pub unreachable-requires : goal.unreachable-requires
 unreachable-requires c =
-    c.in_default.not-Ok _ (reads_there (read_lookup None) ((lookup_stands c.requires)) c.reader.ensures.bytes c.reader.ensures.at c.lookup.ensures)
+    c.in_default.not-Ok _ (reads_there (read_lookup None) (lookup_stands c.requires) c.reader.ensures.bytes c.reader.ensures.at c.lookup.ensures)
 
 pub returns : goal.returns
 returns c =
-    let e = reads_there (read_lookup None) ((lookup_stands c.requires)) c.reader.ensures.bytes c.reader.ensures.at c.lookup.ensures in
-    rw (same_Ok _ _ (sym c.in-Ok.is ∙ e)) ((lookup_law c.requires))
+    let e = reads_there (read_lookup None) (lookup_stands c.requires) c.reader.ensures.bytes c.reader.ensures.at c.lookup.ensures in
+    rw (same_Ok _ _ (sym c.in-Ok.is ∙ e)) (lookup_law c.requires)

@@ -1,7 +1,7 @@
 use Rattle.pack.specs.Records.{read_second_text}
 use Rattle.pack.proofs.ReaderLaws.{reads_then, reads_out}
 use Rattle.pack.proofs.ReaderItems.{sticks_text}
-use Rattle.pack.proofs.of.second_text.Goals as goal
+use Rattle.pack.proofs.loaded.second_text.Goals as goal
 
 pub returns-in_err-text : goal.returns-in_err-text
 unfolding read_second_text
