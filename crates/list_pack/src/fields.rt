@@ -1,5 +1,5 @@
 // The fields of a PGN.
-use listing::words::{Counted, LookupKind, flags, text};
+use listing::words::{Counted, flags, kind_name, text};
 use pack::field::{AuthoredView, FieldFlags, LinksView, NamesView, ScalingView};
 use pack::loaded::{FieldRef, Pack};
 use pack::text::Text;
@@ -69,7 +69,7 @@ fn authored(out: &mut impl Write, pack: &Pack<'_>, authored: AuthoredView) -> io
 
 fn links(out: &mut impl Write, pack: &Pack<'_>, links: LinksView) -> io::Result<()> {
     if let Some(reference) = links.reference {
-        write!(out, ", reference {}", LookupKind::from(reference.kind))?;
+        write!(out, ", reference {}", kind_name(reference.kind))?;
         text(out, " ", pack.text(reference.name))?;
     }
     if let Some(special) = links.special {
@@ -97,7 +97,7 @@ pub fn list(
     } = field;
     names(out, pack, field.names, order, at)?;
     write!(out, ", field type {}", field.ft)?;
-    if let Some(field_type) = pack.field_type(field.ft) {
+    if let Some(field_type) = pack.get_field_type(field.ft) {
         text(out, " ", pack.text(field_type.name))?;
     }
     scaling(out, pack, field.scaling, field.flags)?;

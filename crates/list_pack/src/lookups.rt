@@ -1,7 +1,7 @@
 // The lookups, each with its entries.
-use listing::words::{Counted, LookupKind, text};
+use listing::words::{Counted, kind_name, text};
+use pack::kinds::LookupKind;
 use pack::loaded::{EntryRef, LookupRef, Pack};
-use pack::lookup::LookupRecord;
 use std::io;
 use std::io::Write;
 
@@ -23,7 +23,7 @@ fn list_entry(
     write!(out, " {}", entry.value)?;
     text(out, " ", pack.text(entry.name))?;
     write!(out, " at byte {at}")?;
-    if kind == LookupKind::FieldType {
+    if kind == LookupKind::Fieldtype {
         text(out, ", field type ", pack.text(entry.fieldtype))?;
         if let Some(nested) = entry.nested {
             text(out, ", nested lookup ", pack.text(nested))?;
@@ -33,16 +33,16 @@ fn list_entry(
 }
 
 fn list_lookup(out: &mut impl Write, pack: &Pack<'_>, lookup: LookupRef<'_>) -> io::Result<()> {
-    let LookupRecord { item, view, .. } = lookup.lookup;
-    write!(out, "  {item}")?;
+    let view = lookup.view;
+    write!(out, "  {}", lookup.item)?;
     text(out, " ", pack.text(view.name))?;
     let at = lookup.at();
-    let kind = LookupKind::from(view.kind);
+    let kind = kind_name(view.kind);
     let bits = Counted::new(view.bits as usize, "bit", "bits");
     let entries = Counted::new(view.entries as usize, "entry", "entries");
     writeln!(out, " at byte {at}: {kind}, {bits}, {entries}")?;
     for entry in lookup.entries() {
-        list_entry(out, pack, kind, entry)?;
+        list_entry(out, pack, view.kind, entry)?;
     }
     Ok(())
 }

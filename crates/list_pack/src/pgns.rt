@@ -1,40 +1,20 @@
 // The PGNs of a tree, each with its sets and fields.
 use crate::fields;
 use listing::words::{Counted, flags, protocol_name, text};
+use pack::kinds::MessageType;
 use pack::loaded::{Pack, PgnRef};
 use pack::pgn::RepeatingView;
 use pack::protocol::Protocol;
+use std::io;
 use std::io::Write;
-use std::{fmt, io};
 
-// How a PGN is sent.
-#[derive(Clone, Copy)]
-enum MessageType {
-    Single,
-    Fast,
-    Iso,
-    Mixed,
-}
-
-impl From<u32> for MessageType {
-    fn from(code: u32) -> MessageType {
-        match code {
-            0 => MessageType::Single,
-            1 => MessageType::Fast,
-            2 => MessageType::Iso,
-            _ => MessageType::Mixed,
-        }
-    }
-}
-
-impl fmt::Display for MessageType {
-    fn fmt<W: fmt::Write>(&self, f: &mut fmt::Formatter<W>) -> fmt::Result {
-        f.write_str(match self {
-            MessageType::Single => "Single",
-            MessageType::Fast => "Fast",
-            MessageType::Iso => "ISO",
-            MessageType::Mixed => "Mixed",
-        })
+// What a PGN's type is called.
+fn message_name(message: MessageType) -> &'static str {
+    match message {
+        MessageType::Single => "Single",
+        MessageType::Fast => "Fast",
+        MessageType::Iso => "ISO",
+        MessageType::Mixed => "Mixed",
     }
 }
 
@@ -53,11 +33,11 @@ fn list_set(out: &mut impl Write, place: u32, set: RepeatingView) -> io::Result<
 }
 
 fn list_pgn(out: &mut impl Write, pack: &Pack<'_>, pgn: PgnRef<'_>) -> io::Result<()> {
-    let view = pgn.pgn.view;
+    let view = pgn.view;
     write!(out, "  {}", view.pgn)?;
     text(out, " ", pack.text(view.id))?;
     let at = pgn.at();
-    let message = MessageType::from(view.kind);
+    let message = message_name(view.kind);
     write!(out, " at byte {at}: {message}, length {}", view.length)?;
     if let Some(minimum) = view.minimum {
         write!(out, ", minimum {minimum}")?;

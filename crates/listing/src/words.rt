@@ -1,4 +1,5 @@
 // Words for what a pack holds, and its texts.
+use pack::kinds::LookupKind;
 use pack::load::Refusal;
 use pack::protocol::Protocol;
 use std::io::Write;
@@ -51,34 +52,13 @@ pub fn protocol_name(protocol: Protocol) -> &'static str {
     }
 }
 
-// A lookup's kind, also a reference's.
-#[derive(Clone, Copy, PartialEq, Eq)]
-pub enum LookupKind {
-    Pair,
-    Triplet,
-    Bit,
-    FieldType,
-}
-
-impl From<u32> for LookupKind {
-    fn from(code: u32) -> LookupKind {
-        match code {
-            0 => LookupKind::Pair,
-            1 => LookupKind::Triplet,
-            2 => LookupKind::Bit,
-            _ => LookupKind::FieldType,
-        }
-    }
-}
-
-impl fmt::Display for LookupKind {
-    fn fmt<W: fmt::Write>(&self, f: &mut fmt::Formatter<W>) -> fmt::Result {
-        f.write_str(match self {
-            LookupKind::Pair => "pair",
-            LookupKind::Triplet => "triplet",
-            LookupKind::Bit => "bit",
-            LookupKind::FieldType => "fieldtype",
-        })
+// What a lookup's kind is called, also a reference's.
+pub fn kind_name(kind: LookupKind) -> &'static str {
+    match kind {
+        LookupKind::Pair => "pair",
+        LookupKind::Triplet => "triplet",
+        LookupKind::Bit => "bit",
+        LookupKind::Fieldtype => "fieldtype",
     }
 }
 

@@ -15,6 +15,7 @@ use Rattle.pack.specs.Format.{tree_list, type_part}
 use Rattle.pack.specs.Format.{lookup_part, tree_part, before, offsets, pack_end, lookup_start, pgn_start}
 use Rattle.pack.specs.Load.{most_bytes}
 use Rattle.pack.specs.Ready.{Ready}
+use Rattle.pack.specs.declared.kinds.LookupKind.{LookupKind}
 use Rattle.pack.proofs.Reading.{if_all, back, number_reader, version_reader, type_reader, type_moves, types_reader, entry_reader, entry_moves}
 use Rattle.pack.proofs.Reading.{entries_reader, lookup_reader, lookup_moves, lookup_steps, lookups_reader, field_steps, field_moves, fields_reader}
 use Rattle.pack.proofs.Reading.{pgn_reader, pgn_moves, pgn_next_reader, pgns_reader}
@@ -28,7 +29,7 @@ module _ (s : List ℕ) where
   types_advance c zero e = omega arith
   types_advance c (suc n) e = omega (arith, types_advance c n (back (type_reader s) (types s c n) e), type_moves s (types s c n) e)
 
-  entries_advance : (k : ℕ) (c : Cursor) (n : ℕ) → (entries k s c n).refused ≡ 0 → c.at + n ≤ (entries k s c n).at
+  entries_advance : (k : LookupKind) (c : Cursor) (n : ℕ) → (entries k s c n).refused ≡ 0 → c.at + n ≤ (entries k s c n).at
   unfolding entries
   entries_advance k c zero e = omega arith
   entries_advance k c (suc n) e = omega (arith, entries_advance k c n (back (entry_reader s k) (entries k s c n) e), entry_moves s k (entries k s c n) e)

@@ -19,3 +19,4 @@ pub mod Standing
 pub mod ReaderItems
 pub mod Few
 pub mod Turns
+pub mod KindLaws

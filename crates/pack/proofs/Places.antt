@@ -17,6 +17,7 @@ use Rattle.pack.specs.Format.{field_next, fields}
 use Rattle.pack.specs.Format.{field_offsets, pgn_next, pgn_records, pgns, pgn_offsets}
 use Rattle.pack.specs.Reads.{told, Reads}
 use Rattle.pack.specs.Placing.{Room, Stored, Placing}
+use Rattle.pack.specs.declared.kinds.LookupKind.{LookupKind}
 use Rattle.pack.specs.declared.reader.Reader.{Reader}
 use Rattle.pack.specs.declared.reader.InputRefusal.{InputRefusal}
 use Rattle.pack.proofs.Reading.{Moves, stays, type_reader, entry_reader, lookup_steps, field_steps, pgn_next_reader}
@@ -160,15 +161,15 @@ module _ (s : List ℕ) (c : Cursor) where
   unfolding types
   types_stay i n h = stays (type_reader s) c (suc i) n (omega (arith, h))
 
-  pub entries_turn : (k i : ℕ) → entries k s c (i + 1) ≡ (read_entry k s (entries k s c i)).next
+  pub entries_turn : (k : LookupKind) (i : ℕ) → entries k s c (i + 1) ≡ (read_entry k s (entries k s c i)).next
   unfolding entries
   entries_turn k i = rw add-one
 
-  pub entry_offsets_turn : (k i : ℕ) → entry_offsets k s c (i + 1) ≡ entry_offsets k s c i ++ (entries k s c i).at ∷ []
+  pub entry_offsets_turn : (k : LookupKind) (i : ℕ) → entry_offsets k s c (i + 1) ≡ entry_offsets k s c i ++ (entries k s c i).at ∷ []
   unfolding entry_offsets
   entry_offsets_turn k i = rw add-one
 
-  pub entries_stay : (k i n : ℕ) → i < n → ((read_entry k s (entries k s c i)).next.refused ≡ 0 → ⊥)
+  pub entries_stay : (k : LookupKind) (i n : ℕ) → i < n → ((read_entry k s (entries k s c i)).next.refused ≡ 0 → ⊥)
       → entries k s c n ≡ (read_entry k s (entries k s c i)).next
   unfolding entries
   entries_stay k i n h = stays (entry_reader s k) c (suc i) n (omega (arith, h))

@@ -19,6 +19,9 @@ use Rattle.pack.specs.Format.{before, offsets}
 use Rattle.pack.specs.Format.{type_start, lookup_start, pgn_start, pack_end}
 use Rattle.pack.specs.Meaning.{type_meaning, entry_meaning, field_meaning, type_of_pack, lookup_of_pack, pgn_of_pack, pack_of}
 use Rattle.pack.specs.Ready.{Ready, place_of_lookup, place_of_pgn, LookupAt, PgnAt, LookupIs, PgnIs}
+use Rattle.pack.specs.Kinds.{kind_number}
+use Rattle.pack.proofs.KindLaws.{kind_once}
+use Rattle.pack.specs.declared.kinds.LookupKind.{LookupKind}
 use Rattle.pack.specs.declared.text.Text.{Text}
 use Rattle.pack.specs.declared.field.FieldView.{FieldView}
 use Rattle.pack.proofs.Tables.{length_concat_below, getD_concat_below, getD_tab}
@@ -195,9 +198,13 @@ module _ {s w : List ℕ} {i p : ℕ} (a : LookupAt s w i p) where
       = ap (λ (L : Lookup). L.name) lookup_law.means in
       rw (← name_first s (fresh (get_or w p 0))) e
 
-  kind_is : (lookup_at (pack_of s).lookups i).kind ≡ (lookup_head s i).value.kind
+  kind_is : (lookup_at (pack_of s).lookups i).kind ≡ kind_number (lookup_head s i).value.kind
   unfolding lookup_of_pack
   kind_is = rw (lookup_is s i listed)
+
+  -- the kind of that number is the one that was read
+  head_kind : (k : LookupKind) → kind_number k ≡ (lookup_at (pack_of s).lookups i).kind → k ≡ (lookup_head s i).value.kind
+  head_kind k e = kind_once k (lookup_head s i).value.kind (e ∙ kind_is)
 
   entry_cursor : (j : ℕ) → j < length (lookup_at (pack_of s).lookups i).entries
       → (fresh (get_or w (p + 1 + j) 0) ≡ entries (lookup_head s i).value.kind s (lookup_head s i).next j) × (p + 1 + j < length (offsets s))
@@ -212,21 +219,21 @@ module _ {s w : List ℕ} {i p : ℕ} (a : LookupAt s w i p) where
       ∙ getD_tab (λ n. (entries (lookup_head s i).value.kind s (lookup_head s i).next n).at) 0 (lookup_head s i).value.entries j m in
       (ap fresh x ∙ sym (fresh_at _ (entry_clean s (clean_end s w a.ready) i j listed (omega arith))), omega (arith, o.1))
 
-  pub entry_stands : (j : ℕ) → j < length (lookup_at (pack_of s).lookups i).entries
-      → Stands s w (p + 1 + j) (λ c. (read_entry (lookup_at (pack_of s).lookups i).kind s c).next)
-  entry_stands j h =
+  pub entry_stands : (k : LookupKind) → kind_number k ≡ (lookup_at (pack_of s).lookups i).kind → (j : ℕ)
+      → j < length (lookup_at (pack_of s).lookups i).entries → Stands s w (p + 1 + j) (λ c. (read_entry k s c).next)
+  entry_stands kind e₀ j h =
       let m : j < (lookup_head s i).value.entries = omega (arith, entries_are s i listed) in
       let k = (lookup_head s i).value.kind in
       let e = entry_cursor j h in
       stands s w a.ready (p + 1 + j) (entries k s (lookup_head s i).next j) _ e.1 e.0
-      (rw (kind_is, ← entries_turn s (lookup_head s i).next k j) (entry_clean s (clean_end s w a.ready) i (j + 1) listed (omega arith)))
+      (rw (head_kind kind e₀, ← entries_turn s (lookup_head s i).next k j) (entry_clean s (clean_end s w a.ready) i (j + 1) listed (omega arith)))
 
-  pub entry_law : (j : ℕ) → j < length (lookup_at (pack_of s).lookups i).entries
-      → entry_meaning s (read_entry (lookup_at (pack_of s).lookups i).kind s (fresh (get_or w (p + 1 + j) 0))).value
-      ≡ get_or (lookup_at (pack_of s).lookups i).entries j no_entry
-  entry_law j h =
+  pub entry_law : (k : LookupKind) → kind_number k ≡ (lookup_at (pack_of s).lookups i).kind → (j : ℕ)
+      → j < length (lookup_at (pack_of s).lookups i).entries
+      → entry_meaning s (read_entry k s (fresh (get_or w (p + 1 + j) 0))).value ≡ get_or (lookup_at (pack_of s).lookups i).entries j no_entry
+  entry_law kind e₀ j h =
       let m : j < (lookup_head s i).value.entries = omega (arith, entries_are s i listed) in
-      rw (kind_is, (entry_cursor j h).0) (sym (entry_is s i j listed m))
+      rw (head_kind kind e₀, (entry_cursor j h).0) (sym (entry_is s i j listed m))
 
 types_fit : (s : List ℕ) → (type_list s).value ≤ 4294967295
 unfolding type_list

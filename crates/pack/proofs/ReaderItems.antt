@@ -14,6 +14,7 @@ use Rattle.pack.specs.Notation.{◌<ᵇ◌}
 use native.Mathlib.Omega.{arith}
 use borrow.Author.Tests.{eqb-false, ne_eqb}
 use Rattle.pack.specs.declared.reader.Reader.{Reader}
+use Rattle.pack.specs.declared.kinds.LookupKind.{LookupKind}
 use Rattle.pack.specs.declared.text.Text.{Text}
 use Rattle.pack.specs.Items.{Cursor, Form, fresh, ◌▷◌, give, optional, read_wide, read_number, read_code, read_index, read_sum, read_bytes}
 use Rattle.pack.specs.Items.{read_mark, read_text, read_name, read_float, refuse, last_byte_at, shortest, capped, groups, rises, largest32}
@@ -69,7 +70,7 @@ pub sticks_optional : {A : Type 0} (p : Form A) → Sticks p → Sticks (optiona
 unfolding optional
 sticks_optional p a = sticks_then _ _ sticks_mark (λ b. sticks_if _ _ (sticks_then _ _ a (λ v. sticks_give _)) (sticks_give _) b)
 
-pub sticks_kind_part : (kind : ℕ) → Sticks (read_kind_part kind)
+pub sticks_kind_part : (kind : LookupKind) → Sticks (read_kind_part kind)
 sticks_kind_part kind = sticks _ (λ s. kind_part_reader s kind)
 
 pub sticks_reference : Sticks read_reference

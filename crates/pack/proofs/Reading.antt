@@ -15,7 +15,8 @@ use Rattle.pack.specs.Items.{rises, read_name, read_float, read_mark}
 use Rattle.pack.specs.Records.{read_type, read_first, read_kind_part, read_entry, read_lookup, read_repeating, read_pgn, read_names}
 use Rattle.pack.specs.Records.{read_scaling, read_authored, read_reference, read_links, read_field}
 use Rattle.pack.specs.Format.{iter, types, entries, LookupState, lookup_next, lookups, FieldState, field_next, fields, pgn_next, pgns}
-use Rattle.pack.specs.declared.text.Text.{Text}
+use Rattle.pack.specs.declared.kinds.LookupKind.{LookupKind}
+use Rattle.pack.specs.declared.kinds.LookupKind.TheVariants.{Pair, Triplet, Bit, Fieldtype}
 use Rattle.pack.specs.declared.text.Text.{Text}
 
 -- a step of a reading whose state holds a cursor
@@ -333,20 +334,25 @@ module _ (s : List ℕ) where
   unfolding read_type ◌▷◌ give
   type_moves = moves_then text_moves (λ c. code_reader 7 ▸ number_reader ▸ float_reader ▸ text_reader)
 
-  first_reader : (kind : ℕ) → Reader s (λ c. (read_first kind s c).next)
+  first_reader : (kind : LookupKind) → Reader s (λ c. (read_first kind s c).next)
   unfolding read_first ◌▷◌ give
-  first_reader kind = choose (λ c. kind == 1) (λ c. (read_wide largest64 s c).next) (λ c. c) _ (λ c e. rw e) (λ c e. rw e) (wide_reader largest64) stay
+  first_reader Triplet = wide_reader largest64
+  first_reader Pair = stay
+  first_reader Bit = stay
+  first_reader Fieldtype = stay
 
-  pub kind_part_reader : (kind : ℕ) → Reader s (λ c. (read_kind_part kind s c).next)
+  pub kind_part_reader : (kind : LookupKind) → Reader s (λ c. (read_kind_part kind s c).next)
   unfolding read_kind_part ◌▷◌ give
-  kind_part_reader kind = choose (λ c. kind == 3) (λ c. (optional read_text s (read_text s c).next).next) (λ c. c) _ (λ c e. rw e) (λ c e. rw e)
-      (text_reader ▸ optional_reader read_text text_reader) stay
+  kind_part_reader Fieldtype = text_reader ▸ optional_reader read_text text_reader
+  kind_part_reader Pair = stay
+  kind_part_reader Triplet = stay
+  kind_part_reader Bit = stay
 
-  pub entry_reader : (kind : ℕ) → Reader s (λ c. (read_entry kind s c).next)
+  pub entry_reader : (kind : LookupKind) → Reader s (λ c. (read_entry kind s c).next)
   unfolding read_entry ◌▷◌ give
   entry_reader kind = first_reader kind ▸ wide_reader largest64 ▸ text_reader ▸ kind_part_reader kind
 
-  pub entry_moves : (kind : ℕ) → Moves (λ c. (read_entry kind s c).next)
+  pub entry_moves : (kind : LookupKind) → Moves (λ c. (read_entry kind s c).next)
   unfolding read_entry ◌▷◌ give
   entry_moves kind = after_moves (first_reader kind) (λ c. moves_then (wide_moves largest64) (λ c. text_reader ▸ kind_part_reader kind))
 
@@ -421,7 +427,7 @@ module _ (s : List ℕ) where
   unfolding types
   types_reader n = often type_reader n
 
-  pub entries_reader : (kind n : ℕ) → Reader s (λ c. entries kind s c n)
+  pub entries_reader : (kind : LookupKind) (n : ℕ) → Reader s (λ c. entries kind s c n)
   unfolding entries
   entries_reader kind n = often (entry_reader kind) n
 

@@ -1,7 +1,6 @@
 -- A turn of a loop over an accepted pack's lookups, or a tree's PGNs: which of them the item is, and what is left.
 use Prim.Native.Nat.{ℕ, zero, suc, ◌+◌, ◌-◌, ◌≤◌, ◌<◌}
 use native.Mathlib.Omega.{arith}
-use native.Mathlib.Decide.{dec_lt}
 use mathlib.Core.Path.{◌≡◌, refl, ap, ◌∙◌, sym}
 use mathlib.Core.List.{List, [], ◌∷◌}
 use Rattle.std.specs.Bool.{then_some}

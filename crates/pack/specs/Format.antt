@@ -5,6 +5,7 @@ use Rattle.std.specs.Prelude.{Option, None, Some}
 use Rattle.pack.specs.Notation.{concat_below, tab}
 use Rattle.pack.specs.Items.{fresh, read_number, read_version, finish}
 use Rattle.pack.specs.Records.{read_type, read_entry, read_lookup, read_pgn, read_field}
+use Rattle.pack.specs.declared.kinds.LookupKind.{LookupKind}
 use Rattle.pack.specs.declared.text.Text.{Text}
 
 -- "A list is a count, then its records": f, n times
@@ -26,14 +27,14 @@ type_offsets s c n = tab (λ i. (types s c i).at) n
 
 -- ---- lookups, each with its entries behind it
 
-abbrev pub entry_next : ℕ → List ℕ → Cursor → Cursor
+abbrev pub entry_next : LookupKind → List ℕ → Cursor → Cursor
 entry_next kind s c = (read_entry kind s c).next
 
 -- after n entries of a lookup of that kind
-unfoldable pub entries : ℕ → List ℕ → Cursor → ℕ → Cursor
+unfoldable pub entries : LookupKind → List ℕ → Cursor → ℕ → Cursor
 entries kind s c n = iter (entry_next kind s) c n
 
-unfoldable pub entry_offsets : ℕ → List ℕ → Cursor → ℕ → List ℕ
+unfoldable pub entry_offsets : LookupKind → List ℕ → Cursor → ℕ → List ℕ
 entry_offsets kind s c n = tab (λ j. (entries kind s c j).at) n
 
 -- between two lookups: the cursor, and the name of the lookup before it, if there is one

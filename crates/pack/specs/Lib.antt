@@ -1,6 +1,7 @@
 pub mod Notation
 pub mod Value
 pub mod Items
+pub mod Kinds
 pub mod Records
 pub mod Format
 pub mod Load

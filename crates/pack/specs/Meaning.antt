@@ -5,6 +5,7 @@ use Rattle.std.specs.Option.{option_map}
 use Rattle.pack.specs.Notation.{tab}
 use Rattle.pack.specs.Value.{Bytes, FieldType, Entry, Lookup, Repeating, Reference, Field, Pgn, Pack}
 use Rattle.pack.specs.Items.{bytes_of}
+use Rattle.pack.specs.Kinds.{kind_number, message_type_number}
 use Rattle.pack.specs.Records.{read_type, read_entry, read_lookup, read_pgn, read_field}
 use Rattle.pack.specs.Format.{entries, fields, type_list, lookup_list, tree_list, type_start, lookup_start, pgn_start, offsets}
 use Rattle.pack.specs.Load.{Verdict, refused, accepted, verdict}
@@ -48,7 +49,7 @@ entry_meaning s v =
 
 -- a lookup's view has only the number of its entries
 abbrev pub lookup_meaning : List ℕ → LookupView → List Entry → Lookup
-lookup_meaning s v es = record { name = bytes_of s v.name; kind = v.kind; bits = v.bits; entries = es }
+lookup_meaning s v es = record { name = bytes_of s v.name; kind = kind_number v.kind; bits = v.bits; entries = es }
 
 abbrev pub opt_order : Option FieldOrder → Option ℕ
 opt_order o = option_map (λ v. v.0) o
@@ -60,7 +61,7 @@ abbrev pub optional_repeating : Option RepeatingView → Option Repeating
 optional_repeating o = option_map repeating_meaning o
 
 abbrev pub reference_meaning : List ℕ → ReferenceView → Reference
-reference_meaning s v = record { kind = v.kind; name = bytes_of s v.name }
+reference_meaning s v = record { kind = kind_number v.kind; name = bytes_of s v.name }
 
 abbrev pub optional_reference : List ℕ → Option ReferenceView → Option Reference
 optional_reference s o = option_map (reference_meaning s) o
@@ -100,7 +101,7 @@ pgn_meaning s v fs =
     record {
       pgn = v.pgn;
       id = bytes_of s v.id;
-      type = v.kind;
+      type = message_type_number v.kind;
       fallback = v.flags.fallback;
       variable = v.flags.variable;
       missing_company_fields = v.flags.incomplete;

@@ -1,9 +1,12 @@
 -- The five kinds of record, item by item in document 01's order, as views: numbers, float patterns, and texts as parts of the pack.
-use Rattle.std.specs.Prelude.{ℕ, ◌/◌, ◌%◌, [], ◌∷◌, ◌==◌, if◌then◌else◌}
+use Rattle.std.specs.Prelude.{ℕ, ◌/◌, ◌%◌, [], ◌∷◌, ◌==◌}
 use Rattle.std.specs.Prelude.{Option, None}
 use Rattle.std.specs.Option.{option_map}
 use Rattle.pack.specs.Items.{Form, give, ◌▷◌, optional, largest64, read_wide, read_number, read_code, read_index, read_sum, read_bytes, read_mark}
 use Rattle.pack.specs.Items.{read_text, read_name, read_float}
+use Rattle.pack.specs.Kinds.{kind_of, message_type_of}
+use Rattle.pack.specs.declared.kinds.LookupKind.{LookupKind}
+use Rattle.pack.specs.declared.kinds.LookupKind.TheVariants.{Pair, Triplet, Bit, Fieldtype}
 use Rattle.pack.specs.declared.text.Text.{Text}
 use Rattle.pack.specs.declared.protocol.FieldOrder.{FieldOrder}
 use Rattle.pack.specs.declared.field_type.FieldTypeView.{FieldTypeView}
@@ -40,18 +43,25 @@ read_type =
     })
 
 -- "Triplet: first, second, name": what stands before an entry's value
-unfoldable pub read_first : ℕ → Form ℕ
-read_first kind = if kind == 1 then read_wide largest64 else give 0
+unfoldable pub read_first : LookupKind → Form ℕ
+read_first Triplet = read_wide largest64
+read_first Pair = give 0
+read_first Bit = give 0
+read_first Fieldtype = give 0
 
 -- "Fieldtype: value, name, fieldtype, optional nested lookup": what stands behind an entry's name
-unfoldable pub read_kind_part : ℕ → Form KindPart
-read_kind_part kind =
-    if kind == 3
-    then (read_text ▷ λ fieldtype. optional read_text ▷ λ nested. give (record { fieldtype = fieldtype; nested = nested }))
-    else give (record { fieldtype = record { start = 0; len = 0 }; nested = None })
+abbrev pub no_kind_part : KindPart
+no_kind_part = record { fieldtype = record { start = 0; len = 0 }; nested = None }
+
+unfoldable pub read_kind_part : LookupKind → Form KindPart
+read_kind_part Fieldtype =
+    read_text ▷ λ fieldtype. optional read_text ▷ λ nested. give (record { fieldtype = fieldtype; nested = nested })
+read_kind_part Pair = give no_kind_part
+read_kind_part Triplet = give no_kind_part
+read_kind_part Bit = give no_kind_part
 
 -- an entry of a lookup of that kind. "Pair and bit: value, name."
-unfoldable pub read_entry : ℕ → Form EntryView
+unfoldable pub read_entry : LookupKind → Form EntryView
 read_entry kind =
     read_first kind ▷ λ first.
     read_wide largest64 ▷ λ value.
@@ -66,7 +76,7 @@ read_lookup before =
     read_code 3 ▷ λ kind.
     read_number ▷ λ bits.
     read_number ▷ λ entries.
-    give (record { name = name; kind = kind; bits = bits; entries = entries })
+    give (record { name = name; kind = kind_of kind; bits = bits; entries = entries })
 
 abbrev pub order_of : Option ℕ → Option FieldOrder
 order_of n = option_map (λ n. record { 0 = n }) n
@@ -99,7 +109,7 @@ read_pgn =
     give (record {
       pgn = pgn;
       id = id;
-      kind = kind;
+      kind = message_type_of kind;
       flags = pgn_flags_of flags;
       length = length;
       minimum = minimum;
@@ -149,7 +159,7 @@ read_authored =
 
 -- ".. reference (kind, name), .."
 unfoldable pub read_reference : Form ReferenceView
-read_reference = read_code 3 ▷ λ kind. read_text ▷ λ name. give (record { kind = kind; name = name })
+read_reference = read_code 3 ▷ λ kind. read_text ▷ λ name. give (record { kind = kind_of kind; name = name })
 
 -- ".. `special_values`, `bit_length_field`, trailing-zero target, continuation width", of a field of `bits` bits
 unfoldable pub read_links : ℕ → Form LinksView

@@ -3,6 +3,7 @@ ghost use Rattle.pack.specs.Reads.{Reads};
 ghost use Rattle.pack.specs.Records.{read_first, read_kind_part, read_entry};
 
 use crate::items::Words;
+use crate::kinds::LookupKind;
 use crate::reader::{InputRefusal, Reader};
 use crate::text::Text;
 
@@ -25,32 +26,32 @@ pub struct KindPart {
 
 impl Reader<'_> {
     // A triplet's first value, which stands before its second.
-    fn first(&mut self, kind: u32) -> Result<u64, InputRefusal>
+    fn first(&mut self, kind: LookupKind) -> Result<u64, InputRefusal>
         ensures { Reads self.old (read_first kind) result self.new }
     {
-        if kind == 1 {
-            return self.wide(u64::MAX);
+        match kind {
+            LookupKind::Triplet => self.wide(u64::MAX),
+            _ => Ok(0),
         }
-        Ok(0)
     }
 
-    fn kind_part(&mut self, kind: u32) -> Result<KindPart, InputRefusal>
+    fn kind_part(&mut self, kind: LookupKind) -> Result<KindPart, InputRefusal>
         ensures { Reads self.old (read_kind_part kind) result self.new }
     {
-        if kind == 3 {
-            return Ok(KindPart {
+        match kind {
+            LookupKind::Fieldtype => Ok(KindPart {
                 fieldtype: self.text()?,
                 nested: self.optional(Words)?,
-            });
+            }),
+            _ => Ok(KindPart {
+                fieldtype: Text { start: 0, len: 0 },
+                nested: None,
+            }),
         }
-        Ok(KindPart {
-            fieldtype: Text { start: 0, len: 0 },
-            nested: None,
-        })
     }
 
     // An entry of a lookup of that kind.
-    pub(crate) fn entry(&mut self, kind: u32) -> Result<EntryView, InputRefusal>
+    pub(crate) fn entry(&mut self, kind: LookupKind) -> Result<EntryView, InputRefusal>
         ensures { Reads self.old (read_entry kind) result self.new }
     {
         let first = self.first(kind)?;

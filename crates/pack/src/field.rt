@@ -4,6 +4,7 @@ ghost use Rattle.pack.specs.Reads.{Reads};
 ghost use Rattle.pack.specs.Records.{read_names, field_flags_of, read_scaling, read_authored, read_reference, read_links, read_field};
 
 use crate::items::{Float, Item, Number, Sum, Words};
+use crate::kinds::LookupKind;
 use crate::reader::{InputRefusal, Reader};
 use crate::text::Text;
 
@@ -46,7 +47,7 @@ pub struct AuthoredView {
 
 #[derive(Clone, Copy)]
 pub struct ReferenceView {
-    pub kind: u32,
+    pub kind: LookupKind,
     pub name: Text,
 }
 
@@ -122,7 +123,7 @@ impl Reader<'_> {
         ensures { Reads self.old read_reference result self.new }
     {
         Ok(ReferenceView {
-            kind: self.code(3)?,
+            kind: LookupKind::of(self.code(3)?),
             name: self.text()?,
         })
     }

@@ -7,6 +7,7 @@ pub mod field;
 pub mod field_type;
 pub mod float;
 mod items;
+pub mod kinds;
 pub mod load;
 pub mod loaded;
 pub mod lookup;

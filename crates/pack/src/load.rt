@@ -7,6 +7,7 @@ ghost use Rattle.pack.specs.Load.{refusal_number, refusal_detail, most_bytes, Lo
 ghost use Rattle.pack.specs.Placing.{Room, Places, PlacesLookup, PlacesTree, PlacesAll};
 ghost use Rattle.pack.specs.declared.load.Refusal.TheVariants.{Input};
 
+use crate::kinds::LookupKind;
 use crate::reader::{InputRefusal, Reader};
 use crate::text::Text;
 
@@ -116,7 +117,7 @@ fn place_types(r: &mut Reader, work: &mut [u32], n: u32, p: usize) -> Result<usi
 fn place_entries(
     r: &mut Reader,
     work: &mut [u32],
-    kind: u32,
+    kind: LookupKind,
     n: u32,
     p: usize,
 ) -> Result<usize, InputRefusal>

@@ -2,6 +2,7 @@
 ghost use Rattle.pack.specs.Reads.{Reads};
 ghost use Rattle.pack.specs.Records.{read_lookup};
 
+use crate::kinds::LookupKind;
 use crate::reader::{InputRefusal, Reader};
 use crate::text::Text;
 
@@ -9,7 +10,7 @@ use crate::text::Text;
 #[derive(Clone, Copy)]
 pub struct LookupView {
     pub name: Text,
-    pub kind: u32,
+    pub kind: LookupKind,
     pub bits: u32,
     pub entries: u32,
 }
@@ -29,7 +30,7 @@ impl Reader<'_> {
     {
         Ok(LookupView {
             name: self.name(before)?,
-            kind: self.code(3)?,
+            kind: LookupKind::of(self.code(3)?),
             bits: self.number()?,
             entries: self.number()?,
         })

@@ -3,6 +3,7 @@
 ghost use Rattle.std.specs.Prelude.{◌≡◌, ◌≤◌, ◌<◌, length, get_or};
 ghost use Rattle.pack.specs.Value.{no_field_type, no_entry, pgn_at, field_at, lookup_at};
 ghost use Rattle.pack.specs.Items.{bytes_of, fresh};
+ghost use Rattle.pack.specs.Kinds.{kind_number};
 ghost use Rattle.pack.specs.Reads.{told};
 ghost use Rattle.pack.specs.Records.{read_second_text};
 ghost use Rattle.pack.specs.Meaning.{type_meaning, entry_meaning, field_meaning, pack_of};
@@ -11,6 +12,7 @@ ghost use Rattle.pack.specs.Ready.{Ready, LookupAt, PgnAt, LookupIs, PgnIs};
 use crate::entry::EntryView;
 use crate::field::FieldView;
 use crate::field_type::FieldTypeView;
+use crate::kinds::LookupKind;
 use crate::lookup::LookupView;
 use crate::pgn::PgnView;
 use crate::reader::{InputRefusal, Reader};
@@ -69,10 +71,10 @@ pub fn lookup_name_of(s: &[u8], work: &[u32], i: u32, p: usize) -> Text
 }
 
 // Entry j of lookup i, at p, which is of that kind.
-pub fn entry_of(s: &[u8], work: &[u32], i: u32, p: usize, kind: u32, j: u32) -> EntryView
+pub fn entry_of(s: &[u8], work: &[u32], i: u32, p: usize, kind: LookupKind, j: u32) -> EntryView
     requires { record {
       at : LookupAt s.now work.now i p;
-      kind : kind ≡ (lookup_at (pack_of s.now).lookups i).kind;
+      kind : kind_number kind ≡ (lookup_at (pack_of s.now).lookups i).kind;
       entry : j < length (lookup_at (pack_of s.now).lookups i).entries;
     } }
     ensures { entry_meaning s.now result ≡ get_or (lookup_at (pack_of s.now).lookups i).entries j no_entry }

@@ -5,6 +5,7 @@ ghost use Rattle.pack.specs.Reads.{Reads};
 ghost use Rattle.pack.specs.Records.{order_of, pgn_flags_of, read_repeating, read_pgn};
 
 use crate::items::{Item, Length, Number};
+use crate::kinds::MessageType;
 use crate::protocol::FieldOrder;
 use crate::reader::{InputRefusal, Reader};
 use crate::text::Text;
@@ -29,7 +30,7 @@ pub struct PgnFlags {
 pub struct PgnView {
     pub pgn: u32,
     pub id: Text,
-    pub kind: u32,
+    pub kind: MessageType,
     pub flags: PgnFlags,
     pub length: u32,
     pub minimum: Option<u32>,
@@ -93,7 +94,7 @@ impl Reader<'_> {
     {
         let pgn = self.number()?;
         let id = self.text()?;
-        let kind = self.code(3)?;
+        let kind = MessageType::of(self.code(3)?);
         let flags = self.code(7)?;
         let length = self.number()?;
         let minimum = self.optional(Length)?;

@@ -1,22 +1,31 @@
--- R20's groups, said of the views, and tests that come after them.
-use Rattle.std.specs.Prelude.{◌==◌}
-use Prim.Native.Nat.{ℕ}
-use mathlib.Core.Path.{◌≡◌, sym, ap}
-use mathlib.Core.Bool.{Bool, true, false, not, ◌&&◌}
+-- R20: what has no match duplicates none, and a count of hits.
+use Rattle.std.specs.Prelude.{if◌then◌else◌, None}
+use Prim.Native.Nat.{ℕ, ◌+◌, ◌≤◌}
+use native.Mathlib.Omega.{arith}
+use mathlib.Core.Path.{◌≡◌, refl}
+use mathlib.Core.Bool.{Bool, true, false, ◌&&◌}
 use mathlib.Core.List.{List}
-use Rattle.pack.specs.Value.{Pgn, pgns_of, pgn_at}
-use Rattle.pack.specs.Meaning.{pack_of}
-use Rattle.pack.specs.Ready.{PgnIs}
-use Rattle.pack.specs.declared.pgn.PgnView.{PgnView}
-use Rattle.rules.specs.Variants.{in_group}
+use lib.ListN.{length, get_or}
+use Rattle.pack.specs.Notation.{◌≐◌}
+use Rattle.pack.specs.Value.{Pgn, no_pgn}
+use Rattle.rules.specs.Search.{latest_below}
+use Rattle.rules.specs.SearchLaws.{latest_none}
+use Rattle.rules.specs.Variants.{has_match, match_key, in_group, duplicates}
 
-pub in_group_is : (s : List ℕ) (t number i : ℕ) (g : PgnView) → PgnIs s (pgn_at (pack_of s) t i) g
-    → in_group t (pgns_of (pack_of s) t) number i ≡ (not g.flags.fallback && (g.pgn == number))
-unfolding in_group
-in_group_is s t number i g is = ap (λ (p : Pgn). not p.fallback && (p.pgn == number)) (sym is.means)
+-- a count of hits among the first i
+pub hits_few : (hit : Bool) (count i : ℕ) → count ≤ i → (if hit then count + 1 else count) ≤ i + 1
+hits_few true count i h = omega arith
+hits_few false count i h = omega arith
 
-pub outside : (a b : Bool) → a ≡ false → false ≡ (a && b)
-outside a b e = rw e
+never : (a x y k : Bool) → y ≡ false → (a && (x && y && k)) ≡ false
+never true true y k e = rw e
+never true false y k e = refl
+never false x y k e = refl
 
-pub within : (a b r : Bool) → a ≡ true → r ≡ b → r ≡ (a && b)
-within a b r e f = rw (e, f)
+pub unmatched : (t : ℕ) (pgns : List Pgn) (number i : ℕ) → has_match (get_or pgns i no_pgn) (length (get_or pgns i no_pgn).fields) ≡ false
+    → latest_below (λ j. in_group t pgns number j && duplicates (get_or pgns j no_pgn) (get_or pgns i no_pgn)) i ≡ None
+unfolding duplicates
+unmatched t pgns number i h =
+    latest_none (λ j. in_group t pgns number j && duplicates (get_or pgns j no_pgn) (get_or pgns i no_pgn)) i
+    (λ j. never (in_group t pgns number j) (has_match (get_or pgns j no_pgn) (length (get_or pgns j no_pgn).fields))
+    (has_match (get_or pgns i no_pgn) (length (get_or pgns i no_pgn).fields)) (match_key (get_or pgns j no_pgn) ≐ match_key (get_or pgns i no_pgn)) h)

@@ -5,11 +5,13 @@ use native.Mathlib.Omega.{arith}
 use mathlib.Core.Bool.{Bool, true, false}
 use mathlib.Core.Path.{◌≡◌, refl, ap, ◌∙◌, sym}
 use mathlib.Core.List.{List, [], ◌∷◌, ◌++◌}
-use lib.ListN.{length, length-append}
+use lib.ListN.{length, get_or, length-append}
 use Rattle.pack.specs.Loaded.{lookup_spot, pgn_spot, lookups_left, pgns_left}
 use Rattle.pack.specs.Meaning.{pack_of}
 use Rattle.pack.specs.Notation.{concat_below}
+use Rattle.pack.specs.Trees.{tree_number}
 use Rattle.pack.specs.Value.{pgns_of}
+use Rattle.pack.specs.declared.protocol.Protocol.TheVariants.{Nmea2000, J1939, Quick}
 use Rattle.pack.specs.declared.loaded.Lookups.{Lookups}
 use Rattle.pack.specs.declared.loaded.LookupRef.{LookupRef}
 use Rattle.pack.specs.declared.loaded.Pgns.{Pgns}
@@ -22,7 +24,7 @@ use Rattle.rules.specs.Search.{any_below, first_below}
 use Rattle.rules.specs.SearchLaws.{any_turn, any_hit, any_missed, first_hit}
 use Rattle.rules.proofs.Emits.{emitted_turn}
 
-one_more : {A : Type 0} (ys : List A) (x : A) → length (ys ++ x ∷ []) ≡ length ys + 1
+pub one_more : {A : Type 0} (ys : List A) (x : A) → length (ys ++ x ∷ []) ≡ length ys + 1
 one_more ys x = length-append ys (x ∷ [])
 
 -- the invariant: the PGNs ys of tree t were given, what they say was found, and d gives the others
@@ -119,3 +121,11 @@ module _ {s w : List ℕ} {t : ℕ} {p : ℕ → Bool} {ys : List PgnRef} {d : P
 
   pub no_pgn : pgns_left d ≡ [] → any_below p (length (pgns_of (pack_of s) t)) ≡ false
   no_pgn h = rw (← pgns_given a.given h) a.none_yet
+
+-- ---- the trees
+
+pub tree_turn : (k : ℕ) → k < 3 → tree_number (get_or (Nmea2000 ∷ J1939 ∷ Quick ∷ []) k Nmea2000) ≡ k
+tree_turn zero h = refl
+tree_turn (suc zero) h = refl
+tree_turn (suc (suc zero)) h = refl
+tree_turn (suc (suc (suc k))) h = absurd (omega arith)

@@ -101,13 +101,13 @@ pub concat_same : {A : Type 0} (f g : ℕ → List A) (n : ℕ) → ((k : ℕ) �
 concat_same f g zero h = refl
 concat_same f g (suc n) h = let e = concat_same f g n (λ k l. h k (omega arith)) in let d = h n (omega arith) in λ j. e j ++ d j
 
--- ---- what the entries of a lookup nest, of the view of the lookup
+-- ---- what the entries of a lookup nest
 
-module _ (s name : List ℕ) (L : Lookup) (v : LookupView) (is : LookupIs s L v) where
-  pub not_nesting : (v.kind ≡ 3 → ⊥) → referenced_by_lookup name L ≡ false
+module _ (name : List ℕ) (L : Lookup) where
+  pub not_nesting : (L.kind == 3) ≡ false → referenced_by_lookup name L ≡ false
   unfolding referenced_by_lookup fieldtypes
-  not_nesting h = let e : (L.kind == 3) ≡ false = ap (λ (M : Lookup). M.kind == 3) (sym is.means) ∙ ne_eqb v.kind 3 h in rw e
+  not_nesting e = rw e
 
-  pub nesting : v.kind ≡ 3 → referenced_by_lookup name L ≡ any_below (λ e. is_text (get_or L.entries e no_entry).nested name) (length L.entries)
+  pub nesting : (L.kind == 3) ≡ true → referenced_by_lookup name L ≡ any_below (λ e. is_text (get_or L.entries e no_entry).nested name) (length L.entries)
   unfolding referenced_by_lookup fieldtypes
-  nesting h = let e : (L.kind == 3) ≡ true = ap (λ (M : Lookup). M.kind == 3) (sym is.means) ∙ eq-eqb v.kind 3 h in rw e
+  nesting e = rw e

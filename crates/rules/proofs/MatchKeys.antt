@@ -6,10 +6,9 @@ use native.Mathlib.Decide.{dec_lt}
 use native.Mathlib.Numerals.{add-one}
 use native.Mathlib.Omega.{arith}
 use mathlib.Core.Path.{◌≡◌, refl, sym, ap, ◌∙◌}
-use mathlib.Core.Bool.{Bool, true, false, not, ◌||◌, false≢true}
+use mathlib.Core.Bool.{Bool, true, false, ◌||◌, false≢true}
 use mathlib.Core.List.{List, [], ◌∷◌, ◌++◌, append-nil, append_assoc}
 use Rattle.std.specs.Prelude.{Option, None, Some}
-use borrow.Author.Tests.{eq-eqb, ne_eqb}
 use lib.ListN.{length, get_or, take, drop, drop_of_length-le}
 use lib.Seq.{drop-cons}
 use Rattle.pack.specs.Notation.{◌≐◌, concat_below}
@@ -27,9 +26,6 @@ use Rattle.rules.specs.Variants.{has_match, match_key_at, match_key}
 
 pub pieces_next : (p : Pgn) (k n : ℕ) → k < n → pieces_from p k (n - k) ≡ piece k (field_at p k).match ++ pieces_from p (k + 1) (n - (k + 1))
 pieces_next p k n h = let e : n - k ≡ suc (n - (k + 1)) = omega arith in rw (e, add-one k)
-
-pub pieces_ended : (p : Pgn) (k n : ℕ) → n ≤ k → pieces_from p k (n - k) ≡ []
-pieces_ended p k n h = let e : n - k ≡ 0 = omega arith in rw e
 
 pieces_last : (p : Pgn) (k many : ℕ) → pieces_from p k (suc many) ≡ pieces_from p k many ++ piece (k + many) (field_at p (k + many)).match
 pieces_last p k zero = let e : k + 0 ≡ k = omega arith in rw e (append-nil (piece k (field_at p k).match))

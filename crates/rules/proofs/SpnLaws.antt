@@ -2,21 +2,24 @@
 -- ---- SPNs that are met with
 use Rattle.std.specs.Prelude.{is_some, Option, None, Some}
 use Prim.Native.Nat.{ℕ, ◌<◌}
-use mathlib.Core.Bool.{true, false, ◌&&◌, false≢true}
+use native.Mathlib.Omega.{arith}
+use mathlib.Core.Bool.{true, ◌&&◌, false≢true}
 use mathlib.Core.List.{List}
 use Rattle.std.proofs.lemmas.Option.{none-some}
 use mathlib.Core.Path.{◌≡◌, refl, sym, ap, ◌∙◌}
 use lib.ListN.{length, get_or}
 use borrow.Author.Tests.{eq-eqb}
 use Rattle.pack.specs.Notation.{◌<ᵇ◌, ◌≤ᵇ◌, ◌≐◌}
-use Rattle.pack.specs.Value.{Pgn, Field, no_pgn, pgn_at, field_at}
+use Rattle.pack.specs.Value.{Pgn, no_pgn, field_at}
 use Rattle.pack.specs.Items.{bytes_of}
-use Rattle.pack.specs.Meaning.{pack_of, field_meaning}
-use Rattle.pack.specs.declared.field.FieldView.{FieldView}
+use Rattle.pack.specs.Loaded.{pgn_value}
+use Rattle.pack.specs.Meaning.{pack_of}
+use Rattle.pack.specs.declared.text.Text.{Text}
 use Rattle.rules.specs.declared.spn_names.Namer.{Namer}
 use Rattle.rules.specs.SpnNames.{is_number, spn_field, spn_pgn, name_in, name_by, spn_name, names_spn, earlier_if, earlier_in, earlier_spn, spn_from}
 use Rattle.rules.specs.SpnNames.{least_spn_in, least_spn}
 use Rattle.rules.specs.Namers.{NamesAmong}
+use Rattle.rules.specs.SearchLaws.{first_is}
 use Rattle.rules.proofs.Extremes.{max_is, min_is, first_given, least_given, optional_is, and_left, and_right}
 
 number_given : (o : Option ℕ) (i : ℕ) → is_number o i ≡ true → is_some o ≡ true
@@ -65,22 +68,28 @@ earlier_named pgns s e h =
 
 -- ---- the field that names an SPN
 
-module _ (s w : List ℕ) (spn : ℕ) (m : Namer) (a : NamesAmong s w spn (length (pack_of s).pgns_j1939) (Some m)) where
-  pub pgn_is : spn_pgn (pack_of s).pgns_j1939 spn ≡ Some m.pgn
+module _ (s : List ℕ) (spn : ℕ) (m : Namer) (a : NamesAmong s spn (length (pack_of s).pgns_j1939) (Some m)) where
+  pub pgn_is : spn_pgn (pack_of s).pgns_j1939 spn ≡ Some m.pgn.item
   unfolding spn_pgn
   pgn_is = sym a.least
 
-  pub name_is : (v : FieldView) → field_meaning s v ≡ field_at (pgn_at (pack_of s) 1 m.pgn) m.field
-      → bytes_of s v.names.name ≡ spn_name (pack_of s).pgns_j1939 spn
+  pub field_in : m.field < m.pgn.view.fields
+  unfolding spn_field
+  field_in =
+      let p = pgn_value m.pgn in
+      omega (arith, m.pgn.is.fields, (first_is (λ k. is_number (field_at p k).spn spn) (length p.fields) m.field a.is.field).0)
+
+  pub name_is : (name : Text) → bytes_of m.pgn.pack.bytes.now name ≡ (field_at (pgn_value m.pgn) m.field).name
+      → bytes_of s name ≡ spn_name (pack_of s).pgns_j1939 spn
   unfolding spn_name
-  name_is v is =
+  name_is name own =
       let pgns = (pack_of s).pgns_j1939 in
       let x = ap (name_by pgns spn) pgn_is in
-      let y = ap (name_in pgns (get_or pgns m.pgn no_pgn)) a.is.field in
-      ap (λ (F : Field). F.name) is ∙ sym (x ∙ y)
+      let y = ap (name_in pgns (get_or pgns m.pgn.item no_pgn)) (rw (a.is.bytes, a.is.tree) at a.is.field) in
+      (rw (a.is.bytes, a.is.tree) at own) ∙ sym (x ∙ y)
 
 -- where a field names the SPN, the search for it finds one
-pub named_by_one : (s w : List ℕ) (spn : ℕ) → NamesAmong s w spn (length (pack_of s).pgns_j1939) None
+pub named_by_one : (s : List ℕ) (spn : ℕ) → NamesAmong s spn (length (pack_of s).pgns_j1939) None
     → is_some (spn_pgn (pack_of s).pgns_j1939 spn) ≡ true → ⊥
 unfolding spn_pgn
-named_by_one s w spn a named = false≢true (ap is_some a.least ∙ named)
+named_by_one s spn a named = false≢true (ap is_some a.least ∙ named)

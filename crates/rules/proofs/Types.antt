@@ -2,29 +2,19 @@
 use Rattle.std.specs.Bool.{then_some}
 use Rattle.std.specs.Option.{option_map}
 use Rattle.std.specs.Prelude.{Option, None, Some, is_some}
-use Prim.Native.Nat.{ℕ, ◌<◌}
-use native.Mathlib.Omega.{arith}
+use Prim.Native.Nat.{ℕ}
 use mathlib.Core.Path.{◌≡◌, refl, ap, sym}
 use mathlib.Core.List.{List}
 use mathlib.Core.Bool.{Bool, true, false, ◌||◌}
 use Rattle.pack.specs.Notation.{◌≐◌}
-use lib.ListN.{length}
-use Rattle.pack.specs.Value.{FieldType, Field, field_at}
+use Rattle.pack.specs.Value.{FieldType}
 use Rattle.pack.specs.Items.{bytes_of}
-use Rattle.pack.specs.Loaded.{pgn_value}
-use Rattle.pack.specs.Meaning.{field_meaning, type_meaning, pack_of}
-use Rattle.pack.proofs.Positions.{field_ft_law}
+use Rattle.pack.specs.Meaning.{field_meaning, type_meaning}
 use Rattle.pack.specs.declared.field.FieldView.{FieldView}
 use Rattle.pack.specs.declared.field_type.FieldTypeView.{FieldTypeView}
-use Rattle.pack.specs.declared.loaded.PgnRef.{PgnRef}
 use Rattle.rules.specs.Texts.{NUMBER, LOOKUP}
 use Rattle.rules.specs.Model.{fieldtype_of}
 use Rattle.rules.specs.Continues.{integer}
-
--- the field type of a PGN's field is there
-pub type_there : (g : PgnRef) (f : FieldView) (k : ℕ) → k < g.view.fields → field_meaning g.pack.bytes.now f ≡ field_at (pgn_value g) k
-    → f.ft < length (pack_of g.pack.bytes.now).fieldtypes
-type_there g f k h is = omega (arith, ap (λ (F : Field). F.ft) is, field_ft_law g.at k (omega (arith, g.is.fields, h)))
 
 pub integer_is : (s : List ℕ) (fts : List FieldType) (f : FieldView) (v : FieldTypeView) → type_meaning s v ≡ fieldtype_of fts (field_meaning s f)
     → integer fts (field_meaning s f) ≡ ((bytes_of s v.root ≐ NUMBER) || (bytes_of s v.root ≐ LOOKUP))

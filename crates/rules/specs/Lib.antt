@@ -7,6 +7,7 @@ pub mod Model
 pub mod Emit
 pub mod PlaceText
 pub mod Locs
+pub mod PlaceCall
 -- R02
 pub mod PgnRange
 -- R04
@@ -53,6 +54,7 @@ pub mod Continues
 -- R44
 pub mod TrailingZero
 pub mod Check
+pub mod Checked
 -- laws
 pub mod SearchLaws
 pub mod PlaceLaws
@@ -63,3 +65,4 @@ pub mod Bound
 -- examples
 pub mod Computed
 pub mod ExamplePacks
+mod Examples

@@ -4,6 +4,7 @@ use Rattle.std.proofs.Common.{mod-lt, div-add-mod', arith, ltb-true, leb-true, e
 use Rattle.std.proofs.lemmas.Bool.{false≢true}
 use Rattle.std.specs.Prelude.{Some}
 use Rattle.std.proofs.lemmas.Option.{none-some, same_Some}
+use Rattle.pack.specs.Kinds.{message_type_number}
 use Rattle.pack.specs.Notation.{◌<ᵇ◌, ◌≤ᵇ◌}
 use Rattle.rules.specs.PgnRange.{Range, range, PGN_RANGES, J1939_PGN_RANGES, ranges_of, find_range}
 use Rattle.rules.specs.declared.pgn_range.Range.{Range as Row}
@@ -13,7 +14,7 @@ pdu1 n = n / 256 % 256 <ᵇ 240
 
 -- a row of the code's tables, which has no step, as the range that it is
 abbrev pub range_of : Row → Range
-range_of r = range r.start r.end (if pdu1 r.start then 256 else 1) r.kind
+range_of r = range r.start r.end (if pdu1 r.start then 256 else 1) (message_type_number r.kind)
 
 -- the range stays in one page of 65,536 numbers, and there on one side of 240
 abbrev one_sided : Range → Bool

@@ -158,7 +158,7 @@ fn placed_at(out: &mut Findings, pgn: &PgnRef, link: Continuing, continued: bool
 }
 
 // Field f continues the earlier one.
-#[tactic(auto, using(crate::proofs::Types::type_there))]
+#[tactic(auto, using(crate::proofs::Fields::type_there))]
 fn continued_at(out: &mut Findings, pgn: &PgnRef, f: FieldView, link: Continuing)
     requires { record {
       field : link.field < pgn.now.view.fields;

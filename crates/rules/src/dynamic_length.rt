@@ -25,14 +25,7 @@ pub fn length_source(s: &[u8], dynamic: bool, root: Text) -> bool
 }
 
 // Field k with its root's name, and whether there is a length source by then.
-fn dynamic_length_at(
-    out: &mut Findings,
-    pgn: &PgnRef,
-    k: u32,
-    f: FieldView,
-    root: Text,
-    have: bool,
-)
+fn dynamic_length_at(out: &mut Findings, pgn: &PgnRef, k: u32, f: FieldView, root: Text, have: bool)
     requires { record {
       means : field_meaning pgn.now.pack.bytes.now f ≡ field_at (pgn_value pgn.now) k;
       root : bytes_of pgn.now.pack.bytes.now root ≡ root_of (pack_of pgn.now.pack.bytes.now).fieldtypes (field_at (pgn_value pgn.now) k);
@@ -56,7 +49,7 @@ fn dynamic_length_at(
 
 // R06: DYNAMIC_FIELD_VALUE needs an earlier length source; overhead only on length fields; dynamicFieldLength only on
 // DYNAMIC_FIELD_LENGTH fields.
-#[tactic(auto, unfolding(crate::specs::DynamicLength::check_dynamic_length))]
+#[tactic(auto, using(crate::proofs::Fields::type_there), unfolding(crate::specs::DynamicLength::check_dynamic_length))]
 pub(crate) fn check_dynamic_length(out: &mut Findings, pgn: &PgnRef)
     ensures { Emitted out.old
         (check_dynamic_length (pack_of pgn.now.pack.bytes.now).fieldtypes (tree_of pgn.now) pgn.now.item (pgn_value pgn.now)) out.new }

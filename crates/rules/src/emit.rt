@@ -131,13 +131,7 @@ pub fn lookup_warning(rule: u32, cause: u32, item: u32, part: u32, other: u32) -
 }
 
 // An error at the PGNs of a number.
-pub fn group_error(
-    rule: u32,
-    cause: u32,
-    protocol: Protocol,
-    number: u32,
-    other: u32,
-) -> Finding
+pub fn group_error(rule: u32, cause: u32, protocol: Protocol, number: u32, other: u32) -> Finding
     ensures { result ≡ group_error rule cause (tree_number protocol) number other }
 {
     Finding {

@@ -3,24 +3,47 @@
 ghost use Rattle.std.specs.Prelude.{◌≡◌};
 ghost use Rattle.rules.specs.Proprietary.{is_manufacturer_pgn};
 
+mod bit_length_field;
 pub mod bools;
 mod bytes_out;
+pub mod check;
 pub mod continues;
 mod digits;
 pub mod dynamic_length;
 mod emit;
+mod field_count;
+mod field_type_overrides;
+mod fieldtypes;
 mod floats;
+mod frame_length;
 mod locs;
+mod lookup_marks;
+mod lookup_names;
+mod lookup_uses;
+mod lookup_wiring;
 pub mod lookups;
+mod match_keys;
 mod match_values;
 pub mod matches;
 mod min_length;
 pub mod model;
 pub mod nested_refs;
+mod pgn_range;
+pub mod place_text;
 pub mod places;
+mod proprietary;
+mod repeating;
+mod reserved_ids;
 mod searches;
 mod special_values;
+mod spn_clashes;
+mod spn_names;
+mod spns;
 pub mod targets;
+mod trailing_zero;
+mod trees;
+mod unique_ids;
+mod variants;
 pub mod widths;
 
 // A finding's eight numbers.

@@ -16,9 +16,16 @@ use pack::text::{Text, part};
 #[derive(Clone, Copy)]
 pub enum Loc {
     FieldTypes,
-    Pgn { protocol: Protocol, number: u32, id: Text },
+    Pgn {
+        protocol: Protocol,
+        number: u32,
+        id: Text,
+    },
     Lookup(Text),
-    Group { protocol: Protocol, number: u32 },
+    Group {
+        protocol: Protocol,
+        number: u32,
+    },
 }
 
 // What stands before the id of a PGN.
@@ -60,7 +67,11 @@ pub fn put_loc(out: &mut [u8], s: &[u8], loc: Loc) -> usize
 {
     match loc {
         Loc::FieldTypes => put_bytes(out, 0, b"fieldtypes.yaml"),
-        Loc::Pgn { protocol, number, id } => put_pgn(out, s, protocol, number, id),
+        Loc::Pgn {
+            protocol,
+            number,
+            id,
+        } => put_pgn(out, s, protocol, number, id),
         Loc::Lookup(name) => put_lookup(out, s, name),
         Loc::Group { protocol, number } => put_group(out, protocol, number),
     }

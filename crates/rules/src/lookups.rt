@@ -1,10 +1,12 @@
 // Lookups by name: the Rust's `db.lookups.get(name)`.
-ghost use Rattle.std.specs.Prelude.{◌≡◌, IfSome};
+ghost use Rattle.std.specs.Prelude.{◌≡◌, IfSome, ◌==◌};
 ghost use Rattle.std.specs.Option.{option_map};
 ghost use Rattle.pack.specs.Items.{bytes_of};
+ghost use Rattle.pack.specs.Loaded.{lookup_value};
 ghost use Rattle.pack.specs.Meaning.{pack_of};
 ghost use Rattle.rules.specs.Model.{find_lookup};
 
+use pack::kinds::LookupKind;
 use pack::loaded::{LookupRef, Pack};
 use pack::text::{Text, same_text};
 
@@ -19,4 +21,11 @@ pub fn find_lookup<'a>(pack: &Pack<'a>, name: Text) -> Option<LookupRef<'a>>
         }
     }
     None
+}
+
+// Whether its entries name field types, and lookups nested in them.
+pub fn has_fieldtypes(lookup: &LookupRef) -> bool
+    ensures { result ≡ ((lookup_value lookup.now).kind == 3) }
+{
+    lookup.view.kind == LookupKind::Fieldtype
 }

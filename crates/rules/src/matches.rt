@@ -1,6 +1,7 @@
 // The number that a match stands for: the Rust's `resolve_match`, with hexadecimal (document 02).
 ghost use Rattle.std.specs.Prelude.{◌≡◌, ◌||◌, ◌==◌, if◌then◌else◌};
 ghost use Rattle.pack.specs.Items.{bytes_of};
+ghost use Rattle.pack.specs.Kinds.{kind_number};
 ghost use Rattle.pack.specs.Loaded.{lookup_value};
 ghost use Rattle.pack.specs.Meaning.{optional_reference, field_meaning, pack_of};
 ghost use Rattle.rules.specs.Model.{value_named, resolve_name, resolve_match};
@@ -9,6 +10,7 @@ use crate::lookups::find_lookup;
 use numerals::decimal::parse_u64;
 use numerals::hexadecimal::parse_hex;
 use pack::field::{FieldView, ReferenceView};
+use pack::kinds::LookupKind;
 use pack::loaded::{LookupRef, Pack};
 use pack::text::{Text, same_text};
 
@@ -27,13 +29,13 @@ fn value_named(lookup: &LookupRef, name: Text) -> Option<u64>
 }
 
 // Whether a reference of a kind goes to the entries of a lookup of that kind.
-fn has_entries(reference: u32, kind: u32) -> bool
-    ensures { result ≡ (if reference == 3 then kind == 3 else ((kind == 0) || (kind == 2))) }
+fn has_entries(reference: LookupKind, kind: LookupKind) -> bool
+    ensures { result ≡ (if kind_number reference == 3 then kind_number kind == 3 else ((kind_number kind == 0) || (kind_number kind == 2))) }
 {
-    if reference == 3 {
-        kind == 3
+    if reference == LookupKind::Fieldtype {
+        kind == LookupKind::Fieldtype
     } else {
-        kind == 0 || kind == 2
+        kind == LookupKind::Pair || kind == LookupKind::Bit
     }
 }
 

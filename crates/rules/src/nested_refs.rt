@@ -9,7 +9,7 @@ ghost use Rattle.rules.specs.Emit.{Emitted};
 ghost use Rattle.rules.specs.LookupWiring.{is_fieldtype, nested_lookup_at, fieldtype_entry_at, check_nested_refs};
 
 use crate::emit::{Findings, lookup_error};
-use crate::lookups::find_lookup;
+use crate::lookups::{find_lookup, has_fieldtypes};
 use pack::entry::EntryView;
 use pack::loaded::{LookupRef, Pack};
 use pack::text::{Text, same_text};
@@ -56,7 +56,7 @@ fn check_nested_refs(out: &mut Findings, lookup: &LookupRef)
     ensures { Emitted out.old
         (check_nested_refs (pack_of lookup.now.pack.bytes.now) lookup.now.item (lookup_value lookup.now)) out.new }
 {
-    if lookup.view.kind != 3 {
+    if !has_fieldtypes(lookup) {
         return;
     }
     for e in 0..lookup.view.entries {

@@ -8,11 +8,11 @@ pub fn find<'a>(pack: &Pack<'a>, protocol: Protocol, name: &[u8]) -> Option<PgnR
     if let Some(number) = parse_u64(name) {
         let found = pack
             .pgns(protocol)
-            .find(|found| u64::from(found.pgn.view.pgn) == number);
+            .find(|found| u64::from(found.view.pgn) == number);
         if found.is_some() {
             return found;
         }
     }
     pack.pgns(protocol)
-        .find(|found| pack.text(found.pgn.view.id) == name)
+        .find(|found| pack.text(found.view.id) == name)
 }

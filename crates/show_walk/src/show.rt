@@ -4,7 +4,6 @@ use crate::find::find;
 use crate::passes::{Passes, indent};
 use listing::words::{Counted, Refused, protocol_name, text};
 use pack::loaded::{Pack, PgnRef};
-use pack::pgn::PgnRecord;
 use pack::protocol::{FieldIndex, Protocol};
 use rules::check::{Reported, check};
 use std::alloc::{AllocError, Global};
@@ -77,24 +76,23 @@ fn show_errors(out: &mut impl Write, pack: &[u8], buffers: &mut Buffers) -> io::
 // A visit of field k.
 fn show_visit(
     out: &mut impl Write,
-    pack: &Pack<'_>,
     pgn: PgnRef<'_>,
     passes: &mut Passes,
     k: u32,
     reading: u64,
 ) -> io::Result<()> {
-    let Some(field) = pgn.field(k) else {
+    let Some(field) = pgn.get_field(k) else {
         return Ok(());
     };
     if u32::MAX == k {
         return Ok(());
     }
-    let view = pgn.pgn.view;
+    let view = pgn.view;
     let order = FieldIndex(k).order();
     passes.at_visit(out, &view, order)?;
     indent(out, &view, order, view.places as usize)?;
     write!(out, "order {}", order.0)?;
-    text(out, " ", pack.text(field.names.id))?;
+    text(out, " ", pgn.pack.text(field.names.id))?;
     writeln!(out, " reading {reading}")
 }
 
@@ -130,17 +128,15 @@ fn show_end(out: &mut impl Write, end: End, visits: usize) -> io::Result<()> {
 
 fn show_walk(
     out: &mut impl Write,
-    pack: &Pack<'_>,
-    tree: u32,
     found: PgnRef<'_>,
     readings: &[u64],
     buffers: &mut Buffers,
 ) -> io::Result<()> {
     match walk(
-        pack.bytes,
+        found.pack.bytes,
         &mut buffers.work,
-        tree,
-        found.pgn.item,
+        found.protocol.tree(),
+        found.item,
         readings,
         &mut buffers.visits,
     ) {
@@ -148,7 +144,7 @@ fn show_walk(
         Ok(Ended { end, visits }) => {
             let mut passes = Passes::none();
             for (k, reading) in buffers.visits.iter().zip(readings).take(visits) {
-                show_visit(out, pack, found, &mut passes, *k, *reading)?;
+                show_visit(out, found, &mut passes, *k, *reading)?;
             }
             show_end(out, end, visits)
         }
@@ -159,21 +155,24 @@ fn show_walk(
 fn show_found(
     out: &mut impl Write,
     alloc: Global,
-    pack: &Pack<'_>,
-    protocol: Protocol,
     found: PgnRef<'_>,
     readings: &[u64],
 ) -> io::Result<()> {
+    let PgnRef {
+        pack,
+        protocol,
+        item,
+        view,
+        ..
+    } = found;
     let mut buffers = Buffers::new(alloc, pack.bytes.len())?;
-    let PgnRecord { item, view, .. } = found.pgn;
     write!(out, "PGN {}", view.pgn)?;
     text(out, " ", pack.text(view.id))?;
     writeln!(out, " of {}, index {}", Tree(protocol), item)?;
-    let tree = protocol.tree();
-    show_walk(out, pack, tree, found, readings, &mut buffers)?;
+    show_walk(out, found, readings, &mut buffers)?;
     out.flush()?;
     let clean = show_errors(out, pack.bytes, &mut buffers)?;
-    match held(pack.bytes, &mut buffers.work, tree, item) {
+    match held(pack.bytes, &mut buffers.work, protocol.tree(), item) {
         Err(refusal) => writeln!(out, "{}", Refused(refusal)),
         Ok(held) => writeln!(out, "{}", meaning(held, clean)),
     }
@@ -191,7 +190,7 @@ pub fn show(
     match Pack::load(bytes, &mut work) {
         Err(refusal) => writeln!(out, "{}", Refused(refusal)),
         Ok(pack) => match find(&pack, protocol, arguments.name) {
-            Some(found) => show_found(out, alloc, &pack, protocol, found, &arguments.readings),
+            Some(found) => show_found(out, alloc, found, &arguments.readings),
             None => writeln!(
                 out,
                 "not in the pack: no PGN of that number or id in {}",

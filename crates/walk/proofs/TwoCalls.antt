@@ -59,8 +59,8 @@ kept s m t i readings w ev there u = go (leb (load_index s).records m) refl (leb
     go true ea true eb (ends_used_up q l) = walked_used_up (rw (ev, ea, there, eb, q)) q l (rw (ev, ea, there, eb))
 
 -- the two calls' answers, by their contracts
-module _ (s : List ℕ) (t i : ℕ) (readings w : List ℕ) (k m n : ℕ) (c : Result Reported Refusal) (r : Result Ended Refusal) (w' : List ℕ) (ec : c ≡ checked s k n)
-    (er : r ≡ walked s m t i readings (length w)) (ew : w' ≡ visits_after s m t i readings w) where
+module _ (s : List ℕ) (t i : ℕ) (readings w : List ℕ) (k m n : ℕ) (c : Result Reported Refusal) (r : Result Ended Refusal) (w' : List ℕ)
+    (ec : c ≡ checked s k n) (er : r ≡ walked s m t i readings (length w)) (ew : w' ≡ visits_after s m t i readings w) where
   abbrev P : Pack
   P = pack_of s
 

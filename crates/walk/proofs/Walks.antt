@@ -168,7 +168,8 @@ start_history P p readings e c h = rw h (record {
   same = first_same (layout p) (good (layout p) e);
 })
 
-pub stopped_1 : (P : Pack) (p : Pgn) (readings w : List ℕ) → stop_1 (layout p) ≡ true → Told (walk P p readings) w w (record { end = Stop SetMisplaced; visits = 0 })
+pub stopped_1 : (P : Pack) (p : Pgn) (readings w : List ℕ) → stop_1 (layout p) ≡ true
+    → Told (walk P p readings) w w (record { end = Stop SetMisplaced; visits = 0 })
 unfolding walk walk_with
 stopped_1 P p readings w e = rw (walk, walk_with, e) (record { answer = refl; out = refl })
 

@@ -26,12 +26,14 @@ pub data Kept (A : Answer) (n m : ℕ) (w w' : List ℕ) (r : Result Ended Refus
   -- "every other one answers the end and the number of visits that the definition above gives, and the visit buffer begins with the field
   -- indexes of those visits, in order": no stop; no more visits than readings, and as many where they are used up
   walked_whole : r ≡ Ok (record { end = Whole; visits = length A.visits }) → A.ends ≡ whole → length A.visits ≤ n → w' ≡ over A.visits w → Kept A n m w w' r
-  walked_used_up : r ≡ Ok (record { end = UsedUp; visits = length A.visits }) → A.ends ≡ used_up → length A.visits ≡ n → w' ≡ over A.visits w → Kept A n m w w' r
+  walked_used_up : r ≡ Ok (record { end = UsedUp; visits = length A.visits }) → A.ends ≡ used_up → length A.visits ≡ n → w' ≡ over A.visits w
+      → Kept A n m w w' r
 
 -- c is check's answer on the pack s, r walk's on PGN i of tree t over the readings. What "held" means is a parameter: it is claimed for
 -- `held`, which the call answers, and for `held_widest`. That one claim covers the other readings of 01's sentence on countFields
 -- (HeldReadings), since each implies `held_widest` of the PGNs of a pack (proofs/HeldWidest.antt): `demand_3_readings` (proofs/TwoCalls.antt).
-abbrev pub Demand3 : (Pack → Pgn → Bool) → (s : List ℕ) (t i : ℕ) (readings : List ℕ) (m : ℕ) (w w' : List ℕ) → Result Reported Refusal → Result Ended Refusal → Type 0
+abbrev pub Demand3 : (Pack → Pgn → Bool) → (s : List ℕ) (t i : ℕ) (readings : List ℕ) (m : ℕ) (w w' : List ℕ)
+    → Result Reported Refusal → Result Ended Refusal → Type 0
 Demand3 is_held s t i readings m w w' c r =
     clean c ≡ true → in_pack (pack_of s) t i ≡ true → is_held (pack_of s) (pgn_at (pack_of s) t i) ≡ true
     → Kept (walk_of s t i readings) (length readings) m w w' r

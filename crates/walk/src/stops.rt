@@ -21,7 +21,7 @@ use pack::loaded::{LookupRef, Pack, PgnRef};
 use pack::protocol::{FieldIndex, FieldOrder};
 use pack::text::{Text, text_is};
 use rules::dynamic_length::length_source;
-use rules::lookups::find_lookup;
+use rules::lookups::{find_lookup, has_fieldtypes};
 use rules::matches::resolve_match;
 use rules::model::root_of;
 use rules::nested_refs::is_fieldtype;
@@ -123,7 +123,7 @@ fn fieldtype_lookup<'a>(pack: &Pack<'a>, r: Option<ReferenceView>) -> Option<Loo
 {
     let r = r?;
     let lookup = find_lookup(pack, r.name)?;
-    if lookup.view.kind != 3 {
+    if !has_fieldtypes(&lookup) {
         return None;
     }
     Some(lookup)

@@ -2,7 +2,7 @@ use Rattle.scalings.specs.Report.{finding_is}
 use Rattle.rules.specs.Search.{any_below}
 use mathlib.Core.Bool.{false}
 use mathlib.Core.Path.{◌≡◌}
-use Prim.Native.Nat.{◌-◌, ◌≤◌}
+use Prim.Native.Nat.{◌≤◌}
 use Rattle.scalings.proofs.reports.Given as goal
 
 abbrev pub invariant-loop-i : goal.invariant-loop-i

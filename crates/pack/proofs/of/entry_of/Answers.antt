@@ -15,17 +15,17 @@ pub overflow_add-p-2 : goal.overflow_add-p-2
 overflow_add-p-2 c = omega (arith, lookup_room c.requires.at, c.requires.entry)
 
 pub reader-requires : goal.reader-requires
-reader-requires c = let t = entry_stands c.requires.at c.args.j c.requires.entry in record { place = t.place; inside = t.inside }
+reader-requires c = let t = entry_stands c.requires.at c.args.kind c.requires.kind c.args.j c.requires.entry in record { place = t.place; inside = t.inside }
 
 pub unreachable-requires : goal.unreachable-requires
 unreachable-requires c =
     let t : Stands c.args.s.now c.args.work.now (c.args.p + 1 + c.args.j) (λ (k : Cursor). (read_entry c.args.kind c.args.s.now k).next) =
-    rw c.requires.kind (entry_stands c.requires.at c.args.j c.requires.entry) in
+    entry_stands c.requires.at c.args.kind c.requires.kind c.args.j c.requires.entry in
     c.in_default.not-Ok _ (reads_there (read_entry c.args.kind) t c.reader.ensures.bytes c.reader.ensures.at c.entry.ensures)
 
 pub returns : goal.returns
 returns c =
     let t : Stands c.args.s.now c.args.work.now (c.args.p + 1 + c.args.j) (λ (k : Cursor). (read_entry c.args.kind c.args.s.now k).next) =
-    rw c.requires.kind (entry_stands c.requires.at c.args.j c.requires.entry) in
+    entry_stands c.requires.at c.args.kind c.requires.kind c.args.j c.requires.entry in
     let e = reads_there (read_entry c.args.kind) t c.reader.ensures.bytes c.reader.ensures.at c.entry.ensures in
-    rw (same_Ok _ _ (sym c.in-Ok.is ∙ e), c.requires.kind) (entry_law c.requires.at c.args.j c.requires.entry)
+    rw (same_Ok _ _ (sym c.in-Ok.is ∙ e)) (entry_law c.requires.at c.args.kind c.requires.kind c.args.j c.requires.entry)

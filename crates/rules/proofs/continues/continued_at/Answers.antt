@@ -4,7 +4,6 @@ use Rattle.rules.specs.Model.{fieldtype_of, root_of, value_bits}
 use Rattle.rules.proofs.Types.{some_is}
 use Rattle.rules.specs.Texts.{NUMBER}
 use Rattle.rules.specs.Floats.{float_eq, ZERO}
-use Rattle.pack.proofs.Positions.{field_ft_law}
 use Rattle.rules.proofs.Emits.{emitted_append}
 use Rattle.rules.specs.Findings.{report_if, pgn_error}
 use Rattle.rules.specs.declared.Finding.{Finding}
@@ -12,14 +11,12 @@ use Rattle.pack.specs.declared.field.FieldView.{FieldView}
 use Rattle.pack.specs.Meaning.{field_meaning, pack_of}
 use Rattle.pack.specs.Items.{bytes_of}
 use Rattle.pack.specs.Loaded.{pgn_value}
-use Rattle.pack.specs.Value.{Bytes, FieldType, Field, Pgn, pgn_at, field_at}
+use Rattle.pack.specs.Value.{Bytes, FieldType, Pgn, field_at}
 use Rattle.pack.specs.Notation.{◌<ᵇ◌, ◌≐◌}
 use mathlib.Core.Bool.{not, ◌||◌, Bool}
-use Prim.Native.Nat.{ℕ, ◌+◌, ◌≤◌}
-use native.Mathlib.Omega.{arith}
-use mathlib.Core.Path.{◌≡◌, refl, ap}
+use Prim.Native.Nat.{ℕ}
+use mathlib.Core.Path.{◌≡◌}
 use mathlib.Core.List.{List, [], ◌∷◌, ◌++◌}
-use lib.ListN.{length, length-append}
 use Rattle.rules.proofs.continues.continued_at.Goals as goal
 
 abbrev placed : ℕ → ℕ → Pgn → ℕ → Bytes → ℕ → Bool → List Finding

@@ -1,5 +1,5 @@
 use Rattle.std.specs.Prelude.{Option, None}
-use Rattle.pack.proofs.Few.{fields_few}
+use Rattle.rules.proofs.Fields.{order_fits}
 use Rattle.pack.proofs.Sets.{places_are, set_is}
 use Rattle.pack.specs.declared.pgn.RepeatingView.{RepeatingView}
 use Rattle.pack.specs.declared.pgn.PgnView.{PgnView}
@@ -32,7 +32,7 @@ module _ (q : ℕ → Bool) where
   missed (suc j) h e = let d : suc j - 1 ≡ j = omega arith in rw (d, rw d at e)
 
 pub order-order-requires : goal.order-order-requires
-order-order-requires c = omega (arith, c.requires, c.args.pgn.now.is.fields, fields_few c.args.pgn.now.at)
+order-order-requires c = order_fits c.args.pgn.now c.args.k c.requires
 
 pub loop-j-init : goal.loop-j-init
 loop-j-init c =

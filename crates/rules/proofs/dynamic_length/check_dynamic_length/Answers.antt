@@ -1,5 +1,4 @@
 use Rattle.rules.proofs.Emits.{reporting_turn}
-use Rattle.rules.proofs.Types.{type_there}
 use Rattle.rules.specs.Texts.{DYNAMIC_FIELD_KEY}
 use Rattle.rules.specs.Search.{any_below}
 use Rattle.rules.specs.DynamicLength.{length_source, have_length_source}
@@ -25,9 +24,6 @@ found : (g : PgnRef) (k : ℕ) (v : FieldView) (root : List ℕ) (old one : Bool
     → one ≡ (v.flags.dynamic || (root ≐ DYNAMIC_FIELD_KEY)) → (old || one) ≡ any_below (source g) (suc k)
 unfolding length_source
 found g k v root old one is r o n = rw (n, o, r, ← is)
-
-pub root_of-root-requires : goal.root_of-root-requires
-root_of-root-requires c = type_there c.args.pgn.now c.field-f.result c.loop-k.k c.loop-k-test.true c.field-f.ensures
 
 pub dynamic_length_at-requires : goal.dynamic_length_at-requires
 unfolding have_length_source

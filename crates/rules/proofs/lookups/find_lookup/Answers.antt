@@ -1,5 +1,4 @@
 use Rattle.pack.specs.Items.{bytes_of}
-use Rattle.pack.specs.Meaning.{pack_of}
 use Rattle.pack.specs.Notation.{◌≐◌}
 use Rattle.pack.specs.Value.{Lookup}
 use Rattle.pack.proofs.Turns.{lookups_turn}
@@ -13,7 +12,8 @@ use Rattle.rules.proofs.Loops.{lookup_missed, lookup_hit_first, no_lookup_first}
 use Rattle.rules.proofs.lookups.find_lookup.Invariants.{named}
 use Rattle.rules.proofs.lookups.find_lookup.Goals as goal
 
-said : {s : List ℕ} (name : List ℕ) {l : ℕ} (x : LookupRef) {r : Bool} → x.pack.bytes.now ≡ s → x.item ≡ l → r ≡ (bytes_of s x.view.name ≐ name) → named s name l ≡ r
+said : {s : List ℕ} (name : List ℕ) {l : ℕ} (x : LookupRef) {r : Bool} → x.pack.bytes.now ≡ s → x.item ≡ l → r ≡ (bytes_of s x.view.name ≐ name)
+    → named s name l ≡ r
 said name x b i h = let q = ap (λ (L : Lookup). L.name) x.is.means in cc
 
 pub returns-then-same_text-clause-found : goal.returns-then-same_text-clause-found

@@ -1,5 +1,6 @@
 use Rattle.std.specs.Prelude.{◌==◌, if◌then◌else◌, None, Some}
 use Rattle.rules.specs.Model.{find_lookup, fieldtypes, pairs, value_named, resolve_in, resolve_name}
+use Rattle.pack.specs.Kinds.{kind_number}
 use Rattle.pack.specs.Loaded.{lookup_value}
 use Rattle.pack.specs.Meaning.{reference_meaning, pack_of}
 use Rattle.pack.specs.Items.{bytes_of}
@@ -7,7 +8,7 @@ use Rattle.pack.specs.Value.{Bytes, Entry, Lookup, Reference, lookup_at}
 use Rattle.pack.specs.declared.loaded.LookupRef.{LookupRef}
 use mathlib.Core.Bool.{◌||◌, Bool, true, false}
 use Prim.Native.Nat.{ℕ}
-use mathlib.Core.Path.{◌≡◌, refl, ap, sym, ◌∙◌}
+use mathlib.Core.Path.{◌≡◌, refl, ap, ◌∙◌}
 use mathlib.Core.List.{List, []}
 use Rattle.rules.proofs.matches.resolve_name.Goals as goal
 
@@ -36,11 +37,11 @@ module _ (ls : List Lookup) (m : Bytes) (r : Reference) where
 
 -- of a lookup of the pack
 found : (s : List ℕ) (m : Bytes) (r : Reference) (x : LookupRef) (b : Bool) → x.pack.bytes.now ≡ s → Some x.item ≡ find_lookup (pack_of s).lookups r.name
-    → b ≡ (if r.kind == 3 then x.view.kind == 3 else ((x.view.kind == 0) || (x.view.kind == 2)))
+    → b ≡ (if r.kind == 3 then kind_number x.view.kind == 3 else ((kind_number x.view.kind == 0) || (kind_number x.view.kind == 2)))
     → resolve_name (pack_of s).lookups m (Some r) ≡ (if b then value_named (lookup_value x).entries m else None)
 found s m r x b e f h =
     let q : lookup_value x ≡ lookup_at (pack_of s).lookups x.item = rw e in
-    rw q (known (pack_of s).lookups m r x.item x.view.kind b f (ap (λ (L : Lookup). L.kind) (x.is.means ∙ q)) h)
+    rw q (known (pack_of s).lookups m r x.item (kind_number x.view.kind) b f (ap (λ (L : Lookup). L.kind) (x.is.means ∙ q)) h)
 
 pub returns-in_err-r : goal.returns-in_err-r
 unfolding resolve_name

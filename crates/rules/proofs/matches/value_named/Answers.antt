@@ -17,5 +17,7 @@ returns-then-same_text c =
     let name = bytes_of x.pack.bytes.now c.args.name in
     let h : named x name c.loop-e.e ≡ true =
     rw (← ap (λ (E : Entry). E.name) c.entry-entry.ensures, ← c.same_text.ensures) c.if-same_text.true in
-    rw (first_hit (named x name) (length (lookup_value x).entries) c.loop-e.e (omega (arith, c.loop-e-test.true, x.is.entries)) c.loop-e.invariant h,
-    ← c.entry-entry.ensures)
+    rw (
+      first_hit (named x name) (length (lookup_value x).entries) c.loop-e.e (omega (arith, c.loop-e-test.true, x.is.entries)) c.loop-e.invariant h,
+      ← c.entry-entry.ensures,
+    )

@@ -1,5 +1,4 @@
 use Rattle.std.specs.Prelude.{◌==◌, Option, None, Some}
-use Rattle.pack.specs.declared.lookup.LookupView.{LookupView}
 use Rattle.walk.specs.StopParts.{Named}
 use Rattle.walk.specs.Stops.{entries_name_missing, lookup_names_missing, reference_names_missing}
 use Rattle.rules.specs.Model.{find_lookup, fieldtypes}
@@ -7,13 +6,11 @@ use Rattle.pack.specs.Items.{bytes_of}
 use Rattle.pack.specs.Meaning.{optional_reference, pack_of}
 use Rattle.pack.specs.declared.field.ReferenceView.{ReferenceView}
 use Rattle.pack.specs.declared.loaded.LookupRef.{LookupRef}
-use Rattle.pack.specs.Value.{Lookup, lookup_at}
-use Rattle.pack.specs.Ready.{LookupIs}
+use Rattle.pack.specs.Value.{lookup_at}
 use mathlib.Core.Bool.{true, false}
 use borrow.Author.Rules.{rules}
-use borrow.Author.Tests.{eq-eqb, ne_eqb}
 use Prim.Native.Nat.{ℕ}
-use mathlib.Core.Path.{◌≡◌, refl, sym, ◌∙◌, ap}
+use mathlib.Core.Path.{◌≡◌, refl, sym, ◌∙◌}
 use mathlib.Core.List.{List}
 use Rattle.walk.proofs.stops.fieldtype_lookup.Goals as goal
 
@@ -31,21 +28,17 @@ module _ (s : List ℕ) where
     unfolding reference_names_missing lookup_names_missing
     unknown f n = nobody r n (λ reading. rw (e, ← f))
 
-    module _ {i : ℕ} (f : Some i ≡ find_lookup (pack_of s).lookups (bytes_of s v.name)) {L : LookupView}
-        (is : LookupIs s (lookup_at (pack_of s).lookups i) L) where
-      others : (L.kind ≡ 3 → ⊥) → (reading : ℕ) → reference_names_missing (pack_of s) (optional_reference s r) reading ≡ false
+    module _ {i : ℕ} (f : Some i ≡ find_lookup (pack_of s).lookups (bytes_of s v.name)) where
+      others : ((lookup_at (pack_of s).lookups i).kind == 3) ≡ false → (reading : ℕ)
+          → reference_names_missing (pack_of s) (optional_reference s r) reading ≡ false
       unfolding reference_names_missing lookup_names_missing entries_name_missing fieldtypes
-      others y reading =
-          let q : ((lookup_at (pack_of s).lookups i).kind == 3) ≡ false = ap (λ (M : Lookup). M.kind == 3) (sym is.means) ∙ ne_eqb L.kind 3 y in
-          rw (e, ← f, q)
+      others q reading = rw (e, ← f, q)
 
-      known : L.kind ≡ 3 → (reading : ℕ)
+      known : ((lookup_at (pack_of s).lookups i).kind == 3) ≡ true → (reading : ℕ)
           → reference_names_missing (pack_of s) (optional_reference s r) reading
           ≡ entries_name_missing (pack_of s) (lookup_at (pack_of s).lookups i).entries reading
       unfolding reference_names_missing lookup_names_missing fieldtypes
-      known y reading =
-          let q : ((lookup_at (pack_of s).lookups i).kind == 3) ≡ true = ap (λ (M : Lookup). M.kind == 3) (sym is.means) ∙ eq-eqb L.kind 3 y in
-          rw (e, ← f, q)
+      known q reading = rw (e, ← f, q)
 
 pub returns-in_err-r : goal.returns-in_err-r
 returns-in_err-r c = no_reference c.args.pack.now.bytes.now c.in_err-r.was (search rules)
@@ -55,17 +48,15 @@ returns-in_err-lookup c =
     let f = rw c.in_err-lookup.was at c.find_lookup.ensures.found in
     unknown c.args.pack.now.bytes.now c.in_ok-r.was f (search rules)
 
-pub returns-then-lookup-ne3 : goal.returns-then-lookup-ne3
-returns-then-lookup-ne3 c =
-    let l = c.in_ok-lookup.lookup in
-    let is = rw c.in_ok-lookup.ensures.same.bytes at l.is in
-    nobody c.args.pack.now.bytes.now c.args.r refl (others c.args.pack.now.bytes.now c.in_ok-r.was c.in_ok-lookup.ensures.found is c.if-lookup-ne3.true)
+pub returns-then-not-has_fieldtypes : goal.returns-then-not-has_fieldtypes
+returns-then-not-has_fieldtypes c =
+    let kind = rw c.in_ok-lookup.ensures.same.bytes at (sym c.has_fieldtypes.ensures ∙ c.if-not-has_fieldtypes.true) in
+    nobody c.args.pack.now.bytes.now c.args.r refl (others c.args.pack.now.bytes.now c.in_ok-r.was c.in_ok-lookup.ensures.found kind)
 
 pub returns : goal.returns
 returns c =
-    let l = c.in_ok-lookup.lookup in
-    let is = rw c.in_ok-lookup.ensures.same.bytes at l.is in
+    let kind = rw c.in_ok-lookup.ensures.same.bytes at (sym c.has_fieldtypes.ensures ∙ c.if-not-has_fieldtypes.false) in
     record {
       pack = c.in_ok-lookup.ensures.same.bytes;
-      decide = known c.args.pack.now.bytes.now c.in_ok-r.was c.in_ok-lookup.ensures.found is c.if-lookup-ne3.false;
+      decide = known c.args.pack.now.bytes.now c.in_ok-r.was c.in_ok-lookup.ensures.found kind;
     }

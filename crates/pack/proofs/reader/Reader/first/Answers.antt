@@ -1,12 +1,11 @@
-use borrow.Author.Tests.{eq-eqb, ne_eqb}
 use Rattle.pack.specs.Records.{read_first}
+use Rattle.pack.proofs.KindLaws.{no_first}
 use Rattle.pack.proofs.ReaderLaws.{done}
 use Rattle.pack.proofs.reader.Reader.first.Goals as goal
 
-pub returns-then-kind-eq1 : goal.returns-then-kind-eq1
+pub returns-in-Triplet : goal.returns-in-Triplet
 unfolding read_first
-returns-then-kind-eq1 c = rw (eq-eqb _ _ c.if-kind-eq1.true) c.wide.ensures.read
+returns-in-Triplet c = rw c.in-Triplet.is c.wide.ensures.read
 
-pub returns : goal.returns
-unfolding read_first
-returns c = rw (ne_eqb _ _ c.if-kind-eq1.false) (done _ _)
+pub returns-in_default : goal.returns-in_default
+returns-in_default c = rw (no_first c.args.kind c.in_default.not-Triplet) (done _ _)

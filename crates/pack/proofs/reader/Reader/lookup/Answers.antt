@@ -30,5 +30,5 @@ returns-in_err-number-2 c =
 pub returns : goal.returns
 unfolding read_lookup
 returns c =
-    reads_then _ _ c.in_ok-name.ensures (reads_then _ _ c.in_ok-code.ensures (reads_then _ _ c.in_ok-number.ensures (reads_then _ _
-    c.in_ok-number-2.ensures (done _ _))))
+    rw c.of.ensures (reads_then _ _ c.in_ok-name.ensures (reads_then _ _ c.in_ok-code.ensures (reads_then _ _ c.in_ok-number.ensures (reads_then _ _
+    c.in_ok-number-2.ensures (done _ _)))))

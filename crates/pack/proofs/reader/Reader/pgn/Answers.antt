@@ -19,10 +19,10 @@ returns-in_err-id c =
     sticks_then _ _ (sticks_optional _ sticks_repeating) (λ _. sticks_then _ _ (sticks_optional _ sticks_repeating) (λ _. sticks_then _ _
     sticks_number (λ _. sticks_give _)))))))))
 
-pub returns-in_err-kind : goal.returns-in_err-kind
+pub returns-in_err-code : goal.returns-in_err-code
 unfolding read_pgn
-returns-in_err-kind c =
-    reads_then _ _ c.in_ok-pgn.ensures (reads_then _ _ c.in_ok-id.ensures (reads_out _ _ c.in_err-kind.ensures c.from_residual-in_err-kind.ensures.1
+returns-in_err-code c =
+    reads_then _ _ c.in_ok-pgn.ensures (reads_then _ _ c.in_ok-id.ensures (reads_out _ _ c.in_err-code.ensures c.from_residual-in_err-code.ensures.1
     (λ _. sticks_then _ _ (sticks_code _) (λ _. sticks_then _ _ sticks_number (λ _. sticks_then _ _ (sticks_optional _ sticks_bytes) (λ _.
     sticks_then _ _ (sticks_optional _ sticks_repeating) (λ _. sticks_then _ _ (sticks_optional _ sticks_repeating) (λ _. sticks_then _ _
     sticks_number (λ _. sticks_give _)))))))))
@@ -30,7 +30,7 @@ returns-in_err-kind c =
 pub returns-in_err-flags : goal.returns-in_err-flags
 unfolding read_pgn
 returns-in_err-flags c =
-    reads_then _ _ c.in_ok-pgn.ensures (reads_then _ _ c.in_ok-id.ensures (reads_then _ _ c.in_ok-kind.ensures (reads_out _ _ c.in_err-flags.ensures
+    reads_then _ _ c.in_ok-pgn.ensures (reads_then _ _ c.in_ok-id.ensures (reads_then _ _ c.in_ok-code.ensures (reads_out _ _ c.in_err-flags.ensures
     c.from_residual-in_err-flags.ensures.1 (λ _. sticks_then _ _ sticks_number (λ _. sticks_then _ _ (sticks_optional _ sticks_bytes) (λ _.
     sticks_then _ _ (sticks_optional _ sticks_repeating) (λ _. sticks_then _ _ (sticks_optional _ sticks_repeating) (λ _. sticks_then _ _
     sticks_number (λ _. sticks_give _)))))))))
@@ -38,7 +38,7 @@ returns-in_err-flags c =
 pub returns-in_err-length : goal.returns-in_err-length
 unfolding read_pgn
 returns-in_err-length c =
-    reads_then _ _ c.in_ok-pgn.ensures (reads_then _ _ c.in_ok-id.ensures (reads_then _ _ c.in_ok-kind.ensures (reads_then _ _ c.in_ok-flags.ensures
+    reads_then _ _ c.in_ok-pgn.ensures (reads_then _ _ c.in_ok-id.ensures (reads_then _ _ c.in_ok-code.ensures (reads_then _ _ c.in_ok-flags.ensures
     (reads_out _ _ c.in_err-length.ensures c.from_residual-in_err-length.ensures.1 (λ _. sticks_then _ _ (sticks_optional _ sticks_bytes) (λ _.
     sticks_then _ _ (sticks_optional _ sticks_repeating) (λ _. sticks_then _ _ (sticks_optional _ sticks_repeating) (λ _. sticks_then _ _
     sticks_number (λ _. sticks_give _)))))))))
@@ -46,7 +46,7 @@ returns-in_err-length c =
 pub returns-in_err-minimum : goal.returns-in_err-minimum
 unfolding read_pgn
 returns-in_err-minimum c =
-    reads_then _ _ c.in_ok-pgn.ensures (reads_then _ _ c.in_ok-id.ensures (reads_then _ _ c.in_ok-kind.ensures (reads_then _ _ c.in_ok-flags.ensures
+    reads_then _ _ c.in_ok-pgn.ensures (reads_then _ _ c.in_ok-id.ensures (reads_then _ _ c.in_ok-code.ensures (reads_then _ _ c.in_ok-flags.ensures
     (reads_then _ _ c.in_ok-length.ensures (reads_out _ _ c.in_err-minimum.ensures c.from_residual-in_err-minimum.ensures.1 (λ _. sticks_then _ _
     (sticks_optional _ sticks_repeating) (λ _. sticks_then _ _ (sticks_optional _ sticks_repeating) (λ _. sticks_then _ _ sticks_number (λ _.
     sticks_give _)))))))))
@@ -54,7 +54,7 @@ returns-in_err-minimum c =
 pub returns-in_err-first : goal.returns-in_err-first
 unfolding read_pgn
 returns-in_err-first c =
-    reads_then _ _ c.in_ok-pgn.ensures (reads_then _ _ c.in_ok-id.ensures (reads_then _ _ c.in_ok-kind.ensures (reads_then _ _ c.in_ok-flags.ensures
+    reads_then _ _ c.in_ok-pgn.ensures (reads_then _ _ c.in_ok-id.ensures (reads_then _ _ c.in_ok-code.ensures (reads_then _ _ c.in_ok-flags.ensures
     (reads_then _ _ c.in_ok-length.ensures (reads_then _ _ c.in_ok-minimum.ensures (reads_out _ _ c.in_err-first.ensures
     c.from_residual-in_err-first.ensures.1 (λ _. sticks_then _ _ (sticks_optional _ sticks_repeating) (λ _. sticks_then _ _ sticks_number (λ _.
     sticks_give _)))))))))
@@ -62,20 +62,20 @@ returns-in_err-first c =
 pub returns-in_err-second : goal.returns-in_err-second
 unfolding read_pgn
 returns-in_err-second c =
-    reads_then _ _ c.in_ok-pgn.ensures (reads_then _ _ c.in_ok-id.ensures (reads_then _ _ c.in_ok-kind.ensures (reads_then _ _ c.in_ok-flags.ensures
+    reads_then _ _ c.in_ok-pgn.ensures (reads_then _ _ c.in_ok-id.ensures (reads_then _ _ c.in_ok-code.ensures (reads_then _ _ c.in_ok-flags.ensures
     (reads_then _ _ c.in_ok-length.ensures (reads_then _ _ c.in_ok-minimum.ensures (reads_then _ _ c.in_ok-first.ensures (reads_out _ _
     c.in_err-second.ensures c.from_residual-in_err-second.ensures.1 (λ _. sticks_then _ _ sticks_number (λ _. sticks_give _)))))))))
 
 pub returns-in_err-fields : goal.returns-in_err-fields
 unfolding read_pgn
 returns-in_err-fields c =
-    reads_then _ _ c.in_ok-pgn.ensures (reads_then _ _ c.in_ok-id.ensures (reads_then _ _ c.in_ok-kind.ensures (reads_then _ _ c.in_ok-flags.ensures
+    reads_then _ _ c.in_ok-pgn.ensures (reads_then _ _ c.in_ok-id.ensures (reads_then _ _ c.in_ok-code.ensures (reads_then _ _ c.in_ok-flags.ensures
     (reads_then _ _ c.in_ok-length.ensures (reads_then _ _ c.in_ok-minimum.ensures (reads_then _ _ c.in_ok-first.ensures (reads_then _ _
     c.in_ok-second.ensures (reads_out _ _ c.in_err-fields.ensures c.from_residual-in_err-fields.ensures.1 (λ _. sticks_give _)))))))))
 
 pub returns : goal.returns
 unfolding read_pgn
 returns c =
-    rw c.pgn_flags.ensures (reads_then _ _ c.in_ok-pgn.ensures (reads_then _ _ c.in_ok-id.ensures (reads_then _ _ c.in_ok-kind.ensures (reads_then _
+    rw (c.pgn_flags.ensures, c.of-kind.ensures) (reads_then _ _ c.in_ok-pgn.ensures (reads_then _ _ c.in_ok-id.ensures (reads_then _ _ c.in_ok-code.ensures (reads_then _
     _ c.in_ok-flags.ensures (reads_then _ _ c.in_ok-length.ensures (reads_then _ _ c.in_ok-minimum.ensures (reads_then _ _ c.in_ok-first.ensures
     (reads_then _ _ c.in_ok-second.ensures (reads_then _ _ c.in_ok-fields.ensures (done _ _))))))))))

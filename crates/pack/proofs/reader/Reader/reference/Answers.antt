@@ -13,4 +13,4 @@ returns-in_err-text c = reads_then _ _ c.in_ok-code.ensures (reads_out _ _ c.in_
 
 pub returns : goal.returns
 unfolding read_reference
-returns c = reads_then _ _ c.in_ok-code.ensures (reads_then _ _ c.in_ok-text.ensures (done _ _))
+returns c = rw c.of.ensures (reads_then _ _ c.in_ok-code.ensures (reads_then _ _ c.in_ok-text.ensures (done _ _)))

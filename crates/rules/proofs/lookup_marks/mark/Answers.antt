@@ -1,0 +1,48 @@
+use Rattle.pack.specs.Items.{bytes_of}
+use Rattle.pack.specs.Meaning.{pack_of}
+use Rattle.pack.specs.Notation.{◌≐◌}
+use Rattle.pack.specs.Value.{Bytes, Lookup, Pack, lookup_at}
+use Rattle.pack.specs.declared.loaded.LookupRef.{LookupRef}
+use Rattle.pack.proofs.Turns.{lookups_turn, lookups_given}
+use Prim.Native.Nat.{ℕ, ◌+◌, ◌<◌}
+use native.Mathlib.Omega.{arith}
+use mathlib.Core.Bool.{Bool, false, ◌||◌}
+use mathlib.Core.List.{List}
+use mathlib.Core.Path.{◌≡◌, refl, ap, sym}
+use lib.ListN.{length, get_or, set}
+use Rattle.rules.proofs.Loops.{one_more}
+use Rattle.rules.proofs.Marking.{MarkedTo, marked_next, marked_all}
+use Rattle.rules.proofs.lookup_marks.mark.Goals as goal
+
+said : {s : List ℕ} (name : Bytes) {l : ℕ} (x : LookupRef) {b : Bool} → x.pack.bytes.now ≡ s → x.item ≡ l → b ≡ (name ≐ bytes_of s x.view.name)
+    → b ≡ (name ≐ (lookup_at (pack_of s).lookups l).name)
+said name x e i h = let q = ap (λ (L : Lookup). L.name) x.is.means in cc
+
+marked_at : {P : Pack} {l j : ℕ} {m m' m'' : List Bool} {q : Bytes → Bool} (b : Bool) → MarkedTo P l m q m' → j ≡ l → l < length m'
+    → b ≡ q (lookup_at P.lookups l).name → m'' ≡ set m' j (get_or m' j false || b) → MarkedTo P (l + 1) m q m''
+marked_at b a i h e w = marked_next b a h e (rw i at w)
+
+pub bounds-marks-lookup : goal.bounds-marks-lookup
+bounds-marks-lookup c =
+    let u = lookups_turn c.in-Some.lookup c.next.new.self c.loop-lookup.invariant.given c.in-Some.ensures.steps in
+    omega (arith, u.0.inside, u.0.item, c.loop-lookup.auto.marks, c.requires)
+
+pub bounds-marks-lookup-in-loop-lookup : goal.bounds-marks-lookup-in-loop-lookup
+bounds-marks-lookup-in-loop-lookup c =
+    let u = lookups_turn c.in-Some.lookup c.next.new.self c.loop-lookup.invariant.given c.in-Some.ensures.steps in
+    omega (arith, u.0.inside, u.0.item, c.loop-lookup.auto.marks, c.requires)
+
+pub loop-lookup-preserved : goal.loop-lookup-preserved
+loop-lookup-preserved c =
+    let x = c.in-Some.lookup in
+    let u = lookups_turn x c.next.new.self c.loop-lookup.invariant.given c.in-Some.ensures.steps in
+    let name = bytes_of c.args.pack.now.bytes.now c.args.name in
+    let e = one_more c.loop-lookup.yielded x in
+    record {
+      given = (rw e u.1);
+      marked = (rw e (marked_at c.same_text.result c.loop-lookup.invariant.marked u.0.item
+          (omega (arith, u.0.inside, c.loop-lookup.auto.marks, c.requires)) (said name x u.0.bytes u.0.item c.same_text.ensures) refl));
+    }
+
+pub returns : goal.returns
+returns c = marked_all (sym (lookups_given c.loop-lookup.invariant.given c.in-None.ensures.steps.0)) c.loop-lookup.invariant.marked

@@ -1,0 +1,18 @@
+use Rattle.pack.specs.Loaded.{pgn_value, tree_of}
+use Rattle.pack.specs.Meaning.{pack_of}
+use Rattle.pack.specs.Value.{field_at}
+use Rattle.pack.specs.declared.loaded.PgnRef.{PgnRef}
+use Rattle.rules.specs.Emit.{Reporting}
+use Rattle.rules.specs.LookupWiring.{lookup_ref_at}
+use Rattle.rules.specs.declared.Finding.{Finding}
+use Prim.Native.Nat.{ℕ}
+use mathlib.Core.List.{List}
+use Rattle.rules.proofs.lookup_wiring.check_lookup_refs.Given as goal
+
+-- the findings of field k
+abbrev pub of_field : PgnRef → ℕ → List Finding
+of_field g k =
+    lookup_ref_at (pack_of g.pack.bytes.now).lookups (tree_of g) g.item k (field_at (pgn_value g) k) (field_at (pgn_value g) k).reference
+
+abbrev pub invariant-loop-k : goal.invariant-loop-k
+invariant-loop-k l = Reporting l.initial.out (of_field l.pgn) l.pgn.view.fields l.k l.out

@@ -1,0 +1,9 @@
+use Rattle.rules.proofs.Loops.{pgns_reported, all_pgns}
+use Rattle.rules.proofs.spns.elsewhere.Goals as goal
+
+pub loop-pgn-preserved : goal.loop-pgn-preserved
+loop-pgn-preserved c =
+    pgns_reported c.in-Some.pgn c.next.new.self c.loop-pgn.invariant c.in-Some.ensures.steps (λ u. rw (u.bytes, u.tree, u.item) at c.spns_elsewhere.ensures)
+
+pub returns : goal.returns
+returns c = all_pgns c.loop-pgn.invariant c.in-None.ensures.steps.0

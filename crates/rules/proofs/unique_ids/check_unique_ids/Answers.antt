@@ -1,0 +1,11 @@
+use Rattle.rules.proofs.Loops.{pgns_reported, all_pgns}
+use Rattle.rules.specs.UniqueIds.{check_unique_ids}
+use Rattle.rules.proofs.unique_ids.check_unique_ids.Goals as goal
+
+pub loop-pgn-preserved : goal.loop-pgn-preserved
+loop-pgn-preserved c =
+    pgns_reported c.in-Some.pgn c.next.new.self c.loop-pgn.invariant c.in-Some.ensures.steps (λ u. rw (u.bytes, u.tree, u.item) at c.unique_ids_at.ensures)
+
+pub returns : goal.returns
+unfolding check_unique_ids
+returns c = all_pgns c.loop-pgn.invariant c.in-None.ensures.steps.0

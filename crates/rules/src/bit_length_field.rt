@@ -1,0 +1,83 @@
+// R15
+ghost use Rattle.std.specs.Prelude.{◌≡◌, not, ◌||◌, ◌<◌, ◌==◌, is_some};
+ghost use Rattle.pack.specs.Loaded.{tree_of, pgn_value};
+ghost use Rattle.pack.specs.Meaning.{field_meaning};
+ghost use Rattle.pack.specs.Value.{field_at};
+ghost use Rattle.rules.specs.Emit.{Emitted};
+ghost use Rattle.rules.specs.Floats.{float_eq, ONE};
+ghost use Rattle.rules.specs.BitLengthField.{variable_binary, bit_length_target_at, bit_length_field_at, check_bit_length_field};
+
+use crate::emit::{Findings, pgn_error};
+use crate::floats::{ONE, float_eq};
+use crate::targets::target;
+use pack::field::FieldView;
+use pack::loaded::PgnRef;
+use pack::text::text_is;
+
+#[tactic(auto, unfolding(crate::specs::BitLengthField::variable_binary))]
+fn variable_binary(s: &[u8], f: FieldView) -> bool
+    ensures { result ≡ variable_binary (field_meaning s.now f) }
+{
+    f.scaling.bits == 0 && text_is(s, f.names.kind, b"BINARY")
+}
+
+// "not an integer bit-count field"
+fn not_bit_count(f: FieldView) -> bool
+    ensures { result ≡ (is_some f.links.reference || not (float_eq f.scaling.resolution ONE) || (f.scaling.bits == 0)) }
+{
+    f.links.reference.is_some() || !float_eq(f.scaling.resolution, ONE) || f.scaling.bits == 0
+}
+
+// The target of field k.
+#[tactic(auto, unfolding(crate::specs::BitLengthField::bit_length_target_at, crate::specs::BitLengthField::not_bit_count))]
+fn bit_length_target_at(out: &mut Findings, pgn: &PgnRef, k: u32, j: Option<u32>)
+    requires { k < pgn.now.view.fields }
+    ensures { Emitted out.old (bit_length_target_at (tree_of pgn.now) pgn.now.item (pgn_value pgn.now) k j) out.new }
+{
+    let Some(j) = j else {
+        out.put(pgn_error(15, 3, pgn, k, 0));
+        return;
+    };
+    if k <= j {
+        out.put(pgn_error(15, 4, pgn, k, j));
+        return;
+    }
+    let f = pgn.field(j);
+    let wrong = not_bit_count(f);
+    out.put_if(wrong, pgn_error(15, 5, pgn, k, j));
+}
+
+// Field k, which is f.
+#[tactic(auto, unfolding(crate::specs::BitLengthField::bit_length_field_at))]
+fn bit_length_field_at(out: &mut Findings, pgn: &PgnRef, k: u32, f: FieldView)
+    requires { record {
+      field : k < pgn.now.view.fields;
+      means : field_meaning pgn.now.pack.bytes.now f ≡ field_at (pgn_value pgn.now) k;
+    } }
+    ensures { Emitted out.old
+        (bit_length_field_at (tree_of pgn.now) pgn.now.item (pgn_value pgn.now) k (field_at (pgn_value pgn.now) k).bit_length_field)
+        out.new }
+{
+    let binary = variable_binary(pgn.pack.bytes, f);
+    let Some(id) = f.links.length else {
+        out.put_if(binary, pgn_error(15, 1, pgn, k, 0));
+        return;
+    };
+    if !binary {
+        out.put(pgn_error(15, 2, pgn, k, 0));
+        return;
+    }
+    let j = target(pgn, id);
+    bit_length_target_at(out, pgn, k, j);
+}
+
+// R15: a variable-length BINARY field takes its length from an earlier integer field.
+#[tactic(auto, unfolding(crate::specs::BitLengthField::check_bit_length_field))]
+pub fn check_bit_length_field(out: &mut Findings, pgn: &PgnRef)
+    ensures { Emitted out.old (check_bit_length_field (tree_of pgn.now) pgn.now.item (pgn_value pgn.now)) out.new }
+{
+    for k in 0..pgn.view.fields {
+        let f = pgn.field(k);
+        bit_length_field_at(out, pgn, k, f);
+    }
+}

@@ -1,0 +1,140 @@
+// R08 and R22
+ghost use Rattle.std.specs.Prelude.{◌≡◌, not, ◌&&◌, length, ◌==◌};
+ghost use Rattle.pack.specs.Kinds.{kind_number};
+ghost use Rattle.pack.specs.Notation.{concat_below};
+ghost use Rattle.pack.specs.Value.{pgns_of, pgn_at};
+ghost use Rattle.pack.specs.Loaded.{lookup_value, pgn_value, tree_of};
+ghost use Rattle.pack.specs.Meaning.{optional_reference, field_meaning, pack_of};
+ghost use Rattle.pack.specs.Trees.{tree_number};
+ghost use Rattle.rules.specs.Emit.{Emitted};
+ghost use Rattle.rules.specs.LookupWiring.{beyond_width, unreachable, lookup_width_at, lookup_ref_at, check_lookup_refs};
+ghost use Rattle.rules.specs.LookupWiring.{check_lookup_wiring};
+
+use crate::emit::{Findings, pgn_error, pgn_warning};
+use crate::lookup_uses::check_lookup_uses;
+use crate::lookups::find_lookup;
+use crate::model::value_bits;
+use crate::nested_refs::check_all_nested_refs;
+use crate::widths::exceeds;
+use pack::field::FieldView;
+use pack::kinds::LookupKind;
+use pack::loaded::{LookupRef, Pack, PgnRef};
+use pack::protocol::Protocol;
+
+// A field of this width can't have the value: a bit's position counts from 0.
+#[tactic(auto, unfolding(crate::specs::LookupWiring::beyond_width))]
+fn beyond_width(kind: LookupKind, width: u64, value: u64) -> bool
+    ensures { result ≡ beyond_width (kind_number kind) width value }
+{
+    if kind == LookupKind::Bit {
+        return width <= value;
+    }
+    width < 64 && exceeds(width as u32, value)
+}
+
+// Whether some value of the lookup is beyond the width.
+#[tactic(auto, using(crate::specs::SearchLaws::any_turn), unfolding(crate::specs::LookupWiring::unreachable))]
+fn unreachable(lookup: &LookupRef, width: u64) -> bool
+    ensures { result ≡ unreachable (lookup_value lookup.now) width }
+{
+    for e in 0..lookup.view.entries {
+        let entry = lookup.entry(e);
+        if beyond_width(lookup.view.kind, width, entry.value) {
+            return true;
+        }
+    }
+    false
+}
+
+// Whether an unreachable value is reported: bit positions out of the width are let pass in a shared bit lookup.
+fn is_finding(lost: bool, kind: LookupKind, allowed: bool) -> bool
+    ensures { result ≡ (lost && not ((kind_number kind == 2) && allowed)) }
+{
+    lost && !(kind == LookupKind::Bit && allowed)
+}
+
+// Causes 3 to 5, field k, which is f, and the lookup of its reference.
+#[tactic(auto, unfolding(crate::specs::LookupWiring::lookup_width_at))]
+fn lookup_width_at(out: &mut Findings, pgn: &PgnRef, k: u32, f: FieldView, lookup: &LookupRef)
+    ensures { Emitted out.old
+        (lookup_width_at (tree_of pgn.now) pgn.now.item k (field_meaning pgn.now.pack.bytes.now f) lookup.now.item (lookup_value lookup.now)) out.new }
+{
+    let width = value_bits(pgn.pack.bytes, f);
+    let allowed = f.flags.mismatch;
+    let lost = unreachable(lookup, width);
+    if is_finding(lost, lookup.view.kind, allowed) {
+        out.put(pgn_error(8, 3, pgn, k, lookup.item));
+        return;
+    }
+    if width != lookup.view.bits as u64 {
+        out.put_if(!allowed, pgn_error(8, 4, pgn, k, lookup.item));
+        return;
+    }
+    out.put_if(allowed, pgn_warning(8, 5, pgn, k, lookup.item));
+}
+
+// Field k, which is f.
+#[tactic(auto, unfolding(crate::specs::LookupWiring::lookup_ref_at, crate::specs::LookupWiring::lookup_found_at))]
+fn lookup_ref_at(out: &mut Findings, pgn: &PgnRef, k: u32, f: FieldView)
+    ensures { Emitted out.old
+        (lookup_ref_at (pack_of pgn.now.pack.bytes.now).lookups (tree_of pgn.now) pgn.now.item k (field_meaning pgn.now.pack.bytes.now f)
+        (optional_reference pgn.now.pack.bytes.now f.links.reference)) out.new }
+{
+    let Some(reference) = f.links.reference else {
+        return;
+    };
+    let Some(lookup) = find_lookup(&pgn.pack, reference.name) else {
+        out.put(pgn_error(8, 1, pgn, k, 0));
+        return;
+    };
+    let other = lookup.view.kind != reference.kind;
+    out.put_if(other, pgn_error(8, 2, pgn, k, lookup.item));
+    lookup_width_at(out, pgn, k, f, &lookup);
+}
+
+// The fields of a PGN.
+#[tactic(auto, unfolding(crate::specs::LookupWiring::check_lookup_refs))]
+fn check_lookup_refs(out: &mut Findings, pgn: &PgnRef)
+    ensures { Emitted out.old
+        (check_lookup_refs (pack_of pgn.now.pack.bytes.now).lookups (tree_of pgn.now) pgn.now.item (pgn_value pgn.now)) out.new }
+{
+    for k in 0..pgn.view.fields {
+        let f = pgn.field(k);
+        lookup_ref_at(out, pgn, k, f);
+    }
+}
+
+// The PGNs of a tree.
+fn check_tree_refs(out: &mut Findings, pack: &Pack, protocol: Protocol)
+    ensures { Emitted out.old
+        (concat_below
+        (λ i. check_lookup_refs (pack_of pack.now.bytes.now).lookups (tree_number protocol) i
+        (pgn_at (pack_of pack.now.bytes.now) (tree_number protocol) i))
+        (length (pgns_of (pack_of pack.now.bytes.now) (tree_number protocol)))) out.new }
+{
+    for pgn in pack.pgns(protocol) {
+        check_lookup_refs(out, &pgn);
+    }
+}
+
+// The three trees.
+fn check_all_refs(out: &mut Findings, pack: &Pack)
+    ensures { Emitted out.old
+        (concat_below
+        (λ t. concat_below
+        (λ i. check_lookup_refs (pack_of pack.now.bytes.now).lookups t i (pgn_at (pack_of pack.now.bytes.now) t i))
+        (length (pgns_of (pack_of pack.now.bytes.now) t))) 3) out.new }
+{
+    for protocol in Protocol::ALL {
+        check_tree_refs(out, pack, protocol);
+    }
+}
+
+// R08, every reference resolves with the right kind and bit width; R22, every lookup is referenced somewhere.
+pub fn check_lookup_wiring(out: &mut Findings, pack: &Pack)
+    ensures { Emitted out.old (check_lookup_wiring (pack_of pack.now.bytes.now)) out.new }
+{
+    check_all_refs(out, pack);
+    check_all_nested_refs(out, pack);
+    check_lookup_uses(out, pack);
+}

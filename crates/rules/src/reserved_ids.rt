@@ -1,0 +1,76 @@
+// R12
+ghost use Rattle.std.specs.Prelude.{◌≡◌, false, not, if◌then◌else◌};
+ghost use Rattle.pack.specs.Notation.{◌≐◌};
+ghost use Rattle.pack.specs.Items.{bytes_of};
+ghost use Rattle.pack.specs.Loaded.{tree_of, pgn_value};
+ghost use Rattle.pack.specs.Meaning.{field_meaning};
+ghost use Rattle.pack.specs.Value.{field_at};
+ghost use Rattle.rules.specs.Emit.{Emitted};
+ghost use Rattle.numerals.specs.Numerals.{all_digits};
+ghost use Rattle.rules.specs.ReservedIds.{numbered, reserved_id_at, check_reserved_ids};
+ghost use Rattle.rules.specs.Texts.{bytes};
+
+use crate::emit::{Findings, pgn_error};
+use pack::field::FieldView;
+use pack::loaded::PgnRef;
+use pack::text::{part, text_is};
+
+// Whether all bytes are ASCII digits.
+fn all_digits(digits: &[u8]) -> bool
+    ensures { result ≡ all_digits digits.now }
+{
+    for &b in digits {
+        if !b.is_ascii_digit() {
+            return false;
+        }
+    }
+    true
+}
+
+// Whether the id is the wanted text, followed by ASCII digits or nothing.
+fn numbered(want: &[u8], id: &[u8]) -> bool
+    ensures { result ≡ numbered want.now id.now }
+{
+    match id.strip_prefix(want) {
+        Some(rest) => all_digits(rest),
+        None => false,
+    }
+}
+
+// Whether a Reserved or Spare field has another id.
+fn misnamed(s: &[u8], f: FieldView) -> bool
+    ensures { result ≡
+        (if bytes_of s.now f.names.name ≐ bytes "Reserved" then not
+        (numbered (bytes "reserved") (bytes_of s.now f.names.id)) else (if bytes_of s.now f.names.name ≐ bytes
+        "Spare" then not (numbered (bytes "spare") (bytes_of s.now f.names.id)) else false)) }
+{
+    let name = f.names.name;
+    let id = f.names.id;
+    if text_is(s, name, b"Reserved") {
+        return !numbered(b"reserved", part(s, id));
+    }
+    if text_is(s, name, b"Spare") {
+        return !numbered(b"spare", part(s, id));
+    }
+    false
+}
+
+#[tactic(auto, unfolding(crate::specs::ReservedIds::reserved_id_at))]
+fn reserved_id_at(out: &mut Findings, pgn: &PgnRef, k: u32, f: FieldView)
+    requires { field_meaning pgn.now.pack.bytes.now f ≡ field_at (pgn_value pgn.now) k }
+    ensures { Emitted out.old (reserved_id_at (tree_of pgn.now) pgn.now.item k (field_at (pgn_value pgn.now) k)) out.new }
+{
+    let report = misnamed(pgn.pack.bytes, f);
+    out.put_if(report, pgn_error(12, 1, pgn, k, 0));
+}
+
+// R12: Reserved and Spare fields have the id `reserved` or `spare`, with a number or without.
+#[tactic(auto, unfolding(crate::specs::ReservedIds::check_reserved_ids))]
+pub fn check_reserved_ids(out: &mut Findings, pgn: &PgnRef)
+    ensures { Emitted out.old (check_reserved_ids (tree_of pgn.now) pgn.now.item (pgn_value pgn.now)) out.new }
+{
+    for k in 0..pgn.view.fields {
+        let f = pgn.field(k);
+        reserved_id_at(out, pgn, k, f);
+    }
+}

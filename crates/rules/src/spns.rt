@@ -1,0 +1,210 @@
+// R42
+ghost use Rattle.std.specs.Prelude.{is_some, ◌≡◌, true, ◌&&◌, ◌<◌, length, ◌==◌, Some};
+ghost use Rattle.std.specs.Float.Ieee.{of_bits};
+ghost use Rattle.std.specs.Float.{binary64};
+ghost use Rattle.pack.specs.Loaded.{tree_of, pgn_value};
+ghost use Rattle.pack.specs.Meaning.{optional_bytes, field_meaning, pack_of};
+ghost use Rattle.pack.specs.Notation.{concat_below};
+ghost use Rattle.pack.specs.Trees.{tree_number};
+ghost use Rattle.pack.specs.Value.{pgns_of, pgn_at, field_at};
+ghost use Rattle.rules.specs.Emit.{Emitted};
+ghost use Rattle.rules.specs.Floats.{float_eq};
+ghost use Rattle.rules.specs.SpnNames.{spn_field};
+ghost use Rattle.rules.specs.Spns.{spns_elsewhere, same_unit, first_seen, unlike_first, spn_at, check_scalings, check_spns};
+
+use crate::emit::{Findings, pgn_error};
+use crate::spn_names::spn_field;
+use pack::field::{FieldView, ScalingView};
+use pack::float::float;
+use pack::loaded::{Pack, PgnRef};
+use pack::protocol::Protocol;
+use pack::text::{Text, same_text};
+
+// "The largest SPN: J1939 carries them in 19 bits."
+const MAX_SPN: u32 = 0x7ffff;
+
+// "SPN scaling is a width, two floats compared as floats, and a unit."
+#[derive(Clone, Copy)]
+struct Scaling {
+    width: u32,
+    resolution: f64,
+    offset: f64,
+    unit: Option<Text>,
+}
+
+// A field by its PGN and its index there.
+#[derive(Clone, Copy)]
+struct Carrier<'a> {
+    pgn: PgnRef<'a>,
+    field: u32,
+}
+
+// What a view says of a field's scaling, its patterns as floats.
+fn scaling_of(v: ScalingView) -> Scaling
+    ensures { result ≡ (record { width = v.bits; resolution = of_bits binary64 v.resolution; offset = of_bits binary64 v.offset; unit = v.unit }) }
+{
+    let width = v.bits;
+    let resolution = float(v.resolution);
+    let offset = float(v.offset);
+    let unit = v.unit;
+    Scaling {
+        width,
+        resolution,
+        offset,
+        unit,
+    }
+}
+
+// One unit, or none for both.
+fn same_unit(s: &[u8], a: Option<Text>, b: Option<Text>) -> bool
+    ensures { result ≡ same_unit (optional_bytes s.now a) (optional_bytes s.now b) }
+{
+    match (a, b) {
+        (Some(x), Some(y)) => same_text(s, x, y),
+        (None, None) => true,
+        _ => false,
+    }
+}
+
+// `==` of the Rust's tuple: a NaN differs from itself.
+fn same_scaling(s: &[u8], v: ScalingView, w: ScalingView) -> bool
+    ensures { result ≡
+        ((v.bits == w.bits) && float_eq v.resolution w.resolution && float_eq v.offset w.offset && same_unit
+        (optional_bytes s.now v.unit) (optional_bytes s.now w.unit)) }
+{
+    let a = scaling_of(v);
+    let b = scaling_of(w);
+    if a.width == b.width {
+        let close = a.resolution == b.resolution;
+        if close {
+            if a.offset == b.offset {
+                return same_unit(s, a.unit, b.unit);
+            }
+            return false;
+        }
+        return false;
+    }
+    false
+}
+
+// The field of the J1939 tree that carries the SPN first, where one does.
+fn first_seen<'a>(pack: &Pack<'a>, spn: u32) -> Carrier<'a>
+    requires { is_some (first_seen (pack_of pack.now.bytes.now).pgns_j1939 spn) ≡ true }
+    ensures { record {
+      bytes : result.pgn.pack.bytes.now ≡ pack.now.bytes.now;
+      tree : tree_of result.pgn ≡ 1;
+      seen : first_seen (pack_of pack.now.bytes.now).pgns_j1939 spn ≡ Some result.pgn.item;
+      field : spn_field (pgn_value result.pgn) spn ≡ Some result.field;
+    } }
+{
+    for pgn in pack.pgns(Protocol::J1939) {
+        if let Some(field) = spn_field(&pgn, spn) {
+            return Carrier { pgn, field };
+        }
+    }
+    unreachable!()
+}
+
+// Whether it is that field of that PGN.
+fn is_at(seen: &Carrier, item: u32, field: u32) -> bool
+    ensures { result ≡ ((seen.now.pgn.item == item) && (seen.now.field == field)) }
+{
+    seen.pgn.item == item && seen.field == field
+}
+
+// A field of the J1939 tree that carries an SPN against the first that does.
+fn unlike_first(out: &mut Findings, pgn: &PgnRef, k: u32, f: FieldView, spn: u32)
+    requires { record {
+      tree : tree_of pgn.now ≡ 1;
+      field : k < pgn.now.view.fields;
+      means : field_meaning pgn.now.pack.bytes.now f ≡ field_at (pgn_value pgn.now) k;
+      spn : f.authored.spn ≡ Some spn;
+    } }
+    ensures { Emitted out.old
+        (unlike_first (pack_of pgn.now.pack.bytes.now).pgns_j1939 pgn.now.item k spn
+        (first_seen (pack_of pgn.now.pack.bytes.now).pgns_j1939 spn)) out.new }
+{
+    let seen = first_seen(&pgn.pack, spn);
+    if is_at(&seen, pgn.item, k) {
+        return;
+    }
+    let g = seen.pgn.field(seen.field);
+    let alike = same_scaling(pgn.pack.bytes, g.scaling, f.scaling);
+    out.put_if(!alike, pgn_error(42, 3, pgn, k, seen.pgn.item));
+}
+
+// Field k of a PGN of the J1939 tree.
+fn spn_at(out: &mut Findings, pgn: &PgnRef, k: u32, f: FieldView)
+    requires { record {
+      tree : tree_of pgn.now ≡ 1;
+      field : k < pgn.now.view.fields;
+      means : field_meaning pgn.now.pack.bytes.now f ≡ field_at (pgn_value pgn.now) k;
+    } }
+    ensures { Emitted out.old
+        (spn_at (pack_of pgn.now.pack.bytes.now).pgns_j1939 pgn.now.item k (field_at (pgn_value pgn.now) k).spn) out.new }
+{
+    let Some(spn) = f.authored.spn else {
+        return;
+    };
+    if MAX_SPN < spn {
+        out.put(pgn_error(42, 2, pgn, k, 0));
+        return;
+    }
+    unlike_first(out, pgn, k, f, spn);
+}
+
+// A PGN of the J1939 tree.
+#[tactic(auto, unfolding(crate::specs::Spns::check_scalings))]
+fn check_scalings(out: &mut Findings, pgn: &PgnRef)
+    requires { tree_of pgn.now ≡ 1 }
+    ensures { Emitted out.old
+        (check_scalings (pack_of pgn.now.pack.bytes.now).pgns_j1939 pgn.now.item (pgn_value pgn.now)) out.new }
+{
+    for k in 0..pgn.view.fields {
+        let f = pgn.field(k);
+        spn_at(out, pgn, k, f);
+    }
+}
+
+// The J1939 tree.
+fn scalings(out: &mut Findings, pack: &Pack)
+    ensures { Emitted out.old
+        (concat_below (λ i. check_scalings (pgns_of (pack_of pack.now.bytes.now) 1) i (pgn_at (pack_of pack.now.bytes.now) 1 i))
+        (length (pgns_of (pack_of pack.now.bytes.now) 1))) out.new }
+{
+    for pgn in pack.pgns(Protocol::J1939) {
+        check_scalings(out, &pgn);
+    }
+}
+
+// A PGN of another tree.
+#[tactic(auto, unfolding(crate::specs::Spns::spns_elsewhere))]
+fn spns_elsewhere(out: &mut Findings, pgn: &PgnRef)
+    ensures { Emitted out.old (spns_elsewhere (tree_of pgn.now) pgn.now.item (pgn_value pgn.now)) out.new }
+{
+    for k in 0..pgn.view.fields {
+        let f = pgn.field(k);
+        out.put_if(f.authored.spn.is_some(), pgn_error(42, 1, pgn, k, 0));
+    }
+}
+
+// Another tree.
+fn elsewhere(out: &mut Findings, pack: &Pack, protocol: Protocol)
+    ensures { Emitted out.old
+        (concat_below (λ i. spns_elsewhere (tree_number protocol) i (pgn_at (pack_of pack.now.bytes.now) (tree_number protocol) i))
+        (length (pgns_of (pack_of pack.now.bytes.now) (tree_number protocol)))) out.new }
+{
+    for pgn in pack.pgns(protocol) {
+        spns_elsewhere(out, &pgn);
+    }
+}
+
+// R42: spn only on J1939 fields, within 19 bits, and decoded alike by every field that carries the same SPN.
+#[tactic(auto, unfolding(crate::specs::Spns::check_spns))]
+pub fn check_spns(out: &mut Findings, pack: &Pack)
+    ensures { Emitted out.old (check_spns (pack_of pack.now.bytes.now)) out.new }
+{
+    elsewhere(out, pack, Protocol::Nmea2000);
+    elsewhere(out, pack, Protocol::Quick);
+    scalings(out, pack);
+}

@@ -1,7 +1,0 @@
-use Rattle.rules.specs.Check.{check_tree}
-use Rattle.rules.specs.Emit.{Reporting}
-use Rattle.pack.specs.Meaning.{pack_of}
-use Rattle.rules.proofs.trees.check_trees.Given as goal
-
-abbrev pub invariant-loop-t : goal.invariant-loop-t
-invariant-loop-t l = Reporting l.initial.out l.n (check_tree (pack_of l.s)) 3 l.t l.out l.m
