@@ -1,13 +1,12 @@
 use Rattle.rules.specs.Model.{root_of}
 use Rattle.rules.specs.Texts.{DYNAMIC_FIELD_VALUE}
 use Rattle.walk.specs.Stops.{is_dynamic_value}
-use Rattle.rules.proofs.Types.{type_there}
+use Rattle.rules.proofs.Fields.{type_there}
 use Rattle.pack.specs.Items.{bytes_of}
 use Rattle.pack.specs.Notation.{◌≐◌}
 use Rattle.pack.specs.Loaded.{pgn_value}
 use Rattle.pack.specs.Value.{Bytes, Field, Pack, field_at}
-use native.Mathlib.Omega.{arith}
-use mathlib.Core.Path.{◌≡◌, ap}
+use mathlib.Core.Path.{◌≡◌}
 use mathlib.Core.Bool.{Bool}
 use Rattle.pack.specs.Meaning.{pack_of, field_meaning}
 use Rattle.walk.proofs.stops.is_value.Goals as goal

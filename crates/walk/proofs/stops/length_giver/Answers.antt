@@ -1,4 +1,4 @@
-use Rattle.walk.proofs.Parts.{order_fits}
+use Rattle.rules.proofs.Fields.{order_fits}
 use Rattle.walk.proofs.Tests.{and_l}
 use Rattle.walk.specs.Layout.{layout, sets_hold}
 use Rattle.walk.specs.declared.named.FoundPgn.{FoundPgn}

@@ -1,5 +1,5 @@
 use Rattle.rules.specs.DynamicLength.{length_source}
-use Rattle.rules.proofs.Types.{type_there}
+use Rattle.rules.proofs.Fields.{type_there}
 use Rattle.walk.proofs.stops.length_source_at.Goals as goal
 
 pub root_of-root-requires : goal.root_of-root-requires
