@@ -11,12 +11,10 @@ use lib.ListN.{length}
 use lib.Dec.{ltb}
 use lib.Pow.{pow_pos}
 use borrow.Author.Tests.{ltb-true, ltb-false, lt-ltb, le-ltb, le-leb, lt-leb}
-use Rattle.pack.proofs.Few.{fields_few}
 use Rattle.pack.specs.Notation.{◌<ᵇ◌, ◌≤ᵇ◌, ◌≐◌}
 use Rattle.pack.specs.Value.{Bytes, Reference, Field, Pgn, Pack, field_at}
 use Rattle.pack.specs.Meaning.{pack_of}
 use Rattle.pack.specs.declared.loaded.LookupRef.{LookupRef}
-use Rattle.pack.specs.declared.loaded.PgnRef.{PgnRef}
 use Rattle.pack.specs.declared.protocol.FieldIndex.{FieldIndex}
 use Rattle.rules.specs.Search.{or_else, any_below}
 use Rattle.rules.specs.SearchLaws.{any_hit, first_is}
@@ -31,10 +29,6 @@ use Rattle.walk.specs.StopParts.{Named, IsSource, field_stop, need_stop, lookup_
 use Rattle.walk.specs.declared.stops.Stop.{Stop}
 use Rattle.walk.specs.declared.stops.Stop.TheVariants.{LookupMissing, MatchUnfit, EntryNamesMissing}
 use Rattle.walk.proofs.Tests.{and_i}
-
--- a field's index has an order behind it
-pub order_fits : (g : PgnRef) (k : ℕ) → k < g.view.fields → k < 4294967295
-order_fits g k h = omega (arith, h, g.is.fields, fields_few g.at)
 
 -- ---- the whole
 

@@ -105,10 +105,6 @@ module _ {P : Pack} {es : List Entry} {e at : ℕ} {bad bad' : List ℕ} {n : �
   as_well : {bad'' : List ℕ} {n' : ℕ} → bad'' ≡ bad' → n' ≡ n → Collected P es e at bad bad'' n'
   as_well x y = rw (x, y) c
 
-  -- a count of 5 says nothing of the entries
-  pub collected_many : {m : ℕ} (all : ℕ) → m ≡ 5 → Collected P es all at bad bad' m
-  collected_many all h = record { few = omega (arith, h); others = c.others; kept = λ l. absurd (omega (arith, l, h)) }
-
   passed_over : names_missing P (entry_at es e) ≡ false → Collected P es (e + 1) at bad bad' n
   passed_over whole =
       record {
@@ -166,56 +162,48 @@ collected_turn {P} {es} {e} {at} {bad} {bad'} {bad''} {n} {n'} true v c few miss
         as_well {bad' = bad'} {n = n + 1}
         (record { few = omega (arith, few); others = c.others; kept = λ h. absurd (omega (arith, h, l)) }) x count
 
-pub collected_none : (P : Pack) (es : List Entry) (at : ℕ) (bad : List ℕ) → Collected P es 0 at bad bad 0
-collected_none P es at bad = record { few = omega arith; others = same_all at bad; kept = λ few room i h. absurd (omega (arith, h)) }
-
 -- ---- what a field that stops by its reading alone lets pass
 
-module _ {s : List ℕ} {p : Pgn} {k : ℕ} (O : OnlyByReading (pack_of s) p k) where
-  -- every reading, if it names no fieldtype lookup
-  pub none_without : Named s (lookup_ref (field_at p k)) None → (reading : ℕ) → stop_at (pack_of s) p (placed (layout p) (suc k)) k reading ≡ None
-  none_without N reading = O.only reading ∙ ap (λ (b : Bool). if b then Some EntryNamesMissing else None) (N.decide reading)
+module _ {s : List ℕ} {p : Pgn} {k : ℕ} (O : OnlyByReading (pack_of s) p k) {l : LookupRef} (N : Named s (lookup_ref (field_at p k)) (Some l)) where
+  abbrev stops : ℕ → Option Stop
+  stops reading = stop_at (pack_of s) p (placed (layout p) (suc k)) k reading
 
-  module _ {l : LookupRef} (N : Named s (lookup_ref (field_at p k)) (Some l)) where
-    abbrev stops : ℕ → Option Stop
-    stops reading = stop_at (pack_of s) p (placed (layout p) (suc k)) k reading
+  abbrev entries : List Entry
+  entries = (lookup_at (pack_of s).lookups l.item).entries
 
-    abbrev entries : List Entry
-    entries = (lookup_at (pack_of s).lookups l.item).entries
+  -- every reading but the values of the entries that name something missing
+  pub none_else : (bad : List ℕ) (at n : ℕ)
+      → ((i : ℕ) → i < length entries → names_missing (pack_of s) (entry_at entries i) ≡ true → among bad at n (entry_at entries i).value ≡ true)
+      → (reading : ℕ) → among bad at n reading ≡ false → stops reading ≡ None
+  unfolding entries_name_missing
+  none_else bad at n kept reading missed =
+      O.only reading ∙ ap (λ (b : Bool). if b then Some EntryNamesMissing else None) (N.decide reading ∙ none_below _ (length entries) (λ i h.
+      go i h ((entry_at entries i).value == reading) (names_missing (pack_of s) (entry_at entries i)) refl refl))
+    where
+      go : (i : ℕ) → i < length entries → (a b : Bool) → ((entry_at entries i).value == reading) ≡ a → names_missing (pack_of s) (entry_at entries i) ≡ b
+          → (a && b) ≡ false
+      go i h false b x y = refl
+      go i h true false x y = refl
+      go i h true true x y =
+          absurd (false≢true (sym missed ∙ ap (λ (r : ℕ). among bad at n r) (sym (eqb-true (entry_at entries i).value reading x)) ∙ kept i h y))
 
-    -- every reading but the values of the entries that name something missing
-    pub none_else : (bad : List ℕ) (at n : ℕ)
-        → ((i : ℕ) → i < length entries → names_missing (pack_of s) (entry_at entries i) ≡ true → among bad at n (entry_at entries i).value ≡ true)
-        → (reading : ℕ) → among bad at n reading ≡ false → stops reading ≡ None
-    unfolding entries_name_missing
-    none_else bad at n kept reading missed =
-        O.only reading ∙ ap (λ (b : Bool). if b then Some EntryNamesMissing else None) (N.decide reading ∙ none_below _ (length entries) (λ i h.
-        go i h ((entry_at entries i).value == reading) (names_missing (pack_of s) (entry_at entries i)) refl refl))
-      where
-        go : (i : ℕ) → i < length entries → (a b : Bool) → ((entry_at entries i).value == reading) ≡ a → names_missing (pack_of s) (entry_at entries i) ≡ b
-            → (a && b) ≡ false
-        go i h false b x y = refl
-        go i h true false x y = refl
-        go i h true true x y =
-            absurd (false≢true (sym missed ∙ ap (λ (r : ℕ). among bad at n r) (sym (eqb-true (entry_at entries i).value reading x)) ∙ kept i h y))
+  -- so the mark by the number of values is right
+  pub none_passed : {bad bad' : List ℕ} {n : ℕ} (e m : ℕ) → Collected (pack_of s) entries e (4 * k) bad bad' n → e ≡ length entries
+      → m ≡ (if n == 0 then 1 else (if 4 * k + 4 ≤ᵇ length bad' then n + 1 else 6))
+      → (reading : ℕ) → mark_passes m bad' k reading ≡ true → stops reading ≡ None
+  none_passed {bad} {bad'} {n} e m c whole is reading h =
+      go (n == 0) (4 * k + 4 ≤ᵇ length bad') refl refl (sym (ap (λ (x : ℕ). mark_passes x bad' k reading) is) ∙ h)
+    where
+      all : n < 5 → (0 < n → 4 * k + 4 ≤ length bad') → among bad' (4 * k) n reading ≡ false → stops reading ≡ None
+      all few room missed = none_else bad' (4 * k) n (λ i l. c.kept few room i (omega (arith, l, whole))) reading missed
 
-    -- so the mark by the number of values is right
-    pub none_passed : {bad bad' : List ℕ} {n : ℕ} (e m : ℕ) → Collected (pack_of s) entries e (4 * k) bad bad' n → e ≡ length entries
-        → m ≡ (if n == 0 then 1 else (if 4 * k + 4 ≤ᵇ length bad' then n + 1 else 6))
-        → (reading : ℕ) → mark_passes m bad' k reading ≡ true → stops reading ≡ None
-    none_passed {bad} {bad'} {n} e m c whole is reading h =
-        go (n == 0) (4 * k + 4 ≤ᵇ length bad') refl refl (sym (ap (λ (x : ℕ). mark_passes x bad' k reading) is) ∙ h)
-      where
-        all : n < 5 → (0 < n → 4 * k + 4 ≤ length bad') → among bad' (4 * k) n reading ≡ false → stops reading ≡ None
-        all few room missed = none_else bad' (4 * k) n (λ i l. c.kept few room i (omega (arith, l, whole))) reading missed
-
-        go : (a b : Bool) → (n == 0) ≡ a → (4 * k + 4 ≤ᵇ length bad') ≡ b → mark_passes (if a then 1 else (if b then n + 1 else 6)) bad' k reading ≡ true
-            → stops reading ≡ None
-        go true b x y z =
-            let q = eqb-true n 0 x in
-            all (omega (arith, q)) (λ l. absurd (omega (arith, l, q))) (ap (λ (i : ℕ). among bad' (4 * k) i reading) q)
-        go false true x y z =
-            let q : n + 1 - 1 ≡ n = omega arith in
-            all (omega (arith, passes_few (n + 1) bad' k reading z)) (λ l. leb-true (4 * k + 4) (length bad') y)
-            (sym (ap (λ (i : ℕ). among bad' (4 * k) i reading) q) ∙ passes_not (n + 1) bad' k reading z)
-        go false false x y z = absurd (false≢true z)
+      go : (a b : Bool) → (n == 0) ≡ a → (4 * k + 4 ≤ᵇ length bad') ≡ b → mark_passes (if a then 1 else (if b then n + 1 else 6)) bad' k reading ≡ true
+          → stops reading ≡ None
+      go true b x y z =
+          let q = eqb-true n 0 x in
+          all (omega (arith, q)) (λ l. absurd (omega (arith, l, q))) (ap (λ (i : ℕ). among bad' (4 * k) i reading) q)
+      go false true x y z =
+          let q : n + 1 - 1 ≡ n = omega arith in
+          all (omega (arith, passes_few (n + 1) bad' k reading z)) (λ l. leb-true (4 * k + 4) (length bad') y)
+          (sym (ap (λ (i : ℕ). among bad' (4 * k) i reading) q) ∙ passes_not (n + 1) bad' k reading z)
+      go false false x y z = absurd (false≢true z)

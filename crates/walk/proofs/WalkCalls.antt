@@ -67,22 +67,22 @@ module _ (s : List ℕ) (m t i : ℕ) where
       held_absent = let q = naming_absent (in_pack (pack_of s) t i) spot r n in rw (held_told, e, q.0, q.1)
 
     module _ (g : PgnRef) (n : Ok (pgn_spot g) ≡ naming (in_pack (pack_of s) t i) spot) where
-      there : in_pack (pack_of s) t i ≡ true
-      there = (naming_there (in_pack (pack_of s) t i) spot (pgn_spot g) n).0
+      is_there : (in_pack (pack_of s) t i ≡ true) × (pgn_spot g ≡ spot)
+      is_there = naming_there (in_pack (pack_of s) t i) spot (pgn_spot g) n
 
       same : {A : Type 0} (f : Pack → Pgn → A) → f (pack_of g.pack.bytes.now) (pgn_value g) ≡ f (pack_of s) (pgn_at (pack_of s) t i)
-      same f = ap (λ (o : PgnSpot). f (pack_of o.bytes) (pgn_at (pack_of o.bytes) o.tree o.item)) (naming_there (in_pack (pack_of s) t i) spot (pgn_spot g) n).1
+      same f = ap (λ (o : PgnSpot). f (pack_of o.bytes) (pgn_at (pack_of o.bytes) o.tree o.item)) is_there.1
 
       pub walk_answers : (readings w : List ℕ) (r : Result Ended Refusal) (w' : List ℕ)
           → Judges (walk (pack_of g.pack.bytes.now) (pgn_value g) readings) (length readings) w w' r → Answers s m t i readings w r w'
       unfolding walked visits_after
       walk_answers readings w r w' j =
           let k : Judges (walk_of s t i readings) (length readings) w w' r = rw (← same (λ P p. walk P p readings)) j in
-          record { answer = rw (walked, e, there) k.answer; out = rw (visits_after, walked, e, there) k.out }
+          record { answer = rw (walked, e, is_there.0) k.answer; out = rw (visits_after, walked, e, is_there.0) k.out }
 
       pub held_answers : (h : Bool) → h ≡ held (pack_of g.pack.bytes.now) (pgn_value g) → Ok h ≡ held_told s m t i
       unfolding held_told
-      held_answers h y = rw (held_told, e, there) (ap Ok (y ∙ same held))
+      held_answers h y = rw (held_told, e, is_there.0) (ap Ok (y ∙ same held))
 
 -- ---- in 01's numbers
 

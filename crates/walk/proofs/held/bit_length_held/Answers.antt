@@ -1,4 +1,5 @@
-use Rattle.walk.proofs.Parts.{order_fits, target_below}
+use Rattle.walk.proofs.Parts.{target_below}
+use Rattle.rules.proofs.Fields.{order_fits}
 use Rattle.walk.specs.Held.{bit_length_held}
 use Rattle.walk.specs.Layout.{layout, sets_hold}
 use Rattle.rules.specs.Model.{target}

@@ -1,13 +1,12 @@
 use Rattle.walk.proofs.Parts.{no_value_held, a_value_held, source_later}
 use Rattle.walk.specs.Held.{dynamic_value_held}
 use Rattle.rules.specs.SearchLaws.{every_turn, every_missed}
-use Rattle.rules.specs.Search.{every_below}
 use Rattle.pack.specs.Loaded.{pgn_value}
 use borrow.Author.Rules.{rules}
 use native.Mathlib.Omega.{arith}
 use Rattle.std.specs.Prelude.{is_some}
 use mathlib.Core.Bool.{true, false}
-use mathlib.Core.Path.{◌≡◌, sym, ◌∙◌, ap}
+use mathlib.Core.Path.{◌≡◌, sym, ◌∙◌}
 use lib.ListN.{length}
 use Rattle.pack.specs.Meaning.{pack_of}
 use Rattle.walk.proofs.held.dynamic_values_held.Goals as goal
@@ -39,9 +38,3 @@ loop-k-preserved c =
           (sym (a_value_held P p k c.is_value.result c.is_value.ensures c.if-not-is_value.false g c.latest_giver-giver.ensures.given) ∙ e));
       source = source_later c.latest_giver-giver.result c.latest_giver-giver.ensures.source;
     }
-
-pub returns : goal.returns
-returns c =
-    let P = pack_of c.args.found.now.pgn.pack.bytes.now in let p = pgn_value c.args.found.now.pgn in
-    let q : length p.fields ≡ c.loop-k.k = omega (arith, c.args.found.now.pgn.is.fields) in
-    sym (ap (every_below (dynamic_value_held P p)) q ∙ c.loop-k.invariant.so_far)

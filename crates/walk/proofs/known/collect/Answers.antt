@@ -30,8 +30,3 @@ loop-e-preserved c =
       collected = turned c.args.lookup.now.pack.bytes.now c.entry-entry.result c.names_missing-hit.result c.loop-e.invariant.collected c.loop-e.invariant.few
           c.entry-entry.ensures c.names_missing-hit.ensures c.keep-n.ensures.count c.keep-n.ensures.values;
     }
-
-pub returns : goal.returns
-returns c =
-    let q : c.args.lookup.now.view.entries ≡ c.loop-e.e = omega arith in
-    rw q c.loop-e.invariant.collected

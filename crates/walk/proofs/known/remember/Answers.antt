@@ -1,11 +1,5 @@
-use Rattle.walk.proofs.Readings.{same_all, remembered_marked, none_without, none_passed}
-use Prim.Native.Nat.{◌*◌}
+use Rattle.walk.proofs.Readings.{remembered_marked, none_passed}
 use Rattle.walk.proofs.known.remember.Goals as goal
-
-pub returns-in_default : goal.returns-in_default
-returns-in_default c =
-    rw c.mark.ensures (remembered_marked c.args.k _ c.requires.remembered (same_all (4 * c.args.k) c.args.bad.now)
-    (λ reading h. none_without c.requires.only (rw c.in_default.is at c.requires.named) reading))
 
 pub returns : goal.returns
 returns c =

@@ -1,6 +1,6 @@
 use Rattle.std.specs.Prelude.{◌==◌}
 use Rattle.walk.specs.Stops.{names_missing, entries_name_missing}
-use Rattle.rules.specs.SearchLaws.{any_turn, any_hit}
+use Rattle.rules.specs.SearchLaws.{any_hit}
 use Rattle.pack.specs.Loaded.{lookup_value}
 use Rattle.pack.specs.Meaning.{entry_meaning, pack_of}
 use Rattle.pack.specs.declared.entry.EntryView.{EntryView}
@@ -24,15 +24,8 @@ returns-then-entry_names_missing c =
     let s = c.args.lookup.now.pack.bytes.now in let l = c.args.lookup.now.item in let reading = c.args.reading in
     let h =
     said s l reading c.loop-e.e c.entry-entry.result c.entry_names_missing.result c.entry-entry.ensures c.entry_names_missing.ensures in
-    sym (any_hit (hits s l reading) (length (lookup_at (pack_of s).lookups l).entries) c.loop-e.e (omega (arith, c.args.lookup.now.is.entries, c.loop-e-test.true))
+    sym (any_hit (hits s l reading) (length (lookup_value c.args.lookup.now).entries) c.loop-e.e (omega (arith, c.args.lookup.now.is.entries, c.loop-e-test.true))
     (h ∙ c.if-entry_names_missing.true))
-
-pub loop-e-preserved : goal.loop-e-preserved
-loop-e-preserved c =
-    let s = c.args.lookup.now.pack.bytes.now in let l = c.args.lookup.now.item in let reading = c.args.reading in
-    let h =
-    said s l reading c.loop-e.e c.entry-entry.result c.entry_names_missing.result c.entry-entry.ensures c.entry_names_missing.ensures in
-    record { none_yet = any_turn (hits s l reading) c.loop-e.e ∙ (rw (c.loop-e.invariant.none_yet, h ∙ c.if-entry_names_missing.false)) }
 
 pub returns : goal.returns
 unfolding entries_name_missing

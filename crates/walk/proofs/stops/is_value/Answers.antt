@@ -1,13 +1,12 @@
 use Rattle.rules.specs.Model.{root_of}
 use Rattle.rules.specs.Texts.{DYNAMIC_FIELD_VALUE}
 use Rattle.walk.specs.Stops.{is_dynamic_value}
-use Rattle.pack.proofs.Positions.{field_ft_law}
+use Rattle.rules.proofs.Fields.{type_there}
 use Rattle.pack.specs.Items.{bytes_of}
 use Rattle.pack.specs.Notation.{◌≐◌}
 use Rattle.pack.specs.Loaded.{pgn_value}
 use Rattle.pack.specs.Value.{Bytes, Field, Pack, field_at}
-use native.Mathlib.Omega.{arith}
-use mathlib.Core.Path.{◌≡◌, ap}
+use mathlib.Core.Path.{◌≡◌}
 use mathlib.Core.Bool.{Bool}
 use Rattle.pack.specs.Meaning.{pack_of, field_meaning}
 use Rattle.walk.proofs.stops.is_value.Goals as goal
@@ -17,15 +16,10 @@ told : (P : Pack) (F G : Field) → F ≡ G → (root : Bytes) → root ≡ root
 told P F G is root r b e = rw (← is, ← r) e
 
 pub root_of-root-requires : goal.root_of-root-requires
-root_of-root-requires c =
-    let k = c.args.k in
-    let e : c.args.f.ft ≡ (field_at (pgn_value c.args.pgn.now) k).ft =
-    ap (λ (F : Field). F.ft) c.requires.means in
-    omega (arith, e, field_ft_law c.args.pgn.now.at k (omega (arith, c.requires.field, c.args.pgn.now.is.fields)))
+root_of-root-requires c = type_there c.args.pgn.now c.args.f c.args.k c.requires.field c.requires.means
 
 pub returns : goal.returns
 returns c =
     let s = c.args.pgn.now.pack.bytes.now in
-    told (pack_of s) (field_meaning s c.args.f)
-    (field_at (pgn_value c.args.pgn.now) c.args.k) c.requires.means
+    told (pack_of s) (field_meaning s c.args.f) (field_at (pgn_value c.args.pgn.now) c.args.k) c.requires.means
     (bytes_of s c.root_of-root.result) c.root_of-root.ensures c.text_is.result c.text_is.ensures

@@ -1,12 +1,10 @@
-use Rattle.walk.proofs.Parts.{order_fits}
+use Rattle.rules.proofs.Fields.{order_fits}
 use Rattle.walk.proofs.Tests.{and_l}
 use Rattle.walk.specs.Layout.{layout, sets_hold}
 use Rattle.walk.specs.declared.named.FoundPgn.{FoundPgn}
 use Rattle.rules.specs.DynamicLength.{length_source}
-use Rattle.rules.specs.SearchLaws.{any_turn, any_hit}
-use Rattle.rules.specs.Search.{any_below}
+use Rattle.rules.specs.SearchLaws.{any_hit}
 use native.Mathlib.Numerals.{add-one}
-use native.Mathlib.Omega.{arith}
 use Prim.Native.Nat.{ℕ, suc, ◌+◌}
 use mathlib.Core.Path.{◌≡◌, sym, ◌∙◌, ap}
 use mathlib.Core.Bool.{Bool, ◌&&◌}
@@ -36,18 +34,4 @@ returns-then-gives_length c =
         before = c.loop-j-test.true;
         source = and_l (is_source f j) (sets_hold (layout (pgn_value f.pgn)) (suc j) (suc k)) h;
       };
-    }
-
-pub loop-j-preserved : goal.loop-j-preserved
-loop-j-preserved c =
-    let f = c.args.found.now in let k = c.args.k in
-    let h = said f k c.loop-j.j c.order-own.result.0 c.gives_length.result c.order-own.ensures c.gives_length.ensures in
-    record { none_yet = any_turn (gives_at f k) c.loop-j.j ∙ (rw (c.loop-j.invariant.none_yet, h ∙ c.if-gives_length.false)) }
-
-pub returns : goal.returns
-returns c =
-    let q : c.loop-j.j ≡ c.args.k = omega arith in
-    record {
-      given = sym (ap (any_below (gives_at c.args.found.now c.args.k)) (sym q) ∙ c.loop-j.invariant.none_yet);
-      source = record { before = tt; source = tt };
     }

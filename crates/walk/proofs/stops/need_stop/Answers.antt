@@ -1,4 +1,4 @@
-use Rattle.walk.proofs.Parts.{order_fits}
+use Rattle.rules.proofs.Fields.{order_fits}
 use Rattle.walk.proofs.stops.need_stop.Goals as goal
 
 pub order-own-requires : goal.order-own-requires
