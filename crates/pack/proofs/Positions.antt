@@ -1,7 +1,6 @@
 -- What the layers above go by: the record at a record's work position means that record of the pack's value.
 use Rattle.pack.specs.Items.{Cursor, Item}
 use Rattle.std.specs.Prelude.{None}
-use Rattle.std.specs.Prelude.{◌==◌}
 use Prim.Native.Nat.{ℕ, zero, suc, ◌+◌, ◌-◌, ◌≤◌, ◌<◌}
 use native.Mathlib.Omega.{arith}
 use native.Mathlib.Numerals.{add-one}
@@ -10,8 +9,8 @@ use mathlib.Core.List.{List}
 use lib.ListN.{length, get_or, take, length-append, length-take, get_or-append}
 use lib.Seq.{get_or-append-add, get_or-take}
 use Rattle.pack.specs.Notation.{concat_below}
-use Rattle.pack.specs.Value.{Lookup, Field, Pgn, Pack, no_field_type, no_entry, pgn_at, field_at, lookup_at}
-use Rattle.pack.specs.Items.{◌▷◌, give, fresh, bytes_of, read_number, read_text, read_name, read_index, read_code}
+use Rattle.pack.specs.Value.{Field, Pgn, Pack, no_field_type, no_entry, pgn_at, field_at, lookup_at}
+use Rattle.pack.specs.Items.{◌▷◌, give, fresh, bytes_of, read_number, read_text, read_index, read_code}
 use Rattle.pack.specs.Records.{read_type, read_entry, read_lookup, read_names, read_scaling, read_authored, read_pgn, read_field, read_second_text}
 use Rattle.pack.specs.Format.{types, type_offsets, entries, entry_offsets, lookup_records, lookup_offsets, FieldState, field_next, fields}
 use Rattle.pack.specs.Format.{field_offsets, pgn_records, pgn_offsets, type_list, lookup_list, tree_list, type_part, lookup_part, tree_part}
@@ -22,11 +21,10 @@ use Rattle.pack.specs.Ready.{Ready, place_of_lookup, place_of_pgn, LookupAt, Pgn
 use Rattle.pack.specs.Kinds.{kind_number}
 use Rattle.pack.proofs.KindLaws.{kind_once}
 use Rattle.pack.specs.declared.kinds.LookupKind.{LookupKind}
-use Rattle.pack.specs.declared.text.Text.{Text}
 use Rattle.pack.specs.declared.field.FieldView.{FieldView}
 use Rattle.pack.proofs.Tables.{length_concat_below, getD_concat_below, getD_tab}
 use Rattle.pack.proofs.Bounds.{offsets_bound}
-use Rattle.pack.proofs.Reading.{if_all, number_fits, back, number_reader, text_reader, index_reader, code_reader, scaling_reader, authored_reader, links_reader}
+use Rattle.pack.proofs.Reading.{number_fits, back, text_reader, index_reader, code_reader, scaling_reader, authored_reader, links_reader}
 use Rattle.pack.proofs.Places.{types_turn, entries_turn, fields_turn}
 use Rattle.pack.proofs.Free.{index_below, lookup_free, field_free}
 use Rattle.pack.proofs.Clean.{fresh_at, accepted_end, pgn_clean, field_clean, lookup_clean, entry_clean, type_clean}

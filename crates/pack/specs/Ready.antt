@@ -1,6 +1,6 @@
 -- For the layers above: a pack that `load` accepted with its work list, the work positions of its records, and what a view there is.
 use Rattle.std.specs.Prelude.{ℕ, zero, suc, ◌+◌, ◌≤◌, ◌<◌, ◌≡◌, List, length, get_or, take}
-use Rattle.pack.specs.Value.{Lookup, Pgn, Pack, pgns_of, no_pgn, lookup_at, pgn_at}
+use Rattle.pack.specs.Value.{Lookup, Pgn, Pack, pgns_of, no_pgn, lookup_at}
 use Rattle.pack.specs.Format.{offsets}
 use Rattle.pack.specs.Load.{accepted, verdict}
 use Rattle.pack.specs.Meaning.{lookup_meaning, pgn_meaning, pack_of}
