@@ -130,7 +130,8 @@ module _ {r : Reader} {w : List ℕ} {p : ℕ} {end : Cursor} {xs : List ℕ} {d
         few = b.few;
         work =
             λ m.
-            (let y : Stored w p (xs ++ ys r.bytes.now end) u (q + length (ys r.bytes.now end)) = stored_append a.stored (record { count = refl; work = stored m }) in
+            (let one : Stored v q (ys r.bytes.now end) u (q + length (ys r.bytes.now end)) = record { count = refl; work = stored m } in
+            let y : Stored w p (xs ++ ys r.bytes.now end) u (q + length (ys r.bytes.now end)) = stored_append a.stored one in
             y.work ∙ (rw i));
       }
 

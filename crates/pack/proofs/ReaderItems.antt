@@ -94,9 +94,15 @@ pub reads_ok : {A : Type 0} (c d : Reader) (p : Form A) (v : A) (e : ℕ) → p 
 reads_ok c d p v e h b a = record { bytes = b; answer = rw h refl; at = λ z. rw h a }
 
 -- an item that was refused
-pub reads_err : {A : Type 0} (c d : Reader) (p : Form A) (v : A) (at n : ℕ) → p c.bytes.now (fresh c.at) ≡ record { value = v; next = record { at = at; refused = suc n } }
+pub reads_err : {A : Type 0} (c d : Reader) (p : Form A) (v : A) (at n : ℕ)
+    → p c.bytes.now (fresh c.at) ≡ record { value = v; next = record { at = at; refused = suc n } }
     → d.bytes.now ≡ c.bytes.now → Reads c p (Err (record { fault = fault_of (suc n); offset = at })) d
-reads_err c d p v at n h b = record { bytes = b; answer = rw (h, ne_eqb (suc n) 0 (λ e. absurd (omega arith))) refl; at = λ z. let y : suc n ≡ 0 = rw h at z in absurd (omega arith) }
+reads_err c d p v at n h b = record {
+  bytes = b;
+  answer = rw (h, ne_eqb (suc n) 0 (λ e. absurd (omega arith))) refl;
+  at = λ z. let y : suc n ≡ 0 =
+      rw h at z in absurd (omega arith);
+}
 
 -- what the answer says of the item
 pub was_read : {A : Type 0} {c d : Reader} {p : Form A} {v : A} → Reads c p (Ok v) d → p c.bytes.now (fresh c.at) ≡ record { value = v; next = fresh d.at }
@@ -171,7 +177,8 @@ module _ (test : ℕ → Bool) (k : ℕ) where
 
 -- ---- texts
 
-pub reads_text : {c d : Reader} {n : ℕ} (e : Reader) → Reads c read_number (Ok n) d → d.at + n ≤ length d.bytes.now → e.bytes.now ≡ d.bytes.now → e.at ≡ d.at + n
+pub reads_text : {c d : Reader} {n : ℕ} (e : Reader) → Reads c read_number (Ok n) d → d.at + n ≤ length d.bytes.now → e.bytes.now ≡ d.bytes.now
+    → e.at ≡ d.at + n
     → Reads c read_text (Ok (record { start = d.at; len = n })) e
 unfolding read_text
 reads_text {c} {d} {n} e a h b z =
@@ -185,7 +192,8 @@ text_cut {c} {d} {n} a h =
     let w : length c.bytes.now < d.at + n = rw a.bytes at h in
     reads_err c d read_text (record { start = 0; len = 0 }) c.at 0 (rw (was_read a, lt-leb _ _ w)) a.bytes
 
-pub text_out : {c d : Reader} {f : InputRefusal} {r : Result Text InputRefusal} → Reads c read_number (Err f) d → IsErrAnd r (λ y. y ≡ f) → Reads c read_text r d
+pub text_out : {c d : Reader} {f : InputRefusal} {r : Result Text InputRefusal} → Reads c read_number (Err f) d → IsErrAnd r (λ y. y ≡ f)
+    → Reads c read_text r d
 unfolding read_text
 text_out a e = reads_pass read_text a e (λ s c h. rw h)
 
@@ -199,11 +207,13 @@ module _ (before : Option Text) where
   unfolding read_name
   name_order {c} {d} {t} a k = let h = rw a.bytes at k in reads_err c d (read_name before) (record { start = 0; len = 0 }) c.at 4 (rw (was_read a, h)) a.bytes
 
-  pub name_out : {c d : Reader} {f : InputRefusal} {r : Result Text InputRefusal} → Reads c read_text (Err f) d → IsErrAnd r (λ y. y ≡ f) → Reads c (read_name before) r d
+  pub name_out : {c d : Reader} {f : InputRefusal} {r : Result Text InputRefusal} → Reads c read_text (Err f) d → IsErrAnd r (λ y. y ≡ f)
+      → Reads c (read_name before) r d
   unfolding read_name
   name_out a e = reads_pass (read_name before) a e (λ s c h. rw h)
 
-pub number_out : {c d : Reader} {f : InputRefusal} {r : Result ℕ InputRefusal} → Reads c (read_wide largest32) (Err f) d → IsErrAnd r (λ y. y ≡ f) → Reads c read_number r d
+pub number_out : {c d : Reader} {f : InputRefusal} {r : Result ℕ InputRefusal} → Reads c (read_wide largest32) (Err f) d → IsErrAnd r (λ y. y ≡ f)
+    → Reads c read_number r d
 unfolding read_number
 number_out a e = reads_pass read_number a e (λ s c h. refl)
 
@@ -221,9 +231,12 @@ float_value s bs at e =
     let b2 : byte_worth 2 (slice_index bs 2) ≡ get_or s (at + 2) 0 * 65536 = rw (a 2 (omega arith)) refl in
     let b3 : byte_worth 3 (slice_index bs 3) ≡ get_or s (at + 3) 0 * 16777216 = rw (a 3 (omega arith)) refl in
     let b4 : byte_worth 4 (slice_index bs 4) ≡ get_or s (at + 4) 0 * 4294967296 = rw (a 4 (omega arith)) refl in
-    let b5 : byte_worth 5 (slice_index bs 5) ≡ get_or s (at + 4 + 1) 0 * 1099511627776 = let z : at + 5 ≡ at + 4 + 1 = omega arith in rw (a 5 (omega arith), z) refl in
-    let b6 : byte_worth 6 (slice_index bs 6) ≡ get_or s (at + 4 + 2) 0 * 281474976710656 = let z : at + 6 ≡ at + 4 + 2 = omega arith in rw (a 6 (omega arith), z) refl in
-    let b7 : byte_worth 7 (slice_index bs 7) ≡ get_or s (at + 4 + 3) 0 * 72057594037927936 = let z : at + 7 ≡ at + 4 + 3 = omega arith in rw (a 7 (omega arith), z) refl in
+    let b5 : byte_worth 5 (slice_index bs 5) ≡ get_or s (at + 4 + 1) 0 * 1099511627776 = let z : at + 5 ≡ at + 4 + 1 =
+    omega arith in rw (a 5 (omega arith), z) refl in
+    let b6 : byte_worth 6 (slice_index bs 6) ≡ get_or s (at + 4 + 2) 0 * 281474976710656 = let z : at + 6 ≡ at + 4 + 2 =
+    omega arith in rw (a 6 (omega arith), z) refl in
+    let b7 : byte_worth 7 (slice_index bs 7) ≡ get_or s (at + 4 + 3) 0 * 72057594037927936 = let z : at + 7 ≡ at + 4 + 3 =
+    omega arith in rw (a 7 (omega arith), z) refl in
     omega arith
 
 pub reads_float : (c d : Reader) (bs : List ℕ) → c.at + 8 ≤ length c.bytes.now → bs ≡ take 8 (drop c.at c.bytes.now) → d.bytes.now ≡ c.bytes.now

@@ -63,7 +63,8 @@ module _ {A B : Type 0} (p : Form A) (q : A → Form B) where
   reads_stop {c} {d} {f} a k =
       let i = p c.bytes.now (fresh c.at) in
       let o = told_err i f a.answer in
-      let z : ((p ▷ q) c.bytes.now (fresh c.at)).next ≡ i.next = ap (λ (x : Item B). x.next) (run c.bytes.now (fresh c.at)) ∙ (k i.value).stays c.bytes.now i.next o.0 in
+      let z : ((p ▷ q) c.bytes.now (fresh c.at)).next ≡ i.next = ap (λ (x : Item B). x.next) (run c.bytes.now (fresh c.at))
+      ∙ (k i.value).stays c.bytes.now i.next o.0 in
       record {
         bytes = a.bytes;
         answer = rw (z, o.0, o.1) refl;
@@ -71,13 +72,17 @@ module _ {A B : Type 0} (p : Form A) (q : A → Form B) where
       }
 
   -- where a `?` returns
-  pub reads_out : {c d : Reader} {f : InputRefusal} {r : Result B InputRefusal} → Reads c p (Err f) d → IsErrAnd r (λ y. y ≡ f) → ((v : A) → Sticks (q v)) → Reads c (p ▷ q) r d
+  pub reads_out : {c d : Reader} {f : InputRefusal} {r : Result B InputRefusal} → Reads c p (Err f) d → IsErrAnd r (λ y. y ≡ f)
+      → ((v : A) → Sticks (q v)) → Reads c (p ▷ q) r d
   reads_out {c} {d} {f} {r} a e k =
       let x = err_from_is_err_and {Q = λ y. y ≡ f} r e in
       rw (x.1, x.2) (reads_stop a k)
 
   pub sticks_then : Sticks p → ((v : A) → Sticks (q v)) → Sticks (p ▷ q)
-  sticks_then a b = record { stays = λ s c h. (let e = a.stays s c h in ap (λ (x : Item B). x.next) (run s c) ∙ (b (p s c).value).stays s (p s c).next (rw e h) ∙ e) }
+  sticks_then a b = record {
+    stays = λ s c h. (let e = a.stays s c h in ap (λ (x : Item B). x.next) (run s c)
+        ∙ (b (p s c).value).stays s (p s c).next (rw e h) ∙ e);
+  }
 
 pub sticks_give : {A : Type 0} (v : A) → Sticks (give v)
 unfolding give

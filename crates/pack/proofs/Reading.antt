@@ -370,13 +370,15 @@ module _ (s : List ℕ) where
 
   pub pgn_reader : Reader s (λ c. (read_pgn s c).next)
   unfolding read_pgn ◌▷◌ give
-  pgn_reader = number_reader ▸ text_reader ▸ code_reader 3 ▸ code_reader 7 ▸ number_reader ▸ optional_reader read_bytes bytes_reader ▸ optional_reader read_repeating repeating_reader
+  pgn_reader = number_reader ▸ text_reader ▸ code_reader 3 ▸ code_reader 7 ▸ number_reader ▸ optional_reader read_bytes bytes_reader
+      ▸ optional_reader read_repeating repeating_reader
       ▸ optional_reader read_repeating repeating_reader ▸ number_reader
 
   pub pgn_moves : Moves (λ c. (read_pgn s c).next)
   unfolding read_pgn ◌▷◌ give
   pgn_moves = moves_then number_moves
-      (λ c. text_reader ▸ code_reader 3 ▸ code_reader 7 ▸ number_reader ▸ optional_reader read_bytes bytes_reader ▸ optional_reader read_repeating repeating_reader ▸ optional_reader read_repeating repeating_reader ▸ number_reader)
+      (λ c. text_reader ▸ code_reader 3 ▸ code_reader 7 ▸ number_reader ▸ optional_reader read_bytes bytes_reader
+      ▸ optional_reader read_repeating repeating_reader ▸ optional_reader read_repeating repeating_reader ▸ number_reader)
 
   pub names_reader : Reader s (λ c. (read_names s c).next)
   unfolding read_names ◌▷◌ give
@@ -392,7 +394,8 @@ module _ (s : List ℕ) where
 
   pub authored_reader : Reader s (λ c. (read_authored s c).next)
   unfolding read_authored ◌▷◌ give
-  authored_reader = optional_reader read_float float_reader ▸ optional_reader read_float float_reader ▸ optional_reader read_number number_reader ▸ optional_reader read_text text_reader ▸ optional_reader read_text text_reader
+  authored_reader = optional_reader read_float float_reader ▸ optional_reader read_float float_reader ▸ optional_reader read_number number_reader
+      ▸ optional_reader read_text text_reader ▸ optional_reader read_text text_reader
 
   pub reference_reader : Reader s (λ c. (read_reference s c).next)
   unfolding read_reference ◌▷◌ give
@@ -400,7 +403,8 @@ module _ (s : List ℕ) where
 
   pub links_reader : (bits : ℕ) → Reader s (λ c. (read_links bits s c).next)
   unfolding read_links ◌▷◌ give
-  links_reader bits = optional_reader read_reference reference_reader ▸ optional_reader read_number number_reader ▸ optional_reader read_text text_reader ▸ optional_reader read_text text_reader ▸ optional_reader (read_sum bits) (sum_reader bits)
+  links_reader bits = optional_reader read_reference reference_reader ▸ optional_reader read_number number_reader
+      ▸ optional_reader read_text text_reader ▸ optional_reader read_text text_reader ▸ optional_reader (read_sum bits) (sum_reader bits)
 
   -- what follows a field's names
   abbrev field_rest : ℕ → ℕ → Cursor → Cursor

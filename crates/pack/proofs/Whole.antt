@@ -128,7 +128,8 @@ module _ {r : declared.Reader} {w : List ℕ} where
           let l : p ≡ length (before r.bytes.now t) = omega (arith, a.along.stored.count) in
           (record { types = a.types; along = rw a.types at (along_then a.along b refl) }, ap (λ (k : Section × ℕ). k.0) y ∙ (rw l))
 
-    pub upto_number : {v : List ℕ} {p m : ℕ} → Upto r w n (types r.bytes.now (type_list r.bytes.now).next (type_list r.bytes.now).value) (type_part r.bytes.now) d v p
+    pub upto_number : {v : List ℕ} {p m : ℕ}
+        → Upto r w n (types r.bytes.now (type_list r.bytes.now).next (type_list r.bytes.now).value) (type_part r.bytes.now) d v p
         → Reads d read_number (Ok m) e
         → Upto r w n (lookup_list r.bytes.now).next (type_part r.bytes.now) e v p × (m ≡ (lookup_list r.bytes.now).value)
     unfolding lookup_list

@@ -2,7 +2,6 @@ use Rattle.rules.proofs.PlaceTexts.{prefix_is, prefix_short}
 use Rattle.pack.specs.Trees.{tree_number}
 use Rattle.pack.proofs.Stores.{stored_append}
 use native.Mathlib.Omega.{arith}
-use mathlib.Core.Path.{◌∙◌}
 use Rattle.rules.proofs.locs.put_number.Goals as goal
 
 pub put_bytes-a-requires : goal.put_bytes-a-requires

@@ -15,7 +15,13 @@ put_bytes-c-requires c =
 
 pub put_bytes-requires : goal.put_bytes-requires
 put_bytes-requires c =
-    omega (arith, c.put_number-a.ensures.count, number_short (tree_number c.args.protocol) c.args.number, c.put_bytes-b.ensures.count, c.put_bytes-c.ensures.count)
+    omega (
+      arith,
+      c.put_number-a.ensures.count,
+      number_short (tree_number c.args.protocol) c.args.number,
+      c.put_bytes-b.ensures.count,
+      c.put_bytes-c.ensures.count,
+    )
 
 pub returns : goal.returns
 unfolding pgn_text

@@ -22,7 +22,8 @@ use Rattle.rules.proofs.pgn_range.found_range.Goals as goal
 inside : (s : List ℕ) (t i : ℕ) (G : Pgn) (g : PgnView) → PgnIs s G g → (o : Option Range) (r : Range)
     → find_range (ranges_of t) g.pgn ≡ option_map range_of o → o ≡ Some r → r.start ≤ g.pgn → (a b : Bool) (f h : Finding)
     → a ≡ (pdu1 g.pgn && not (g.pgn % 256 == 0)) → f ≡ pgn_error 2 5 t i 0 0
-    → b ≡ not ((message_type_number r.kind == message_type_number g.kind) || (message_type_number r.kind == 3) || (message_type_number g.kind == 2)) → h ≡ pgn_error 2 6 t i 0 0
+    → b ≡ not ((message_type_number r.kind == message_type_number g.kind) || (message_type_number r.kind == 3) || (message_type_number g.kind == 2))
+    → h ≡ pgn_error 2 6 t i 0 0
     → found_range t i G (find_range (ranges_of t) g.pgn) ≡ report_if a f ++ report_if b h
 unfolding found_range
 inside s t i G g is o r found e l a b f h x y z w =

@@ -24,7 +24,11 @@ returns-then-entry_names_missing c =
     let s = c.args.lookup.now.pack.bytes.now in let l = c.args.lookup.now.item in let reading = c.args.reading in
     let h =
     said s l reading c.loop-e.e c.entry-entry.result c.entry_names_missing.result c.entry-entry.ensures c.entry_names_missing.ensures in
-    sym (any_hit (hits s l reading) (length (lookup_value c.args.lookup.now).entries) c.loop-e.e (omega (arith, c.args.lookup.now.is.entries, c.loop-e-test.true))
+    sym (any_hit (hits s l reading) (length (lookup_value c.args.lookup.now).entries) c.loop-e.e (omega (
+      arith,
+      c.args.lookup.now.is.entries,
+      c.loop-e-test.true,
+    ))
     (h ∙ c.if-entry_names_missing.true))
 
 pub returns : goal.returns

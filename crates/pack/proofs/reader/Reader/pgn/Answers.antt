@@ -76,6 +76,9 @@ returns-in_err-fields c =
 pub returns : goal.returns
 unfolding read_pgn
 returns c =
-    rw (c.pgn_flags.ensures, c.of-kind.ensures) (reads_then _ _ c.in_ok-pgn.ensures (reads_then _ _ c.in_ok-id.ensures (reads_then _ _ c.in_ok-code.ensures (reads_then _
+    rw (
+      c.pgn_flags.ensures,
+      c.of-kind.ensures,
+    ) (reads_then _ _ c.in_ok-pgn.ensures (reads_then _ _ c.in_ok-id.ensures (reads_then _ _ c.in_ok-code.ensures (reads_then _
     _ c.in_ok-flags.ensures (reads_then _ _ c.in_ok-length.ensures (reads_then _ _ c.in_ok-minimum.ensures (reads_then _ _ c.in_ok-first.ensures
     (reads_then _ _ c.in_ok-second.ensures (reads_then _ _ c.in_ok-fields.ensures (done _ _))))))))))
