@@ -1,78 +1,55 @@
 // Answers as numbers.
-ghost use Rattle.std.specs.Prelude.{◌≡◌};
-ghost use Rattle.exports.specs.Answers.{filled};
-ghost use Rattle.pack.specs.Load.{load_answer};
-ghost use Rattle.rules.specs.Checked.{check_answer};
-ghost use Rattle.rules.specs.PlaceCall.{place_answer};
-ghost use Rattle.walk.specs.WalkCall.{ending_number, walk_answer, yes_number, held_answer};
+ghost use Rattle.std.specs.Prelude.{◌≡◌, List, ℕ, [], ◌∷◌};
+ghost use Rattle.exports.specs.Answers.{filled, told};
+ghost use Rattle.pack.specs.Load.{index_values};
+ghost use Rattle.walk.specs.WalkCall.{ending_number, yes_number};
 
 use pack::load::{Index, Refusal};
 use rules::check::Reported;
 use walk::walk::{End, Ended};
 
-pub fn load_number(l: Result<Index, Refusal>) -> u32
-    ensures { result ≡ (load_answer l).number }
-{
-    match l {
-        Err(r) => r.number(),
-        Ok(_) => 0,
+// What a call answers that is not refused, as N numbers.
+pub trait Values<const N: usize> {
+    ghost values: { Self → List ℕ };
+
+    fn values(self) -> [u64; N]
+        ensures { result ≡ filled N (values self) };
+}
+
+impl Values<11> for Index {
+    ghost values = { index_values };
+
+    fn values(self) -> [u64; 11] {
+        [
+            self.records as u64,
+            self.types.count as u64,
+            self.types.place as u64,
+            self.lookups.count as u64,
+            self.lookups.place as u64,
+            self.nmea2000.count as u64,
+            self.nmea2000.place as u64,
+            self.j1939.count as u64,
+            self.j1939.place as u64,
+            self.quick.count as u64,
+            self.quick.place as u64,
+        ]
     }
 }
 
-pub fn load_answer(l: Result<Index, Refusal>) -> [u64; 11]
-    ensures { result ≡ filled 11 (load_answer l).values }
-{
-    match l {
-        Err(r) => [r.detail() as u64, 0, 0, 0, 0, 0, 0, 0, 0, 0, 0],
-        Ok(i) => [
-            i.records as u64,
-            i.types.count as u64,
-            i.types.place as u64,
-            i.lookups.count as u64,
-            i.lookups.place as u64,
-            i.nmea2000.count as u64,
-            i.nmea2000.place as u64,
-            i.j1939.count as u64,
-            i.j1939.place as u64,
-            i.quick.count as u64,
-            i.quick.place as u64,
-        ],
+impl Values<2> for Reported {
+    ghost values = { λ r. r.findings ∷ r.errors ∷ [] };
+
+    fn values(self) -> [u64; 2] {
+        [self.findings as u64, self.errors as u64]
     }
 }
 
-pub fn check_number(c: Result<Reported, Refusal>) -> u32
-    ensures { result ≡ (check_answer c).number }
-{
-    match c {
-        Err(r) => r.number(),
-        Ok(_) => 0,
-    }
-}
+// How long a text is.
+impl Values<1> for usize {
+    ghost values = { λ n. n ∷ [] };
 
-pub fn check_answer(c: Result<Reported, Refusal>) -> [u64; 2]
-    ensures { result ≡ filled 2 (check_answer c).values }
-{
-    match c {
-        Err(r) => [r.detail() as u64, 0],
-        Ok(reported) => [reported.findings as u64, reported.errors as u64],
-    }
-}
-
-pub fn place_number(p: Result<usize, Refusal>) -> u32
-    ensures { result ≡ (place_answer p).number }
-{
-    match p {
-        Err(r) => r.number(),
-        Ok(_) => 0,
-    }
-}
-
-pub fn place_answer(p: Result<usize, Refusal>) -> [u64; 1]
-    ensures { result ≡ filled 1 (place_answer p).values }
-{
-    match p {
-        Err(r) => [r.detail() as u64],
-        Ok(n) => [n as u64],
+    fn values(self) -> [u64; 1] {
+        [self as u64]
     }
 }
 
@@ -86,44 +63,47 @@ fn end_number(e: End) -> u64
     }
 }
 
-pub fn walk_number(w: Result<Ended, Refusal>) -> u32
-    ensures { result ≡ (walk_answer w).number }
-{
-    match w {
-        Err(r) => r.number(),
-        Ok(_) => 0,
+impl Values<2> for Ended {
+    ghost values = { λ e. ending_number e.end ∷ e.visits ∷ [] };
+
+    fn values(self) -> [u64; 2] {
+        [end_number(self.end), self.visits as u64]
     }
 }
 
-pub fn walk_answer(w: Result<Ended, Refusal>) -> [u64; 2]
-    ensures { result ≡ filled 2 (walk_answer w).values }
-{
-    match w {
-        Err(r) => [r.detail() as u64, 0],
-        Ok(ended) => [end_number(ended.end), ended.visits as u64],
+// Whether a PGN is held.
+impl Values<1> for bool {
+    ghost values = { λ b. yes_number b ∷ [] };
+
+    fn values(self) -> [u64; 1] {
+        [u64::from(self)]
     }
 }
 
-pub fn held_number(h: Result<bool, Refusal>) -> u32
-    ensures { result ≡ (held_answer h).number }
+// A refusal's detail, and zeros behind it.
+fn refused<const N: usize>(detail: u64) -> [u64; N]
+    ensures { result ≡ filled N (detail ∷ []) }
 {
-    match h {
-        Err(r) => r.number(),
-        Ok(_) => 0,
+    let mut numbers = [0; N];
+    if let Some(first) = numbers.first_mut() {
+        *first = detail;
     }
+    numbers
 }
 
-fn yes_or_no(b: bool) -> u64
-    ensures { result ≡ yes_number b }
+// The refusal's number, 0 where there is none; and the numbers of the answer.
+pub fn tell<T: Values<N>, const N: usize>(r: Result<T, Refusal>, answer: &mut [u64; N]) -> u32
+    ensures number { result ≡ (told T.values r).number }
+    ensures numbers { answer.new ≡ filled N (told T.values r).values }
 {
-    if b { 1 } else { 0 }
-}
-
-pub fn held_answer(h: Result<bool, Refusal>) -> [u64; 1]
-    ensures { result ≡ filled 1 (held_answer h).values }
-{
-    match h {
-        Err(r) => [r.detail() as u64],
-        Ok(b) => [yes_or_no(b)],
+    match r {
+        Err(refusal) => {
+            *answer = refused(refusal.detail() as u64);
+            refusal.number()
+        }
+        Ok(value) => {
+            *answer = value.values();
+            0
+        }
     }
 }

@@ -8,10 +8,7 @@ ghost use Rattle.rules.specs.Checked.{check_tells, findings_after};
 ghost use Rattle.rules.specs.PlaceCall.{place_tells, text_after};
 ghost use Rattle.walk.specs.WalkCall.{walk_tells, visits_after, held_tells};
 
-use crate::answers::{
-    check_answer, check_number, held_answer, held_number, load_answer, load_number, place_answer,
-    place_number, walk_answer, walk_number,
-};
+use crate::answers::tell;
 use pack::load::load;
 use rules::check::check;
 use rules::place_text::place_text;
@@ -26,9 +23,7 @@ pub fn sarwymp_load(pack: &[u8], work: &mut [u32], answer: &mut [u64; 11]) -> u3
     ensures numbers { answer.new ≡ filled 11 (load_tells pack.now (length work.old)).values }
     ensures work { work.new ≡ work_after pack.now work.old }
 {
-    let l = load(pack, work);
-    *answer = load_answer(l);
-    load_number(l)
+    tell(load(pack, work), answer)
 }
 
 // The two numbers are the detail and 0 where the call is refused; else the number of findings and of errors.
@@ -44,9 +39,7 @@ pub fn sarwymp_check(
     ensures work { work.new ≡ work_after pack.now work.old }
     ensures findings { findings.new ≡ findings_after pack.now (length work.old) findings.old }
 {
-    let c = check(pack, work, findings);
-    *answer = check_answer(c);
-    check_number(c)
+    tell(check(pack, work, findings), answer)
 }
 
 // The number is the detail where the call is refused; else the length of the text.
@@ -65,9 +58,7 @@ pub fn sarwymp_place_text(
     ensures work { work.new ≡ work_after pack.now work.old }
     ensures text { text.new ≡ text_after pack.now (length work.old) place tree item text.old }
 {
-    let p = place_text(pack, work, place, tree, item, text);
-    *answer = place_answer(p);
-    place_number(p)
+    tell(place_text(pack, work, place, tree, item, text), answer)
 }
 
 // The two numbers are the detail and 0 where the call is refused; else the end (0 whole, 1 to 9 the stop, 10 used up) and the number of
@@ -90,9 +81,7 @@ pub fn sarwymp_walk(
     ensures visits { visits.new ≡ visits_after pack.now (length work.old) tree pgn
         readings.now visits.old }
 {
-    let w = walk(pack, work, tree, pgn, readings, visits);
-    *answer = walk_answer(w);
-    walk_number(w)
+    tell(walk(pack, work, tree, pgn, readings, visits), answer)
 }
 
 // The number is the detail where the call is refused; else 1 where the PGN is held, 0 where it is not.
@@ -107,7 +96,5 @@ pub fn sarwymp_held(
     ensures numbers { answer.new ≡ filled 1 (held_tells pack.now (length work.old) tree pgn).values }
     ensures work { work.new ≡ work_after pack.now work.old }
 {
-    let h = held(pack, work, tree, pgn);
-    *answer = held_answer(h);
-    held_number(h)
+    tell(held(pack, work, tree, pgn), answer)
 }
