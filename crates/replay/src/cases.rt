@@ -2,22 +2,17 @@
 // which is zeros, only the length.
 ghost use Rattle.std.specs.Prelude.{◌≤◌};
 
-fn joined(a: u8, b: u8, c: u8, d: u8) -> u32 {
-    a as u32 + 256 * (b as u32 + 256 * (c as u32 + 256 * d as u32))
-}
-
 pub fn number() -> u32 {
     let mut b = [0u8; 4];
     io::read_full(0, &mut b);
-    joined(b[0], b[1], b[2], b[3])
+    u32::from_le_bytes(b)
 }
 
 // A length of a part of a buffer.
 pub fn count(most: usize) -> usize
     ensures { result ≤ most }
 {
-    let n = number() as usize;
-    if n < most { n } else { most }
+    most.min(number() as usize)
 }
 
 pub fn read_pack(pack: &mut [u8]) {
@@ -35,19 +30,15 @@ pub fn spaced(n: u64) {
     io::print_decimal(1, n);
 }
 
-pub fn wide(n: u32) -> u64 {
-    n as u64
-}
-
 pub fn print_numbers(numbers: &[u32]) {
-    for i in 0..numbers.len() {
-        spaced(wide(numbers[i]));
+    for n in numbers {
+        spaced(u64::from(*n));
     }
 }
 
 pub fn print_refused(number: u32, detail: u64) {
     words(b"refused");
-    spaced(wide(number));
+    spaced(u64::from(number));
     spaced(detail);
     words(b"\n");
 }

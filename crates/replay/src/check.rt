@@ -1,13 +1,13 @@
 // A case: pack, length of the work buffer, length of the findings buffer. For each finding its eight numbers and its place text.
 ghost use Rattle.std.specs.Prelude.{◌≤◌, length};
 
-use crate::cases::{count, print_numbers, print_refused, read_pack, spaced, wide, words};
+use crate::cases::{count, print_numbers, print_refused, read_pack, spaced, words};
 
 // So many, as far as the buffer has them.
 fn least(a: u64, b: usize) -> usize
     ensures { result ≤ b }
 {
-    if a < b as u64 { a as usize } else { b }
+    b.min(a as usize)
 }
 
 fn print_place(pack: &[u8], work: &mut [u32], text: &mut [u8], place: u32, tree: u32, item: u32) {
@@ -22,7 +22,7 @@ fn print_place(pack: &[u8], work: &mut [u32], text: &mut [u8], place: u32, tree:
 }
 
 fn print_finding(pack: &[u8], work: &mut [u32], text: &mut [u8], f: &[u32; 8]) {
-    io::print_decimal(1, wide(f[0]));
+    io::print_decimal(1, u64::from(f[0]));
     print_numbers(&f[1..]);
     words(b" ");
     print_place(pack, work, text, f[3], f[4], f[5]);
@@ -77,7 +77,7 @@ fn one_case(pack: &mut [u8], work: &mut [u32], findings: &mut [u32], text: &mut 
     rest_of_case(&mut pack[..n], work, findings, text);
 }
 
-// Arrays become slices behind references, where their lengths are known by their types.
+// Not called with the arrays themselves: the check runs out of stack over the bounds of a million bytes.
 fn lend(
     pack: &mut [u8; 1_048_577],
     work: &mut [u32; 1024],

@@ -27,8 +27,7 @@ fn next_case(call: Call) {
 }
 
 fn replay(call: Call) {
-    let n = cases::number();
-    for i in 0..n {
+    for _ in 0..cases::number() {
         next_case(call);
     }
 }

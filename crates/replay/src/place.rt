@@ -29,14 +29,9 @@ fn one_case(pack: &mut [u8], work: &mut [u32], text: &mut [u8]) {
     rest_of_case(&mut pack[..n], work, text);
 }
 
-// Arrays become slices behind references, where their lengths are known by their types.
-fn lend(pack: &mut [u8; 32_768], work: &mut [u32; 1024], text: &mut [u8; 4096]) {
-    one_case(pack, work, text);
-}
-
 pub fn next_case() {
     let mut pack = [0u8; 32_768];
     let mut work = [0u32; 1024];
     let mut text = [46u8; 4096];
-    lend(&mut pack, &mut work, &mut text);
+    one_case(&mut pack, &mut work, &mut text);
 }

@@ -6,12 +6,12 @@ use crate::cases::{count, number, print_numbers, print_refused, read_pack, space
 fn reading() -> u64 {
     let low = number();
     let high = number();
-    low as u64 + 4_294_967_296 * high as u64
+    u64::from(high) << 32 | u64::from(low)
 }
 
 fn read_readings(readings: &mut [u64]) {
-    for i in 0..readings.len() {
-        readings[i] = reading();
+    for r in readings {
+        *r = reading();
     }
 }
 
@@ -102,20 +102,10 @@ fn one_case(pack: &mut [u8], work: &mut [u32], readings: &mut [u64], visits: &mu
     rest_of_case(&mut pack[..n], work, readings, visits);
 }
 
-// Arrays become slices behind references, where their lengths are known by their types.
-fn lend(
-    pack: &mut [u8; 32_768],
-    work: &mut [u32; 1024],
-    readings: &mut [u64; 64],
-    visits: &mut [u32; 80],
-) {
-    one_case(pack, work, readings, visits);
-}
-
 pub fn next_case() {
     let mut pack = [0u8; 32_768];
     let mut work = [165u32; 1024];
     let mut readings = [0u64; 64];
     let mut visits = [170u32; 80];
-    lend(&mut pack, &mut work, &mut readings, &mut visits);
+    one_case(&mut pack, &mut work, &mut readings, &mut visits);
 }
