@@ -35,7 +35,7 @@ pub along_none : (r : Reader) (o : Offsets) → Along r o (fresh r.at) [] r o
 along_none r o = record { bytes = refl; at = refl; put = put_none o }
 
 module _ {r : Reader} {o : Offsets} {end : Cursor} {xs : List ℕ} {d : Reader} {v : Offsets} (a : Along r o end xs d v) where
-  here : {B : Type 0} (f : List ℕ → Cursor → B) → f d.bytes.now (fresh d.at) ≡ f r.bytes.now end
+  pub here : {B : Type 0} (f : List ℕ → Cursor → B) → f d.bytes.now (fresh d.at) ≡ f r.bytes.now end
   here f = ap (λ s. f s (fresh d.at)) a.bytes ∙ ap (f r.bytes.now) a.at
 
   -- the offset of the next record
