@@ -3,14 +3,12 @@ use Rattle.pack.specs.Items.{Cursor, Item, Form, fresh}
 use Rattle.std.specs.Prelude.{None, Result, Ok, Err}
 use Rattle.std.specs.Result.{IsErrAnd}
 use Rattle.std.proofs.lemmas.Result.{err_from_is_err_and}
-use Prim.Native.Nat.{ℕ, suc, ◌+◌, ◌≤◌, ◌<◌}
+use Prim.Native.Nat.{ℕ, suc, ◌+◌, ◌<◌}
 use native.Mathlib.Omega.{arith}
 use native.Mathlib.Numerals.{add-one}
 use mathlib.Core.Path.{◌≡◌, refl, ap, ◌∙◌, sym}
 use mathlib.Core.List.{List, [], ◌∷◌, ◌++◌}
 use borrow.Author.Tests.{eq-eqb, eqb-false}
-use lib.ListN.{length, set}
-use lib.Seq.{sets}
 use Rattle.pack.specs.Records.{read_type, read_entry}
 use Rattle.pack.specs.Format.{types, type_offsets, entries, entry_offsets, lookup_next, lookup_records, lookups, lookup_offsets}
 use Rattle.pack.specs.Format.{field_next, fields}
@@ -21,8 +19,8 @@ use Rattle.pack.specs.declared.kinds.LookupKind.{LookupKind}
 use Rattle.pack.specs.declared.load.Offsets.{Offsets}
 use Rattle.pack.specs.declared.reader.Reader.{Reader}
 use Rattle.pack.specs.declared.reader.InputRefusal.{InputRefusal}
-use Rattle.pack.proofs.Reading.{Moves, stays, type_reader, entry_reader, lookup_steps, field_steps, pgn_next_reader}
-use Rattle.pack.proofs.ReaderLaws.{told_ok, told_err, cursor_is, Ok-Err, same_Ok}
+use Rattle.pack.proofs.Reading.{stays, type_reader, entry_reader, lookup_steps, field_steps, pgn_next_reader}
+use Rattle.pack.proofs.ReaderLaws.{told_ok, told_err, cursor_is}
 use Rattle.pack.proofs.Stores.{put_none, put_append}
 
 -- Nothing was refused so far: the reader has come from r to the cursor `end`, and the offsets xs were put.

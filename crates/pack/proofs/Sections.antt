@@ -7,10 +7,9 @@ use native.Mathlib.Omega.{arith}
 use mathlib.Core.Path.{◌≡◌, refl, ap, ◌∙◌, sym}
 use mathlib.Core.List.{List, []}
 use lib.ListN.{length, length-append}
-use lib.Seq.{sets}
 use Rattle.pack.specs.Items.{fresh, read_number, read_version, finish}
 use Rattle.pack.specs.Notation.{◌<ᵇ◌}
-use Rattle.pack.specs.Format.{types, type_offsets, lookups, lookup_offsets, pgns, type_list, lookup_list, tree_start, tree_list, type_part, lookup_part}
+use Rattle.pack.specs.Format.{types, type_offsets, lookups, lookup_offsets, type_list, lookup_list, tree_start, tree_list, type_part, lookup_part}
 use Rattle.pack.specs.Format.{before, offsets, pack_end}
 use Rattle.pack.specs.Load.{most_bytes, load_index}
 use Rattle.pack.specs.Reads.{told, Reads, Ends}

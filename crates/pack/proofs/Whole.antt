@@ -1,27 +1,15 @@
 -- The sections of a pack put together: what one walk over it reaches, counts and stores, and where one that is refused leaves the whole.
-use Rattle.pack.specs.Items.{Cursor, Form}
-use Rattle.std.specs.Prelude.{Result, Ok, Err, ◌==◌}
-use Rattle.std.specs.Result.{IsErrAnd}
-use Prim.Native.Nat.{ℕ, zero, suc, ◌+◌, ◌-◌, ◌≤◌, ◌<◌}
+use Rattle.pack.specs.Items.{Cursor}
+use Prim.Native.Nat.{ℕ, zero, suc, ◌+◌, ◌-◌, ◌≤◌}
 use native.Mathlib.Omega.{arith}
 use native.Mathlib.Decide.{ℕ_discrete}
-use mathlib.Core.Path.{◌≡◌, refl, ap, ◌∙◌, sym}
-use mathlib.Core.List.{List, []}
-use lib.ListN.{length}
+use mathlib.Core.Path.{◌≡◌, ◌∙◌}
+use mathlib.Core.List.{List}
 use borrow.Author.Tests.{ne_eqb}
 use Rattle.pack.specs.Items.{fresh, read_number, read_version, finish}
-use Rattle.pack.specs.Notation.{◌<ᵇ◌}
-use Rattle.pack.specs.Format.{types, type_offsets, lookups, lookup_offsets, pgns, type_list, lookup_list, tree_start, tree_list, type_part, before}
-use Rattle.pack.specs.Format.{offsets, pack_end}
-use Rattle.pack.specs.Load.{load_index}
-use Rattle.pack.specs.Reads.{Reads, Ends}
-use Rattle.pack.specs.Placing.{Places, PlacesTree, PlacesAll}
-use Rattle.pack.specs.declared.load.Section.{Section}
-use Rattle.pack.specs.declared.load.Index.{Index}
-use Rattle.pack.specs.declared.reader.InputRefusal.{InputRefusal}
-use Rattle.pack.specs.declared.reader.Reader as declared
-use Rattle.pack.proofs.Reading.{Reader, if_all, followed, number_reader, version_reader, types_reader, lookups_reader, pgns_reader}
-use Rattle.pack.proofs.Places.{Along, along_none, along_value, along_read, along_then, refused, placed}
+use Rattle.pack.specs.Format.{types, pgns, type_list, lookup_list, tree_start}
+use Rattle.pack.specs.Format.{pack_end}
+use Rattle.pack.proofs.Reading.{Reader, followed, number_reader, types_reader, lookups_reader, pgns_reader}
 
 -- the end is refused where what stands before it is
 pub finish_back : (s : List ℕ) (c : Cursor) → (finish s c).refused ≡ 0 → c.refused ≡ 0

@@ -2,12 +2,11 @@ use Rattle.pack.proofs.Sections.{begun, upto_types, upto_lookups, upto_number, u
 use Rattle.pack.proofs.Sections.{counted_before, types_counted}
 use Rattle.pack.proofs.Places.{along_none}
 use Rattle.pack.proofs.Whole.{version_ends, type_list_ends, types_ends, lookup_list_ends, tree_ends}
-use Rattle.pack.specs.Format.{type_list, lookup_list, tree_start, type_part, before, offsets, pack_end}
+use Rattle.pack.specs.Format.{type_list, lookup_list, tree_start, offsets, pack_end}
 use Rattle.pack.specs.Load.{load_index}
 use Rattle.std.proofs.Common.{rules}
 use native.Mathlib.Omega.{arith}
-use mathlib.Core.Path.{◌≡◌, refl}
-use lib.ListN.{length}
+use mathlib.Core.Path.{refl}
 use Rattle.pack.proofs.load.place_all.Goals as goal
 
 pub returns-in_err-version : goal.returns-in_err-version
