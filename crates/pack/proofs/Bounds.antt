@@ -111,6 +111,10 @@ module _ (s : List ℕ) where
       ((types_reader s (type_list s).value).within _ ((number_reader s).within _ ((version_reader s).within (fresh 0) (omega arith)))))
   tree_within (suc t) = (tree_reader s (type_list s).value).within (tree_start s t) (tree_within t)
 
+  -- no more records than bytes
+  pub before_few : (pack_end s).refused ≡ 0 → (t : ℕ) → t ≤ 3 → length (before s t) ≤ length s
+  before_few a t h = omega (arith, before_advance a t h, tree_within t)
+
 -- an input refusal is one of 1 to 8, at an offset within the pack
 module _ (s : List ℕ) where
   tree_numbered : (t : ℕ) → (tree_start s t).refused ≤ 8
@@ -134,7 +138,7 @@ pub records_bound : (s w : List ℕ) → Ready s w → (length (offsets s) ≤ l
 unfolding offsets
 records_bound s w r =
     let a = accepted_end s r.accepted in
-    (omega (arith, before_advance s a.0 3 (omega arith), tree_within s 3), a.1)
+    (before_few s a.0 3 (omega arith), a.1)
 
 -- ---- every offset is within the pack
 

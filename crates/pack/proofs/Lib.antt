@@ -14,6 +14,7 @@ pub mod Positions
 pub mod SetSums
 pub mod Accepted
 pub mod Bounds
+pub mod Sections
 pub mod ReaderLaws
 pub mod Standing
 pub mod ReaderItems

@@ -3,40 +3,44 @@ use Rattle.pack.specs.Items.{Cursor, Item, Form, fresh}
 use Rattle.std.specs.Prelude.{None, Result, Ok, Err}
 use Rattle.std.specs.Result.{IsErrAnd}
 use Rattle.std.proofs.lemmas.Result.{err_from_is_err_and}
-use Prim.Native.Nat.{ℕ, suc, ◌+◌, ◌≤◌, ◌<◌}
+use Prim.Native.Nat.{ℕ, suc, ◌+◌, ◌<◌}
 use native.Mathlib.Omega.{arith}
 use native.Mathlib.Numerals.{add-one}
 use mathlib.Core.Path.{◌≡◌, refl, ap, ◌∙◌, sym}
 use mathlib.Core.List.{List, [], ◌∷◌, ◌++◌}
 use borrow.Author.Tests.{eq-eqb, eqb-false}
-use lib.ListN.{length, set}
-use lib.Seq.{sets}
 use Rattle.pack.specs.Records.{read_type, read_entry}
 use Rattle.pack.specs.Format.{types, type_offsets, entries, entry_offsets, lookup_next, lookup_records, lookups, lookup_offsets}
 use Rattle.pack.specs.Format.{field_next, fields}
 use Rattle.pack.specs.Format.{field_offsets, pgn_next, pgn_records, pgns, pgn_offsets}
 use Rattle.pack.specs.Reads.{told, Reads}
-use Rattle.pack.specs.Placing.{Room, Stored, Placing}
+use Rattle.pack.specs.Placing.{Put, Placing}
 use Rattle.pack.specs.declared.kinds.LookupKind.{LookupKind}
+use Rattle.pack.specs.declared.load.Offsets.{Offsets}
 use Rattle.pack.specs.declared.reader.Reader.{Reader}
 use Rattle.pack.specs.declared.reader.InputRefusal.{InputRefusal}
-use Rattle.pack.proofs.Reading.{Moves, stays, type_reader, entry_reader, lookup_steps, field_steps, pgn_next_reader}
-use Rattle.pack.proofs.ReaderLaws.{told_ok, told_err, cursor_is, Ok-Err, same_Ok}
-use Rattle.pack.proofs.Stores.{stored_none, stored_append, stored_one}
+use Rattle.pack.proofs.Reading.{stays, type_reader, entry_reader, lookup_steps, field_steps, pgn_next_reader}
+use Rattle.pack.proofs.ReaderLaws.{told_ok, told_err, cursor_is}
+use Rattle.pack.proofs.Stores.{put_none, put_append}
 
--- Nothing was refused so far: the reader has come from r to the cursor `end`, and the offsets xs were stored from p on.
-pub record Along (r : Reader) (w : List ℕ) (p : ℕ) (end : Cursor) (xs : List ℕ) (r' : Reader) (w' : List ℕ) (p' : ℕ) : Type 0 where
+-- Nothing was refused so far: the reader has come from r to the cursor `end`, and the offsets xs were put.
+pub record Along (r : Reader) (o : Offsets) (end : Cursor) (xs : List ℕ) (r' : Reader) (o' : Offsets) : Type 0 where
   pub bytes : r'.bytes.now ≡ r.bytes.now
   pub at : fresh r'.at ≡ end
-  pub stored : Stored w p xs w' p'
-  pub room : Room r' p'
+  pub put : Put o xs o'
 
-pub along_none : (r : Reader) (w : List ℕ) (p : ℕ) → Room r p → Along r w p (fresh r.at) [] r w p
-along_none r w p h = record { bytes = refl; at = refl; stored = stored_none w p; room = h }
+pub along_none : (r : Reader) (o : Offsets) → Along r o (fresh r.at) [] r o
+along_none r o = record { bytes = refl; at = refl; put = put_none o }
 
-module _ {r : Reader} {w : List ℕ} {p : ℕ} {end : Cursor} {xs : List ℕ} {d : Reader} {v : List ℕ} {q : ℕ} (a : Along r w p end xs d v q) where
-  here : {B : Type 0} (f : List ℕ → Cursor → B) → f d.bytes.now (fresh d.at) ≡ f r.bytes.now end
+module _ {r : Reader} {o : Offsets} {end : Cursor} {xs : List ℕ} {d : Reader} {v : Offsets} (a : Along r o end xs d v) where
+  pub here : {B : Type 0} (f : List ℕ → Cursor → B) → f d.bytes.now (fresh d.at) ≡ f r.bytes.now end
   here f = ap (λ s. f s (fresh d.at)) a.bytes ∙ ap (f r.bytes.now) a.at
+
+  -- the offset of the next record
+  pub along_put : {u : Offsets} → Put v (d.at ∷ []) u → Along r o end (xs ++ end.at ∷ []) d u
+  along_put b =
+      let z : d.at ≡ end.at = ap (λ (c : Cursor). c.at) a.at in
+      record { bytes = a.bytes; at = a.at; put = rw z at (put_append a.put b) }
 
   module _ {A : Type 0} {form : Form A} {x : A} {e : Reader} (b : Reads d form (Ok x) e) where
     abbrev k : Item A
@@ -48,57 +52,33 @@ module _ {r : Reader} {w : List ℕ} {p : ℕ} {end : Cursor} {xs : List ℕ} {d
     ok : (k.next.refused ≡ 0) × (k.value ≡ x)
     ok = told_ok k x b.answer
 
-    reached : fresh e.at ≡ k.next
-    reached = cursor_is k.next e.at ok.0 (b.at ok.0)
-
     -- what was read there
     pub along_value : x ≡ (form r.bytes.now end).value
     along_value = sym ok.1 ∙ ap (λ (i : Item A). i.value) same
 
-    -- an item without a place
-    pub along_read : ((c : Cursor) → c.at ≤ (form d.bytes.now c).next.at) → Along r w p (form r.bytes.now end).next xs e v q
-    along_read g =
+    -- an item, or a record whose offset is put
+    pub along_read : Along r o (form r.bytes.now end).next xs e v
+    along_read =
         record {
           bytes = b.bytes ∙ a.bytes;
-          at = reached ∙ ap (λ (i : Item A). i.next) same;
-          stored = a.stored;
-          room = record { short = (rw b.bytes a.room.short); few = omega (arith, a.room.few, g (fresh d.at), b.at ok.0) };
-        }
-
-    -- a record without parts
-    pub along_record : Moves (λ c. (form d.bytes.now c).next) → (u : List ℕ) → u ≡ set v q d.at
-        → Along r w p (form r.bytes.now end).next (xs ++ end.at ∷ []) e u (q + 1)
-    along_record m u y =
-        let z : d.at ≡ end.at = ap (λ (c : Cursor). c.at) a.at in
-        record {
-          bytes = b.bytes ∙ a.bytes;
-          at = reached ∙ ap (λ (i : Item A). i.next) same;
-          stored = rw (y, z) (stored_one a.stored end.at);
-          room = record { short = (rw b.bytes a.room.short); few = omega (arith, a.room.few, m (fresh d.at) ok.0, b.at ok.0) };
+          at = cursor_is k.next e.at ok.0 (b.at ok.0) ∙ ap (λ (i : Item A). i.next) same;
+          put = a.put;
         }
 
   -- records placed behind them
-  pub along_then : {A : Type 0} {form : Form A} {behind : A → ℕ} {ys : List ℕ → Cursor → List ℕ} {x : A} {e : Reader} {u : List ℕ}
-      → Placing form behind ys d v q (Ok x) e u
-      → behind (form d.bytes.now (fresh d.at)).value ≡ q + length (ys d.bytes.now (fresh d.at))
-      → Along r w p (form r.bytes.now end).next (xs ++ ys r.bytes.now end) e u (behind x)
-  along_then {A} {form} {behind} {ys} {x} {e} {u} b n =
-      let o = ok b.reads in
-      let f : behind x ≡ q + length (ys d.bytes.now (fresh d.at)) = (rw (← o.1)) ∙ n in
+  pub along_then : {A : Type 0} {form : Form A} {ys : List ℕ → Cursor → List ℕ} {x : A} {e : Reader} {u : Offsets}
+      → Placing form ys d v (Ok x) e u → Along r o (form r.bytes.now end).next (xs ++ ys r.bytes.now end) e u
+  along_then {ys = ys} b =
+      let z = along_read b.reads in
       let y : ys d.bytes.now (fresh d.at) ≡ ys r.bytes.now end = here ys in
-      record {
-        bytes = b.reads.bytes ∙ a.bytes;
-        at = reached b.reads ∙ ap (λ (i : Item A). i.next) (same b.reads);
-        stored = rw (← y) (stored_append a.stored (record { count = f; work = b.work o.0 }));
-        room = record { short = (rw b.reads.bytes a.room.short); few = b.few x refl };
-      }
+      record { bytes = z.bytes; at = z.at; put = rw y at (put_append a.put (b.put (ok b.reads).0)) }
 
   -- where a `?` returns: the records at hand are refused with the item that was
-  pub refused : {A B : Type 0} {g : Form A} {f : InputRefusal} {e : Reader} {form : Form B} {behind : B → ℕ} {ys : List ℕ → Cursor → List ℕ} {u : List ℕ}
+  pub refused : {A B : Type 0} {g : Form A} {f : InputRefusal} {e : Reader} {form : Form B} {ys : List ℕ → Cursor → List ℕ} {u : Offsets}
       → {z : Result B InputRefusal} → Reads d g (Err f) e → IsErrAnd z (λ y. y ≡ f)
       → (((g r.bytes.now end).next.refused ≡ 0 → ⊥) → (form r.bytes.now (fresh r.at)).next ≡ (g r.bytes.now end).next)
-      → Placing form behind ys r w p z e u
-  refused {A} {B} {g} {f} {e} {form} {behind} {ys} {u} {z} b i h =
+      → Placing form ys r o z e u
+  refused {A} {B} {g} {f} {e} {form} {ys} {u} {z} b i h =
       let y = err_from_is_err_and {Q = λ y. y ≡ f} z i in
       let k : g d.bytes.now (fresh d.at) ≡ g r.bytes.now end = here g in
       let o = told_err (g r.bytes.now end) f (b.answer ∙ ap told k) in
@@ -110,41 +90,34 @@ module _ {r : Reader} {w : List ℕ} {p : ℕ} {end : Cursor} {xs : List ℕ} {d
           answer = y.1 ∙ (rw (s, o.0, y.2, o.1));
           at = λ m. absurd (n (rw (← s) m));
         };
-        few = λ x m. absurd (Ok-Err x y.0 (sym m ∙ y.1));
-        work = λ m. absurd (n (rw (← s) m));
+        put = λ m. absurd (n (rw (← s) m));
       }
 
   -- the last of the records at hand, however that went
-  pub placed_last : {A : Type 0} {form g : Form A} {behind : A → ℕ} {ys zs : List ℕ → Cursor → List ℕ} {z : Result A InputRefusal} {e : Reader} {u : List ℕ}
-      → Placing g behind ys d v q z e u → g r.bytes.now end ≡ form r.bytes.now (fresh r.at)
-      → xs ++ ys r.bytes.now end ≡ zs r.bytes.now (fresh r.at) → Placing form behind zs r w p z e u
-  placed_last {A} {form} {g} {behind} {ys} {zs} {z} {e} {u} b h i =
+  pub placed_last : {A : Type 0} {form g : Form A} {ys zs : List ℕ → Cursor → List ℕ} {z : Result A InputRefusal} {e : Reader} {u : Offsets}
+      → Placing g ys d v z e u → g r.bytes.now end ≡ form r.bytes.now (fresh r.at)
+      → xs ++ ys r.bytes.now end ≡ zs r.bytes.now (fresh r.at) → Placing form zs r o z e u
+  placed_last {A} {form} {g} {ys} {zs} {z} {e} {u} b h i =
       let k : g d.bytes.now (fresh d.at) ≡ form r.bytes.now (fresh r.at) = here g ∙ h in
-      let stored : (form r.bytes.now (fresh r.at)).next.refused ≡ 0 → u ≡ sets v q (ys r.bytes.now end) = λ m. b.work (rw k m) ∙ (rw (here ys)) in
+      let y : ys d.bytes.now (fresh d.at) ≡ ys r.bytes.now end = here ys in
       record {
         reads = record {
           bytes = b.reads.bytes ∙ a.bytes;
           answer = b.reads.answer ∙ ap told k;
           at = rw k at b.reads.at;
         };
-        few = b.few;
-        work =
-            λ m.
-            (let one : Stored v q (ys r.bytes.now end) u (q + length (ys r.bytes.now end)) = record { count = refl; work = stored m } in
-            let y : Stored w p (xs ++ ys r.bytes.now end) u (q + length (ys r.bytes.now end)) = stored_append a.stored one in
-            y.work ∙ (rw i));
+        put = λ m. rw (y, i) at (put_append a.put (b.put (rw k m)));
       }
 
 -- the records at hand are placed
-pub placed : {A : Type 0} (form : Form A) (behind : A → ℕ) (ys : List ℕ → Cursor → List ℕ) {r : Reader} {w : List ℕ} {p : ℕ} {d : Reader} {v : List ℕ} {x : A}
-    → Along r w p (form r.bytes.now (fresh r.at)).next (ys r.bytes.now (fresh r.at)) d v (behind x) → x ≡ (form r.bytes.now (fresh r.at)).value
-    → Placing form behind ys r w p (Ok x) d v
-placed {A} form behind ys {r} {w} {p} {d} {v} {x} a y =
+pub placed : {A : Type 0} (form : Form A) (ys : List ℕ → Cursor → List ℕ) {r : Reader} {o : Offsets} {d : Reader} {v : Offsets} {x : A}
+    → Along r o (form r.bytes.now (fresh r.at)).next (ys r.bytes.now (fresh r.at)) d v → x ≡ (form r.bytes.now (fresh r.at)).value
+    → Placing form ys r o (Ok x) d v
+placed {A} form ys {r} {o} {d} {v} {x} a y =
     let z : (form r.bytes.now (fresh r.at)).next.refused ≡ 0 = sym (ap (λ (c : Cursor). c.refused) a.at) in
     record {
       reads = record { bytes = a.bytes; answer = (rw (eq-eqb _ _ z, y)); at = λ _. ap (λ (c : Cursor). c.at) a.at };
-      few = λ t m. rw (same_Ok _ _ m) at a.room.few;
-      work = λ _. a.stored.work;
+      put = λ _. a.put;
     }
 
 -- ---- a turn of each loop, and where one that is refused stays

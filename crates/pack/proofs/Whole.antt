@@ -1,27 +1,15 @@
 -- The sections of a pack put together: what one walk over it reaches, counts and stores, and where one that is refused leaves the whole.
-use Rattle.pack.specs.Items.{Cursor, Form}
-use Rattle.std.specs.Prelude.{Result, Ok, Err, ◌==◌}
-use Rattle.std.specs.Result.{IsErrAnd}
-use Prim.Native.Nat.{ℕ, zero, suc, ◌+◌, ◌-◌, ◌≤◌, ◌<◌}
+use Rattle.pack.specs.Items.{Cursor}
+use Prim.Native.Nat.{ℕ, zero, suc, ◌+◌, ◌-◌, ◌≤◌}
 use native.Mathlib.Omega.{arith}
 use native.Mathlib.Decide.{ℕ_discrete}
-use mathlib.Core.Path.{◌≡◌, refl, ap, ◌∙◌, sym}
-use mathlib.Core.List.{List, []}
-use lib.ListN.{length}
+use mathlib.Core.Path.{◌≡◌, ◌∙◌}
+use mathlib.Core.List.{List}
 use borrow.Author.Tests.{ne_eqb}
 use Rattle.pack.specs.Items.{fresh, read_number, read_version, finish}
-use Rattle.pack.specs.Notation.{◌<ᵇ◌}
-use Rattle.pack.specs.Format.{types, type_offsets, lookups, lookup_offsets, pgns, type_list, lookup_list, tree_start, tree_list, type_part, before}
-use Rattle.pack.specs.Format.{offsets, pack_end}
-use Rattle.pack.specs.Load.{load_index}
-use Rattle.pack.specs.Reads.{Reads, Ends}
-use Rattle.pack.specs.Placing.{Places, PlacesTree, PlacesAll}
-use Rattle.pack.specs.declared.load.Section.{Section}
-use Rattle.pack.specs.declared.load.Index.{Index}
-use Rattle.pack.specs.declared.reader.InputRefusal.{InputRefusal}
-use Rattle.pack.specs.declared.reader.Reader as declared
-use Rattle.pack.proofs.Reading.{Reader, if_all, followed, number_reader, version_reader, types_reader, lookups_reader, pgns_reader}
-use Rattle.pack.proofs.Places.{Along, along_none, along_value, along_read, along_then, refused, placed}
+use Rattle.pack.specs.Format.{types, pgns, type_list, lookup_list, tree_start}
+use Rattle.pack.specs.Format.{pack_end}
+use Rattle.pack.proofs.Reading.{Reader, followed, number_reader, types_reader, lookups_reader, pgns_reader}
 
 -- the end is refused where what stands before it is
 pub finish_back : (s : List ℕ) (c : Cursor) → (finish s c).refused ≡ 0 → c.refused ≡ 0
@@ -66,86 +54,3 @@ module _ (s : List ℕ) where
   pub version_ends : Ending (read_version s (fresh 0)).next
   unfolding type_list
   version_ends = ends_before type_list_ends ((number_reader s).sticky (read_version s (fresh 0)).next)
-
--- ---- the walk
-
--- the end of the pack, as an item
-abbrev pub end_form : Form (Unit {0})
-end_form s c = record { value = tt; next = finish s c }
-
-finish_at : (s : List ℕ) (c : Cursor) → (finish s c).at ≡ c.at
-unfolding finish
-finish_at s c =
-    let P : Cursor → Type 0 = λ d. d.at ≡ c.at in
-    if_all P (c.refused == 0) _ _ (λ _. if_all P (c.at <ᵇ length s) _ _ (λ _. refl) (λ _. refl)) (λ _. refl)
-
-pub ends : {d : declared.Reader} {z : Result (Unit {0}) InputRefusal} → Ends d z → Reads d end_form z d
-ends {d} {z} a = record { bytes = refl; answer = a.answer; at = λ _. sym (finish_at d.bytes.now (fresh d.at)) }
-
--- the whole, as a form
-abbrev all_form : Form Index
-all_form s c = record { value = load_index s; next = pack_end s }
-
--- nothing refused up to there, in a pack of n field types
-pub record Upto (r : declared.Reader) (w : List ℕ) (n : ℕ) (end : Cursor) (xs : List ℕ) (d : declared.Reader) (v : List ℕ) (p : ℕ) : Type 0 where
-  pub types : n ≡ (type_list r.bytes.now).value
-  pub along : Along r w 0 end xs d v p
-
-module _ {r : declared.Reader} {w : List ℕ} where
-  -- where a `?` returns
-  pub walk_refused : {end : Cursor} {xs : List ℕ} {d : declared.Reader} {v : List ℕ} {q : ℕ} {A : Type 0} {g : Form A} {f : InputRefusal} {e : declared.Reader}
-      {u : List ℕ} {z : Result Index InputRefusal}
-      → Along r w 0 end xs d v q → Reads d g (Err f) e → IsErrAnd z (λ y. y ≡ f) → Ending r.bytes.now (g r.bytes.now end).next
-      → PlacesAll r.bytes.now w z u
-  walk_refused {u = u} a b i h =
-      let p = refused a {form = all_form} {behind = λ (x : Index). x.records} {ys = λ s c. offsets s} {u = u} b i h in
-      record { answer = p.reads.answer; work = p.work }
-
-  pub begun : {d : declared.Reader} {v : ℕ} → r.at ≡ 0 → length r.bytes.now < 4294967296 → Reads r read_version (Ok v) d
-      → Along r w 0 (read_version r.bytes.now (fresh 0)).next [] d w 0
-  begun {d} {v} z h b =
-      let a = along_none r w 0 (record { short = h; few = omega arith }) in
-      let b = along_read a b (version_reader r.bytes.now).grows in
-      record { bytes = b.bytes; at = b.at ∙ ap (λ k. (read_version r.bytes.now (fresh k)).next) z; stored = b.stored; room = b.room }
-
-  module _ {n : ℕ} {d e : declared.Reader} where
-    pub upto_types : Along r w 0 (read_version r.bytes.now (fresh 0)).next [] d w 0 → Reads d read_number (Ok n) e
-        → Upto r w n (type_list r.bytes.now).next [] e w 0
-    unfolding type_list
-    upto_types a b = record { types = along_value a b; along = along_read a b (number_reader d.bytes.now).grows }
-
-    module _ {v u : List ℕ} {p q : ℕ} where
-      pub upto_lookups : Upto r w n (type_list r.bytes.now).next [] d v p → Places (λ s c. types s c n) (λ s c. type_offsets s c n) d v p (Ok q) e u
-          → Upto r w n (types r.bytes.now (type_list r.bytes.now).next (type_list r.bytes.now).value) (type_part r.bytes.now) e u q
-      upto_lookups a b = record { types = a.types; along = rw a.types at (along_then a.along b refl) }
-
-      pub upto_tree : (t : ℕ) → Upto r w n (tree_start r.bytes.now t) (before r.bytes.now t) d v p → {x : Section} → PlacesTree n d v p (Ok (x, q)) e u
-          → Upto r w n (tree_start r.bytes.now (suc t)) (before r.bytes.now (suc t)) e u q
-          × (x ≡ record { count = (tree_list r.bytes.now t).value; place = length (before r.bytes.now t) })
-      unfolding tree_start tree_list before
-      upto_tree t a {x} b =
-          let y = along_value a.along b.reads in
-          let l : p ≡ length (before r.bytes.now t) = omega (arith, a.along.stored.count) in
-          (record { types = a.types; along = rw a.types at (along_then a.along b refl) }, ap (λ (k : Section × ℕ). k.0) y ∙ (rw l))
-
-    pub upto_number : {v : List ℕ} {p m : ℕ}
-        → Upto r w n (types r.bytes.now (type_list r.bytes.now).next (type_list r.bytes.now).value) (type_part r.bytes.now) d v p
-        → Reads d read_number (Ok m) e
-        → Upto r w n (lookup_list r.bytes.now).next (type_part r.bytes.now) e v p × (m ≡ (lookup_list r.bytes.now).value)
-    unfolding lookup_list
-    upto_number a b = (record { types = a.types; along = along_read a.along b (number_reader d.bytes.now).grows }, along_value a.along b)
-
-    pub upto_trees : {v u : List ℕ} {p q m : ℕ} → Upto r w n (lookup_list r.bytes.now).next (type_part r.bytes.now) d v p → m ≡ (lookup_list r.bytes.now).value
-        → Places (λ s c. (lookups s c m).next) (λ s c. lookup_offsets s c m) d v p (Ok q) e u
-        → Upto r w n (tree_start r.bytes.now 0) (before r.bytes.now 0) e u q
-    unfolding tree_start before
-    upto_trees a k b = record { types = a.types; along = rw k at (along_then a.along b refl) }
-
-  pub walked : {n : ℕ} {d : declared.Reader} {v : List ℕ} {i : Index} → Upto r w n (tree_start r.bytes.now 3) (before r.bytes.now 3) d v i.records
-      → {x : Unit {0}} → Ends d (Ok x)
-      → i ≡ load_index r.bytes.now → PlacesAll r.bytes.now w (Ok i) v
-  unfolding pack_end offsets
-  walked {n} {d} {v} {i} a b e =
-      let g : (c : Cursor) → c.at ≤ (finish d.bytes.now c).at = λ c. omega (arith, finish_at d.bytes.now c) in
-      let p = placed all_form (λ (x : Index). x.records) (λ s c. offsets s) (along_read a.along (ends b) g) e in
-      record { answer = p.reads.answer; work = p.work }

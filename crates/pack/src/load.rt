@@ -1,10 +1,10 @@
 // `load`: every input refusal, then the offset of each record into the work buffer. One walk over the pack serves both: it judges, counts
 // and places the offsets in a list on the stack, from which they are copied.
-ghost use Rattle.std.specs.Prelude.{◌≡◌, ◌≤◌, ◌<◌, length, set};
+ghost use Rattle.std.specs.Prelude.{◌≡◌, ◌≤◌, [], ◌∷◌, length};
 ghost use Rattle.pack.specs.Format.{types, type_offsets, entries, entry_offsets, lookups, lookup_offsets, fields, field_offsets};
 ghost use Rattle.pack.specs.Format.{pgn_next, pgn_records, pgns, pgn_offsets};
 ghost use Rattle.pack.specs.Load.{refusal_number, refusal_detail, most_bytes, Loads};
-ghost use Rattle.pack.specs.Placing.{Room, Places, PlacesLookup, PlacesTree, PlacesAll};
+ghost use Rattle.pack.specs.Placing.{Put, Places, PlacesLookup, PlacesTree, PlacesAll};
 ghost use Rattle.pack.specs.declared.load.Refusal.TheVariants.{Input};
 
 use crate::kinds::LookupKind;
@@ -90,157 +90,147 @@ impl From<InputRefusal> for Refusal {
     }
 }
 
-// The offset of a record at its work position, where the buffer has that.
-fn put(work: &mut [u32], p: usize, at: usize)
-    requires { at < 4294967296 }
-    ensures { work.new ≡ set work.old p at }
-{
-    if p < work.len() {
-        work[p] = at as u32;
+// The offsets of the records placed so far: as many as the buffer has room for, and how many there are.
+#[derive(Drop)]
+pub(crate) struct Offsets<'a> {
+    pub(crate) work: &'a mut [u32],
+    pub(crate) count: usize,
+}
+
+impl<'a> Offsets<'a> {
+    #[tactic(auto, unfolding(crate::specs::Placing::put_one))]
+    fn put(&mut self, at: usize)
+        ensures { Put self.old (at ∷ []) self.new }
+    {
+        if self.count < self.work.len() {
+            self.work[self.count] = (at % 4_294_967_296) as u32;
+        }
+        self.count = self.count.saturating_add(1);
     }
 }
 
-// Each of these places the offsets of the records that it reads from p on, and answers the work position behind them.
-fn place_types(r: &mut Reader, work: &mut [u32], n: u32, p: usize) -> Result<usize, InputRefusal>
-    requires { Room r.old p }
-    ensures { Places (λ s c. types s c n) (λ s c. type_offsets s c n) r.old work.old p result r.new work.new }
+// Each of these places the offsets of the records that it reads.
+fn place_types(r: &mut Reader, offsets: &mut Offsets, n: u32) -> Result<(), InputRefusal>
+    ensures { Places (λ s c. types s c n) (λ s c. type_offsets s c n) r.old offsets.old result r.new offsets.new }
 {
-    let mut p = p;
     for _i in 0..n {
-        put(work, p, r.at);
+        offsets.put(r.at);
         r.field_type()?;
-        p += 1;
     }
-    Ok(p)
+    Ok(())
 }
 
 fn place_entries(
     r: &mut Reader,
-    work: &mut [u32],
+    offsets: &mut Offsets,
     kind: LookupKind,
     n: u32,
-    p: usize,
-) -> Result<usize, InputRefusal>
-    requires { Room r.old p }
-    ensures { Places (λ s c. entries kind s c n) (λ s c. entry_offsets kind s c n) r.old work.old p result r.new work.new }
+) -> Result<(), InputRefusal>
+    ensures { Places (λ s c. entries kind s c n) (λ s c. entry_offsets kind s c n) r.old offsets.old result r.new offsets.new }
 {
-    let mut p = p;
     for _i in 0..n {
-        put(work, p, r.at);
+        offsets.put(r.at);
         r.entry(kind)?;
-        p += 1;
     }
-    Ok(p)
+    Ok(())
 }
 
 // A lookup whose name is above the one before it, and its entries; and its name.
 fn place_lookup(
     r: &mut Reader,
-    work: &mut [u32],
+    offsets: &mut Offsets,
     before: Option<Text>,
-    p: usize,
-) -> Result<(usize, Text), InputRefusal>
-    requires { Room r.old p }
-    ensures { PlacesLookup before r.old work.old p result r.new work.new }
+) -> Result<Text, InputRefusal>
+    ensures { PlacesLookup before r.old offsets.old result r.new offsets.new }
 {
-    put(work, p, r.at);
+    offsets.put(r.at);
     let lookup = r.lookup(before)?;
-    let behind = place_entries(r, work, lookup.kind, lookup.entries, p + 1)?;
-    Ok((behind, lookup.name))
+    place_entries(r, offsets, lookup.kind, lookup.entries)?;
+    Ok(lookup.name)
 }
 
-fn place_lookups(r: &mut Reader, work: &mut [u32], n: u32, p: usize) -> Result<usize, InputRefusal>
-    requires { Room r.old p }
-    ensures { Places (λ s c. (lookups s c n).next) (λ s c. lookup_offsets s c n) r.old work.old p result r.new work.new }
+fn place_lookups(r: &mut Reader, offsets: &mut Offsets, n: u32) -> Result<(), InputRefusal>
+    ensures { Places (λ s c. (lookups s c n).next) (λ s c. lookup_offsets s c n) r.old offsets.old result r.new offsets.new }
 {
     let mut before = None;
-    let mut p = p;
     for _i in 0..n {
-        let (behind, name) = place_lookup(r, work, before, p)?;
+        let name = place_lookup(r, offsets, before)?;
         before = Some(name);
-        p = behind;
     }
-    Ok(p)
+    Ok(())
 }
 
 // The fields of a PGN, in a pack of `types` field types.
 fn place_fields(
     r: &mut Reader,
-    work: &mut [u32],
+    offsets: &mut Offsets,
     types: u32,
     n: u32,
-    p: usize,
-) -> Result<usize, InputRefusal>
-    requires { Room r.old p }
-    ensures { Places (λ s c. (fields types s c n).next) (λ s c. field_offsets types s c n) r.old work.old p result r.new work.new }
+) -> Result<(), InputRefusal>
+    ensures { Places (λ s c. (fields types s c n).next) (λ s c. field_offsets types s c n) r.old offsets.old result r.new offsets.new }
 {
     let mut total: u32 = 0;
-    let mut p = p;
     for _i in 0..n {
-        put(work, p, r.at);
+        offsets.put(r.at);
         let field = r.field(types as u64, total)?;
         total += field.scaling.bits;
-        p += 1;
     }
-    Ok(p)
+    Ok(())
 }
 
 // A PGN and its fields.
-fn place_pgn(r: &mut Reader, work: &mut [u32], types: u32, p: usize) -> Result<usize, InputRefusal>
-    requires { Room r.old p }
-    ensures { Places (pgn_next types) (pgn_records types) r.old work.old p result r.new work.new }
+fn place_pgn(r: &mut Reader, offsets: &mut Offsets, types: u32) -> Result<(), InputRefusal>
+    ensures { Places (pgn_next types) (pgn_records types) r.old offsets.old result r.new offsets.new }
 {
-    put(work, p, r.at);
+    offsets.put(r.at);
     let pgn = r.pgn()?;
-    place_fields(r, work, types, pgn.fields, p + 1)
+    place_fields(r, offsets, types, pgn.fields)
 }
 
 fn place_pgns(
     r: &mut Reader,
-    work: &mut [u32],
+    offsets: &mut Offsets,
     types: u32,
     n: u32,
-    p: usize,
-) -> Result<usize, InputRefusal>
-    requires { Room r.old p }
-    ensures { Places (λ s c. pgns types s c n) (λ s c. pgn_offsets types s c n) r.old work.old p result r.new work.new }
+) -> Result<(), InputRefusal>
+    ensures { Places (λ s c. pgns types s c n) (λ s c. pgn_offsets types s c n) r.old offsets.old result r.new offsets.new }
 {
-    let mut p = p;
     for _i in 0..n {
-        p = place_pgn(r, work, types, p)?;
+        place_pgn(r, offsets, types)?;
     }
-    Ok(p)
+    Ok(())
 }
 
 // A tree: the count of its PGNs, and them.
 fn place_tree(
     r: &mut Reader,
-    work: &mut [u32],
+    offsets: &mut Offsets,
     types: u32,
-    p: usize,
-) -> Result<(Section, usize), InputRefusal>
-    requires { Room r.old p }
-    ensures { PlacesTree types r.old work.old p result r.new work.new }
+) -> Result<Section, InputRefusal>
+    ensures { PlacesTree types r.old offsets.old result r.new offsets.new }
 {
+    let place = offsets.count;
     let count = r.number()?;
-    let behind = place_pgns(r, work, types, count, p)?;
-    Ok((Section { count, place: p }, behind))
+    place_pgns(r, offsets, types, count)?;
+    Ok(Section { count, place })
 }
 
 // The offsets of all records, from the beginning of a buffer on, as far as it has room; and the index.
 fn place_all(pack: &[u8], work: &mut [u32]) -> Result<Index, InputRefusal>
-    requires { length pack.now < 4294967296 }
+    requires { length pack.now ≤ most_bytes }
     ensures { PlacesAll pack.now work.old result work.new }
 {
     let mut r = Reader { bytes: pack, at: 0 };
+    let mut offsets = Offsets { work, count: 0 };
     r.version()?;
     let types = r.number()?;
-    let lookups_at = place_types(&mut r, work, types, 0)?;
+    place_types(&mut r, &mut offsets, types)?;
     let lookups = r.number()?;
-    let trees_at = place_lookups(&mut r, work, lookups, lookups_at)?;
-    let (nmea2000, j1939_at) = place_tree(&mut r, work, types, trees_at)?;
-    let (j1939, quick_at) = place_tree(&mut r, work, types, j1939_at)?;
-    let (quick, records) = place_tree(&mut r, work, types, quick_at)?;
+    let lookups_at = offsets.count;
+    place_lookups(&mut r, &mut offsets, lookups)?;
+    let nmea2000 = place_tree(&mut r, &mut offsets, types)?;
+    let j1939 = place_tree(&mut r, &mut offsets, types)?;
+    let quick = place_tree(&mut r, &mut offsets, types)?;
     r.finish()?;
     Ok(Index {
         types: Section {
@@ -254,7 +244,7 @@ fn place_all(pack: &[u8], work: &mut [u32]) -> Result<Index, InputRefusal>
         nmea2000,
         j1939,
         quick,
-        records,
+        records: offsets.count,
     })
 }
 

@@ -1,84 +1,77 @@
+use Rattle.pack.proofs.Sections.{begun, upto_types, upto_lookups, upto_number, upto_trees, upto_tree, ends, ended, walk_refused, walked}
+use Rattle.pack.proofs.Sections.{counted_before, types_counted}
 use Rattle.pack.proofs.Places.{along_none}
-use Rattle.pack.proofs.Whole.{version_ends, type_list_ends, types_ends, lookup_list_ends, tree_ends, ends, walk_refused, walked}
-use Rattle.pack.proofs.Whole.{begun, upto_types, upto_lookups, upto_number, upto_trees, upto_tree}
-use Rattle.pack.specs.Format.{type_list, lookup_list, tree_start, type_part, before, offsets, pack_end}
+use Rattle.pack.proofs.Whole.{version_ends, type_list_ends, types_ends, lookup_list_ends, tree_ends}
+use Rattle.pack.specs.Format.{type_list, lookup_list, tree_start, offsets, pack_end}
 use Rattle.pack.specs.Load.{load_index}
+use Rattle.std.proofs.Common.{rules}
 use native.Mathlib.Omega.{arith}
-use mathlib.Core.Path.{◌≡◌, refl}
-use lib.ListN.{length}
+use mathlib.Core.Path.{refl}
 use Rattle.pack.proofs.load.place_all.Goals as goal
 
 pub returns-in_err-version : goal.returns-in_err-version
 returns-in_err-version c =
-    walk_refused (along_none _ c.args.work.now 0 (record { short = c.requires; few = omega arith })) c.in_err-version.ensures c.from_residual.ensures.1
-    (version_ends c.args.pack.now)
+    walk_refused (along_none _ (record { work = c.args.work; count = 0 })) c.in_err-version.ensures c.from_residual.ensures.1 (version_ends c.args.pack.now)
 
 pub returns-in_err-types : goal.returns-in_err-types
 unfolding type_list
 returns-in_err-types c =
-    let a = begun {w = c.args.work.now} refl c.requires c.in_ok-version.ensures in
+    let a = begun {o = record { work = c.args.work; count = 0 }} refl c.in_ok-version.ensures in
     walk_refused a c.in_err-types.ensures c.from_residual-in_err-types.ensures.1 (type_list_ends c.args.pack.now)
 
-pub returns-in_err-lookups_at : goal.returns-in_err-lookups_at
-returns-in_err-lookups_at c =
-    let a = begun {w = c.args.work.now} refl c.requires c.in_ok-version.ensures in
+pub returns-in_err-place_types : goal.returns-in_err-place_types
+returns-in_err-place_types c =
+    let a = begun {o = record { work = c.args.work; count = 0 }} refl c.in_ok-version.ensures in
     let b = upto_types a c.in_ok-types.ensures in
-    walk_refused b.along c.in_err-lookups_at.ensures.reads c.from_residual-in_err-lookups_at.ensures.1 (rw b.types (types_ends c.args.pack.now))
+    walk_refused b.along c.in_err-place_types.ensures.reads c.from_residual-in_err-place_types.ensures.1 (rw b.types (types_ends c.args.pack.now))
 
 pub returns-in_err-lookups : goal.returns-in_err-lookups
 unfolding lookup_list
 returns-in_err-lookups c =
-    let a = begun {w = c.args.work.now} refl c.requires c.in_ok-version.ensures in
+    let a = begun refl c.in_ok-version.ensures in
     let b = upto_types a c.in_ok-types.ensures in
-    let d = upto_lookups b c.in_ok-lookups_at.ensures in
+    let d = upto_lookups b c.in_ok-place_types.ensures in
     walk_refused d.along c.in_err-lookups.ensures c.from_residual-in_err-lookups.ensures.1 (lookup_list_ends c.args.pack.now)
 
-pub place_lookups-requires : goal.place_lookups-requires
-place_lookups-requires c =
-    let a = begun {w = c.args.work.now} refl c.requires c.in_ok-version.ensures in
-    let b = upto_types a c.in_ok-types.ensures in
-    let d = upto_lookups b c.in_ok-lookups_at.ensures in
-    let e = upto_number d c.in_ok-lookups.ensures in
-    e.0.along.room
-
-pub returns-in_err-trees_at : goal.returns-in_err-trees_at
+pub returns-in_err-place_lookups : goal.returns-in_err-place_lookups
 unfolding tree_start
-returns-in_err-trees_at c =
-    let a = begun {w = c.args.work.now} refl c.requires c.in_ok-version.ensures in
+returns-in_err-place_lookups c =
+    let a = begun refl c.in_ok-version.ensures in
     let b = upto_types a c.in_ok-types.ensures in
-    let d = upto_lookups b c.in_ok-lookups_at.ensures in
+    let d = upto_lookups b c.in_ok-place_types.ensures in
     let e = upto_number d c.in_ok-lookups.ensures in
-    walk_refused e.0.along c.in_err-trees_at.ensures.reads c.from_residual-in_err-trees_at.ensures.1 (rw e.1 (tree_ends c.args.pack.now 0 (omega arith)))
+    walk_refused e.0.along c.in_err-place_lookups.ensures.reads c.from_residual-in_err-place_lookups.ensures.1
+    (rw e.1 (tree_ends c.args.pack.now 0 (omega arith)))
 
 pub returns-in_err-nmea2000 : goal.returns-in_err-nmea2000
 unfolding tree_start
 returns-in_err-nmea2000 c =
-    let a = begun {w = c.args.work.now} refl c.requires c.in_ok-version.ensures in
+    let a = begun refl c.in_ok-version.ensures in
     let b = upto_types a c.in_ok-types.ensures in
-    let d = upto_lookups b c.in_ok-lookups_at.ensures in
+    let d = upto_lookups b c.in_ok-place_types.ensures in
     let e = upto_number d c.in_ok-lookups.ensures in
-    let f = upto_trees e.0 e.1 c.in_ok-trees_at.ensures in
+    let f = upto_trees e.0 e.1 c.in_ok-place_lookups.ensures in
     walk_refused f.along c.in_err-nmea2000.ensures.reads c.from_residual-in_err-nmea2000.ensures.1 (rw f.types (tree_ends c.args.pack.now 1 (omega arith)))
 
 pub returns-in_err-j1939 : goal.returns-in_err-j1939
 unfolding tree_start
 returns-in_err-j1939 c =
-    let a = begun {w = c.args.work.now} refl c.requires c.in_ok-version.ensures in
+    let a = begun refl c.in_ok-version.ensures in
     let b = upto_types a c.in_ok-types.ensures in
-    let d = upto_lookups b c.in_ok-lookups_at.ensures in
+    let d = upto_lookups b c.in_ok-place_types.ensures in
     let e = upto_number d c.in_ok-lookups.ensures in
-    let f = upto_trees e.0 e.1 c.in_ok-trees_at.ensures in
+    let f = upto_trees e.0 e.1 c.in_ok-place_lookups.ensures in
     let g = upto_tree 0 f c.in_ok-nmea2000.ensures in
     walk_refused g.0.along c.in_err-j1939.ensures.reads c.from_residual-in_err-j1939.ensures.1 (rw g.0.types (tree_ends c.args.pack.now 2 (omega arith)))
 
 pub returns-in_err-quick : goal.returns-in_err-quick
 unfolding tree_start
 returns-in_err-quick c =
-    let a = begun {w = c.args.work.now} refl c.requires c.in_ok-version.ensures in
+    let a = begun refl c.in_ok-version.ensures in
     let b = upto_types a c.in_ok-types.ensures in
-    let d = upto_lookups b c.in_ok-lookups_at.ensures in
+    let d = upto_lookups b c.in_ok-place_types.ensures in
     let e = upto_number d c.in_ok-lookups.ensures in
-    let f = upto_trees e.0 e.1 c.in_ok-trees_at.ensures in
+    let f = upto_trees e.0 e.1 c.in_ok-place_lookups.ensures in
     let g = upto_tree 0 f c.in_ok-nmea2000.ensures in
     let h = upto_tree 1 g.0 c.in_ok-j1939.ensures in
     walk_refused h.0.along c.in_err-quick.ensures.reads c.from_residual-in_err-quick.ensures.1 (rw h.0.types (tree_ends c.args.pack.now 3 (omega arith)))
@@ -86,11 +79,11 @@ returns-in_err-quick c =
 pub returns-in_err-finish : goal.returns-in_err-finish
 unfolding pack_end
 returns-in_err-finish c =
-    let a = begun {w = c.args.work.now} refl c.requires c.in_ok-version.ensures in
+    let a = begun refl c.in_ok-version.ensures in
     let b = upto_types a c.in_ok-types.ensures in
-    let d = upto_lookups b c.in_ok-lookups_at.ensures in
+    let d = upto_lookups b c.in_ok-place_types.ensures in
     let e = upto_number d c.in_ok-lookups.ensures in
-    let f = upto_trees e.0 e.1 c.in_ok-trees_at.ensures in
+    let f = upto_trees e.0 e.1 c.in_ok-place_lookups.ensures in
     let g = upto_tree 0 f c.in_ok-nmea2000.ensures in
     let h = upto_tree 1 g.0 c.in_ok-j1939.ensures in
     let i = upto_tree 2 h.0 c.in_ok-quick.ensures in
@@ -99,14 +92,20 @@ returns-in_err-finish c =
 pub returns : goal.returns
 unfolding load_index offsets
 returns c =
-    let a = begun {w = c.args.work.now} refl c.requires c.in_ok-version.ensures in
+    let a = begun refl c.in_ok-version.ensures in
     let b = upto_types a c.in_ok-types.ensures in
-    let d = upto_lookups b c.in_ok-lookups_at.ensures in
+    let d = upto_lookups b c.in_ok-place_types.ensures in
     let e = upto_number d c.in_ok-lookups.ensures in
-    let f = upto_trees e.0 e.1 c.in_ok-trees_at.ensures in
+    let f = upto_trees e.0 e.1 c.in_ok-place_lookups.ensures in
     let g = upto_tree 0 f c.in_ok-nmea2000.ensures in
     let h = upto_tree 1 g.0 c.in_ok-j1939.ensures in
     let i = upto_tree 2 h.0 c.in_ok-quick.ensures in
-    let p : c.in_ok-lookups_at.lookups_at ≡ length (type_part c.args.pack.now) = omega (arith, d.along.stored.count) in
-    let q : c.in_ok-quick.records ≡ length (before c.args.pack.now 3) = omega (arith, i.0.along.stored.count) in
-    walked i.0 c.in_ok-finish.ensures (rw (b.types, e.1, g.1, h.1, i.1, p, q))
+    let z = ended i.0 c.in_ok-finish.ensures in
+    let same = i.0.along.put.same in
+    let s = c.args.pack.now in
+    let l = types_counted s refl c.requires z d.along.put in
+    let m = counted_before s refl c.requires z 0 (omega arith) f.along.put in
+    let n = counted_before s refl c.requires z 1 (omega arith) g.0.along.put in
+    let o = counted_before s refl c.requires z 2 (omega arith) h.0.along.put in
+    let p = counted_before s refl c.requires z 3 (omega arith) i.0.along.put in
+    walked s refl c.requires z i.0.along.put (search rules) (rw (b.types, e.1, g.1, h.1, i.1, l, m, n, o, p))

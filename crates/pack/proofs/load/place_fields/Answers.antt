@@ -1,5 +1,4 @@
-use Rattle.pack.proofs.Places.{along_none, along_record, along_value, placed, refused, fields_turn, field_offsets_turn, fields_stay}
-use Rattle.pack.proofs.Reading.{field_moves}
+use Rattle.pack.proofs.Places.{along_none, along_put, along_read, along_value, placed, refused, fields_turn, field_offsets_turn, fields_stay}
 use Rattle.pack.proofs.ReaderLaws.{told_ok}
 use Rattle.pack.proofs.Free.{field_fits}
 use Rattle.pack.specs.Items.{fresh}
@@ -12,13 +11,7 @@ use Rattle.pack.proofs.load.place_fields.Goals as goal
 
 pub loop-i-init : goal.loop-i-init
 unfolding fields field_offsets
-loop-i-init c = record { along = along_none _ _ _ c.requires; total = refl }
-
-pub put-requires : goal.put-requires
-put-requires c = omega (arith, c.loop-i.invariant.along.room.short, c.loop-i.r.inside)
-
-pub overflow_add-p : goal.overflow_add-p
-overflow_add-p c = omega (arith, c.loop-i.invariant.along.room.short, c.loop-i.invariant.along.room.few, c.loop-i.r.inside)
+loop-i-init c = record { along = along_none _ _; total = refl }
 
 pub overflow_add-total : goal.overflow_add-total
 overflow_add-total c =
@@ -33,11 +26,10 @@ loop-i-preserved c =
     let s = c.args.r.now.bytes.now in
     let k = fresh c.args.r.now.at in
     let i = c.loop-i._i in
-    let a = c.loop-i.invariant.along in
+    let a = along_put c.loop-i.invariant.along c.put.ensures in
     let t = c.loop-i.invariant.total in
     record {
-      along = rw (fields_turn s k types i, field_offsets_turn s k types i, ← t)
-          (along_record a c.in_ok-field.ensures (field_moves c.loop-i.r.bytes.now types c.loop-i.total) _ c.put.ensures);
+      along = rw (fields_turn s k types i, field_offsets_turn s k types i, ← t) (along_read a c.in_ok-field.ensures);
       total = rw (fields_turn s k types i, ← t) (ap (λ r. c.loop-i.total + r.scaling.bits) (along_value a c.in_ok-field.ensures));
     }
 
@@ -50,4 +42,4 @@ returns-in_err-field c =
 pub returns : goal.returns
 returns c =
     let e : c.loop-i._i ≡ c.args.n = omega (arith, c.loop-i.auto._i-end, c.loop-i-test.false) in
-    placed _ _ _ (rw e at c.loop-i.invariant.along) (rw e at c.loop-i.invariant.along.stored.count)
+    placed _ _ (rw e at c.loop-i.invariant.along) refl

@@ -7,7 +7,7 @@ use Rattle.pack.proofs.load.place_fields.Given as goal
 abbrev pub invariant-loop-i : goal.invariant-loop-i
 invariant-loop-i l =
     record {
-      along : Along l.initial.r l.initial.work l.initial.p (fields l.types l.initial.r.bytes.now (fresh l.initial.r.at) l._i).next
-          (field_offsets l.types l.initial.r.bytes.now (fresh l.initial.r.at) l._i) l.r l.work l.p;
+      along : Along l.initial.r l.initial.offsets (fields l.types l.initial.r.bytes.now (fresh l.initial.r.at) l._i).next
+          (field_offsets l.types l.initial.r.bytes.now (fresh l.initial.r.at) l._i) l.r l.offsets;
       total : l.total ≡ (fields l.types l.initial.r.bytes.now (fresh l.initial.r.at) l._i).total;
     }

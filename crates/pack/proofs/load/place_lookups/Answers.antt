@@ -16,10 +16,7 @@ state s c i before e = λ j. record { next = (lookups s c i).next; before = sym 
 
 pub loop-i-init : goal.loop-i-init
 unfolding lookups lookup_offsets
-loop-i-init c = record { along = along_none _ _ _ c.requires; before = refl }
-
-pub place_lookup-requires : goal.place_lookup-requires
-place_lookup-requires c = c.loop-i.invariant.along.room
+loop-i-init c = record { along = along_none _ _; before = refl }
 
 pub loop-i-preserved : goal.loop-i-preserved
 unfolding lookup_next
@@ -30,20 +27,20 @@ loop-i-preserved c =
     let a = c.loop-i.invariant.along in
     let st = state s k i c.loop-i.before c.loop-i.invariant.before in
     record {
-      along = rw (lookups_turn s k i, lookup_offsets_turn s k i, st) (along_then a c.in_ok-behind.ensures refl);
-      before = rw (lookups_turn s k i, st) (ap (λ v. Some v.1) (along_value a c.in_ok-behind.ensures.reads));
+      along = rw (lookups_turn s k i, lookup_offsets_turn s k i, st) (along_then a c.in_ok-name.ensures);
+      before = rw (lookups_turn s k i, st) (ap Some (along_value a c.in_ok-name.ensures.reads));
     }
 
-pub returns-in_err-behind : goal.returns-in_err-behind
-returns-in_err-behind c =
+pub returns-in_err-name : goal.returns-in_err-name
+returns-in_err-name c =
     let s = c.args.r.now.bytes.now in
     let k = fresh c.args.r.now.at in
     let i = c.loop-i._i in
     let st = state s k i c.loop-i.before c.loop-i.invariant.before in
-    refused c.loop-i.invariant.along c.in_err-behind.ensures.reads c.from_residual.ensures.1
+    refused c.loop-i.invariant.along c.in_err-name.ensures.reads c.from_residual.ensures.1
     (rw st at (lookups_stay s k i c.args.n c.loop-i-test.true))
 
 pub returns : goal.returns
 returns c =
     let e : c.loop-i._i ≡ c.args.n = omega (arith, c.loop-i.auto._i-end, c.loop-i-test.false) in
-    placed _ _ _ (rw e at c.loop-i.invariant.along) (rw e at c.loop-i.invariant.along.stored.count)
+    placed _ _ (rw e at c.loop-i.invariant.along) refl

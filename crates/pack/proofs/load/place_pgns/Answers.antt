@@ -7,24 +7,21 @@ use Rattle.pack.proofs.load.place_pgns.Goals as goal
 
 pub loop-i-init : goal.loop-i-init
 unfolding pgns pgn_offsets
-loop-i-init c = along_none _ _ _ c.requires
-
-pub place_pgn-requires : goal.place_pgn-requires
-place_pgn-requires c = c.loop-i.invariant.room
+loop-i-init c = along_none _ _
 
 pub loop-i-preserved : goal.loop-i-preserved
 loop-i-preserved c =
     let s = c.args.r.now.bytes.now in
     let k = fresh c.args.r.now.at in
     let i = c.loop-i._i in
-    rw (pgns_turn s k c.args.types i, pgn_offsets_turn s k c.args.types i) (along_then c.loop-i.invariant c.in_ok-p.ensures refl)
+    rw (pgns_turn s k c.args.types i, pgn_offsets_turn s k c.args.types i) (along_then c.loop-i.invariant c.in_ok-place_pgn.ensures)
 
-pub returns-in_err-p : goal.returns-in_err-p
-returns-in_err-p c =
-    refused c.loop-i.invariant c.in_err-p.ensures.reads c.from_residual.ensures.1
+pub returns-in_err-place_pgn : goal.returns-in_err-place_pgn
+returns-in_err-place_pgn c =
+    refused c.loop-i.invariant c.in_err-place_pgn.ensures.reads c.from_residual.ensures.1
     (pgns_stay c.args.r.now.bytes.now (fresh c.args.r.now.at) c.args.types c.loop-i._i c.args.n c.loop-i-test.true)
 
 pub returns : goal.returns
 returns c =
     let e : c.loop-i._i ≡ c.args.n = omega (arith, c.loop-i.auto._i-end, c.loop-i-test.false) in
-    placed _ _ _ (rw e at c.loop-i.invariant) (rw e at c.loop-i.invariant.stored.count)
+    placed _ _ (rw e at c.loop-i.invariant) refl

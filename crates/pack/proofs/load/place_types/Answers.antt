@@ -1,28 +1,20 @@
-use Rattle.pack.proofs.Places.{along_none, along_record, placed, refused, types_turn, type_offsets_turn, types_stay}
-use Rattle.pack.proofs.Reading.{type_moves}
+use Rattle.pack.proofs.Places.{along_none, along_put, along_read, placed, refused, types_turn, type_offsets_turn, types_stay}
 use Rattle.pack.specs.Items.{fresh}
 use Rattle.pack.specs.Format.{types, type_offsets}
 use native.Mathlib.Omega.{arith}
-use mathlib.Core.Path.{◌≡◌}
+use mathlib.Core.Path.{◌≡◌, refl}
 use Rattle.pack.proofs.load.place_types.Goals as goal
 
 pub loop-i-init : goal.loop-i-init
 unfolding types type_offsets
-loop-i-init c = along_none _ _ _ c.requires
-
-pub put-requires : goal.put-requires
-put-requires c = omega (arith, c.loop-i.invariant.room.short, c.loop-i.r.inside)
-
-pub overflow_add-p : goal.overflow_add-p
-overflow_add-p c = omega (arith, c.loop-i.invariant.room.short, c.loop-i.invariant.room.few, c.loop-i.r.inside)
+loop-i-init c = along_none _ _
 
 pub loop-i-preserved : goal.loop-i-preserved
 loop-i-preserved c =
     let s = c.args.r.now.bytes.now in
     let k = fresh c.args.r.now.at in
     let i = c.loop-i._i in
-    let one = along_record c.loop-i.invariant c.in_ok-field_type.ensures (type_moves c.loop-i.r.bytes.now) _ c.put.ensures in
-    rw (types_turn s k i, type_offsets_turn s k i) one
+    rw (types_turn s k i, type_offsets_turn s k i) (along_read (along_put c.loop-i.invariant c.put.ensures) c.in_ok-field_type.ensures)
 
 pub returns-in_err-field_type : goal.returns-in_err-field_type
 returns-in_err-field_type c =
@@ -32,4 +24,4 @@ returns-in_err-field_type c =
 pub returns : goal.returns
 returns c =
     let e : c.loop-i._i ≡ c.args.n = omega (arith, c.loop-i.auto._i-end, c.loop-i-test.false) in
-    placed _ _ _ (rw e at c.loop-i.invariant) (rw e at c.loop-i.invariant.stored.count)
+    placed _ _ (rw e at c.loop-i.invariant) refl
