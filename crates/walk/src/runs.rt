@@ -7,7 +7,7 @@ ghost use Rattle.pack.specs.declared.protocol.FieldOrder.{FieldOrder};
 
 use crate::known::lets_pass;
 use crate::orders::{index_of, later_order};
-use crate::passes::{Further, left_at};
+use crate::passes::Passes;
 use crate::sets::Sets;
 use crate::stretches::{Stretch, ahead, is_in, stretch_at};
 use pack::protocol::{FieldIndex, FieldOrder, same_order};
@@ -110,33 +110,12 @@ fn leap(
     write_passing(marks, bad, readings, visits, m, k, n)
 }
 
-// Where a pass of set k ends: whether another begins, which is counted then. One number is written, of endless ones none.
-fn begins(passes: &mut [u64], k: usize) -> bool
-    requires { record { set : k < 4; sixteen : length passes.old ≡ 16 } }
-    ensures { record {
-      kept : result ≡ false → passes.new ≡ passes.old;
-      turns : result ≡ true → Turns passes.old k passes.new;
-    } }
-{
-    let Some(further) = left_at(passes, k) else {
-        return false;
-    };
-    let Further::More(more) = further else {
-        return true;
-    };
-    if more == 0 {
-        return false;
-    }
-    passes[4 * k + 2] = more - 1;
-    true
-}
-
 // At the order o, after m visits: whether it ends the stretch with a set, the visit there is known not to stop, and another pass of the set
 // begins behind it, which is counted then: its first order.
 fn pass_on(
     marks: &[u8],
     bad: &[u64],
-    passes: &mut [u64],
+    passes: &mut Passes,
     stretch: Stretch,
     o: FieldOrder,
     readings: &[u64],
@@ -145,12 +124,11 @@ fn pass_on(
     requires { record {
       first : 1 ≤ o.0;
       set : (x : Ending) → stretch.ending ≡ Some x → x.set < 4;
-      sixteen : length passes.old ≡ 16;
     } }
     ensures { record {
-      kept : result ≡ None → passes.new ≡ passes.old;
+      kept : result ≡ None → passes.new.numbers ≡ passes.old.numbers;
       passes : (start : FieldOrder) → result ≡ Some start
-          → PassesOn marks.now bad.now readings.now stretch m o.0 passes.old start passes.new;
+          → PassesOn marks.now bad.now readings.now stretch m o.0 passes.old.numbers start passes.new.numbers;
     } }
 {
     if readings.len() <= m || !same_order(o, stretch.to) {
@@ -161,14 +139,14 @@ fn pass_on(
     if !lets_pass(marks, bad, k.0, readings[m]) {
         return None;
     }
-    begins(passes, ending.set).then_some(ending.start)
+    passes.begins(ending.set).then_some(ending.start)
 }
 
 // From the beginning of a stretch, with n visits made: its orders, and from a set's pass into the next as long as it begins among them.
 fn run_stretch(
     marks: &[u8],
     bad: &[u64],
-    passes: &mut [u64],
+    passes: &mut Passes,
     stretch: Stretch,
     readings: &[u64],
     visits: &mut [u32],
@@ -176,7 +154,6 @@ fn run_stretch(
 ) -> StretchEnd
     requires { record {
       sound : Sound marks.now stretch;
-      sixteen : length passes.old ≡ 16;
       read : n ≤ length readings.now;
       room : length readings.now ≤ length visits.old;
     } }
@@ -187,7 +164,7 @@ fn run_stretch(
       first : 1 ≤ result.order.0;
       within : (v : Sets) → Straight v stretch → result.order.0 ≤ v.fields;
       runs : (v : Sets) → Straight v stretch → RunsTo v marks.now bad.now readings.now visits.old n
-          stretch.from.0 passes.old visits.new result.visits result.order.0 passes.new;
+          stretch.from.0 passes.old.numbers visits.new result.visits result.order.0 passes.new.numbers;
     } }
 {
     let mut here = stretch.from;
@@ -219,7 +196,7 @@ pub fn run(
     sets: Sets,
     marks: &[u8],
     bad: &[u64],
-    passes: &mut [u64],
+    passes: &mut Passes,
     order: FieldOrder,
     readings: &[u64],
     visits: &mut [u32],
@@ -229,15 +206,14 @@ pub fn run(
       first : 1 ≤ order.0;
       within : order.0 ≤ sets.fields;
       small : sets.fields < 4294967295;
-      sixteen : length passes.old ≡ 16;
       read : n ≤ length readings.now;
       room : length readings.now ≤ length visits.old;
     } }
     ensures { record {
       at_least : n ≤ result.visits;
       read : result.visits ≤ length readings.now;
-      runs : RunsTo sets marks.now bad.now readings.now visits.old n order.0 passes.old
-          visits.new result.visits result.order.0 passes.new;
+      runs : RunsTo sets marks.now bad.now readings.now visits.old n order.0 passes.old.numbers
+          visits.new result.visits result.order.0 passes.new.numbers;
     } }
 {
     let mut here = order;

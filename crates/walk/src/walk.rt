@@ -13,7 +13,7 @@ ghost use Rattle.walk.specs.WalkCall.{Told, Walks, TellsHeld};
 use crate::held::held_at;
 use crate::named::{FoundPgn, find_pgn, found_pgn};
 use crate::orders::first_order;
-use crate::passes::settle;
+use crate::passes::Passes;
 use crate::runs::write_visit;
 use crate::sets::stop_1;
 use crate::steps::{Stepping, run_on, step, used};
@@ -40,15 +40,14 @@ fn walk_on(
     found: &FoundPgn,
     marks: &mut [u8],
     bad: &mut [u64],
-    passes: &mut [u64],
+    passes: &mut Passes,
     readings: &[u64],
     visits: &mut [u32],
 ) -> Ended
     requires { record {
       remembered : Remembered (pack_of found.now.pgn.pack.bytes.now) (pgn_value found.now.pgn) marks.old bad.old;
-      sixteen : length passes.old ≡ 16;
-      left : (k : ℕ) → left_of (left_at passes.old k) ≡ None;
-      latest : (k : ℕ) → memory_of passes.old k ≡ 0;
+      left : (k : ℕ) → left_of (left_at passes.old.numbers k) ≡ None;
+      latest : (k : ℕ) → memory_of passes.old.numbers k ≡ 0;
       no_stop_1 : stop_1 (layout (pgn_value found.now.pgn)) ≡ false;
       room : length readings.now ≤ length visits.old;
     } }
@@ -59,7 +58,7 @@ fn walk_on(
     let mut here = first_order();
     let mut n = 0;
     loop {
-        let settling = settle(sets, passes, here);
+        let settling = passes.settle(sets, here);
         let ran = run_on(sets, marks, bad, passes, settling, readings, visits, n);
         let made = ran.visits;
         if readings.len() <= made {
@@ -91,7 +90,9 @@ fn walk_at(found: &FoundPgn, readings: &[u64], visits: &mut [u32]) -> Ended
     }
     let mut marks = [0u8; 32768];
     let mut bad = [0u64; 512];
-    let mut passes = [0u64; 16];
+    let mut passes = Passes {
+        numbers: [0u64; 16],
+    };
     walk_on(found, &mut marks, &mut bad, &mut passes, readings, visits)
 }
 

@@ -11,7 +11,6 @@ loop-sets-init c =
       within = c.requires.within;
       at_least = omega (arith, c);
       read = c.requires.read;
-      sixteen = c.requires.sixteen;
       same = refl;
       runs = runs_none;
     }
@@ -36,7 +35,6 @@ loop-sets-preserved c =
       within = made.within sets c.stretch_at-stretch.ensures.straight;
       at_least = omega (arith, made.at_least, c.loop-sets.invariant.at_least);
       read = made.read;
-      sixteen = c.run_stretch-made.auto.passes ∙ c.loop-sets.invariant.sixteen;
       same = c.run_stretch-made.auto.visits ∙ c.loop-sets.invariant.same;
       runs = runs_then c.loop-sets.invariant.runs (rw c.stretch_at-stretch.ensures.from at (made.runs sets c.stretch_at-stretch.ensures.straight));
     }

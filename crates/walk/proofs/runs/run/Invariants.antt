@@ -11,9 +11,8 @@ invariant-loop-sets l =
       within : l.here.0 ≤ l.sets.fields;
       at_least : l.n ≤ l.m;
       read : l.m ≤ length l.readings;
-      sixteen : length l.passes ≡ 16;
       same : length l.visits ≡ length l.initial.visits;
-      runs : RunsTo l.sets l.marks l.bad l.readings l.initial.visits l.n l.initial.here.0 l.initial.passes l.visits l.m l.here.0 l.passes;
+      runs : RunsTo l.sets l.marks l.bad l.readings l.initial.visits l.n l.initial.here.0 l.initial.passes.numbers l.visits l.m l.here.0 l.passes.numbers;
     }
 
 abbrev pub decreases-loop-sets : goal.decreases-loop-sets

@@ -16,7 +16,6 @@ loop-stretch-init c =
       begun = λ l. refl;
       at_least = omega (arith, c);
       read = c.requires.read;
-      sixteen = c.requires.sixteen;
       same = refl;
       runs = λ v x. runs_none;
     }
@@ -33,7 +32,7 @@ returns-in_default c =
       first = omega (arith, c.later_order-here.ensures, c.loop-stretch.invariant.first);
       within = λ v x. omega (arith, c.later_order-here.ensures, c.leap-made.ensures.within, x.within);
       runs = λ v x. rw (c.pass_on.ensures.kept c.in_default.is, c.leap-made.ensures.out)
-          (runs_leap o c.loop-stretch.passes (c.loop-stretch.invariant.runs v x) c.loop-stretch.invariant.first c.leap-made.result c.leap-made.ensures.read
+          (runs_leap o c.loop-stretch.passes.numbers (c.loop-stretch.invariant.runs v x) c.loop-stretch.invariant.first c.leap-made.result c.leap-made.ensures.read
           (λ j l. x.plain (o + j) (omega (arith, inside.from)) (omega (arith, l, c.leap-made.ensures.within))) c.leap-made.ensures.passing
           c.later_order-here.result.0
           c.later_order-here.ensures);
@@ -63,21 +62,20 @@ loop-stretch-preserved c =
     let on = c.pass_on.ensures.passes c.in-Some.start c.in-Some.is in
     let here = c.later_order-here.result.0 in
     let start : c.in-Some.start.0 ≡ on.by.start.0 = ap (λ (o : FieldOrder). o.0) on.start in
-    let w' = c.pass_on.new.passes in
+    let w' = c.pass_on.new.passes.numbers in
     record {
       first = omega (arith, c.requires.sound.start on.by on.ending, start);
       within = λ v x. omega (arith, (x.ending on.by on.ending).within, start);
       begun = λ l. absurd (omega (arith, l, c.loop-stretch.invariant.at_least));
       at_least = omega (arith, c.loop-stretch.invariant.at_least);
       read = omega (arith, on.read);
-      sixteen = c.pass_on.auto.passes ∙ c.loop-stretch.invariant.sixteen;
       same = c.write_visit.auto.visits ∙ c.leap-made.auto.visits ∙ c.loop-stretch.invariant.same;
       runs = λ v x. rw (c.write_visit.ensures, c.index_of.ensures, c.leap-made.ensures.out)
-          (runs_turn here c.loop-stretch.passes (runs_leap o c.loop-stretch.passes (c.loop-stretch.invariant.runs v x) c.loop-stretch.invariant.first
+          (runs_turn here c.loop-stretch.passes.numbers (runs_leap o c.loop-stretch.passes.numbers (c.loop-stretch.invariant.runs v x) c.loop-stretch.invariant.first
           c.leap-made.result c.leap-made.ensures.read
           (λ j l. x.plain (o + j) (omega (arith, inside.from)) (omega (arith, l, c.leap-made.ensures.within))) c.leap-made.ensures.passing here
           c.later_order-here.ensures) (omega (arith, c.later_order-here.ensures, c.loop-stretch.invariant.first)) on.read on.passing
           c.in-Some.start.0 w'
           (λ L a r. rw start (pass_onward a here on.by
-          (subst (λ (i : ℕ). EndsBehind v i on.by) (sym on.at) (x.ending on.by on.ending)) c.loop-stretch.passes w' on.turns r)));
+          (subst (λ (i : ℕ). EndsBehind v i on.by) (sym on.at) (x.ending on.by on.ending)) c.loop-stretch.passes.numbers w' on.turns r)));
     }

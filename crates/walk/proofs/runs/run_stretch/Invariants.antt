@@ -13,10 +13,9 @@ invariant-loop-stretch l =
       begun : l.m ≤ l.n → l.here.0 ≡ l.stretch.from.0;
       at_least : l.n ≤ l.m;
       read : l.m ≤ length l.readings;
-      sixteen : length l.passes ≡ 16;
       same : length l.visits ≡ length l.initial.visits;
-      runs : (v : Sets) → Straight v l.stretch → RunsTo v l.marks l.bad l.readings l.initial.visits l.n l.stretch.from.0 l.initial.passes l.visits l.m
-          l.here.0 l.passes;
+      runs : (v : Sets) → Straight v l.stretch → RunsTo v l.marks l.bad l.readings l.initial.visits l.n l.stretch.from.0 l.initial.passes.numbers l.visits l.m
+          l.here.0 l.passes.numbers;
     }
 
 abbrev pub decreases-loop-stretch : goal.decreases-loop-stretch

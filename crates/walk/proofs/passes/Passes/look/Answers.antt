@@ -3,36 +3,32 @@ use Rattle.walk.specs.State.{place_of}
 use Prim.Native.Nat.{◌<◌}
 use mathlib.Core.Path.{◌∙◌}
 use native.Mathlib.Omega.{arith}
-use Rattle.walk.proofs.passes.look.Goals as goal
+use Rattle.walk.proofs.passes.Passes.look.Goals as goal
 
--- src/passes.rt:171:5
 pub loop-k-init : goal.loop-k-init
 loop-k-init c = λ L a. look_four a _
 
--- src/passes.rt:175:13
 pub returns-then-arrives : goal.returns-then-arrives
 returns-then-arrives c =
     let low : 0 < c.loop-k.k = omega (arith, c.loop-k-test.true) in
     record {
-      stands = λ L a. look_hit a (place_of c.args.o.0 c.args.passes.now) c.loop-k.k low c.arrives.result
+      stands = λ L a. look_hit a (place_of c.args.o.0 c.args.self.now.numbers) c.loop-k.k low c.arrives.result
           (rw c.left_at.ensures at c.arrives.ensures) c.if-arrives.true
           ∙ c.loop-k.invariant L a;
       few = omega (arith, low);
     }
 
--- src/passes.rt:171:5
 pub loop-k-preserved : goal.loop-k-preserved
 loop-k-preserved c =
     let low : 0 < c.loop-k.k = omega (arith, c.loop-k-test.true) in
-    λ L a. look_miss a (place_of c.args.o.0 c.args.passes.now) c.loop-k.k low c.arrives.result
+    λ L a. look_miss a (place_of c.args.o.0 c.args.self.now.numbers) c.loop-k.k low c.arrives.result
     (rw c.left_at.ensures at c.arrives.ensures) c.if-arrives.false
     ∙ c.loop-k.invariant L a
 
--- src/passes.rt:163:1
 pub returns : goal.returns
 returns c =
     record {
-      stands = λ L a. look_all L (place_of c.args.o.0 c.args.passes.now) c.loop-k.k (omega (arith, c.loop-k-test.false))
+      stands = λ L a. look_all L (place_of c.args.o.0 c.args.self.now.numbers) c.loop-k.k (omega (arith, c.loop-k-test.false))
           ∙ c.loop-k.invariant L a;
       few = omega (arith, c);
     }

@@ -5,18 +5,16 @@ use Rattle.walk.specs.Passes.{stand}
 use Rattle.walk.specs.Layout.{Layout}
 use Rattle.walk.specs.ByPlace.{by_place}
 use Prim.Native.Nat.{◌≤◌, ◌-◌}
-use lib.ListN.{length}
 use mathlib.Core.Path.{◌≡◌}
-use Rattle.walk.proofs.passes.settle.Given as goal
+use Rattle.walk.proofs.passes.Passes.settle.Given as goal
 
 abbrev pub invariant-loop : goal.invariant-loop
 invariant-loop l =
     record {
-      same : length l.passes ≡ length l.initial.passes;
       rest : (L : Layout) → SetsAre L l.sets → 1 ≤ l.initial.here.0
           → record {
             first : 1 ≤ l.here.0;
-            goes : settle L (by_place L) (l.end - l.counter) (stand L (place_of l.here.0 l.passes)) (memory_of l.passes)
-                ≡ settled L (by_place L) (place_of l.initial.here.0 l.initial.passes) (memory_of l.initial.passes);
+            goes : settle L (by_place L) (l.end - l.counter) (stand L (place_of l.here.0 l.self.numbers)) (memory_of l.self.numbers)
+                ≡ settled L (by_place L) (place_of l.initial.here.0 l.initial.self.numbers) (memory_of l.initial.self.numbers);
           };
     }

@@ -2,35 +2,32 @@ use Rattle.walk.proofs.PassLaws.{stands_again, stands_ready, stands_beyond, stan
 use Rattle.walk.specs.State.{place_of}
 use native.Mathlib.Omega.{arith}
 use mathlib.Core.Path.{◌∙◌}
-use Rattle.walk.proofs.passes.settle_once.Goals as goal
+use Rattle.walk.proofs.passes.Passes.settle_once.Goals as goal
 
--- src/passes.rt:317:1
 pub returns-in-Again : goal.returns-in-Again
 returns-in-Again c =
-    let w = c.args.passes.now in
-    let w' = c.stand.new.passes in
+    let w = c.args.self.now.numbers in
+    let w' = c.stand.new.self.numbers in
     record {
       round = λ L a l n. stands_again L w w' (place_of c.args.o.0 w) c.stand.result c.args.o.0 (c.stand.ensures.stands L a l) c.stand.ensures.memory n
           c.in-Again.set c.in-Again.start c.in-Again.is;
       end = λ L a l. omega (arith, c);
     }
 
--- src/passes.rt:317:1
 pub returns-in-Ready : goal.returns-in-Ready
 returns-in-Ready c =
-    let w = c.args.passes.now in
-    let w' = c.stand.new.passes in
+    let w = c.args.self.now.numbers in
+    let w' = c.stand.new.self.numbers in
     record {
       round = λ L a l n. stands_ready L w w' (place_of c.args.o.0 w) c.stand.result c.args.o.0 (c.stand.ensures.stands L a l) c.stand.ensures.memory n
           c.in-Ready.is;
       end = λ L a l. omega (arith, c);
     }
 
--- src/passes.rt:317:1
 pub returns-in-Arrived : goal.returns-in-Arrived
 returns-in-Arrived c =
-    let w = c.args.passes.now in
-    let w' = c.stand.new.passes in
+    let w = c.args.self.now.numbers in
+    let w' = c.stand.new.self.numbers in
     record {
       round = λ L a l n. c.at_set.ensures.round L a n
           ∙ stands_arrived L w w' (place_of c.args.o.0 w) c.stand.result c.args.o.0 (c.stand.ensures.stands L a l) c.stand.ensures.memory
@@ -39,11 +36,10 @@ returns-in-Arrived c =
           (c.stand.ensures.stands L a l) c.stand.ensures.memory c.in-Arrived.k c.in-Arrived.is a);
     }
 
--- src/passes.rt:317:1
 pub returns-in-Beyond : goal.returns-in-Beyond
 returns-in-Beyond c =
-    let w = c.args.passes.now in
-    let w' = c.stand.new.passes in
+    let w = c.args.self.now.numbers in
+    let w' = c.stand.new.self.numbers in
     record {
       round = λ L a l n. stands_beyond L w w' (place_of c.args.o.0 w) c.stand.result c.args.o.0 (c.stand.ensures.stands L a l) c.stand.ensures.memory n
           c.in-Beyond.is;
