@@ -25,8 +25,6 @@ loop-sets-init c =
       going = start_going P p c.args.readings.now c.args.visits.now c.requires.no_stop_1
           (settled (layout p) (by_place (layout p)) (place_of c.first_order-here.result.0 w) (memory_of w))
           (begins_at (layout p) w c.requires.left c.requires.latest c.first_order-here.result.0 c.first_order-here.ensures);
-      same_marks = refl;
-      same_bad = refl;
       remembered = c.requires.remembered;
     }
 
@@ -99,7 +97,5 @@ loop-sets-preserved c =
           (settled_of c.run_on-ran.result.settling c.run_on-ran.new.passes.numbers) g (omega (arith, c.if-readings-made.false)) (step_of (layout p) c.step.result w')
           c.step.ensures.step c.in-Visited.field.0 (settled (layout p) (by_place (layout p)) (place_of next.0 w') (memory_of w'))
           (ap (λ (x : Stepping). step_of (layout p) x w') c.in-Visited.is));
-      same_marks = c.step.auto.marks ∙ c.loop-sets.invariant.same_marks;
-      same_bad = c.step.auto.bad ∙ c.loop-sets.invariant.same_bad;
       remembered = c.step.ensures.remembered;
     }

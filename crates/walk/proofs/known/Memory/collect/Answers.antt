@@ -12,7 +12,7 @@ use mathlib.Core.List.{List}
 use mathlib.Core.Bool.{Bool, ◌&&◌}
 use Prim.Native.Nat.{ℕ, ◌+◌, ◌≤◌}
 use native.Mathlib.Omega.{arith}
-use Rattle.walk.proofs.known.collect.Goals as goal
+use Rattle.walk.proofs.known.Memory.collect.Goals as goal
 
 -- a turn, with the entry as it was read
 turned : (s : List ℕ) {es : List Entry} {e at : ℕ} {bad bad' bad'' : List ℕ} {n n' : ℕ} (v : EntryView) (hit : Bool)
@@ -26,7 +26,7 @@ pub loop-e-preserved : goal.loop-e-preserved
 loop-e-preserved c =
     record {
       few = omega (arith, c.if-n-gt4.false);
-      same = c.keep-n.auto.bad ∙ c.loop-e.invariant.same;
+      marks = c.keep-n.ensures.marks ∙ c.loop-e.invariant.marks;
       collected = turned c.args.lookup.now.pack.bytes.now c.entry-entry.result c.names_missing-hit.result c.loop-e.invariant.collected c.loop-e.invariant.few
           c.entry-entry.ensures c.names_missing-hit.ensures c.keep-n.ensures.count c.keep-n.ensures.values;
     }
