@@ -21,6 +21,7 @@ use Rattle.walk.specs.Runs.{edge, PlainAt, EndsBehind, written, Turns, RunsTo}
 use Rattle.walk.specs.State.{left_of, left_at, place_of, memory_of}
 use Rattle.walk.specs.Steps.{Run, no_step, then_step}
 use Rattle.walk.specs.StopParts.{lets_pass}
+use Rattle.walk.specs.declared.known.Memory.{Memory}
 use Rattle.walk.specs.declared.passes.Further.{Further}
 use Rattle.walk.specs.declared.passes.Further.TheVariants.{Endless, More}
 use Rattle.walk.specs.declared.stretches.Ending.{Ending}
@@ -160,16 +161,16 @@ length_written w m k (suc n) = length-set (written w m k n) (m + n) (k + n) ∙ 
 
 -- ---- one after the other
 
-module _ {v : Sets} {marks bad readings b : List ℕ} {n o : ℕ} {w : List ℕ} where
-  pub runs_none : RunsTo v marks bad readings b n o w b n o w
+module _ {v : Sets} {memory : Memory} {readings b : List ℕ} {n o : ℕ} {w : List ℕ} where
+  pub runs_none : RunsTo v memory readings b n o w b n o w
   runs_none = record { run = λ L a stops harm. no_step }
 
-  module _ {b' : List ℕ} {m : ℕ} (t : ℕ) (w' : List ℕ) (R : RunsTo v marks bad readings b n o w b' m t w') (one : 1 ≤ t) where
+  module _ {b' : List ℕ} {m : ℕ} (t : ℕ) (w' : List ℕ) (R : RunsTo v memory readings b n o w b' m t w') (one : 1 ≤ t) where
     -- so many visits within a stretch
     module _ (L : Layout) (a : SetsAre L v) (stops : Stops)
-        (harm : (k reading : ℕ) → lets_pass marks bad k reading ≡ true → stops (placed L (suc k)) k reading ≡ None) where
+        (harm : (k reading : ℕ) → lets_pass memory k reading ≡ true → stops (placed L (suc k)) k reading ≡ None) where
       straight : (k : ℕ) → m + k ≤ length readings → ((j : ℕ) → j < k → PlainAt v (t + j))
-          → ((j : ℕ) → j < k → lets_pass marks bad (t - 1 + j) (get_or readings (m + j) 0) ≡ true)
+          → ((j : ℕ) → j < k → lets_pass memory (t - 1 + j) (get_or readings (m + j) 0) ≡ true)
           → Run L stops readings b n (due (place_of o w) (memory_of w)) (written b' m (t - 1) k) (m + k) (due (place_of (t + k) w') (memory_of w'))
       straight zero few plain passing =
           let e₁ : m + 0 ≡ m = omega arith in let e₂ : t + 0 ≡ t = omega arith in rw (e₁, e₂) (R.run L a stops harm)
@@ -184,13 +185,13 @@ module _ {v : Sets} {marks bad readings b : List ℕ} {n o : ℕ} {w : List ℕ}
           (sym (plain_onward a (place_of (t + k) w') (t + k) (plain k (omega arith)) (memory_of w') (get_or readings (m + k) 0)))))
 
     pub runs_leap : (k : ℕ) → m + k ≤ length readings → ((j : ℕ) → j < k → PlainAt v (t + j))
-        → ((j : ℕ) → j < k → lets_pass marks bad (t - 1 + j) (get_or readings (m + j) 0) ≡ true)
-        → (u : ℕ) → u ≡ t + k → RunsTo v marks bad readings b n o w (written b' m (t - 1) k) (m + k) u w'
+        → ((j : ℕ) → j < k → lets_pass memory (t - 1 + j) (get_or readings (m + j) 0) ≡ true)
+        → (u : ℕ) → u ≡ t + k → RunsTo v memory readings b n o w (written b' m (t - 1) k) (m + k) u w'
     runs_leap k few plain passing u eu = record { run = λ L a stops harm. rw eu (straight L a stops harm k few plain passing) }
 
-    pub runs_turn : m < length readings → lets_pass marks bad (t - 1) (get_or readings m 0) ≡ true → (u : ℕ) (w'' : List ℕ)
+    pub runs_turn : m < length readings → lets_pass memory (t - 1) (get_or readings m 0) ≡ true → (u : ℕ) (w'' : List ℕ)
         → ((L : Layout) → SetsAre L v → (r : ℕ) → onward L (by_place L) (place_of t w') (memory_of w') r ≡ due (place_of u w'') (memory_of w''))
-        → RunsTo v marks bad readings b n o w (set b' m (t - 1)) (m + 1) u w''
+        → RunsTo v memory readings b n o w (set b' m (t - 1)) (m + 1) u w''
     runs_turn low passing u w'' to = record {
       run = λ L a stops harm. then_step (R.run L a stops harm) low (t - 1) (due (place_of u w'') (memory_of w''))
           (step_visits L stops (place_of t w') (memory_of w') (get_or readings m 0) (t - 1) refl one
@@ -202,6 +203,6 @@ run_then : {L : Layout} {stops : Stops} {readings b b' : List ℕ} {n m : ℕ} {
 run_then R no_step = R
 run_then R (then_step S low k d e) = then_step (run_then R S) low k d e
 
-pub runs_then : {v : Sets} {marks bad readings b b' b'' : List ℕ} {n m l o t u : ℕ} {w w' w'' : List ℕ}
-    → RunsTo v marks bad readings b n o w b' m t w' → RunsTo v marks bad readings b' m t w' b'' l u w'' → RunsTo v marks bad readings b n o w b'' l u w''
+pub runs_then : {v : Sets} {memory : Memory} {readings b b' b'' : List ℕ} {n m l o t u : ℕ} {w w' w'' : List ℕ}
+    → RunsTo v memory readings b n o w b' m t w' → RunsTo v memory readings b' m t w' b'' l u w'' → RunsTo v memory readings b n o w b'' l u w''
 runs_then R S = record { run = λ L a stops harm. run_then (R.run L a stops harm) (S.run L a stops harm) }

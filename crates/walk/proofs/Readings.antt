@@ -23,6 +23,7 @@ use Rattle.walk.specs.ByPlace.{placed}
 use Rattle.walk.specs.Layout.{layout}
 use Rattle.walk.specs.StopParts.{Named, OnlyByReading, SameBut, Collected, Remembered, among, lets_pass}
 use Rattle.walk.specs.Stops.{names_missing, entries_name_missing, stop_at}
+use Rattle.walk.specs.declared.known.Memory.{Memory}
 use Rattle.walk.specs.declared.stops.Stop.{Stop}
 use Rattle.walk.specs.declared.stops.Stop.TheVariants.{EntryNamesMissing}
 
@@ -40,14 +41,14 @@ passes_not : (m : ℕ) (bad : List ℕ) (k reading : ℕ) → mark_passes m bad 
 passes_not m bad k reading e =
     not-true (among bad (4 * k) (m - 1) reading) (and_r ((0 <ᵇ m) && (m <ᵇ 6)) (not (among bad (4 * k) (m - 1) reading)) e)
 
-pub free_passes : (marks bad : List ℕ) (k reading : ℕ) → get_or marks k 0 ≡ 1 → lets_pass marks bad k reading ≡ true
-free_passes marks bad k reading e = ap (λ (m : ℕ). mark_passes m bad k reading) e
+pub free_passes : (memory : Memory) (k reading : ℕ) → get_or memory.marks k 0 ≡ 1 → lets_pass memory k reading ≡ true
+free_passes memory k reading e = ap (λ (m : ℕ). mark_passes m memory.bad k reading) e
 
 -- ---- nothing is remembered
 
-pub remembered_clear : (P : Pack) (p : Pgn) (marks bad : List ℕ) → ((k : ℕ) → get_or marks k 0 ≡ 0) → Remembered P p marks bad
-remembered_clear P p marks bad c =
-    record { never = λ k reading h. absurd (false≢true (sym (ap (λ (m : ℕ). mark_passes m bad k reading) (c k)) ∙ h)) }
+pub remembered_clear : (P : Pack) (p : Pgn) (memory : Memory) → ((k : ℕ) → get_or memory.marks k 0 ≡ 0) → Remembered P p memory
+remembered_clear P p memory c =
+    record { never = λ k reading h. absurd (false≢true (sym (ap (λ (m : ℕ). mark_passes m memory.bad k reading) (c k)) ∙ h)) }
 
 pub zeros : (n k : ℕ) → get_or (replicate {A = ℕ} n 0) k 0 ≡ 0
 zeros zero k = refl
@@ -55,8 +56,8 @@ zeros (suc n) zero = refl
 zeros (suc n) (suc k) = zeros n k
 
 -- of marks that begin as `[0; n]`
-pub remembered_zeros : (P : Pack) (p : Pgn) (n : ℕ) (bad : List ℕ) → Remembered P p (replicate {A = ℕ} n 0) bad
-remembered_zeros P p n bad = remembered_clear P p (replicate {A = ℕ} n 0) bad (zeros n)
+pub remembered_zeros : (P : Pack) (p : Pgn) (n : ℕ) (bad : List ℕ) → Remembered P p (record { marks = replicate {A = ℕ} n 0; bad = bad })
+remembered_zeros P p n bad = remembered_clear P p _ (zeros n)
 
 -- ---- a mark more
 
@@ -77,27 +78,27 @@ module _ {bad bad' : List ℕ} {k : ℕ} (same : SameBut (4 * k) bad bad') (j : 
       ∙ e
 
 -- the mark m at field k, whose places alone have changed, is right if what it lets pass does not stop
-pub remembered_marked : {P : Pack} {p : Pgn} {marks bad bad' : List ℕ} (k m : ℕ) → Remembered P p marks bad → SameBut (4 * k) bad bad'
+pub remembered_marked : {P : Pack} {p : Pgn} {memory : Memory} {bad' : List ℕ} (k m : ℕ) → Remembered P p memory → SameBut (4 * k) memory.bad bad'
     → ((reading : ℕ) → mark_passes m bad' k reading ≡ true → stop_at P p (placed (layout p) (suc k)) k reading ≡ None)
-    → Remembered P p (set marks k m) bad'
-remembered_marked {P} {p} {marks} {bad} {bad'} k m r same f =
+    → Remembered P p (record { marks = set memory.marks k m; bad = bad' })
+remembered_marked {P} {p} {memory} {bad'} k m r same f =
     record { never = λ j reading h. go j reading (ℕ_discrete j k) h }
   where
-    own : (reading : ℕ) (b : Bool) → ltb k (length marks) ≡ b → mark_passes (get_or (set marks k m) k 0) bad' k reading ≡ true
+    own : (reading : ℕ) (b : Bool) → ltb k (length memory.marks) ≡ b → mark_passes (get_or (set memory.marks k m) k 0) bad' k reading ≡ true
         → stop_at P p (placed (layout p) (suc k)) k reading ≡ None
     own reading true e h =
-        f reading (sym (ap (λ (x : ℕ). mark_passes x bad' k reading) (get_or-set_same marks k m 0 (ltb-true k (length marks) e))) ∙ h)
+        f reading (sym (ap (λ (x : ℕ). mark_passes x bad' k reading) (get_or-set_same memory.marks k m 0 (ltb-true k (length memory.marks) e))) ∙ h)
     own reading false e h =
-        let l = ltb-false k (length marks) e in
-        let z : get_or (set marks k m) k 0 ≡ 0 = ap (λ (x : List ℕ). get_or x k 0) (set_out marks k m l) ∙ get_or-eq_default marks 0 l in
+        let l = ltb-false k (length memory.marks) e in
+        let z : get_or (set memory.marks k m) k 0 ≡ 0 = ap (λ (x : List ℕ). get_or x k 0) (set_out memory.marks k m l) ∙ get_or-eq_default memory.marks 0 l in
         absurd (false≢true (sym (ap (λ (x : ℕ). mark_passes x bad' k reading) z) ∙ h))
 
-    go : (j reading : ℕ) → Dec (j ≡ k) → mark_passes (get_or (set marks k m) j 0) bad' j reading ≡ true
+    go : (j reading : ℕ) → Dec (j ≡ k) → mark_passes (get_or (set memory.marks k m) j 0) bad' j reading ≡ true
         → stop_at P p (placed (layout p) (suc j)) j reading ≡ None
-    go j reading (yes d) h = let h' = rw d at h in rw d (own reading (ltb k (length marks)) refl h')
+    go j reading (yes d) h = let h' = rw d at h in rw d (own reading (ltb k (length memory.marks)) refl h')
     go j reading (no d) h =
-        r.never j reading (same_passes same j d (get_or marks j 0) reading
-        (sym (ap (λ (x : ℕ). mark_passes x bad' j reading) (get_or-set_other marks k j m 0 d)) ∙ h))
+        r.never j reading (same_passes same j d (get_or memory.marks j 0) reading
+        (sym (ap (λ (x : ℕ). mark_passes x bad' j reading) (get_or-set_other memory.marks k j m 0 d)) ∙ h))
 
 -- ---- the readings at which a field stops
 

@@ -10,7 +10,10 @@ use Rattle.walk.specs.State.{left_of, left_at, place_of, memory_of}
 use Rattle.walk.specs.Steps.{Run}
 use Rattle.walk.specs.StopParts.{lets_pass}
 use Rattle.walk.specs.Walk.{Stops, due}
-use Rattle.pack.specs.declared.protocol.FieldOrder.{FieldOrder}
+use Rattle.walk.specs.declared.known.Memory.{Memory}
+use Rattle.walk.specs.declared.runs.RunEnd.{RunEnd}
+use Rattle.walk.specs.declared.runs.StretchEnd.{StretchEnd}
+use Rattle.walk.specs.declared.runs.StretchEnd.TheVariants.{Ends, Begins}
 use Rattle.walk.specs.declared.sets.Set.{Set}
 use Rattle.walk.specs.declared.sets.Sets.{Sets}
 use Rattle.walk.specs.declared.stretches.Stretch.{Stretch}
@@ -44,10 +47,10 @@ pub record Straight (v : Sets) (x : Stretch) : Type 0 where
 
 -- What is so of a stretch whatever the sets are: its orders are orders, and its set one of the four with a first order; of a free one each
 -- field is marked to stop at no reading.
-pub record Sound (marks : List ℕ) (x : Stretch) : Type 0 where
+pub record Sound (memory : Memory) (x : Stretch) : Type 0 where
   pub first : 1 ≤ x.from.0
   pub order : x.from.0 ≤ x.to.0
-  pub free : x.free ≡ true → (o : ℕ) → x.from.0 ≤ o → o < x.to.0 → get_or marks (o - 1) 0 ≡ 1
+  pub free : x.free ≡ true → (o : ℕ) → x.from.0 ≤ o → o < x.to.0 → get_or memory.marks (o - 1) 0 ≡ 1
   pub set : (e : Ending) → x.ending ≡ Some e → e.set < 4
   pub start : (e : Ending) → x.ending ≡ Some e → 1 ≤ e.start.0
 
@@ -63,19 +66,28 @@ pub record Turns (w : List ℕ) (k : ℕ) (w' : List ℕ) : Type 0 where
   pub place : (o : ℕ) → place_of o w' ≡ goto_with (place_of o w) o k (Some rest)
   pub memory : memory_of w' ≡ memory_of w
 
--- The stretch ends at the order o with a set; the visit there with the next reading is let pass, and another pass of the set begins behind it.
-pub record PassesOn (marks bad readings : List ℕ) (x : Stretch) (m o : ℕ) (w : List ℕ) (first : FieldOrder) (w' : List ℕ) : Type 0 where
+-- The order o is the one behind which set k ends; the visit there with the next reading is let pass, and another pass of the set begins behind it.
+pub record PassesOn (memory : Memory) (readings : List ℕ) (to k m o : ℕ) (w w' : List ℕ) : Type 0 where
   pub read : m < length readings
-  pub at : o ≡ x.to.0
-  pub by : Ending
-  pub ending : x.ending ≡ Some by
-  pub start : first ≡ by.start
-  pub passing : lets_pass marks bad (o - 1) (get_or readings m 0) ≡ true
-  pub turns : Turns w by.set w'
+  pub at : o ≡ to
+  pub passing : lets_pass memory (o - 1) (get_or readings m 0) ≡ true
+  pub turns : Turns w k w'
 
 -- What the memory lets pass does not stop, and so these visits are made: from the order o with the numbers w of the passes to o' with w', the
 -- visit buffer b being b' then.
-pub record RunsTo (v : Sets) (marks bad readings b : List ℕ) (n o : ℕ) (w b' : List ℕ) (m o' : ℕ) (w' : List ℕ) : Type 0 where
+pub record RunsTo (v : Sets) (memory : Memory) (readings b : List ℕ) (n o : ℕ) (w b' : List ℕ) (m o' : ℕ) (w' : List ℕ) : Type 0 where
   pub run : (L : Layout) → SetsAre L v → (stops : Stops)
-      → ((k reading : ℕ) → lets_pass marks bad k reading ≡ true → stops (placed L (suc k)) k reading ≡ None)
+      → ((k reading : ℕ) → lets_pass memory k reading ≡ true → stops (placed L (suc k)) k reading ≡ None)
       → Run L stops readings b n (due (place_of o w) (memory_of w)) b' m (due (place_of o' w') (memory_of w'))
+
+abbrev pub reached : StretchEnd → RunEnd
+reached (Ends x) = x
+reached (Begins x) = x
+
+-- From the beginning of a stretch a run goes to x: an order of each layout for which the stretch is straight.
+pub record RunsAlong (memory : Memory) (readings b : List ℕ) (n : ℕ) (s : Stretch) (w b' : List ℕ) (x : RunEnd) (w' : List ℕ) : Type 0 where
+  pub at_least : n ≤ x.visits
+  pub read : x.visits ≤ length readings
+  pub first : 1 ≤ x.order.0
+  pub within : (v : Sets) → Straight v s → x.order.0 ≤ v.fields
+  pub runs : (v : Sets) → Straight v s → RunsTo v memory readings b n s.from.0 w b' x.visits x.order.0 w'

@@ -13,6 +13,7 @@ use Rattle.pack.specs.declared.loaded.LookupRef.{LookupRef}
 use Rattle.pack.specs.declared.protocol.FieldIndex.{FieldIndex}
 use Rattle.walk.specs.Layout.{Layout, layout, sets_hold}
 use Rattle.walk.specs.Stops.{lookup_missing, match_unfit, names_missing, entries_name_missing, reference_names_missing, lacks, lacks_length, stop_at}
+use Rattle.walk.specs.declared.known.Memory.{Memory}
 use Rattle.walk.specs.declared.stops.Stop.{Stop}
 use Rattle.walk.specs.declared.stops.Stop.TheVariants.{LookupMissing, MatchUnfit, EntryNamesMissing, LengthNotCurrent}
 use Rattle.walk.specs.declared.stops.Stop.TheVariants.{ContinuedNotCurrent, NoLengthSource, TrailingNotCurrent}
@@ -75,10 +76,10 @@ pub record Collected (P : Pack) (es : List Entry) (e at : ℕ) (bad bad' : List 
 
 -- WHAT IS REMEMBERED OF FIELD k: its mark, and up to four readings, from place 4 k on. The mark 1 + n, n at most 4: it stops at none but the
 -- first n of these readings. Any other mark says nothing.
-abbrev pub lets_pass : (marks bad : List ℕ) → (k reading : ℕ) → Bool
-lets_pass marks bad k reading =
-    (0 <ᵇ get_or marks k 0) && (get_or marks k 0 <ᵇ 6) && not (among bad (4 * k) (get_or marks k 0 - 1) reading)
+abbrev pub lets_pass : Memory → (k reading : ℕ) → Bool
+lets_pass memory k reading =
+    (0 <ᵇ get_or memory.marks k 0) && (get_or memory.marks k 0 <ᵇ 6) && not (among memory.bad (4 * k) (get_or memory.marks k 0 - 1) reading)
 
 -- it is right: field k does not stop at a reading that it lets pass
-pub record Remembered (P : Pack) (p : Pgn) (marks bad : List ℕ) : Type 0 where
-  pub never : (k reading : ℕ) → lets_pass marks bad k reading ≡ true → stop_at P p (placed (layout p) (suc k)) k reading ≡ None
+pub record Remembered (P : Pack) (p : Pgn) (memory : Memory) : Type 0 where
+  pub never : (k reading : ℕ) → lets_pass memory k reading ≡ true → stop_at P p (placed (layout p) (suc k)) k reading ≡ None

@@ -23,170 +23,177 @@ const TOO_MANY: u8 = 6;
 
 const SEEN: u8 = 7;
 
-// The mark of field k; 0 where the marks have no room for it.
-fn mark_at(marks: &[u8], k: u32) -> u8
-    ensures { result ≡ get_or marks.now k 0 }
-{
-    marks.get(k as usize).copied().unwrap_or(0)
+// What is remembered: a mark for as many fields as a pack can have, and the readings of the first 128 of them, four each. Made once a walk, and lent.
+#[derive(Drop)]
+pub struct Memory {
+    pub marks: [u8; 32768],
+    pub bad: [u64; 512],
 }
 
-// Whether field k is known to stop at no reading.
-pub fn is_free(marks: &[u8], k: u32) -> bool
-    ensures { result ≡ (get_or marks.now k 0 == 1) }
-{
-    mark_at(marks, k) == FREE
-}
+impl Memory {
+    // The mark of field k; 0 where there is no room for it.
+    fn mark_at(&self, k: u32) -> u8
+        ensures { result ≡ get_or self.now.marks k 0 }
+    {
+        self.marks.get(k as usize).copied().unwrap_or(0)
+    }
 
-// The reading at place i; 0 where there is none.
-fn value_at(bad: &[u64], i: usize) -> u64
-    ensures { result ≡ get_or bad.now i 0 }
-{
-    bad.get(i).copied().unwrap_or(0)
-}
+    // Whether field k is known to stop at no reading.
+    pub fn is_free(&self, k: u32) -> bool
+        ensures { result ≡ (get_or self.now.marks k 0 == 1) }
+    {
+        self.mark_at(k) == FREE
+    }
 
-// Whether a reading is among the first n that are kept of field k.
-fn is_bad(bad: &[u64], k: u32, n: usize, reading: u64) -> bool
-    requires { n ≤ 4 }
-    ensures { result ≡ among bad.now (4 * k) n reading }
-{
-    let at = 4 * k as usize;
-    for j in 0..n {
-        if value_at(bad, at + j) == reading {
-            return true;
+    // The reading at place i; 0 where there is none.
+    fn value_at(&self, i: usize) -> u64
+        ensures { result ≡ get_or self.now.bad i 0 }
+    {
+        self.bad.get(i).copied().unwrap_or(0)
+    }
+
+    // Whether a reading is among the first n that are kept of field k.
+    fn is_bad(&self, k: u32, n: usize, reading: u64) -> bool
+        requires { n ≤ 4 }
+        ensures { result ≡ among self.now.bad (4 * k) n reading }
+    {
+        let at = 4 * k as usize;
+        for j in 0..n {
+            if self.value_at(at + j) == reading {
+                return true;
+            }
+        }
+        false
+    }
+
+    // Whether field k is known not to stop at this reading.
+    pub fn lets_pass(&self, k: u32, reading: u64) -> bool
+        ensures { result ≡ lets_pass self.now k reading }
+    {
+        let m = self.mark_at(k);
+        m == FREE || (0 < m && m < TOO_MANY && !self.is_bad(k, m as usize - 1, reading))
+    }
+
+    // The mark m at field k, if there is room.
+    fn mark(&mut self, k: u32, m: u8)
+        ensures { self.new ≡ record { marks = set self.old.marks k m; bad = self.old.bad } }
+    {
+        let at = k as usize;
+        if at < self.marks.len() {
+            self.marks[at] = m;
         }
     }
-    false
-}
 
-// Whether field k is known not to stop at this reading.
-pub fn lets_pass(marks: &[u8], bad: &[u64], k: u32, reading: u64) -> bool
-    ensures { result ≡ lets_pass marks.now bad.now k reading }
-{
-    let m = mark_at(marks, k);
-    m == FREE || (0 < m && m < TOO_MANY && !is_bad(bad, k, m as usize - 1, reading))
-}
-
-// The mark m at field k, if there is room.
-fn mark(marks: &mut [u8], k: u32, m: u8)
-    ensures { marks.new ≡ set marks.old k m }
-{
-    let at = k as usize;
-    if at < marks.len() {
-        marks[at] = m;
+    // The reading v at place i, if there is room.
+    fn put_value(&mut self, i: usize, v: u64)
+        ensures { self.new ≡ record { marks = self.old.marks; bad = set self.old.bad i v } }
+    {
+        if i < self.bad.len() {
+            self.bad[i] = v;
+        }
     }
-}
 
-// The reading v at place i, if there is room.
-fn put_value(bad: &mut [u64], i: usize, v: u64)
-    ensures { bad.new ≡ set bad.old i v }
-{
-    if i < bad.len() {
-        bad[i] = v;
-    }
-}
-
-// On a hit the reading v behind the n that are kept from `at` on, and how many there are then. A fifth is counted only.
-fn keep(bad: &mut [u64], at: usize, n: usize, hit: bool, v: u64) -> usize
-    requires { record { few : n ≤ 4; small : at ≤ 17179869180 } }
-    ensures { record {
-      count : result ≡ (if hit then n + 1 else n);
-      values : bad.new ≡ (if hit && (n <ᵇ 4) then set bad.old (at + n) v else bad.old);
-    } }
-{
-    if !hit {
-        return n;
-    }
-    if n == 4 {
-        return 5;
-    }
-    put_value(bad, at + n, v);
-    n + 1
-}
-
-// The readings for which an entry of a fieldtype lookup names something missing, from `at` on, and how many these are; 5 for more than four.
-fn collect(lookup: &LookupRef, bad: &mut [u64], at: usize) -> usize
-    requires { at ≤ 17179869180 }
-    ensures { Collected (pack_of lookup.now.pack.bytes.now) (lookup_value lookup.now).entries lookup.now.view.entries at
-        bad.old bad.new result }
-{
-    let mut n: usize = 0;
-    for e in 0..lookup.view.entries {
-        let entry = lookup.entry(e);
-        let hit = names_missing(&lookup.pack, entry);
-        n = keep(bad, at, n, hit, entry.value);
-        if 4 < n {
+    // On a hit the reading v behind the n that are kept from `at` on, and how many there are then. A fifth is counted only.
+    fn keep(&mut self, at: usize, n: usize, hit: bool, v: u64) -> usize
+        requires { record { few : n ≤ 4; small : at ≤ 17179869180 } }
+        ensures { record {
+          count : result ≡ (if hit then n + 1 else n);
+          marks : self.new.marks ≡ self.old.marks;
+          values : self.new.bad ≡ (if hit && (n <ᵇ 4) then set self.old.bad (at + n) v else self.old.bad);
+        } }
+    {
+        if !hit {
+            return n;
+        }
+        if n == 4 {
             return 5;
         }
+        self.put_value(at + n, v);
+        n + 1
     }
-    n
-}
 
-// The mark of field k, of which n readings were collected, with room for so many in all.
-fn mark_of(n: usize, k: u32, room: usize) -> u8
-    requires { n ≤ 5 }
-    ensures { result ≡ (if n == 0 then 1 else (if 4 * k + 4 ≤ᵇ room then n + 1 else 6)) }
-{
-    if n == 0 {
-        return FREE;
-    }
-    if 4 * k as usize + 4 <= room {
-        return n as u8 + 1;
-    }
-    TOO_MANY
-}
-
-// Field k, which stops by its reading alone, is marked; where it names a fieldtype lookup its readings are collected at the second visit.
-fn remember(found: &FoundPgn, marks: &mut [u8], bad: &mut [u64], k: u32, lookup: &Option<LookupRef>)
-    requires { record {
-      remembered : Remembered (pack_of found.now.pgn.pack.bytes.now) (pgn_value found.now.pgn) marks.old bad.old;
-      named : Named found.now.pgn.pack.bytes.now (lookup_ref (field_at (pgn_value found.now.pgn) k)) lookup.now;
-      only : OnlyByReading (pack_of found.now.pgn.pack.bytes.now) (pgn_value found.now.pgn) k;
-    } }
-    ensures { Remembered (pack_of found.now.pgn.pack.bytes.now) (pgn_value found.now.pgn) marks.new bad.new }
-{
-    let Some(lookup) = lookup else {
-        mark(marks, k, FREE);
-        return;
-    };
-    let m = mark_at(marks, k);
-    if m == 0 {
-        mark(marks, k, SEEN);
-        return;
-    }
-    if m != SEEN {
-        return;
-    }
-    let n = collect(lookup, bad, 4 * k as usize);
-    let new = mark_of(n, k, bad.len());
-    mark(marks, k, new);
-}
-
-// The stop at field k of a PGN, with this reading.
-pub fn stop_at(
-    found: &FoundPgn,
-    marks: &mut [u8],
-    bad: &mut [u64],
-    k: u32,
-    reading: u64,
-) -> Option<Stop>
-    requires { record {
-      remembered : Remembered (pack_of found.now.pgn.pack.bytes.now) (pgn_value found.now.pgn) marks.old bad.old;
-      field : k < found.now.pgn.view.fields;
-    } }
-    ensures { record {
-      stop : result ≡ stop_at (pack_of found.now.pgn.pack.bytes.now) (pgn_value found.now.pgn)
-          (placed (layout (pgn_value found.now.pgn)) (suc k)) k reading;
-      remembered : Remembered (pack_of found.now.pgn.pack.bytes.now) (pgn_value found.now.pgn) marks.new bad.new;
-    } }
-{
-    if lets_pass(marks, bad, k, reading) {
-        return None;
-    }
-    match judge(found, k, reading) {
-        Ok(lookup) => {
-            remember(found, marks, bad, k, &lookup);
-            None
+    // The readings for which an entry of a fieldtype lookup names something missing, from `at` on, and how many these are; 5 for more than four.
+    fn collect(&mut self, lookup: &LookupRef, at: usize) -> usize
+        requires { at ≤ 17179869180 }
+        ensures { record {
+          marks : self.new.marks ≡ self.old.marks;
+          values : Collected (pack_of lookup.now.pack.bytes.now) (lookup_value lookup.now).entries lookup.now.view.entries at
+              self.old.bad self.new.bad result;
+        } }
+    {
+        let mut n: usize = 0;
+        for e in 0..lookup.view.entries {
+            let entry = lookup.entry(e);
+            let hit = names_missing(&lookup.pack, entry);
+            n = self.keep(at, n, hit, entry.value);
+            if 4 < n {
+                return 5;
+            }
         }
-        Err(stop) => Some(stop),
+        n
+    }
+
+    // The mark of field k, of which n readings were collected, if there was room.
+    fn mark_of(&self, n: usize, k: u32) -> u8
+        requires { n ≤ 5 }
+        ensures { result ≡ (if n == 0 then 1 else (if 4 * k + 4 ≤ᵇ length self.now.bad then n + 1 else 6)) }
+    {
+        if n == 0 {
+            return FREE;
+        }
+        if 4 * k as usize + 4 <= self.bad.len() {
+            return n as u8 + 1;
+        }
+        TOO_MANY
+    }
+
+    // Field k, which stops by its reading alone, is marked; where it names a fieldtype lookup its readings are collected at the second visit.
+    fn remember(&mut self, found: &FoundPgn, k: u32, lookup: &Option<LookupRef>)
+        requires { record {
+          remembered : Remembered (pack_of found.now.pgn.pack.bytes.now) (pgn_value found.now.pgn) self.old;
+          named : Named found.now.pgn.pack.bytes.now (lookup_ref (field_at (pgn_value found.now.pgn) k)) lookup.now;
+          only : OnlyByReading (pack_of found.now.pgn.pack.bytes.now) (pgn_value found.now.pgn) k;
+        } }
+        ensures { Remembered (pack_of found.now.pgn.pack.bytes.now) (pgn_value found.now.pgn) self.new }
+    {
+        let Some(lookup) = lookup else {
+            self.mark(k, FREE);
+            return;
+        };
+        let m = self.mark_at(k);
+        if m == 0 {
+            self.mark(k, SEEN);
+            return;
+        }
+        if m != SEEN {
+            return;
+        }
+        let n = self.collect(lookup, 4 * k as usize);
+        let new = self.mark_of(n, k);
+        self.mark(k, new);
+    }
+
+    // The stop at field k of a PGN, with this reading.
+    pub fn stop_at(&mut self, found: &FoundPgn, k: u32, reading: u64) -> Option<Stop>
+        requires { record {
+          remembered : Remembered (pack_of found.now.pgn.pack.bytes.now) (pgn_value found.now.pgn) self.old;
+          field : k < found.now.pgn.view.fields;
+        } }
+        ensures { record {
+          stop : result ≡ stop_at (pack_of found.now.pgn.pack.bytes.now) (pgn_value found.now.pgn)
+              (placed (layout (pgn_value found.now.pgn)) (suc k)) k reading;
+          remembered : Remembered (pack_of found.now.pgn.pack.bytes.now) (pgn_value found.now.pgn) self.new;
+        } }
+    {
+        if self.lets_pass(k, reading) {
+            return None;
+        }
+        match judge(found, k, reading) {
+            Ok(lookup) => {
+                self.remember(found, k, &lookup);
+                None
+            }
+            Err(stop) => Some(stop),
+        }
     }
 }

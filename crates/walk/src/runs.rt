@@ -1,15 +1,15 @@
 // Runs: visits one after the other that need no field's record, within stretches and from a set's pass into the next.
 ghost use Rattle.std.specs.Prelude.{◌≡◌, true, false, Some, None, ℕ, ◌+◌, ◌-◌, ◌≤◌, ◌<◌, length, get_or, set};
-ghost use Rattle.walk.specs.Runs.{Straight, Sound, Turns, PassesOn, RunsTo, written};
+ghost use Rattle.walk.specs.Runs.{Sound, PassesOn, RunsTo, RunsAlong, reached, written};
 ghost use Rattle.walk.specs.StopParts.{lets_pass};
-ghost use Rattle.walk.specs.declared.stretches.Ending.{Ending};
-ghost use Rattle.pack.specs.declared.protocol.FieldOrder.{FieldOrder};
+ghost use Rattle.walk.specs.declared.runs.RunEnd.{RunEnd};
+ghost use Rattle.walk.specs.declared.runs.StretchEnd.TheVariants.{Begins};
 
-use crate::known::lets_pass;
+use crate::known::Memory;
 use crate::orders::{index_of, later_order};
-use crate::passes::{Further, left_at};
+use crate::passes::Passes;
 use crate::sets::Sets;
-use crate::stretches::{Stretch, ahead, is_in, stretch_at};
+use crate::stretches::{Ending, Stretch, ahead, is_in, stretch_at};
 use pack::protocol::{FieldIndex, FieldOrder, same_order};
 
 // Where a run ends: the order there, and the number of visits by then.
@@ -19,12 +19,11 @@ pub struct RunEnd {
     pub visits: usize,
 }
 
-// The same of a run within one stretch; and whether it ends only since a pass begins outside the stretch.
+// Where a run within one stretch ends: the run itself ends there, or a pass begins there, outside the stretch.
 #[derive(Clone, Copy)]
-pub struct StretchEnd {
-    pub order: FieldOrder,
-    pub visits: usize,
-    pub again: bool,
+pub enum StretchEnd {
+    Ends(RunEnd),
+    Begins(RunEnd),
 }
 
 // "each visit takes one reading and writes the index": the visit after n others.
@@ -47,8 +46,7 @@ fn write_visits(visits: &mut [u32], m: usize, k: FieldIndex, n: usize)
 
 // The same of as many of them as are known not to stop at their readings; and how many these are.
 fn write_passing(
-    marks: &[u8],
-    bad: &[u64],
+    memory: &Memory,
     readings: &[u64],
     visits: &mut [u32],
     m: usize,
@@ -63,12 +61,12 @@ fn write_passing(
     ensures { record {
       few : result ≤ n;
       out : visits.new ≡ written visits.old m k.0 result;
-      passing : (j : ℕ) → j < result → lets_pass marks.now bad.now (k.0 + j) (get_or readings.now (m + j) 0) ≡ true;
+      passing : (j : ℕ) → j < result → lets_pass memory.now (k.0 + j) (get_or readings.now (m + j) 0) ≡ true;
     } }
 {
     for j in 0..n {
         let field = k.0 + j as u32;
-        if !lets_pass(marks, bad, field, readings[m + j]) {
+        if !memory.lets_pass(field, readings[m + j]) {
             return j;
         }
         write_visit(visits, m + j, FieldIndex(field));
@@ -76,11 +74,11 @@ fn write_passing(
     n
 }
 
-// The visits from the order o on within a stretch, after m others; and how many these are.
+// The visits from the order o to before another, after m others; and how many these are. Of free orders the memory is not asked.
 fn leap(
-    marks: &[u8],
-    bad: &[u64],
-    stretch: Stretch,
+    memory: &Memory,
+    free: bool,
+    to: FieldOrder,
     o: FieldOrder,
     readings: &[u64],
     visits: &mut [u32],
@@ -88,138 +86,148 @@ fn leap(
 ) -> usize
     requires { record {
       first : 1 ≤ o.0;
-      to : o.0 ≤ stretch.to.0;
-      free : stretch.free ≡ true → (x : ℕ) → o.0 ≤ x → x < stretch.to.0 → get_or marks.now (x - 1) 0 ≡ 1;
+      within : o.0 ≤ to.0;
+      marked : free ≡ true → (x : ℕ) → o.0 ≤ x → x < to.0 → get_or memory.now.marks (x - 1) 0 ≡ 1;
       read : m ≤ length readings.now;
       room : length readings.now ≤ length visits.old;
     } }
     ensures { record {
       read : m + result ≤ length readings.now;
-      within : o.0 + result ≤ stretch.to.0;
+      within : o.0 + result ≤ to.0;
       out : visits.new ≡ written visits.old m (o.0 - 1) result;
       passing : (j : ℕ) → j < result
-          → lets_pass marks.now bad.now (o.0 - 1 + j) (get_or readings.now (m + j) 0) ≡ true;
+          → lets_pass memory.now (o.0 - 1 + j) (get_or readings.now (m + j) 0) ≡ true;
     } }
 {
-    let n = ahead(stretch, o, readings.len() - m);
+    let n = ahead(to, o, readings.len() - m);
     let k = index_of(o);
-    if stretch.free {
+    if free {
         write_visits(visits, m, k, n);
         return n;
     }
-    write_passing(marks, bad, readings, visits, m, k, n)
+    write_passing(memory, readings, visits, m, k, n)
 }
 
-// Where a pass of set k ends: whether another begins, which is counted then. One number is written, of endless ones none.
-fn begins(passes: &mut [u64], k: usize) -> bool
-    requires { record { set : k < 4; sixteen : length passes.old ≡ 16 } }
-    ensures { record {
-      kept : result ≡ false → passes.new ≡ passes.old;
-      turns : result ≡ true → Turns passes.old k passes.new;
-    } }
-{
-    let Some(further) = left_at(passes, k) else {
-        return false;
-    };
-    let Further::More(more) = further else {
-        return true;
-    };
-    if more == 0 {
-        return false;
-    }
-    passes[4 * k + 2] = more - 1;
-    true
-}
-
-// At the order o, after m visits: whether it ends the stretch with a set, the visit there is known not to stop, and another pass of the set
-// begins behind it, which is counted then: its first order.
+// At the order o, after m visits: whether it is the one behind which set k ends, the visit there is known not to stop, and another pass of the
+// set begins, which is counted then.
 fn pass_on(
-    marks: &[u8],
-    bad: &[u64],
-    passes: &mut [u64],
-    stretch: Stretch,
+    memory: &Memory,
+    passes: &mut Passes,
+    to: FieldOrder,
+    k: usize,
     o: FieldOrder,
     readings: &[u64],
     m: usize,
-) -> Option<FieldOrder>
-    requires { record {
-      first : 1 ≤ o.0;
-      set : (x : Ending) → stretch.ending ≡ Some x → x.set < 4;
-      sixteen : length passes.old ≡ 16;
-    } }
+) -> bool
+    requires { record { first : 1 ≤ o.0; set : k < 4 } }
     ensures { record {
-      kept : result ≡ None → passes.new ≡ passes.old;
-      passes : (start : FieldOrder) → result ≡ Some start
-          → PassesOn marks.now bad.now readings.now stretch m o.0 passes.old start passes.new;
+      kept : result ≡ false → passes.new.numbers ≡ passes.old.numbers;
+      on : result ≡ true → PassesOn memory.now readings.now to.0 k m o.0 passes.old.numbers passes.new.numbers;
     } }
 {
-    if readings.len() <= m || !same_order(o, stretch.to) {
-        return None;
+    if readings.len() <= m || !same_order(o, to) {
+        return false;
     }
-    let ending = stretch.ending?;
-    let k = index_of(o);
-    if !lets_pass(marks, bad, k.0, readings[m]) {
-        return None;
+    let field = index_of(o);
+    if !memory.lets_pass(field.0, readings[m]) {
+        return false;
     }
-    begins(passes, ending.set).then_some(ending.start)
+    passes.begins(k)
 }
 
-// From the beginning of a stretch, with n visits made: its orders, and from a set's pass into the next as long as it begins among them.
+// From the beginning of a stretch that a set ends, with n visits made: its orders, and from the set's pass into the next as long as it begins
+// among them.
+fn run_passes(
+    memory: &Memory,
+    passes: &mut Passes,
+    stretch: Stretch,
+    ending: Ending,
+    readings: &[u64],
+    visits: &mut [u32],
+    n: usize,
+) -> StretchEnd
+    requires { record {
+      sound : Sound memory.now stretch;
+      ends : stretch.ending ≡ Some ending;
+      read : n ≤ length readings.now;
+      room : length readings.now ≤ length visits.old;
+    } }
+    ensures { record {
+      more : (at : RunEnd) → result ≡ Begins at → n < at.visits;
+      along : RunsAlong memory.now readings.now visits.old n stretch passes.old.numbers visits.new (reached result)
+          passes.new.numbers;
+    } }
+{
+    let from = stretch.from;
+    let to = stretch.to;
+    let free = stretch.free;
+    let set = ending.set;
+    let start = ending.start;
+    let mut here = from;
+    let mut m = n;
+    while is_in(from, to, here) {
+        let made = leap(memory, free, to, here, readings, visits, m);
+        here = later_order(here, made);
+        m += made;
+        if !pass_on(memory, passes, to, set, here, readings, m) {
+            return StretchEnd::Ends(RunEnd {
+                order: here,
+                visits: m,
+            });
+        }
+        write_visit(visits, m, index_of(here));
+        here = start;
+        m += 1;
+    }
+    StretchEnd::Begins(RunEnd {
+        order: here,
+        visits: m,
+    })
+}
+
+// From the beginning of a stretch, with n visits made.
 fn run_stretch(
-    marks: &[u8],
-    bad: &[u64],
-    passes: &mut [u64],
+    memory: &Memory,
+    passes: &mut Passes,
     stretch: Stretch,
     readings: &[u64],
     visits: &mut [u32],
     n: usize,
 ) -> StretchEnd
     requires { record {
-      sound : Sound marks.now stretch;
-      sixteen : length passes.old ≡ 16;
+      sound : Sound memory.now stretch;
       read : n ≤ length readings.now;
       room : length readings.now ≤ length visits.old;
     } }
     ensures { record {
-      at_least : n ≤ result.visits;
-      more : result.again ≡ true → n < result.visits;
-      read : result.visits ≤ length readings.now;
-      first : 1 ≤ result.order.0;
-      within : (v : Sets) → Straight v stretch → result.order.0 ≤ v.fields;
-      runs : (v : Sets) → Straight v stretch → RunsTo v marks.now bad.now readings.now visits.old n
-          stretch.from.0 passes.old visits.new result.visits result.order.0 passes.new;
+      more : (at : RunEnd) → result ≡ Begins at → n < at.visits;
+      along : RunsAlong memory.now readings.now visits.old n stretch passes.old.numbers visits.new (reached result)
+          passes.new.numbers;
     } }
 {
-    let mut here = stretch.from;
-    let mut m = n;
-    while is_in(stretch, here) {
-        let made = leap(marks, bad, stretch, here, readings, visits, m);
-        here = later_order(here, made);
-        m += made;
-        let Some(start) = pass_on(marks, bad, passes, stretch, here, readings, m) else {
-            return StretchEnd {
-                order: here,
-                visits: m,
-                again: false,
-            };
-        };
-        write_visit(visits, m, index_of(here));
-        here = start;
-        m += 1;
+    if let Some(ending) = stretch.ending {
+        return run_passes(memory, passes, stretch, ending, readings, visits, n);
     }
-    StretchEnd {
-        order: here,
-        visits: m,
-        again: true,
-    }
+    let made = leap(
+        memory,
+        stretch.free,
+        stretch.to,
+        stretch.from,
+        readings,
+        visits,
+        n,
+    );
+    StretchEnd::Ends(RunEnd {
+        order: later_order(stretch.from, made),
+        visits: n + made,
+    })
 }
 
 // From the order that is due, with n visits made.
 pub fn run(
     sets: Sets,
-    marks: &[u8],
-    bad: &[u64],
-    passes: &mut [u64],
+    memory: &Memory,
+    passes: &mut Passes,
     order: FieldOrder,
     readings: &[u64],
     visits: &mut [u32],
@@ -229,29 +237,26 @@ pub fn run(
       first : 1 ≤ order.0;
       within : order.0 ≤ sets.fields;
       small : sets.fields < 4294967295;
-      sixteen : length passes.old ≡ 16;
       read : n ≤ length readings.now;
       room : length readings.now ≤ length visits.old;
     } }
     ensures { record {
       at_least : n ≤ result.visits;
       read : result.visits ≤ length readings.now;
-      runs : RunsTo sets marks.now bad.now readings.now visits.old n order.0 passes.old
-          visits.new result.visits result.order.0 passes.new;
+      runs : RunsTo sets memory.now readings.now visits.old n order.0 passes.old.numbers visits.new result.visits result.order.0
+          passes.new.numbers;
     } }
 {
     let mut here = order;
     let mut m = n;
     loop {
-        let stretch = stretch_at(sets, marks, here);
-        let made = run_stretch(marks, bad, passes, stretch, readings, visits, m);
-        if !made.again {
-            return RunEnd {
-                order: made.order,
-                visits: made.visits,
-            };
+        let stretch = stretch_at(sets, memory, here);
+        match run_stretch(memory, passes, stretch, readings, visits, m) {
+            StretchEnd::Ends(end) => return end,
+            StretchEnd::Begins(next) => {
+                here = next.order;
+                m = next.visits;
+            }
         }
-        here = made.order;
-        m = made.visits;
     }
 }

@@ -15,10 +15,10 @@ ghost use Rattle.walk.specs.WalkCall.{ending};
 ghost use Rattle.walk.specs.declared.passes.Settling.TheVariants.{Due};
 ghost use Rattle.pack.specs.declared.protocol.FieldOrder.{FieldOrder};
 
-use crate::known::stop_at;
+use crate::known::Memory;
 use crate::named::FoundPgn;
 use crate::orders::{index_of, next_order};
-use crate::passes::{Settling, visit};
+use crate::passes::{Passes, Settling};
 use crate::runs::run;
 use crate::sets::Sets;
 use crate::stops::Stop;
@@ -42,31 +42,29 @@ pub struct Ran {
 // At a due field, with its reading.
 fn step_at(
     found: &FoundPgn,
-    marks: &mut [u8],
-    bad: &mut [u64],
-    passes: &mut [u64],
+    memory: &mut Memory,
+    passes: &mut Passes,
     o: FieldOrder,
     reading: u64,
 ) -> Stepping
     requires { record {
-      remembered : Remembered (pack_of found.now.pgn.pack.bytes.now) (pgn_value found.now.pgn) marks.old bad.old;
-      sixteen : length passes.old ≡ 16;
+      remembered : Remembered (pack_of found.now.pgn.pack.bytes.now) (pgn_value found.now.pgn) memory.old;
       first : 1 ≤ o.0;
       within : o.0 ≤ length (pgn_value found.now.pgn).fields;
     } }
     ensures { record {
-      step : step_of (layout (pgn_value found.now.pgn)) result passes.new ≡ one_step (layout (pgn_value found.now.pgn))
+      step : step_of (layout (pgn_value found.now.pgn)) result passes.new.numbers ≡ one_step (layout (pgn_value found.now.pgn))
           (stop_at (pack_of found.now.pgn.pack.bytes.now) (pgn_value found.now.pgn))
-          (due (place_of o.0 passes.old) (memory_of passes.old)) reading;
+          (due (place_of o.0 passes.old.numbers) (memory_of passes.old.numbers)) reading;
       ahead : 1 ≤ next_of result;
-      remembered : Remembered (pack_of found.now.pgn.pack.bytes.now) (pgn_value found.now.pgn) marks.new bad.new;
+      remembered : Remembered (pack_of found.now.pgn.pack.bytes.now) (pgn_value found.now.pgn) memory.new;
     } }
 {
     let field = index_of(o);
-    if let Some(stop) = stop_at(found, marks, bad, field.0, reading) {
+    if let Some(stop) = memory.stop_at(found, field.0, reading) {
         return Stepping::Ended(End::Stop(stop));
     }
-    visit(found.sets, passes, o, reading);
+    passes.visit(found.sets, o, reading);
     let next = next_order(o);
     Stepping::Visited { field, next }
 }
@@ -74,26 +72,24 @@ fn step_at(
 // One step of the walk over a PGN.
 pub fn step(
     found: &FoundPgn,
-    marks: &mut [u8],
-    bad: &mut [u64],
-    passes: &mut [u64],
+    memory: &mut Memory,
+    passes: &mut Passes,
     settling: Settling,
     reading: u64,
 ) -> Stepping
     requires { record {
-      remembered : Remembered (pack_of found.now.pgn.pack.bytes.now) (pgn_value found.now.pgn) marks.old bad.old;
-      sixteen : length passes.old ≡ 16;
-      within : Within (layout (pgn_value found.now.pgn)) (settled_of settling passes.old);
+      remembered : Remembered (pack_of found.now.pgn.pack.bytes.now) (pgn_value found.now.pgn) memory.old;
+      within : Within (layout (pgn_value found.now.pgn)) (settled_of settling passes.old.numbers);
     } }
     ensures { record {
-      step : step_of (layout (pgn_value found.now.pgn)) result passes.new ≡ one_step (layout (pgn_value found.now.pgn))
-          (stop_at (pack_of found.now.pgn.pack.bytes.now) (pgn_value found.now.pgn)) (settled_of settling passes.old) reading;
+      step : step_of (layout (pgn_value found.now.pgn)) result passes.new.numbers ≡ one_step (layout (pgn_value found.now.pgn))
+          (stop_at (pack_of found.now.pgn.pack.bytes.now) (pgn_value found.now.pgn)) (settled_of settling passes.old.numbers) reading;
       ahead : 1 ≤ next_of result;
-      remembered : Remembered (pack_of found.now.pgn.pack.bytes.now) (pgn_value found.now.pgn) marks.new bad.new;
+      remembered : Remembered (pack_of found.now.pgn.pack.bytes.now) (pgn_value found.now.pgn) memory.new;
     } }
 {
     match settling {
-        Settling::Due(order) => step_at(found, marks, bad, passes, order, reading),
+        Settling::Due(order) => step_at(found, memory, passes, order, reading),
         Settling::Halted => Stepping::Ended(End::Stop(Stop::CounterNotCurrent)),
         Settling::Past => Stepping::Ended(End::Whole),
     }
@@ -113,9 +109,8 @@ pub fn used(settling: Settling) -> End
 // A run from where the walk is, with n visits made.
 pub fn run_on(
     sets: Sets,
-    marks: &[u8],
-    bad: &[u64],
-    passes: &mut [u64],
+    memory: &Memory,
+    passes: &mut Passes,
     settling: Settling,
     readings: &[u64],
     visits: &mut [u32],
@@ -124,7 +119,6 @@ pub fn run_on(
     requires { record {
       due : (o : FieldOrder) → settling ≡ Due o → record { first : 1 ≤ o.0; within : o.0 ≤ sets.fields };
       small : sets.fields < 4294967295;
-      sixteen : length passes.old ≡ 16;
       read : n ≤ length readings.now;
       room : length readings.now ≤ length visits.old;
     } }
@@ -132,9 +126,9 @@ pub fn run_on(
       at_least : n ≤ result.visits;
       read : result.visits ≤ length readings.now;
       ran : (L : Layout) → SetsAre L sets → (stops : Stops)
-          → ((k reading : ℕ) → lets_pass marks.now bad.now k reading ≡ true → stops (placed L (suc k)) k reading ≡ None)
-          → Run L stops readings.now visits.old n (settled_of settling passes.old) visits.new result.visits
-          (settled_of result.settling passes.new);
+          → ((k reading : ℕ) → lets_pass memory.now k reading ≡ true → stops (placed L (suc k)) k reading ≡ None)
+          → Run L stops readings.now visits.old n (settled_of settling passes.old.numbers) visits.new result.visits
+          (settled_of result.settling passes.new.numbers);
     } }
 {
     let Settling::Due(order) = settling else {
@@ -143,7 +137,7 @@ pub fn run_on(
             visits: n,
         };
     };
-    let end = run(sets, marks, bad, passes, order, readings, visits, n);
+    let end = run(sets, memory, passes, order, readings, visits, n);
     Ran {
         settling: Settling::Due(end.order),
         visits: end.visits,

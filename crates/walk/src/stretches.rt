@@ -4,7 +4,7 @@ ghost use Rattle.pack.specs.Meaning.{opt_order};
 ghost use Rattle.walk.specs.ByPlace.{counts};
 ghost use Rattle.walk.specs.Runs.{edge, PlainAt, EndsBehind, Straight, Sound};
 
-use crate::known::is_free;
+use crate::known::Memory;
 use crate::orders::{index_of, later_order, next_order};
 use crate::passes::is_counted;
 use crate::sets::{Set, Sets};
@@ -95,12 +95,12 @@ fn plain_orders(sets: Sets, o: FieldOrder) -> u32
 }
 
 // Whether n fields from k on are known to stop at no reading.
-fn all_free(marks: &[u8], k: FieldIndex, n: u32) -> bool
+fn all_free(memory: &Memory, k: FieldIndex, n: u32) -> bool
     requires { k.0 + n < 4294967296 }
-    ensures { result ≡ true → (j : ℕ) → j < n → get_or marks.now (k.0 + j) 0 ≡ 1 }
+    ensures { result ≡ true → (j : ℕ) → j < n → get_or memory.now.marks (k.0 + j) 0 ≡ 1 }
 {
     for j in 0..n {
-        if !is_free(marks, k.0 + j) {
+        if !memory.is_free(k.0 + j) {
             return false;
         }
     }
@@ -134,12 +134,12 @@ fn ending_behind(sets: Sets, o: FieldOrder) -> Option<Ending>
 }
 
 // The stretch that begins at the order o.
-pub fn stretch_at(sets: Sets, marks: &[u8], o: FieldOrder) -> Stretch
+pub fn stretch_at(sets: Sets, memory: &Memory, o: FieldOrder) -> Stretch
     requires { record { first : 1 ≤ o.0; within : o.0 ≤ sets.fields; small : sets.fields < 4294967295 } }
-    ensures { record { from : result.from.0 ≡ o.0; straight : Straight sets result; sound : Sound marks.now result } }
+    ensures { record { from : result.from.0 ≡ o.0; straight : Straight sets result; sound : Sound memory.now result } }
 {
     let n = plain_orders(sets, o);
-    let free = all_free(marks, index_of(o), n);
+    let free = all_free(memory, index_of(o), n);
     let to = later_order(o, n as usize);
     let ending = ending_behind(sets, to);
     Stretch {
@@ -150,20 +150,20 @@ pub fn stretch_at(sets: Sets, marks: &[u8], o: FieldOrder) -> Stretch
     }
 }
 
-// Whether the order is the stretch's or the one that ends it.
-pub fn is_in(stretch: Stretch, o: FieldOrder) -> bool
+// Whether the order o is from one to another.
+pub fn is_in(from: FieldOrder, to: FieldOrder, o: FieldOrder) -> bool
     ensures { record {
-      inside : result ≡ true → record { from : stretch.from.0 ≤ o.0; to : o.0 ≤ stretch.to.0 };
-      outside : result ≡ false → stretch.from.0 ≤ o.0 → o.0 ≤ stretch.to.0 → ⊥;
+      inside : result ≡ true → record { begun : from.0 ≤ o.0; within : o.0 ≤ to.0 };
+      outside : result ≡ false → from.0 ≤ o.0 → o.0 ≤ to.0 → ⊥;
     } }
 {
-    !precedes(o, stretch.from) && !precedes(stretch.to, o)
+    !precedes(o, from) && !precedes(to, o)
 }
 
-// How many visits are made from o to the stretch's end, with so many readings left.
-pub fn ahead(stretch: Stretch, o: FieldOrder, readings: usize) -> usize
-    requires { o.0 ≤ stretch.to.0 }
-    ensures { record { read : result ≤ readings; within : o.0 + result ≤ stretch.to.0 } }
+// How many visits are made from o to before another order, with so many readings left.
+pub fn ahead(to: FieldOrder, o: FieldOrder, readings: usize) -> usize
+    requires { o.0 ≤ to.0 }
+    ensures { record { read : result ≤ readings; within : o.0 + result ≤ to.0 } }
 {
-    readings.min((stretch.to.0 - o.0) as usize)
+    readings.min((to.0 - o.0) as usize)
 }

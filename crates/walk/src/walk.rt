@@ -11,9 +11,10 @@ ghost use Rattle.walk.specs.Walk.{walk};
 ghost use Rattle.walk.specs.WalkCall.{Told, Walks, TellsHeld};
 
 use crate::held::held_at;
+use crate::known::Memory;
 use crate::named::{FoundPgn, find_pgn, found_pgn};
 use crate::orders::first_order;
-use crate::passes::settle;
+use crate::passes::Passes;
 use crate::runs::write_visit;
 use crate::sets::stop_1;
 use crate::steps::{Stepping, run_on, step, used};
@@ -38,17 +39,15 @@ pub struct Ended {
 // The walk past stop 1, with a memory of what is known of the fields. `settle` is called here alone, so that the compiler inlines it.
 fn walk_on(
     found: &FoundPgn,
-    marks: &mut [u8],
-    bad: &mut [u64],
-    passes: &mut [u64],
+    memory: &mut Memory,
+    passes: &mut Passes,
     readings: &[u64],
     visits: &mut [u32],
 ) -> Ended
     requires { record {
-      remembered : Remembered (pack_of found.now.pgn.pack.bytes.now) (pgn_value found.now.pgn) marks.old bad.old;
-      sixteen : length passes.old ≡ 16;
-      left : (k : ℕ) → left_of (left_at passes.old k) ≡ None;
-      latest : (k : ℕ) → memory_of passes.old k ≡ 0;
+      remembered : Remembered (pack_of found.now.pgn.pack.bytes.now) (pgn_value found.now.pgn) memory.old;
+      left : (k : ℕ) → left_of (left_at passes.old.numbers k) ≡ None;
+      latest : (k : ℕ) → memory_of passes.old.numbers k ≡ 0;
       no_stop_1 : stop_1 (layout (pgn_value found.now.pgn)) ≡ false;
       room : length readings.now ≤ length visits.old;
     } }
@@ -59,14 +58,14 @@ fn walk_on(
     let mut here = first_order();
     let mut n = 0;
     loop {
-        let settling = settle(sets, passes, here);
-        let ran = run_on(sets, marks, bad, passes, settling, readings, visits, n);
+        let settling = passes.settle(sets, here);
+        let ran = run_on(sets, memory, passes, settling, readings, visits, n);
         let made = ran.visits;
         if readings.len() <= made {
             let end = used(ran.settling);
             return Ended { end, visits: made };
         }
-        match step(found, marks, bad, passes, ran.settling, readings[made]) {
+        match step(found, memory, passes, ran.settling, readings[made]) {
             Stepping::Ended(end) => return Ended { end, visits: made },
             Stepping::Visited { field, next } => {
                 write_visit(visits, made, field);
@@ -89,10 +88,14 @@ fn walk_at(found: &FoundPgn, readings: &[u64], visits: &mut [u32]) -> Ended
             visits: 0,
         };
     }
-    let mut marks = [0u8; 32768];
-    let mut bad = [0u64; 512];
-    let mut passes = [0u64; 16];
-    walk_on(found, &mut marks, &mut bad, &mut passes, readings, visits)
+    let mut memory = Memory {
+        marks: [0u8; 32768],
+        bad: [0u64; 512],
+    };
+    let mut passes = Passes {
+        numbers: [0u64; 16],
+    };
+    walk_on(found, &mut memory, &mut passes, readings, visits)
 }
 
 // "then 21, 23, 25": 25, and the walk.

@@ -12,7 +12,7 @@ returns-then-counter-eq0 c =
 
 pub returns-then-placed : goal.returns-then-placed
 returns-then-placed c =
-    λ L a p po g k gk. (c.passes.ensures
+    λ L a p po g k gk. (c.counted_passes.ensures
     ∙ rw c.if-placed.true at (arrive_at L p c.args.o.0 po g k c.args.count gk (opt_order c.args.counter)
     c.in-Some.counter.0 (ap opt_order c.in-Some.is) c.if-counter-eq0.false c.placed.result
     (rw c.index_of.ensures at (c.placed.ensures L a))))

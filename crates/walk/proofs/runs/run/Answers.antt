@@ -3,40 +3,40 @@ use native.Mathlib.Omega.{arith}
 use Rattle.walk.proofs.Plain.{runs_none, runs_then}
 use Rattle.walk.proofs.runs.run.Goals as goal
 
--- src/runs.rt:258:5
-pub loop-sets-init : goal.loop-sets-init
-loop-sets-init c =
+pub loop-end-init : goal.loop-end-init
+loop-end-init c =
     record {
       first = c.requires.first;
       within = c.requires.within;
       at_least = omega (arith, c);
       read = c.requires.read;
-      sixteen = c.requires.sixteen;
       same = refl;
       runs = runs_none;
     }
 
--- src/runs.rt:263:13
-pub returns-then-not-made : goal.returns-then-not-made
-returns-then-not-made c =
-    let made = c.run_stretch-made.ensures in
+pub returns-in-Ends : goal.returns-in-Ends
+returns-in-Ends c =
+    let made = rw c.in-Ends.is at c.run_stretch.ensures.along in
     record {
-      at_least = omega (arith, made.at_least, c.loop-sets.invariant.at_least);
+      at_least = omega (arith, made.at_least, c.loop-end.invariant.at_least);
       read = made.read;
-      runs = runs_then c.loop-sets.invariant.runs (rw c.stretch_at-stretch.ensures.from at (made.runs c.args.sets c.stretch_at-stretch.ensures.straight));
+      runs = runs_then c.loop-end.invariant.runs (rw c.stretch_at-stretch.ensures.from at (made.runs c.args.sets c.stretch_at-stretch.ensures.straight));
     }
 
--- src/runs.rt:258:5
-pub loop-sets-preserved : goal.loop-sets-preserved
-loop-sets-preserved c =
+pub loop-end-smaller : goal.loop-end-smaller
+loop-end-smaller c =
+    let made = rw c.in-Begins.is at c.run_stretch.ensures.along in
+    omega (arith, c.run_stretch.ensures.more c.in-Begins.next c.in-Begins.is, made.read)
+
+pub loop-end-preserved : goal.loop-end-preserved
+loop-end-preserved c =
     let sets = c.args.sets in
-    let made = c.run_stretch-made.ensures in
+    let made = rw c.in-Begins.is at c.run_stretch.ensures.along in
     record {
       first = made.first;
       within = made.within sets c.stretch_at-stretch.ensures.straight;
-      at_least = omega (arith, made.at_least, c.loop-sets.invariant.at_least);
+      at_least = omega (arith, made.at_least, c.loop-end.invariant.at_least);
       read = made.read;
-      sixteen = c.run_stretch-made.auto.passes ∙ c.loop-sets.invariant.sixteen;
-      same = c.run_stretch-made.auto.visits ∙ c.loop-sets.invariant.same;
-      runs = runs_then c.loop-sets.invariant.runs (rw c.stretch_at-stretch.ensures.from at (made.runs sets c.stretch_at-stretch.ensures.straight));
+      same = c.run_stretch.auto.visits ∙ c.loop-end.invariant.same;
+      runs = runs_then c.loop-end.invariant.runs (rw c.stretch_at-stretch.ensures.from at (made.runs sets c.stretch_at-stretch.ensures.straight));
     }

@@ -4,17 +4,16 @@ use lib.ListN.{length}
 use Rattle.walk.specs.Runs.{RunsTo}
 use Rattle.walk.proofs.runs.run.Given as goal
 
-abbrev pub invariant-loop-sets : goal.invariant-loop-sets
-invariant-loop-sets l =
+abbrev pub invariant-loop-end : goal.invariant-loop-end
+invariant-loop-end l =
     record {
       first : 1 ≤ l.here.0;
       within : l.here.0 ≤ l.sets.fields;
       at_least : l.n ≤ l.m;
       read : l.m ≤ length l.readings;
-      sixteen : length l.passes ≡ 16;
       same : length l.visits ≡ length l.initial.visits;
-      runs : RunsTo l.sets l.marks l.bad l.readings l.initial.visits l.n l.initial.here.0 l.initial.passes l.visits l.m l.here.0 l.passes;
+      runs : RunsTo l.sets l.memory l.readings l.initial.visits l.n l.initial.here.0 l.initial.passes.numbers l.visits l.m l.here.0 l.passes.numbers;
     }
 
-abbrev pub decreases-loop-sets : goal.decreases-loop-sets
-decreases-loop-sets l = length l.readings - l.m
+abbrev pub decreases-loop-end : goal.decreases-loop-end
+decreases-loop-end l = length l.readings - l.m

@@ -10,5 +10,5 @@ abbrev pub invariant-loop-j : goal.invariant-loop-j
 invariant-loop-j l =
     record {
       out : l.visits ≡ written l.initial.visits l.m l.k.0 l.j;
-      passing : (i : ℕ) → i < l.j → lets_pass l.marks l.bad (l.k.0 + i) (get_or l.readings (l.m + i) 0) ≡ true;
+      passing : (i : ℕ) → i < l.j → lets_pass l.memory (l.k.0 + i) (get_or l.readings (l.m + i) 0) ≡ true;
     }

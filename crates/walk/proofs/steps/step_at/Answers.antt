@@ -13,7 +13,7 @@ use Rattle.walk.proofs.steps.step_at.Goals as goal
 
 pub returns-in-Some : goal.returns-in-Some
 returns-in-Some c =
-    let f = c.args.found.now in let w = c.args.passes.now in
+    let f = c.args.found.now in let w = c.args.passes.now.numbers in
     let P = pack_of f.pgn.pack.bytes.now in
     let p = pgn_value f.pgn in
     record {
@@ -29,10 +29,10 @@ next_order-next-requires c =
 
 pub returns : goal.returns
 returns c =
-    let f = c.args.found.now in let w = c.args.passes.now in let reading = c.args.reading in
+    let f = c.args.found.now in let w = c.args.passes.now.numbers in let reading = c.args.reading in
     let P = pack_of f.pgn.pack.bytes.now in
     let p = pgn_value f.pgn in
-    let w' = c.visit.new.passes in
+    let w' = c.visit.new.self.numbers in
     record {
       step = step_visits (layout p) (stop_at P p) (place_of c.args.o.0 w) (memory_of w) reading c.index_of-field.result.0 c.index_of-field.ensures
           c.requires.first c.in_default.ensures.stop refl

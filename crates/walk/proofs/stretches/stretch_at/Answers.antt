@@ -24,7 +24,7 @@ returns c =
         first = c.requires.first;
         order = omega (arith, c.later_order-to.ensures);
         free = λ h x lo hi. let e : x - 1 ≡ c.index_of.result.0 + (x - o) = omega (arith, lo, c.index_of.ensures, c.requires.first) in
-            ap (λ (i : ℕ). get_or c.args.marks.now i 0) e
+            ap (λ (i : ℕ). get_or c.args.memory.now.marks i 0) e
             ∙ c.all_free-free.ensures h (x - o) (omega (arith, lo, hi, c.later_order-to.ensures));
         set = λ x h. (c.ending_behind-ending.ensures x h).set;
         start = λ x h. (c.ending_behind-ending.ensures x h).first;

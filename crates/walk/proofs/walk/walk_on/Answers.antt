@@ -16,7 +16,7 @@ use Rattle.walk.proofs.walk.walk_on.Goals as goal
 
 pub loop-sets-init : goal.loop-sets-init
 loop-sets-init c =
-    let f = c.args.found.now in let w = c.args.passes.now in
+    let f = c.args.found.now in let w = c.args.passes.now.numbers in
     let P = pack_of f.pgn.pack.bytes.now in let p = pgn_value f.pgn in
     record {
       turns = omega (arith, c);
@@ -25,17 +25,14 @@ loop-sets-init c =
       going = start_going P p c.args.readings.now c.args.visits.now c.requires.no_stop_1
           (settled (layout p) (by_place (layout p)) (place_of c.first_order-here.result.0 w) (memory_of w))
           (begins_at (layout p) w c.requires.left c.requires.latest c.first_order-here.result.0 c.first_order-here.ensures);
-      sixteen = c.requires.sixteen;
-      same_marks = refl;
-      same_bad = refl;
       remembered = c.requires.remembered;
     }
 
 pub run_on-ran-requires : goal.run_on-ran-requires
 run_on-ran-requires c =
     let f = c.args.found.now in let p = pgn_value f.pgn in
-    let w = c.loop-sets.passes in
-    let w' = c.settle-settling.new.passes in
+    let w = c.loop-sets.passes.numbers in
+    let w' = c.settle-settling.new.self.numbers in
     let within = going_within (layout p) c.requires.no_stop_1 _ _ _ _ _ _
     (settled (layout p) (by_place (layout p)) (place_of c.loop-sets.here.0 w) (memory_of w)) c.loop-sets.invariant.going in
     let e = c.settle-settling.ensures (layout p) f.sets_are c.loop-sets.invariant.ahead in
@@ -43,7 +40,6 @@ run_on-ran-requires c =
       due = λ o d. let b = due_within (layout p) c.settle-settling.result w' o d (subst (Within (layout p)) (sym e) within) in
           record { first = b.0; within = omega (arith, b.1, f.sets_are.fields) };
       small = omega (arith, f.sets_are.fields, fields_few f.pgn.at);
-      sixteen = c.settle-settling.auto.passes ∙ c.loop-sets.invariant.sixteen;
       read = c.loop-sets.invariant.turns;
       room = omega (arith, c.loop-sets.invariant.same_visits, c.requires.room);
     }
@@ -52,7 +48,7 @@ pub returns-then-readings-made : goal.returns-then-readings-made
 returns-then-readings-made c =
     let f = c.args.found.now in let readings = c.args.readings.now in
     let P = pack_of f.pgn.pack.bytes.now in let p = pgn_value f.pgn in
-    let w' = c.run_on-ran.new.passes in
+    let w' = c.run_on-ran.new.passes.numbers in
     let g = going_turn (layout p) c.requires.no_stop_1 (stop_at P p) (walk P p readings) readings c.args.visits.now
     (c.settle-settling.ensures (layout p) f.sets_are c.loop-sets.invariant.ahead) c.loop-sets.invariant.going
     (c.run_on-ran.ensures.ran (layout p) f.sets_are (stop_at P p) c.loop-sets.invariant.remembered.never) in
@@ -68,19 +64,18 @@ step-requires c =
     (c.run_on-ran.ensures.ran (layout p) f.sets_are (stop_at P p) c.loop-sets.invariant.remembered.never) in
     record {
       remembered = c.loop-sets.invariant.remembered;
-      sixteen = c.run_on-ran.auto.passes ∙ c.settle-settling.auto.passes ∙ c.loop-sets.invariant.sixteen;
-      within = going_within (layout p) c.requires.no_stop_1 _ _ _ _ _ _ (settled_of c.run_on-ran.result.settling c.run_on-ran.new.passes) g;
+      within = going_within (layout p) c.requires.no_stop_1 _ _ _ _ _ _ (settled_of c.run_on-ran.result.settling c.run_on-ran.new.passes.numbers) g;
     }
 
 pub returns-in-Ended : goal.returns-in-Ended
 returns-in-Ended c =
     let f = c.args.found.now in let readings = c.args.readings.now in
     let P = pack_of f.pgn.pack.bytes.now in let p = pgn_value f.pgn in
-    let w' = c.step.new.passes in
+    let w' = c.step.new.passes.numbers in
     let g = going_turn (layout p) c.requires.no_stop_1 (stop_at P p) (walk P p readings) readings c.args.visits.now
     (c.settle-settling.ensures (layout p) f.sets_are c.loop-sets.invariant.ahead) c.loop-sets.invariant.going
     (c.run_on-ran.ensures.ran (layout p) f.sets_are (stop_at P p) c.loop-sets.invariant.remembered.never) in
-    going_ended (layout p) c.requires.no_stop_1 _ _ _ _ _ _ (settled_of c.run_on-ran.result.settling c.run_on-ran.new.passes) g
+    going_ended (layout p) c.requires.no_stop_1 _ _ _ _ _ _ (settled_of c.run_on-ran.result.settling c.run_on-ran.new.passes.numbers) g
     (omega (arith, c.if-readings-made.false))
     (step_of (layout p) c.step.result w') c.step.ensures.step c.in-Ended.end
     (ap (λ (x : Stepping). step_of (layout p) x w') c.in-Ended.is) (omega (arith, c.run_on-ran.ensures.read, c.requires.room))
@@ -89,7 +84,7 @@ pub loop-sets-preserved : goal.loop-sets-preserved
 loop-sets-preserved c =
     let f = c.args.found.now in let readings = c.args.readings.now in
     let P = pack_of f.pgn.pack.bytes.now in let p = pgn_value f.pgn in
-    let w' = c.step.new.passes in
+    let w' = c.step.new.passes.numbers in
     let next = c.in-Visited.next in
     let g = going_turn (layout p) c.requires.no_stop_1 (stop_at P p) (walk P p readings) readings c.args.visits.now
     (c.settle-settling.ensures (layout p) f.sets_are c.loop-sets.invariant.ahead) c.loop-sets.invariant.going
@@ -99,11 +94,8 @@ loop-sets-preserved c =
       ahead = subst (λ (x : Stepping). 1 ≤ next_of x) c.in-Visited.is c.step.ensures.ahead;
       same_visits = c.write_visit.auto.visits ∙ c.run_on-ran.auto.visits ∙ c.loop-sets.invariant.same_visits;
       going = rw c.write_visit.ensures (going_on (layout p) c.requires.no_stop_1 _ _ _ _ _ _
-          (settled_of c.run_on-ran.result.settling c.run_on-ran.new.passes) g (omega (arith, c.if-readings-made.false)) (step_of (layout p) c.step.result w')
+          (settled_of c.run_on-ran.result.settling c.run_on-ran.new.passes.numbers) g (omega (arith, c.if-readings-made.false)) (step_of (layout p) c.step.result w')
           c.step.ensures.step c.in-Visited.field.0 (settled (layout p) (by_place (layout p)) (place_of next.0 w') (memory_of w'))
           (ap (λ (x : Stepping). step_of (layout p) x w') c.in-Visited.is));
-      sixteen = c.step.auto.passes ∙ c.run_on-ran.auto.passes ∙ c.settle-settling.auto.passes ∙ c.loop-sets.invariant.sixteen;
-      same_marks = c.step.auto.marks ∙ c.loop-sets.invariant.same_marks;
-      same_bad = c.step.auto.bad ∙ c.loop-sets.invariant.same_bad;
       remembered = c.step.ensures.remembered;
     }
