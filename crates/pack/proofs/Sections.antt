@@ -104,7 +104,8 @@ module _ {r : Reader} {o : Offsets} where
       unfolding tree_start tree_list before
       upto_tree t a {x} b = (record { types = a.types; along = rw a.types at (along_then a.along b) }, along_value a.along b.reads)
 
-    pub upto_number : {v : Offsets} {m : ℕ} → Upto r o n (types r.bytes.now (type_list r.bytes.now).next (type_list r.bytes.now).value) (type_part r.bytes.now) d v
+    pub upto_number : {v : Offsets} {m : ℕ}
+        → Upto r o n (types r.bytes.now (type_list r.bytes.now).next (type_list r.bytes.now).value) (type_part r.bytes.now) d v
         → Reads d read_number (Ok m) e
         → Upto r o n (lookup_list r.bytes.now).next (type_part r.bytes.now) e v × (m ≡ (lookup_list r.bytes.now).value)
     unfolding lookup_list

@@ -187,12 +187,7 @@ fn place_pgn(r: &mut Reader, offsets: &mut Offsets, types: u32) -> Result<(), In
     place_fields(r, offsets, types, pgn.fields)
 }
 
-fn place_pgns(
-    r: &mut Reader,
-    offsets: &mut Offsets,
-    types: u32,
-    n: u32,
-) -> Result<(), InputRefusal>
+fn place_pgns(r: &mut Reader, offsets: &mut Offsets, types: u32, n: u32) -> Result<(), InputRefusal>
     ensures { Places (λ s c. pgns types s c n) (λ s c. pgn_offsets types s c n) r.old offsets.old result r.new offsets.new }
 {
     for _i in 0..n {
@@ -202,11 +197,7 @@ fn place_pgns(
 }
 
 // A tree: the count of its PGNs, and them.
-fn place_tree(
-    r: &mut Reader,
-    offsets: &mut Offsets,
-    types: u32,
-) -> Result<Section, InputRefusal>
+fn place_tree(r: &mut Reader, offsets: &mut Offsets, types: u32) -> Result<Section, InputRefusal>
     ensures { PlacesTree types r.old offsets.old result r.new offsets.new }
 {
     let place = offsets.count;
