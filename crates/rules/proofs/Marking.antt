@@ -8,10 +8,11 @@ use mathlib.Core.Bool.{Bool, true, false, ◌||◌}
 use mathlib.Core.List.{List, ◌++◌}
 use lib.ListN.{length, get_or, set, replicate, length-replicate}
 use lib.Seq.{get_or-set_same, get_or-set_other}
+use Rattle.std.proofs.Common.{length-set}
 use Rattle.pack.specs.Notation.{concat_below}
 use Rattle.pack.specs.Value.{Bytes, Lookup, Pack, no_entry, lookup_at}
 use Rattle.rules.specs.LookupWiring.{referenced_by_lookup}
-use Rattle.rules.specs.Marks.{Clear, Marked}
+use Rattle.rules.specs.Marks.{Clear, marked_at, Marked}
 use Rattle.rules.specs.Model.{is_text, fieldtypes}
 use Rattle.rules.specs.Search.{any_below}
 use Rattle.rules.specs.SearchLaws.{any_turn}
@@ -40,15 +41,17 @@ room_replicate n k h = omega (arith, length-replicate n false)
 -- ---- marking
 
 pub marked_none : (P : Pack) (m : List Bool) → Marked P m (λ n. false) m
-marked_none P m = record { marks = λ l h. or_none (get_or m l false) }
+marked_none P m = record { room = refl; marks = λ l h k. or_none (get_or m l false) }
 
 pub marked_as : {P : Pack} {m m' : List Bool} (q r : Bytes → Bool) → ((n : Bytes) → q n ≡ r n) → Marked P m q m' → Marked P m r m'
-marked_as {P} {m} q r e a = record { marks = λ l h. a.marks l h ∙ ap (λ (b : Bool). get_or m l false || b) (e (lookup_at P.lookups l).name) }
+marked_as {P} {m} q r e a =
+    record { room = a.room; marks = λ l h k. a.marks l h k ∙ ap (λ (b : Bool). get_or m l false || b) (e (lookup_at P.lookups l).name) }
 
 pub marked_then : {P : Pack} {m m' m'' : List Bool} (q r : Bytes → Bool) → Marked P m q m' → Marked P m' r m'' → Marked P m (λ n. q n || r n) m''
 marked_then {P} {m} q r a b =
     record {
-      marks = λ l h. b.marks l h ∙ ap (λ (d : Bool). d || r (lookup_at P.lookups l).name) (a.marks l h)
+      room = b.room ∙ a.room;
+      marks = λ l h k. b.marks l h (omega (arith, k, a.room)) ∙ ap (λ (d : Bool). d || r (lookup_at P.lookups l).name) (a.marks l h k)
           ∙ or_regroup (get_or m l false) (q (lookup_at P.lookups l).name) (r (lookup_at P.lookups l).name);
     }
 
@@ -61,38 +64,42 @@ marked_turn f k a b = marked_as (λ n. any_below (f n) k || f n k) (λ n. any_be
 
 -- those below l are done, the others as they were
 pub record MarkedTo (P : Pack) (l : ℕ) (m : List Bool) (q : Bytes → Bool) (m' : List Bool) : Type 0 where
-  pub below : (j : ℕ) → j < l → get_or m' j false ≡ (get_or m j false || q (lookup_at P.lookups j).name)
+  pub room : length m' ≡ length m
+  pub below : (j : ℕ) → j < l → j < length m → get_or m' j false ≡ (get_or m j false || q (lookup_at P.lookups j).name)
   pub above : (j : ℕ) → l ≤ j → get_or m' j false ≡ get_or m j false
 
 pub marked_first : (P : Pack) (m : List Bool) (q : Bytes → Bool) → MarkedTo P 0 m q m
-marked_first P m q = record { below = λ j h. absurd (omega arith); above = λ j h. refl }
+marked_first P m q = record { room = refl; below = λ j h k. absurd (omega arith); above = λ j h. refl }
 
-pub marked_next : {P : Pack} {l : ℕ} {m m' m'' : List Bool} {q : Bytes → Bool} (b : Bool) → MarkedTo P l m q m' → l < length m'
-    → b ≡ q (lookup_at P.lookups l).name → m'' ≡ set m' l (get_or m' l false || b) → MarkedTo P (l + 1) m q m''
-marked_next {P} {l} {m} {m'} {m''} {q} b a h e w =
+pub marked_next : {P : Pack} {l : ℕ} {m m' m'' : List Bool} {q : Bytes → Bool} (b : Bool) → MarkedTo P l m q m'
+    → b ≡ q (lookup_at P.lookups l).name → m'' ≡ marked_at m' l b → MarkedTo P (l + 1) m q m''
+unfolding marked_at
+marked_next {P} {l} {m} {m'} {m''} {q} b a e w =
     record {
-      below = λ j k. low j (ℕ_discrete j l) k;
+      room = ap (λ (x : List Bool). length x) w ∙ length-set m' l (get_or m' l false || b) ∙ a.room;
+      below = λ j k r. low j (ℕ_discrete j l) k r;
       above = λ j k. ap (λ (x : List Bool). get_or x j false) w ∙ get_or-set_other m' l j (get_or m' l false || b) false (λ d. absurd (omega arith))
           ∙ a.above j (omega arith);
     }
   where
-    low : (j : ℕ) → Dec (j ≡ l) → j < l + 1 → get_or m'' j false ≡ (get_or m j false || q (lookup_at P.lookups j).name)
-    low j (yes d) k =
+    low : (j : ℕ) → Dec (j ≡ l) → j < l + 1 → j < length m → get_or m'' j false ≡ (get_or m j false || q (lookup_at P.lookups j).name)
+    low j (yes d) k r =
         ap (λ (x : ℕ). get_or m'' x false) d
         ∙ ap (λ (x : List Bool). get_or x l false) w
-        ∙ get_or-set_same m' l (get_or m' l false || b) false h
+        ∙ get_or-set_same m' l (get_or m' l false || b) false (omega (arith, d, r, a.room))
         ∙ (λ i. a.above l (omega arith) i || e i)
         ∙ ap (λ (x : ℕ). get_or m x false || q (lookup_at P.lookups x).name) (sym d)
-    low j (no d) k = ap (λ (x : List Bool). get_or x j false) w ∙ get_or-set_other m' l j (get_or m' l false || b) false d ∙ a.below j (omega arith)
+    low j (no d) k r =
+        ap (λ (x : List Bool). get_or x j false) w ∙ get_or-set_other m' l j (get_or m' l false || b) false d ∙ a.below j (omega arith) r
 
 pub marked_all : {P : Pack} {l : ℕ} {m m' : List Bool} {q : Bytes → Bool} → length P.lookups ≡ l → MarkedTo P l m q m' → Marked P m q m'
-marked_all e a = record { marks = λ j h. a.below j (omega arith) }
+marked_all e a = record { room = a.room; marks = λ j h k. a.below j (omega arith) k }
 
 -- ---- in the end
 
-pub marks_are : {P : Pack} {m m' : List Bool} (q : Bytes → Bool) → Clear m → Marked P m q m' → (l : ℕ) → l < length P.lookups
-    → get_or m' l false ≡ q (lookup_at P.lookups l).name
-marks_are {P} q z a l h = a.marks l h ∙ ap (λ (b : Bool). b || q (lookup_at P.lookups l).name) (z.none_set l)
+pub marks_are : {P : Pack} {m m' : List Bool} (q : Bytes → Bool) → length P.lookups ≤ length m → Clear m → Marked P m q m' → (l : ℕ)
+    → l < length P.lookups → get_or m' l false ≡ q (lookup_at P.lookups l).name
+marks_are {P} q r z a l h = a.marks l h (omega arith) ∙ ap (λ (b : Bool). b || q (lookup_at P.lookups l).name) (z.none_set l)
 
 pub concat_same : {A : Type 0} (f g : ℕ → List A) (n : ℕ) → ((k : ℕ) → k < n → f k ≡ g k) → concat_below f n ≡ concat_below g n
 concat_same f g zero h = refl

@@ -1,12 +1,12 @@
 // R22: a mark at each lookup that is referenced, in one pass over the references.
-ghost use Rattle.std.specs.Prelude.{◌≤◌, length};
+ghost use Rattle.std.specs.Prelude.{◌≡◌, length};
 ghost use Rattle.pack.specs.Notation.{◌≐◌};
 ghost use Rattle.pack.specs.Value.{lookup_at};
 ghost use Rattle.pack.specs.Items.{bytes_of};
 ghost use Rattle.pack.specs.Loaded.{lookup_value, pgn_value};
 ghost use Rattle.pack.specs.Meaning.{optional_bytes, optional_reference, pack_of};
 ghost use Rattle.pack.specs.Trees.{tree_number};
-ghost use Rattle.rules.specs.Marks.{Marked};
+ghost use Rattle.rules.specs.Marks.{marked_at, Marked};
 ghost use Rattle.rules.specs.Model.{is_text};
 ghost use Rattle.rules.specs.Search.{any_below};
 ghost use Rattle.rules.specs.LookupWiring.{ref_is, referenced_by_pgn, referenced_by_tree, referenced_by_lookup, referenced};
@@ -17,19 +17,31 @@ use pack::loaded::{LookupRef, Pack, PgnRef};
 use pack::protocol::Protocol;
 use pack::text::{Text, same_text};
 
+// A mark at lookup i, where there is room for one.
+#[tactic(auto, unfolding(crate::specs::Marks::marked_at))]
+fn mark_at(marks: &mut [bool], i: usize, mark: bool)
+    ensures { marks.new ≡ marked_at marks.old i mark }
+{
+    if i < marks.len() {
+        marks[i] |= mark;
+    }
+}
+
 // Every lookup of that name: that there is one at most is not used.
 fn mark(marks: &mut [bool], pack: &Pack, name: Text)
-    requires { length (pack_of pack.now.bytes.now).lookups ≤ length marks.now }
     ensures { Marked (pack_of pack.now.bytes.now) marks.old (λ n. bytes_of pack.now.bytes.now name ≐ n) marks.new }
 {
     for lookup in pack.lookups() {
-        marks[lookup.item as usize] |= same_text(pack.bytes, name, lookup.view.name);
+        mark_at(
+            marks,
+            lookup.item as usize,
+            same_text(pack.bytes, name, lookup.view.name),
+        );
     }
 }
 
 // What a field refers to, if it does.
 fn mark_reference(marks: &mut [bool], pack: &Pack, r: Option<ReferenceView>)
-    requires { length (pack_of pack.now.bytes.now).lookups ≤ length marks.now }
     ensures { Marked (pack_of pack.now.bytes.now) marks.old (λ n. ref_is (optional_reference pack.now.bytes.now r) n) marks.new }
 {
     if let Some(reference) = r {
@@ -39,7 +51,6 @@ fn mark_reference(marks: &mut [bool], pack: &Pack, r: Option<ReferenceView>)
 
 // What an entry nests, if it does.
 fn mark_nested(marks: &mut [bool], pack: &Pack, o: Option<Text>)
-    requires { length (pack_of pack.now.bytes.now).lookups ≤ length marks.now }
     ensures { Marked (pack_of pack.now.bytes.now) marks.old (λ n. is_text (optional_bytes pack.now.bytes.now o) n) marks.new }
 {
     if let Some(name) = o {
@@ -49,7 +60,6 @@ fn mark_nested(marks: &mut [bool], pack: &Pack, o: Option<Text>)
 
 // By the fields of a PGN.
 fn mark_by_pgn(marks: &mut [bool], pgn: &PgnRef)
-    requires { length (pack_of pgn.now.pack.bytes.now).lookups ≤ length marks.now }
     ensures { Marked (pack_of pgn.now.pack.bytes.now) marks.old (λ n. referenced_by_pgn n (pgn_value pgn.now)) marks.new }
 {
     for k in 0..pgn.view.fields {
@@ -60,7 +70,6 @@ fn mark_by_pgn(marks: &mut [bool], pgn: &PgnRef)
 
 // By the PGNs of a tree.
 fn mark_by_tree(marks: &mut [bool], pack: &Pack, protocol: Protocol)
-    requires { length (pack_of pack.now.bytes.now).lookups ≤ length marks.now }
     ensures { Marked (pack_of pack.now.bytes.now) marks.old
         (λ n. referenced_by_tree (pack_of pack.now.bytes.now) n (tree_number protocol)) marks.new }
 {
@@ -71,7 +80,6 @@ fn mark_by_tree(marks: &mut [bool], pack: &Pack, protocol: Protocol)
 
 // By the trees.
 fn mark_by_trees(marks: &mut [bool], pack: &Pack)
-    requires { length (pack_of pack.now.bytes.now).lookups ≤ length marks.now }
     ensures { Marked (pack_of pack.now.bytes.now) marks.old
         (λ n. any_below (λ t. referenced_by_tree (pack_of pack.now.bytes.now) n t) 3) marks.new }
 {
@@ -82,7 +90,6 @@ fn mark_by_trees(marks: &mut [bool], pack: &Pack)
 
 // By the entries of a lookup.
 fn mark_by_lookup(marks: &mut [bool], lookup: &LookupRef)
-    requires { length (pack_of lookup.now.pack.bytes.now).lookups ≤ length marks.now }
     ensures { Marked (pack_of lookup.now.pack.bytes.now) marks.old (λ n. referenced_by_lookup n (lookup_value lookup.now)) marks.new }
 {
     if !has_fieldtypes(lookup) {
@@ -96,7 +103,6 @@ fn mark_by_lookup(marks: &mut [bool], lookup: &LookupRef)
 
 // By the lookups.
 fn mark_by_lookups(marks: &mut [bool], pack: &Pack)
-    requires { length (pack_of pack.now.bytes.now).lookups ≤ length marks.now }
     ensures { Marked (pack_of pack.now.bytes.now) marks.old
         (λ n. any_below (λ l. referenced_by_lookup n (lookup_at (pack_of pack.now.bytes.now).lookups l))
         (length (pack_of pack.now.bytes.now).lookups)) marks.new }
@@ -108,7 +114,6 @@ fn mark_by_lookups(marks: &mut [bool], pack: &Pack)
 
 // Every lookup that anything references.
 pub fn mark_referenced(marks: &mut [bool], pack: &Pack)
-    requires { length (pack_of pack.now.bytes.now).lookups ≤ length marks.now }
     ensures { Marked (pack_of pack.now.bytes.now) marks.old (λ n. referenced (pack_of pack.now.bytes.now) n) marks.new }
 {
     mark_by_trees(marks, pack);

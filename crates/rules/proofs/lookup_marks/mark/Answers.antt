@@ -18,20 +18,6 @@ said : {s : List ℕ} (name : Bytes) {l : ℕ} (x : LookupRef) {b : Bool} → x.
     → b ≡ (name ≐ (lookup_at (pack_of s).lookups l).name)
 said name x e i h = let q = ap (λ (L : Lookup). L.name) x.is.means in cc
 
-marked_at : {P : Pack} {l j : ℕ} {m m' m'' : List Bool} {q : Bytes → Bool} (b : Bool) → MarkedTo P l m q m' → j ≡ l → l < length m'
-    → b ≡ q (lookup_at P.lookups l).name → m'' ≡ set m' j (get_or m' j false || b) → MarkedTo P (l + 1) m q m''
-marked_at b a i h e w = marked_next b a h e (rw i at w)
-
-pub bounds-marks-lookup : goal.bounds-marks-lookup
-bounds-marks-lookup c =
-    let u = lookups_turn c.in-Some.lookup c.next.new.self c.loop-lookup.invariant.given c.in-Some.ensures.steps in
-    omega (arith, u.0.inside, u.0.item, c.loop-lookup.auto.marks, c.requires)
-
-pub bounds-marks-lookup-in-loop-lookup : goal.bounds-marks-lookup-in-loop-lookup
-bounds-marks-lookup-in-loop-lookup c =
-    let u = lookups_turn c.in-Some.lookup c.next.new.self c.loop-lookup.invariant.given c.in-Some.ensures.steps in
-    omega (arith, u.0.inside, u.0.item, c.loop-lookup.auto.marks, c.requires)
-
 pub loop-lookup-preserved : goal.loop-lookup-preserved
 loop-lookup-preserved c =
     let x = c.in-Some.lookup in
@@ -40,8 +26,8 @@ loop-lookup-preserved c =
     let e = one_more c.loop-lookup.yielded x in
     record {
       given = (rw e u.1);
-      marked = (rw e (marked_at c.same_text.result c.loop-lookup.invariant.marked u.0.item
-          (omega (arith, u.0.inside, c.loop-lookup.auto.marks, c.requires)) (said name x u.0.bytes u.0.item c.same_text.ensures) refl));
+      marked = (rw e (marked_next c.same_text.result c.loop-lookup.invariant.marked (said name x u.0.bytes u.0.item c.same_text.ensures)
+          (rw u.0.item at c.mark_at.ensures)));
     }
 
 pub returns : goal.returns

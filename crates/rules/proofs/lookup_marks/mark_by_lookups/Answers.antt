@@ -9,11 +9,6 @@ use Rattle.rules.proofs.Marking.{marked_as, marked_turn}
 use Rattle.rules.proofs.lookup_marks.mark_by_lookups.Invariants.{has}
 use Rattle.rules.proofs.lookup_marks.mark_by_lookups.Goals as goal
 
-pub mark_by_lookup-requires : goal.mark_by_lookup-requires
-mark_by_lookup-requires c =
-    let u = lookups_turn c.in-Some.lookup c.next.new.self c.loop-lookup.invariant.given c.in-Some.ensures.steps in
-    rw u.0.bytes (omega (arith, c.loop-lookup.auto.marks, c.requires))
-
 pub loop-lookup-preserved : goal.loop-lookup-preserved
 loop-lookup-preserved c =
     let ys = c.loop-lookup.yielded in

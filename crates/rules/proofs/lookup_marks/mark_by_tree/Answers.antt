@@ -11,11 +11,6 @@ use Rattle.rules.proofs.Marking.{marked_as, marked_turn}
 use Rattle.rules.proofs.lookup_marks.mark_by_tree.Invariants.{has}
 use Rattle.rules.proofs.lookup_marks.mark_by_tree.Goals as goal
 
-pub mark_by_pgn-requires : goal.mark_by_pgn-requires
-mark_by_pgn-requires c =
-    let u = pgns_turn c.in-Some.pgn c.next.new.self c.loop-pgn.invariant.given c.in-Some.ensures.steps in
-    rw u.0.bytes (omega (arith, c.loop-pgn.auto.marks, c.requires))
-
 pub loop-pgn-preserved : goal.loop-pgn-preserved
 loop-pgn-preserved c =
     let ys = c.loop-pgn.yielded in
