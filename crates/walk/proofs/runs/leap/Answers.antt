@@ -16,5 +16,6 @@ returns-then-free c =
       out = c.write_visits.ensures ∙ ap (λ (k : ℕ). written c.args.visits.now m k c.ahead-n.result) c.index_of-k.ensures;
       passing = λ j l. let e : o - 1 + j ≡ o + j - 1 = omega (arith, c.requires.first) in
           free_passes memory (o - 1 + j) (get_or c.args.readings.now (m + j) 0)
-          (ap (λ (i : ℕ). get_or memory.marks i 0) e ∙ c.requires.marked c.if-free.true (o + j) (omega (arith, c)) (omega (arith, l, c.ahead-n.ensures.within)));
+          (ap (λ (i : ℕ). get_or memory.marks i 0) e
+          ∙ c.requires.marked c.if-free.true (o + j) (omega (arith, c)) (omega (arith, l, c.ahead-n.ensures.within)));
     }
