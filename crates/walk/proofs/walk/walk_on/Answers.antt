@@ -94,10 +94,8 @@ loop-sets-preserved c =
       ahead = subst (λ (x : Stepping). 1 ≤ next_of x) c.in-Visited.is c.step.ensures.ahead;
       same_visits = c.write_visit.auto.visits ∙ c.run_on-ran.auto.visits ∙ c.loop-sets.invariant.same_visits;
       going = rw c.write_visit.ensures (going_on (layout p) c.requires.no_stop_1 _ _ _ _ _ _
-          (settled_of c.run_on-ran.result.settling c.run_on-ran.new.passes.numbers) g (omega (
-            arith,
-            c.if-readings-made.false,
-          )) (step_of (layout p) c.step.result w')
+          (settled_of c.run_on-ran.result.settling c.run_on-ran.new.passes.numbers) g (omega (arith, c.if-readings-made.false))
+          (step_of (layout p) c.step.result w')
           c.step.ensures.step c.in-Visited.field.0 (settled (layout p) (by_place (layout p)) (place_of next.0 w') (memory_of w'))
           (ap (λ (x : Stepping). step_of (layout p) x w') c.in-Visited.is));
       remembered = c.step.ensures.remembered;

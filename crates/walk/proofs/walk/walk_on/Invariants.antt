@@ -20,8 +20,8 @@ invariant-loop-sets l =
       same_visits : length l.visits ≡ length l.initial.visits;
       going : Going (layout (pgn_value l.found.pgn)) (stop_at (pack_of l.found.pgn.pack.bytes.now) (pgn_value l.found.pgn))
           (walk (pack_of l.found.pgn.pack.bytes.now) (pgn_value l.found.pgn) l.readings) l.readings l.initial.visits l.visits l.n
-          (settled (layout (pgn_value l.found.pgn)) (by_place (layout (pgn_value l.found.pgn))) (place_of l.here.0 l.passes.numbers) (memory_of
-          l.passes.numbers));
+          (settled (layout (pgn_value l.found.pgn)) (by_place (layout (pgn_value l.found.pgn)))
+          (place_of l.here.0 l.passes.numbers) (memory_of l.passes.numbers));
       remembered : Remembered (pack_of l.found.pgn.pack.bytes.now) (pgn_value l.found.pgn) l.memory;
     }
 

@@ -6,7 +6,7 @@ use Rattle.walk.proofs.known.Memory.remember.Goals as goal
 pub returns-then-m-eq0 : goal.returns-then-m-eq0
 returns-then-m-eq0 c =
     rw c.mark-then-m-eq0.ensures
-    (remembered_marked c.args.k 7 c.requires.remembered (same_all (4 * c.args.k) _) (λ reading h. absurd (false≢true h)))
+    (remembered_marked c.args.k _ c.requires.remembered (same_all (4 * c.args.k) _) (λ reading h. absurd (false≢true h)))
 
 pub returns : goal.returns
 returns c =
