@@ -7,12 +7,9 @@ use mathlib.Core.Path.{◌≡◌, refl, sym, ap, ◌∙◌}
 use mathlib.Core.Bool.{Bool, true, false, ◌||◌}
 use mathlib.Core.List.{List, ◌++◌}
 use lib.ListN.{length, get_or, set, replicate, length-replicate}
-use borrow.Author.Tests.{eq-eqb, ne_eqb}
 use lib.Seq.{get_or-set_same, get_or-set_other}
 use Rattle.pack.specs.Notation.{concat_below}
 use Rattle.pack.specs.Value.{Bytes, Lookup, Pack, no_entry, lookup_at}
-use Rattle.pack.specs.Ready.{LookupIs}
-use Rattle.pack.specs.declared.lookup.LookupView.{LookupView}
 use Rattle.rules.specs.LookupWiring.{referenced_by_lookup}
 use Rattle.rules.specs.Marks.{Clear, Marked}
 use Rattle.rules.specs.Model.{is_text, fieldtypes}

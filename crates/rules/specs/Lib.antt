@@ -1,5 +1,6 @@
 pub mod Search
 pub mod Findings
+pub mod TextOut
 pub mod Texts
 pub mod Floats
 pub mod Digits

@@ -5,10 +5,8 @@ ghost use Rattle.rules.specs.Proprietary.{is_manufacturer_pgn};
 
 mod bit_length_field;
 pub mod bools;
-mod bytes_out;
 pub mod check;
 pub mod continues;
-mod digits;
 pub mod dynamic_length;
 mod emit;
 mod field_count;
@@ -40,6 +38,7 @@ mod spn_clashes;
 mod spn_names;
 mod spns;
 pub mod targets;
+mod text_out;
 mod trailing_zero;
 mod trees;
 mod unique_ids;

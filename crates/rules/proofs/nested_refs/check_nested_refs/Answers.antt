@@ -1,9 +1,8 @@
 use Rattle.std.specs.Prelude.{◌==◌}
-use borrow.Author.Tests.{eq-eqb, ne_eqb}
 use Rattle.pack.specs.Loaded.{lookup_value}
 use Rattle.pack.specs.Meaning.{entry_meaning, pack_of}
 use Rattle.pack.specs.Notation.{concat_below}
-use Rattle.pack.specs.Value.{Lookup, entry_at}
+use Rattle.pack.specs.Value.{entry_at}
 use Rattle.pack.specs.declared.entry.EntryView.{EntryView}
 use Rattle.pack.specs.declared.loaded.LookupRef.{LookupRef}
 use Rattle.rules.specs.Emit.{Emitted}
@@ -14,7 +13,7 @@ use Prim.Native.Nat.{ℕ}
 use native.Mathlib.Omega.{arith}
 use mathlib.Core.Bool.{true, false}
 use mathlib.Core.List.{[]}
-use mathlib.Core.Path.{◌≡◌, sym, ◌∙◌, ap}
+use mathlib.Core.Path.{◌≡◌, sym, ◌∙◌}
 use lib.ListN.{length}
 use Rattle.rules.proofs.Emits.{emitted_none, reporting_turn}
 use Rattle.rules.proofs.nested_refs.check_nested_refs.Invariants.{of_entry}

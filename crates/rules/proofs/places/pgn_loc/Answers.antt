@@ -2,7 +2,6 @@ use Rattle.rules.proofs.PlaceTexts.{some_then, tree_read}
 use Rattle.rules.specs.Locs.{pgn_text}
 use Rattle.rules.specs.PlaceText.{pgn_loc}
 use Rattle.pack.proofs.Turns.{pgn_there}
-use Rattle.pack.specs.Loaded.{PgnSpot}
 use Rattle.pack.specs.Meaning.{pack_of}
 use Rattle.pack.specs.Notation.{◌<ᵇ◌}
 use Rattle.pack.specs.Trees.{tree_number}
