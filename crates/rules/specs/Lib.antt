@@ -42,6 +42,7 @@ pub mod MatchKeys
 -- R21
 pub mod UniqueIds
 -- R23
+pub mod FieldRules
 pub mod Fieldtypes
 -- R24
 pub mod LookupNames

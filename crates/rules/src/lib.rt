@@ -10,6 +10,7 @@ pub mod continues;
 pub mod dynamic_length;
 mod emit;
 mod field_count;
+mod field_rules;
 mod field_type_overrides;
 mod fieldtypes;
 mod floats;

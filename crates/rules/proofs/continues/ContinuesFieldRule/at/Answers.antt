@@ -2,7 +2,7 @@ use Rattle.rules.specs.SearchLaws.{first_is}
 use borrow.Author.Rules.{rules}
 use Prim.Native.Nat.{◌<◌}
 use mathlib.Core.Path.{◌∙◌, sym}
-use Rattle.rules.proofs.continues.continues_at.Goals as goal
+use Rattle.rules.proofs.continues.ContinuesFieldRule.at.Goals as goal
 
 pub continued_at-requires : goal.continued_at-requires
 continued_at-requires c =
