@@ -4,7 +4,6 @@ ghost use Rattle.std.specs.Prelude.{◌≡◌};
 ghost use Rattle.rules.specs.Proprietary.{is_manufacturer_pgn};
 
 mod bit_length_field;
-pub mod bools;
 pub mod check;
 pub mod continues;
 pub mod dynamic_length;
