@@ -13,39 +13,12 @@ use lib.ListN.{length, get_or}
 use borrow.Author.Tests.{ltb-true, ltb-false, lt-ltb, le-ltb, eqb-true, eq-eqb}
 use Rattle.pack.specs.Notation.{◌<ᵇ◌, ◌≐◌}
 use Rattle.pack.specs.Value.{Bytes, Pgn, no_pgn, field_at}
-use Rattle.rules.specs.Search.{larger, max_below, lower_key, least_below}
-use Rattle.rules.specs.SearchLaws.{below_suc, first_is}
+use Rattle.rules.specs.Search.{max_below, lower_key, least_below}
+use Rattle.rules.specs.SearchLaws.{first_is}
 use Rattle.rules.specs.SpnNames.{is_number, spn_field, spn_pgn, name_in, name_by, spn_name, names_spn, earlier_if, earlier_in, earlier_spn}
 use Rattle.rules.specs.Namers.{candidate_at, candidate_in, candidate}
-use Rattle.rules.proofs.Extremes.{max_is, optional_is, and_left, and_right}
+use Rattle.rules.proofs.Extremes.{max_is, max_none, max_bounds, optional_is, and_left, and_right}
 use Rattle.rules.proofs.SpnLaws.{carried_named}
-
-larger_left : (a : ℕ) (b : Option ℕ) (e : ℕ) → larger (Some a) b ≡ Some e → a ≤ e
-larger_left a None e h = let q = same_Some a e h in omega arith
-larger_left a (Some b) e h = go (a <ᵇ b) refl h
-  where
-    go : (c : Bool) → (a <ᵇ b) ≡ c → Some (if c then b else a) ≡ Some e → a ≤ e
-    go true u x = let q = same_Some b e x in omega (arith, ltb-true a b u)
-    go false u x = let q = same_Some a e x in omega arith
-
-larger_right : (a : Option ℕ) (b e : ℕ) → larger a (Some b) ≡ Some e → b ≤ e
-larger_right None b e h = let q = same_Some b e h in omega arith
-larger_right (Some a) b e h = go (a <ᵇ b) refl h
-  where
-    go : (c : Bool) → (a <ᵇ b) ≡ c → Some (if c then b else a) ≡ Some e → b ≤ e
-    go true u x = let q = same_Some b e x in omega arith
-    go false u x = let q = same_Some a e x in omega (arith, ltb-false a b u)
-
-larger_none : (a b : Option ℕ) → larger a b ≡ None → (a ≡ None) × (b ≡ None)
-larger_none None b h = (refl, h)
-larger_none (Some a) None h = absurd (none-some a (sym h))
-larger_none (Some a) (Some b) h = absurd (none-some (if a <ᵇ b then b else a) (sym h))
-
-max_none : (f : ℕ → Option ℕ) (n : ℕ) → max_below f n ≡ None → (k : ℕ) → k < n → f k ≡ None
-max_none f zero e k h = absurd (omega arith)
-max_none f (suc n) e k h =
-    let q = larger_none (max_below f n) (f n) e in
-    below_suc k n h (max_none f n q.0 k) (λ x. ap f x ∙ q.1)
 
 none_max : (f : ℕ → Option ℕ) (n : ℕ) → ((k : ℕ) → k < n → f k ≡ None) → max_below f n ≡ None
 none_max f zero h = refl
@@ -54,15 +27,6 @@ none_max f (suc n) h = rw (none_max f n (λ k l. h k (omega arith)), h n (omega 
 -- all that f gives below n is at most e
 abbrev Bounded : (ℕ → Option ℕ) → ℕ → ℕ → Type 0
 Bounded f n e = (k x : ℕ) → k < n → f k ≡ Some x → x ≤ e
-
-max_bounds : (f : ℕ → Option ℕ) (n e : ℕ) → max_below f n ≡ Some e → Bounded f n e
-max_bounds f zero e h k x l q = absurd (omega arith)
-max_bounds f (suc n) e h k x l q = below_suc k n l (λ y. go (max_below f n) refl h y (λ a. max_bounds f n a))
-    (λ y. larger_right (max_below f n) x e (ap (larger (max_below f n)) (sym (ap f (sym y) ∙ q)) ∙ h))
-  where
-    go : (o : Option ℕ) → max_below f n ≡ o → larger o (f n) ≡ Some e → k < n → ((a : ℕ) → max_below f n ≡ Some a → Bounded f n a) → x ≤ e
-    go None u v y rec = absurd (none-some x (sym (max_none f n u k y) ∙ q))
-    go (Some a) u v y rec = omega (arith, rec a u k x y q, larger_left a (f n) e v)
 
 bounded_max : (f : ℕ → Option ℕ) (n e k : ℕ) → Bounded f n e → k < n → f k ≡ Some e → max_below f n ≡ Some e
 bounded_max f n e k b l q = go (max_below f n) refl

@@ -2,22 +2,18 @@
 use Prim.Native.Nat.{ℕ, ◌+◌, ◌<◌}
 use native.Mathlib.Omega.{arith}
 use native.Mathlib.Numerals.{add-one}
-use mathlib.Core.Path.{◌≡◌, refl, ◌∙◌}
-use mathlib.Core.List.{List, [], ◌∷◌, ◌++◌}
+use mathlib.Core.Path.{refl, ◌∙◌}
+use mathlib.Core.List.{List, [], ◌++◌, foldl-append}
 use Rattle.pack.specs.Notation.{concat_below}
 use Rattle.rules.specs.declared.Finding.{Finding}
 use Rattle.rules.specs.declared.emit.Findings.{Findings}
-use Rattle.rules.specs.Emit.{Found, put_one, put_all, Emitted, Reporting}
-
-pub put_all_append : (o : Found) (xs ys : List Finding) → put_all o (xs ++ ys) ≡ put_all (put_all o xs) ys
-put_all_append o [] ys = refl
-put_all_append o (x ∷ xs) ys = put_all_append (put_one o x) xs ys
+use Rattle.rules.specs.Emit.{put_one, Emitted, Reporting}
 
 pub emitted_none : (o : Findings) → Emitted o [] o
 emitted_none o = record { found = refl; same = refl }
 
 pub emitted_append : {o o' o'' : Findings} {xs ys : List Finding} → Emitted o xs o' → Emitted o' ys o'' → Emitted o (xs ++ ys) o''
-emitted_append {xs = xs} {ys = ys} p q = record { found = q.found ∙ rw (p.found, put_all_append); same = q.same ∙ p.same }
+emitted_append {xs = xs} {ys = ys} p q = record { found = q.found ∙ rw (p.found, foldl-append put_one); same = q.same ∙ p.same }
 
 -- a turn of a loop
 pub emitted_turn : {o o' o'' : Findings} (turn : ℕ → List Finding) (k : ℕ) → Emitted o (concat_below turn k) o' → Emitted o' (turn k) o''

@@ -18,6 +18,7 @@ pub mod Sections
 pub mod SpnClashLaws
 pub mod SpnLaws
 pub mod SpnRanks
+pub mod TextOuts
 pub mod Totals
 pub mod TwoPlaces
 pub mod Types

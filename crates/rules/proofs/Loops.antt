@@ -1,11 +1,11 @@
 -- Loops over an accepted pack's lookups, or a tree's PGNs, that report or search.
 use Rattle.std.specs.Prelude.{None, Some}
-use Prim.Native.Nat.{ℕ, zero, suc, ◌+◌, ◌<◌}
+use Prim.Native.Nat.{ℕ, zero, suc, ◌<◌}
 use native.Mathlib.Omega.{arith}
 use mathlib.Core.Bool.{Bool, true, false}
 use mathlib.Core.Path.{◌≡◌, refl, ap, ◌∙◌, sym}
 use mathlib.Core.List.{List, [], ◌∷◌, ◌++◌}
-use lib.ListN.{length, get_or, length-append}
+use lib.ListN.{length, get_or}
 use Rattle.pack.specs.Loaded.{lookup_spot, pgn_spot, lookups_left, pgns_left}
 use Rattle.pack.specs.Meaning.{pack_of}
 use Rattle.pack.specs.Notation.{concat_below}
@@ -23,9 +23,7 @@ use Rattle.rules.specs.Emit.{Emitted}
 use Rattle.rules.specs.Search.{any_below, first_below}
 use Rattle.rules.specs.SearchLaws.{any_turn, any_hit, any_missed, first_hit}
 use Rattle.rules.proofs.Emits.{emitted_turn}
-
-pub one_more : {A : Type 0} (ys : List A) (x : A) → length (ys ++ x ∷ []) ≡ length ys + 1
-one_more ys x = length-append ys (x ∷ [])
+use Rattle.rules.proofs.PgnSearches.{one_more}
 
 -- the invariant: the PGNs ys of tree t were given, what they say was found, and d gives the others
 pub record OverPgns (o : Findings) (s w : List ℕ) (t : ℕ) (turn : ℕ → List Finding) (ys : List PgnRef) (d : Pgns) (o' : Findings) : Type 0 where
@@ -99,28 +97,6 @@ module _ {s w : List ℕ} {p : ℕ → Bool} {ys : List LookupRef} {d : Lookups}
 
   pub no_lookup_first : lookups_left d ≡ [] → first_below p (length (pack_of s).lookups) ≡ None
   no_lookup_first h = first_none p (length (pack_of s).lookups) (any_missed p (length (pack_of s).lookups) (no_lookup h))
-
--- the same of the PGNs of tree t
-pub record NoneOfPgns (s w : List ℕ) (t : ℕ) (p : ℕ → Bool) (ys : List PgnRef) (d : Pgns) : Type 0 where
-  pub given : PgnsGiven s w t (length (pgns_of (pack_of s) t)) (length ys) d
-  pub none_yet : any_below p (length ys) ≡ false
-
-module _ {s w : List ℕ} {t : ℕ} {p : ℕ → Bool} {ys : List PgnRef} {d : Pgns} (a : NoneOfPgns s w t p ys d) where
-  pub pgn_missed : (x : PgnRef) (e : Pgns) → pgns_left d ≡ pgn_spot x ∷ pgns_left e
-      → (PgnTurn s w t (length ys) (length (pgns_of (pack_of s) t)) x (pgns_left e) → p (length ys) ≡ false) → NoneOfPgns s w t p (ys ++ x ∷ []) e
-  pgn_missed x e h own =
-      let u = pgns_turn x e a.given h in
-      record { given = (rw (one_more ys x) u.1); none_yet = (rw (one_more ys x, any_turn p (length ys), a.none_yet) (own u.0)) }
-
-  pub pgn_hit : (x : PgnRef) (e : Pgns) → pgns_left d ≡ pgn_spot x ∷ pgns_left e
-      → (PgnTurn s w t (length ys) (length (pgns_of (pack_of s) t)) x (pgns_left e) → p (length ys) ≡ true)
-      → any_below p (length (pgns_of (pack_of s) t)) ≡ true
-  pgn_hit x e h own =
-      let u = pgns_turn x e a.given h in
-      any_hit p (length (pgns_of (pack_of s) t)) (length ys) u.0.inside (own u.0)
-
-  pub no_pgn : pgns_left d ≡ [] → any_below p (length (pgns_of (pack_of s) t)) ≡ false
-  no_pgn h = rw (← pgns_given a.given h) a.none_yet
 
 -- ---- the trees
 

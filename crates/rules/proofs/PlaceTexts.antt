@@ -1,9 +1,10 @@
 -- Laws of place texts: the prefix's two definitions, and how long the pieces are.
-use Prim.Native.Nat.{ℕ, zero, suc, ◌-◌, ◌≤◌}
+use Prim.Native.Nat.{ℕ, zero, suc, ◌+◌, ◌-◌, ◌≤◌}
 use native.Mathlib.Omega.{arith}
-use mathlib.Core.List.{◌++◌}
+use mathlib.Core.List.{List, ◌++◌}
 use mathlib.Core.Path.{◌≡◌, refl, ap, sym, ◌∙◌}
-use lib.ListN.{length, replicate, length-append, length-replicate}
+use lib.ListN.{length, drop, replicate, length-append, length-drop, length-replicate}
+use Rattle.std.proofs.lemmas.List.{length-take}
 use Rattle.std.specs.Bool.{then_some}
 use Rattle.std.specs.Prelude.{Some}
 use Rattle.std.proofs.lemmas.Option.{none-some, same_Some}
@@ -16,7 +17,12 @@ use Rattle.pack.specs.declared.protocol.Protocol.{Protocol}
 use Rattle.pack.specs.declared.protocol.Protocol.TheVariants.{Nmea2000, J1939, Quick}
 use Rattle.rules.proofs.DigitLaws.{ten_digits}
 use Rattle.rules.specs.Digits.{digits, six_digits}
-use Rattle.rules.specs.PlaceText.{check_prefix}
+use Rattle.pack.specs.Items.{bytes_of}
+use Rattle.pack.specs.declared.text.Text.{Text}
+use Rattle.rules.specs.Locs.{pgn_text, loc_text}
+use Rattle.rules.specs.PlaceText.{check_prefix, group_loc, lookup_loc}
+use Rattle.rules.specs.declared.locs.Loc.{Loc}
+use Rattle.rules.specs.declared.locs.Loc.TheVariants.{FieldTypes, Pgn, Lookup, Group}
 use Rattle.rules.specs.Texts.{bytes}
 
 pub prefix_is : (p : Protocol) → prefix_of p ≡ check_prefix (tree_number p)
@@ -24,7 +30,7 @@ prefix_is Nmea2000 = refl
 prefix_is J1939 = refl
 prefix_is Quick = refl
 
-pub prefix_short : (t : ℕ) → length (check_prefix t) ≤ 6
+prefix_short : (t : ℕ) → length (check_prefix t) ≤ 6
 prefix_short zero = omega arith
 prefix_short (suc zero) = omega arith
 prefix_short (suc (suc t)) = omega arith
@@ -35,9 +41,31 @@ six_short n =
     let k = 6 - length (digits n) in
     omega (arith, length-append (replicate k 48) (digits n), length-replicate {A = ℕ} k 48, ten_digits n)
 
-pub number_short : (t n : ℕ) → length (check_prefix t ++ bytes "pgns/" ++ six_digits n) ≤ 27
+number_short : (t n : ℕ) → length (check_prefix t ++ bytes "pgns/" ++ six_digits n) ≤ 27
 number_short t n =
     omega (arith, length-append (check_prefix t ++ bytes "pgns/") (six_digits n), length-append (check_prefix t) (bytes "pgns/"), prefix_short t, six_short n)
+
+text_short : (s : List ℕ) (t : Text) → length (bytes_of s t) ≤ length s
+text_short s t = omega (arith, length-take t.len (drop t.start s), length-drop t.start s)
+
+pub loc_short : (s : List ℕ) (loc : Loc) → length (loc_text s loc) ≤ length s + 34
+unfolding pgn_text lookup_loc group_loc
+loc_short s FieldTypes = omega arith
+loc_short s (Pgn protocol number id) =
+    let t = tree_number protocol in let front = check_prefix t ++ bytes "pgns/" ++ six_digits number in
+    omega (
+      arith,
+      length-append (front ++ bytes "-" ++ bytes_of s id) (bytes ".yaml"),
+      length-append (front ++ bytes "-") (bytes_of s id),
+      length-append front (bytes "-"),
+      number_short t number,
+      text_short s id,
+    )
+loc_short s (Lookup name) =
+    omega (arith, length-append (bytes "lookups/" ++ bytes_of s name) (bytes ".yaml"), length-append (bytes "lookups/") (bytes_of s name), text_short s name)
+loc_short s (Group protocol number) =
+    let t = tree_number protocol in
+    omega (arith, length-append (check_prefix t ++ bytes "pgns/" ++ six_digits number) (bytes "-*.yaml"), number_short t number)
 
 -- what an option that is there says of the test behind it
 pub some_then : {A : Type 0} (b : Bool) {x y : A} → Some x ≡ then_some b y → (b ≡ true) × (x ≡ y)

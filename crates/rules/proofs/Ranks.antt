@@ -10,9 +10,9 @@ use Rattle.std.proofs.lemmas.Option.{none-some, same_Some}
 use mathlib.Core.Path.{◌≡◌, refl, sym, ap, ◌∙◌}
 use borrow.Author.Tests.{ltb-true, ltb-false, lt-ltb, le-ltb, leb-true, le-leb}
 use Rattle.pack.specs.Notation.{◌<ᵇ◌, ◌≤ᵇ◌, concat_below}
-use Rattle.rules.specs.Search.{sum_below, smaller, min_below, next_rank, ranked}
+use Rattle.rules.specs.Search.{sum_below, min_below, next_rank, ranked}
 use Rattle.rules.specs.SearchLaws.{ranked_turn, below_suc, concat_ends}
-use Rattle.rules.proofs.Extremes.{min_is, optional_is}
+use Rattle.rules.proofs.Extremes.{min_is, min_none, min_bounds, optional_is}
 
 -- ---- what is said of ranks
 
@@ -178,44 +178,6 @@ pub record Among (Held : ℕ → ℕ → Type 0) (n v : ℕ) : Type 0 where
   pub index : ℕ
   pub below : index < n
   pub held : Held index v
-
-smaller_none : (a b : Option ℕ) → smaller a b ≡ None → (a ≡ None) × (b ≡ None)
-smaller_none None b h = (refl, h)
-smaller_none (Some a) None h = absurd (none-some a (sym h))
-smaller_none (Some a) (Some b) h = absurd (none-some (if b <ᵇ a then b else a) (sym h))
-
-smaller_left : (a : ℕ) (b : Option ℕ) (e : ℕ) → smaller (Some a) b ≡ Some e → e ≤ a
-smaller_left a None e h = let q = same_Some a e h in omega arith
-smaller_left a (Some b) e h = go (b <ᵇ a) refl h
-  where
-    go : (c : Bool) → (b <ᵇ a) ≡ c → Some (if c then b else a) ≡ Some e → e ≤ a
-    go true u x = let q = same_Some b e x in omega (arith, ltb-true b a u)
-    go false u x = let q = same_Some a e x in omega arith
-
-smaller_right : (a : Option ℕ) (b e : ℕ) → smaller a (Some b) ≡ Some e → e ≤ b
-smaller_right None b e h = let q = same_Some b e h in omega arith
-smaller_right (Some a) b e h = go (b <ᵇ a) refl h
-  where
-    go : (c : Bool) → (b <ᵇ a) ≡ c → Some (if c then b else a) ≡ Some e → e ≤ b
-    go true u x = let q = same_Some b e x in omega arith
-    go false u x = let q = same_Some a e x in omega (arith, ltb-false b a u)
-
-min_none : (f : ℕ → Option ℕ) (n : ℕ) → min_below f n ≡ None → (k : ℕ) → k < n → f k ≡ None
-min_none f zero e k h = absurd (omega arith)
-min_none f (suc n) e k h =
-    let q = smaller_none (min_below f n) (f n) e in
-    below_suc k n h (min_none f n q.0 k) (λ x. ap f x ∙ q.1)
-
-min_bounds : (f : ℕ → Option ℕ) (n e : ℕ) → min_below f n ≡ Some e → (k x : ℕ) → k < n → f k ≡ Some x → e ≤ x
-min_bounds f zero e h k x l q = absurd (omega arith)
-min_bounds f (suc n) e h k x l q =
-    below_suc k n l (λ y. go (min_below f n) refl h y (min_bounds f n))
-    (λ y. smaller_right (min_below f n) x e (ap (smaller (min_below f n)) (sym (ap f (sym y) ∙ q)) ∙ h))
-  where
-    go : (o : Option ℕ) → min_below f n ≡ o → smaller o (f n) ≡ Some e → k < n
-        → ((a : ℕ) → min_below f n ≡ Some a → (k x : ℕ) → k < n → f k ≡ Some x → a ≤ x) → e ≤ x
-    go None u v y rec = absurd (none-some x (sym (min_none f n u k y) ∙ q))
-    go (Some a) u v y rec = omega (arith, rec a u k x y q, smaller_left a (f n) e v)
 
 sum_most : (f g : ℕ → ℕ) (n : ℕ) → ((i : ℕ) → f i ≤ g i) → sum_below f n ≤ sum_below g n
 sum_most f g zero h = omega arith

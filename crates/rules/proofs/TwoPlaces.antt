@@ -8,7 +8,8 @@ use Rattle.std.specs.Prelude.{Option, None}
 use mathlib.Core.Path.{◌≡◌, refl}
 use lib.ListN.{length}
 use Rattle.pack.specs.Value.{Repeating, Pgn, field_at}
-use Rattle.rules.specs.Search.{or_else, any_below}
+use Rattle.std.specs.Option.{option_or}
+use Rattle.rules.specs.Search.{any_below}
 use Rattle.rules.specs.Repeating.{check_set, check_repeating}
 use Rattle.rules.specs.Continues.{holds_order, place_number, set_of}
 use Rattle.rules.specs.TrailingZero.{starts_behind, fixed}
@@ -25,7 +26,7 @@ module _ (p : Pgn) (a b : Option Repeating) (two : p.sets ≡ a ∷ b ∷ []) wh
   unfolding set_of
   set_of_two k = rw two (go (holds_order b (k + 1)) (holds_order a (k + 1)))
     where
-      go : (y x : Bool) → place_number (or_else (then_some y 1) (or_else (then_some x 0) None)) ≡ (if y then 2 else (if x then 1 else 0))
+      go : (y x : Bool) → place_number (option_or (then_some y 1) (option_or (then_some x 0) None)) ≡ (if y then 2 else (if x then 1 else 0))
       go true x = refl
       go false true = refl
       go false false = refl

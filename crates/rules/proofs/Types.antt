@@ -1,9 +1,8 @@
 -- A field's type, said of the views.
 use Rattle.std.specs.Bool.{then_some}
-use Rattle.std.specs.Option.{option_map}
-use Rattle.std.specs.Prelude.{Option, None, Some, is_some}
+use Rattle.std.specs.Prelude.{is_some}
 use Prim.Native.Nat.{ℕ}
-use mathlib.Core.Path.{◌≡◌, refl, ap, sym}
+use mathlib.Core.Path.{◌≡◌, ap, sym}
 use mathlib.Core.List.{List}
 use mathlib.Core.Bool.{Bool, true, false, ◌||◌}
 use Rattle.pack.specs.Notation.{◌≐◌}
@@ -20,11 +19,3 @@ pub integer_is : (s : List ℕ) (fts : List FieldType) (f : FieldView) (v : Fiel
     → integer fts (field_meaning s f) ≡ ((bytes_of s v.root ≐ NUMBER) || (bytes_of s v.root ≐ LOOKUP))
 unfolding integer
 integer_is s fts f v is = ap (λ (T : FieldType). (T.root_name ≐ NUMBER) || (T.root_name ≐ LOOKUP)) (sym is)
-
-pub given_is : {A : Type 0} (b : Bool) (a : A) → is_some (then_some b a) ≡ b
-given_is true a = λ _. true
-given_is false a = λ _. false
-
-pub some_is : {A : Type 0} → {B : Type 0} (f : A → B) (o : Option A) → is_some (option_map f o) ≡ is_some o
-some_is f None = refl
-some_is f (Some x) = refl

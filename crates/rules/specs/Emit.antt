@@ -1,6 +1,7 @@
 -- Findings put into a buffer one after the other, eight numbers each, where they fit.
 use Rattle.std.specs.Prelude.{ℕ, ◌+◌, ◌*◌, ◌≤◌, ◌≡◌, min, List, [], ◌∷◌, length, if◌then◌else◌}
 use Rattle.std.proofs.lemmas.List.Edits.{sets}
+use mathlib.Core.List.{foldl}
 use Rattle.pack.specs.Notation.{◌≤ᵇ◌, concat_below}
 use Rattle.rules.specs.declared.Finding.{Finding}
 use Rattle.rules.specs.declared.emit.Findings.{Findings}
@@ -29,8 +30,7 @@ unfoldable pub put_one : Found → Finding → Found
 put_one o f = record { numbers = stored o.numbers o.count f; count = min (o.count + 1) 18446744073709551615 }
 
 abbrev pub put_all : Found → List Finding → Found
-put_all o [] = o
-put_all o (f ∷ fs) = put_all (put_one o f) fs
+put_all = foldl put_one
 
 -- what every function that reports promises: the findings fs are put behind those before, into the same buffer
 pub record Emitted (o : Findings) (fs : List Finding) (o' : Findings) : Type 0 where

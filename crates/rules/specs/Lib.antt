@@ -1,5 +1,6 @@
 pub mod Search
 pub mod Findings
+pub mod TextOut
 pub mod Texts
 pub mod Floats
 pub mod Digits
@@ -41,6 +42,7 @@ pub mod MatchKeys
 -- R21
 pub mod UniqueIds
 -- R23
+pub mod FieldRules
 pub mod Fieldtypes
 -- R24
 pub mod LookupNames

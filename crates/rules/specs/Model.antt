@@ -4,7 +4,8 @@ use Rattle.std.specs.Prelude.{Option, None, Some}
 use Rattle.pack.specs.Notation.{◌≐◌}
 use Rattle.pack.specs.Value.{Bytes, FieldType, Entry, Lookup, Reference, Field, Pgn, no_field_type, field_at, lookup_at, entry_at}
 use Rattle.numerals.specs.Numerals.{parse_u64, parse_hex}
-use Rattle.rules.specs.Search.{or_else, first_below}
+use Rattle.std.specs.Option.{option_or}
+use Rattle.rules.specs.Search.{first_below}
 
 abbrev pub is_text : Option Bytes → Bytes → Bool
 is_text None t = false
@@ -68,7 +69,7 @@ resolve_name ls m (Some r) = resolve_in ls m r (find_lookup ls r.name)
 -- then are names searched."
 unfoldable pub resolve_text : List Lookup → Option Reference → Option Bytes → Option ℕ
 resolve_text ls r None = None
-resolve_text ls r (Some m) = or_else (parse_u64 m) (or_else (parse_hex m) (resolve_name ls m r))
+resolve_text ls r (Some m) = option_or (parse_u64 m) (option_or (parse_hex m) (resolve_name ls m r))
 
 -- `resolve_match`, with document 02's hexadecimal
 unfoldable pub resolve_match : List Lookup → Field → Option ℕ

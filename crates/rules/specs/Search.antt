@@ -1,12 +1,9 @@
 -- Searches among the indexes below n. Each goes by recursion on n, so that a loop that counts up makes one step of it a turn.
 use Rattle.std.specs.Bool.{then_some}
+use Rattle.std.specs.Option.{option_or}
 use Rattle.std.specs.Prelude.{ℕ, zero, suc, ◌+◌, Bool, true, false, ◌&&◌, ◌||◌, if◌then◌else◌}
 use Rattle.std.specs.Prelude.{Option, None, Some}
 use Rattle.pack.specs.Notation.{◌<ᵇ◌}
-
-abbrev pub or_else : {A : Type 0} → Option A → Option A → Option A
-or_else None y = y
-or_else (Some x) y = Some x
 
 -- whether some index below n has the property
 abbrev pub any_below : (ℕ → Bool) → ℕ → Bool
@@ -21,11 +18,11 @@ every_below p (suc n) = every_below p n && p n
 -- the first and the latest index below n that has it
 abbrev pub first_below : (ℕ → Bool) → ℕ → Option ℕ
 first_below p zero = None
-first_below p (suc n) = or_else (first_below p n) (then_some (p n) n)
+first_below p (suc n) = option_or (first_below p n) (then_some (p n) n)
 
 abbrev pub latest_below : (ℕ → Bool) → ℕ → Option ℕ
 latest_below p zero = None
-latest_below p (suc n) = or_else (then_some (p n) n) (latest_below p n)
+latest_below p (suc n) = option_or (then_some (p n) n) (latest_below p n)
 
 -- how many indexes below n have it
 abbrev pub count_below : (ℕ → Bool) → ℕ → ℕ
@@ -37,24 +34,28 @@ abbrev pub sum_below : (ℕ → ℕ) → ℕ → ℕ
 sum_below f zero = 0
 sum_below f (suc n) = sum_below f n + f n
 
+-- of two, where there are any, the earlier, unless the later goes over it; and of what f gives below n
+abbrev pub better : (over : ℕ → ℕ → Bool) → Option ℕ → Option ℕ → Option ℕ
+better over None y = y
+better over (Some a) None = Some a
+better over (Some a) (Some b) = Some (if over a b then b else a)
+
+abbrev pub best_below : (over : ℕ → ℕ → Bool) → (ℕ → Option ℕ) → ℕ → Option ℕ
+best_below over f zero = None
+best_below over f (suc n) = better over (best_below over f n) (f n)
+
 -- the larger and the smaller of two, and of what f gives below n, where it gives anything
 abbrev pub larger : Option ℕ → Option ℕ → Option ℕ
-larger None y = y
-larger (Some a) None = Some a
-larger (Some a) (Some b) = Some (if a <ᵇ b then b else a)
+larger = better (λ a b. a <ᵇ b)
 
 abbrev pub smaller : Option ℕ → Option ℕ → Option ℕ
-smaller None y = y
-smaller (Some a) None = Some a
-smaller (Some a) (Some b) = Some (if b <ᵇ a then b else a)
+smaller = better (λ a b. b <ᵇ a)
 
 abbrev pub max_below : (ℕ → Option ℕ) → ℕ → Option ℕ
-max_below f zero = None
-max_below f (suc n) = larger (max_below f n) (f n)
+max_below = best_below (λ a b. a <ᵇ b)
 
 abbrev pub min_below : (ℕ → Option ℕ) → ℕ → Option ℕ
-min_below f zero = None
-min_below f (suc n) = smaller (min_below f n) (f n)
+min_below = best_below (λ a b. b <ᵇ a)
 
 -- the index below n that has the property and the least key, the first of equals
 abbrev pub lower_key : (ℕ → ℕ) → Option ℕ → ℕ → ℕ

@@ -7,7 +7,8 @@ use Rattle.std.proofs.lemmas.Bool.{false≢true}
 use Rattle.std.specs.Prelude.{Option, None, Some}
 use Rattle.std.proofs.lemmas.Option.{none-some, same_Some}
 use Rattle.pack.specs.Notation.{concat_below}
-use Rattle.rules.specs.Search.{or_else, any_below, every_below, first_below, latest_below, count_below, sum_below, larger, smaller, max_below}
+use Rattle.std.specs.Option.{option_or}
+use Rattle.rules.specs.Search.{any_below, every_below, first_below, latest_below, count_below, sum_below, larger, smaller, max_below}
 use Rattle.rules.specs.Search.{min_below, lower_key, least_below, next_rank, ranked}
 
 -- ---- a turn
@@ -21,10 +22,10 @@ any_turn p k = rw (add-one k)
 pub every_turn : (p : ℕ → Bool) (k : ℕ) → every_below p (k + 1) ≡ (every_below p k && p k)
 every_turn p k = rw (add-one k)
 
-pub first_turn : (p : ℕ → Bool) (k : ℕ) → first_below p (k + 1) ≡ or_else (first_below p k) (then_some (p k) k)
+pub first_turn : (p : ℕ → Bool) (k : ℕ) → first_below p (k + 1) ≡ option_or (first_below p k) (then_some (p k) k)
 first_turn p k = rw (add-one k)
 
-pub latest_turn : (p : ℕ → Bool) (k : ℕ) → latest_below p (k + 1) ≡ or_else (then_some (p k) k) (latest_below p k)
+pub latest_turn : (p : ℕ → Bool) (k : ℕ) → latest_below p (k + 1) ≡ option_or (then_some (p k) k) (latest_below p k)
 latest_turn p k = rw (add-one k)
 
 pub count_turn : (p : ℕ → Bool) (k : ℕ) → count_below p (k + 1) ≡ (if p k then count_below p k + 1 else count_below p k)
@@ -92,7 +93,7 @@ pub first_is : (p : ℕ → Bool) (n k : ℕ) → first_below p n ≡ Some k →
 first_is p zero k e = absurd (none-some k e)
 first_is p (suc n) k e = go (first_below p n) refl (p n) refl e (first_is p n k)
   where
-    go : (f : Option ℕ) → first_below p n ≡ f → (b : Bool) → p n ≡ b → or_else f (then_some b n) ≡ Some k
+    go : (f : Option ℕ) → first_below p n ≡ f → (b : Bool) → p n ≡ b → option_or f (then_some b n) ≡ Some k
         → (first_below p n ≡ Some k → (k < n) × (p k ≡ true)) → (k < suc n) × (p k ≡ true)
     go (Some j) u b v w rec = let r = rec (u ∙ w) in (omega arith, r.1)
     go None u true v w rec = let q : n ≡ k = same_Some n k w in (omega arith, ap p (sym q) ∙ v)
@@ -102,7 +103,7 @@ pub first_misses : (p : ℕ → Bool) (n : ℕ) → first_below p n ≡ None →
 first_misses p zero e k h = absurd (omega arith)
 first_misses p (suc n) e k h = go (first_below p n) refl (p n) refl e (first_misses p n)
   where
-    go : (f : Option ℕ) → first_below p n ≡ f → (b : Bool) → p n ≡ b → or_else f (then_some b n) ≡ None
+    go : (f : Option ℕ) → first_below p n ≡ f → (b : Bool) → p n ≡ b → option_or f (then_some b n) ≡ None
         → (first_below p n ≡ None → (k : ℕ) → k < n → p k ≡ false) → p k ≡ false
     go (Some j) u b v w rec = absurd (none-some j (sym w))
     go None u true v w rec = absurd (none-some n (sym w))
@@ -112,7 +113,7 @@ pub latest_is : (p : ℕ → Bool) (n k : ℕ) → latest_below p n ≡ Some k �
 latest_is p zero k e = absurd (none-some k e)
 latest_is p (suc n) k e = go (p n) refl e (latest_is p n k)
   where
-    go : (b : Bool) → p n ≡ b → or_else (then_some b n) (latest_below p n) ≡ Some k
+    go : (b : Bool) → p n ≡ b → option_or (then_some b n) (latest_below p n) ≡ Some k
         → (latest_below p n ≡ Some k → (k < n) × (p k ≡ true)) → (k < suc n) × (p k ≡ true)
     go true v w rec = let q : n ≡ k = same_Some n k w in (omega arith, ap p (sym q) ∙ v)
     go false v w rec = let r = rec w in (omega arith, r.1)

@@ -8,6 +8,7 @@ ghost use Rattle.rules.specs.Floats.{float_eq, ONE};
 ghost use Rattle.rules.specs.BitLengthField.{variable_binary, bit_length_target_at, bit_length_field_at, check_bit_length_field};
 
 use crate::emit::{Findings, pgn_error};
+use crate::field_rules::{FieldRule, check_fields};
 use crate::floats::{ONE, float_eq};
 use crate::targets::target;
 use pack::field::FieldView;
@@ -47,28 +48,25 @@ fn bit_length_target_at(out: &mut Findings, pgn: &PgnRef, k: u32, j: Option<u32>
     out.put_if(wrong, pgn_error(15, 5, pgn, k, j));
 }
 
-// Field k, which is f.
-#[tactic(auto, unfolding(crate::specs::BitLengthField::bit_length_field_at))]
-fn bit_length_field_at(out: &mut Findings, pgn: &PgnRef, k: u32, f: FieldView)
-    requires { record {
-      field : k < pgn.now.view.fields;
-      means : field_meaning pgn.now.pack.bytes.now f ≡ field_at (pgn_value pgn.now) k;
-    } }
-    ensures { Emitted out.old
-        (bit_length_field_at (tree_of pgn.now) pgn.now.item (pgn_value pgn.now) k (field_at (pgn_value pgn.now) k).bit_length_field)
-        out.new }
-{
-    let binary = variable_binary(pgn.pack.bytes, f);
-    let Some(id) = f.links.length else {
-        out.put_if(binary, pgn_error(15, 1, pgn, k, 0));
-        return;
-    };
-    if !binary {
-        out.put(pgn_error(15, 2, pgn, k, 0));
-        return;
+struct BitLengthField;
+
+impl FieldRule for BitLengthField {
+    ghost findings = { λ g k. bit_length_field_at (tree_of g) g.item (pgn_value g) k (field_at (pgn_value g) k).bit_length_field };
+
+    #[tactic(auto, unfolding(crate::specs::BitLengthField::bit_length_field_at))]
+    fn at(out: &mut Findings, pgn: &PgnRef, k: u32, f: FieldView) {
+        let binary = variable_binary(pgn.pack.bytes, f);
+        let Some(id) = f.links.length else {
+            out.put_if(binary, pgn_error(15, 1, pgn, k, 0));
+            return;
+        };
+        if !binary {
+            out.put(pgn_error(15, 2, pgn, k, 0));
+            return;
+        }
+        let j = target(pgn, id);
+        bit_length_target_at(out, pgn, k, j);
     }
-    let j = target(pgn, id);
-    bit_length_target_at(out, pgn, k, j);
 }
 
 // R15: a variable-length BINARY field takes its length from an earlier integer field.
@@ -76,8 +74,5 @@ fn bit_length_field_at(out: &mut Findings, pgn: &PgnRef, k: u32, f: FieldView)
 pub fn check_bit_length_field(out: &mut Findings, pgn: &PgnRef)
     ensures { Emitted out.old (check_bit_length_field (tree_of pgn.now) pgn.now.item (pgn_value pgn.now)) out.new }
 {
-    for k in 0..pgn.view.fields {
-        let f = pgn.field(k);
-        bit_length_field_at(out, pgn, k, f);
-    }
+    check_fields::<BitLengthField>(out, pgn);
 }

@@ -14,6 +14,7 @@ ghost use Rattle.rules.specs.Continues.{holds_order, set_of, integer, differs_fr
 
 use crate::Finding;
 use crate::emit::{Findings, pgn_error};
+use crate::field_rules::{FieldRule, check_fields};
 use crate::floats::{ONE, ZERO, float_eq};
 use crate::model::{is_text, value_bits};
 use crate::searches::counted;
@@ -183,30 +184,27 @@ fn continued_at(out: &mut Findings, pgn: &PgnRef, f: FieldView, link: Continuing
     out.put_if(wide, link_error(9, pgn, link));
 }
 
-// Field k, which is f.
-#[tactic(auto, unfolding(crate::specs::Continues::continues_at, crate::specs::Continues::continued_found_at))]
-fn continues_at(out: &mut Findings, pgn: &PgnRef, k: u32, f: FieldView)
-    requires { record {
-      field : k < pgn.now.view.fields;
-      means : field_meaning pgn.now.pack.bytes.now f ≡ field_at (pgn_value pgn.now) k;
-    } }
-    ensures { Emitted out.old
-        (continues_at (pack_of pgn.now.pack.bytes.now).fieldtypes (tree_of pgn.now) pgn.now.item (pgn_value pgn.now) k
-        (field_at (pgn_value pgn.now) k).continues) out.new }
-{
-    let Some(id) = f.authored.continues else {
-        return;
-    };
-    let Some(earlier) = first_with_id(pgn, k, id) else {
-        out.put(pgn_error(43, 1, pgn, k, 0));
-        return;
-    };
-    let link = Continuing {
-        field: k,
-        id,
-        earlier,
-    };
-    continued_at(out, pgn, f, link);
+struct Continues;
+
+impl FieldRule for Continues {
+    ghost findings = { λ g k. continues_at (pack_of g.pack.bytes.now).fieldtypes (tree_of g) g.item (pgn_value g) k (field_at (pgn_value g) k).continues };
+
+    #[tactic(auto, unfolding(crate::specs::Continues::continues_at, crate::specs::Continues::continued_found_at))]
+    fn at(out: &mut Findings, pgn: &PgnRef, k: u32, f: FieldView) {
+        let Some(id) = f.authored.continues else {
+            return;
+        };
+        let Some(earlier) = first_with_id(pgn, k, id) else {
+            out.put(pgn_error(43, 1, pgn, k, 0));
+            return;
+        };
+        let link = Continuing {
+            field: k,
+            id,
+            earlier,
+        };
+        continued_at(out, pgn, f, link);
+    }
 }
 
 // R43: a `continues:` field adds high bits to an earlier, plain integer field of the same record, at a fixed distance from it.
@@ -215,8 +213,5 @@ pub(crate) fn check_continues(out: &mut Findings, pgn: &PgnRef)
     ensures { Emitted out.old
         (check_continues (pack_of pgn.now.pack.bytes.now).fieldtypes (tree_of pgn.now) pgn.now.item (pgn_value pgn.now)) out.new }
 {
-    for k in 0..pgn.view.fields {
-        let f = pgn.field(k);
-        continues_at(out, pgn, k, f);
-    }
+    check_fields::<Continues>(out, pgn);
 }

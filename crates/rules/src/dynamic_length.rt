@@ -10,7 +10,6 @@ ghost use Rattle.rules.specs.Emit.{Emitted};
 ghost use Rattle.rules.specs.Model.{root_of};
 ghost use Rattle.rules.specs.Texts.{DYNAMIC_FIELD_KEY};
 
-use crate::bools::and_not;
 use crate::emit::{Findings, pgn_error};
 use crate::model::root_of;
 use pack::field::FieldView;
@@ -39,12 +38,12 @@ fn dynamic_length_at(out: &mut Findings, pgn: &PgnRef, k: u32, f: FieldView, roo
     let dynamic = f.flags.dynamic;
     let is_length = text_is(s, root, b"DYNAMIC_FIELD_LENGTH");
     let is_value = text_is(s, root, b"DYNAMIC_FIELD_VALUE");
-    out.put_if(and_not(dynamic, is_length), pgn_error(6, 1, pgn, k, 0));
-    out.put_if(
-        and_not(f.flags.overhead, dynamic),
-        pgn_error(6, 2, pgn, k, 0),
-    );
-    out.put_if(and_not(is_value, have), pgn_error(6, 3, pgn, k, 0));
+    let misplaced = dynamic && !is_length;
+    out.put_if(misplaced, pgn_error(6, 1, pgn, k, 0));
+    let overhead = f.flags.overhead && !dynamic;
+    out.put_if(overhead, pgn_error(6, 2, pgn, k, 0));
+    let sourceless = is_value && !have;
+    out.put_if(sourceless, pgn_error(6, 3, pgn, k, 0));
 }
 
 // R06: DYNAMIC_FIELD_VALUE needs an earlier length source; overhead only on length fields; dynamicFieldLength only on

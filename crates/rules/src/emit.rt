@@ -62,20 +62,27 @@ impl<'a> Findings<'a> {
     }
 }
 
-// An error at a field type.
-pub fn fieldtype_error(rule: u32, cause: u32, item: u32) -> Finding
-    ensures { result ≡ fieldtype_error rule cause item }
+// An error at a place, with neither part nor other.
+fn error(rule: u32, cause: u32, place: u32, tree: u32, item: u32) -> Finding
+    ensures { result ≡ (record { rule = rule; severity = 1; cause = cause; place = place; tree = tree; item = item; part = 0; other = 0 }) }
 {
     Finding {
         rule,
         severity: 1,
         cause,
-        place: 0,
-        tree: 0,
+        place,
+        tree,
         item,
         part: 0,
         other: 0,
     }
+}
+
+// An error at a field type.
+pub fn fieldtype_error(rule: u32, cause: u32, item: u32) -> Finding
+    ensures { result ≡ fieldtype_error rule cause item }
+{
+    error(rule, cause, 0, 0, item)
 }
 
 // An error at a PGN.
@@ -83,14 +90,9 @@ pub fn pgn_error(rule: u32, cause: u32, pgn: &PgnRef, part: u32, other: u32) -> 
     ensures { result ≡ pgn_error rule cause (tree_of pgn.now) pgn.now.item part other }
 {
     Finding {
-        rule,
-        severity: 1,
-        cause,
-        place: 1,
-        tree: pgn.protocol.tree(),
-        item: pgn.item,
         part,
         other,
+        ..error(rule, cause, 1, pgn.protocol.tree(), pgn.item)
     }
 }
 
@@ -109,14 +111,9 @@ pub fn lookup_error(rule: u32, cause: u32, item: u32, part: u32, other: u32) -> 
     ensures { result ≡ lookup_error rule cause item part other }
 {
     Finding {
-        rule,
-        severity: 1,
-        cause,
-        place: 2,
-        tree: 0,
-        item,
         part,
         other,
+        ..error(rule, cause, 2, 0, item)
     }
 }
 
@@ -135,13 +132,7 @@ pub fn group_error(rule: u32, cause: u32, protocol: Protocol, number: u32, other
     ensures { result ≡ group_error rule cause (tree_number protocol) number other }
 {
     Finding {
-        rule,
-        severity: 1,
-        cause,
-        place: 3,
-        tree: protocol.tree(),
-        item: number,
-        part: 0,
         other,
+        ..error(rule, cause, 3, protocol.tree(), number)
     }
 }

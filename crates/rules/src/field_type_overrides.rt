@@ -8,25 +8,25 @@ ghost use Rattle.rules.specs.FieldTypeOverrides.{overrides_at, check_field_type_
 ghost use Rattle.rules.specs.Model.{fieldtype_of};
 
 use crate::emit::{Findings, pgn_error};
+use crate::field_rules::{FieldRule, check_fields};
 use crate::floats::{ZERO, float_eq};
 use pack::field::FieldView;
 use pack::loaded::PgnRef;
 
-#[tactic(auto, using(crate::proofs::Fields::type_there), unfolding(crate::specs::FieldTypeOverrides::overrides_at))]
-fn overrides_at(out: &mut Findings, pgn: &PgnRef, k: u32, f: FieldView)
-    requires { record {
-      field : k < pgn.now.view.fields;
-      means : field_meaning pgn.now.pack.bytes.now f ≡ field_at (pgn_value pgn.now) k;
-    } }
-    ensures { Emitted out.old
-        (overrides_at (tree_of pgn.now) pgn.now.item k (field_at (pgn_value pgn.now) k)
-        (fieldtype_of (pack_of pgn.now.pack.bytes.now).fieldtypes (field_at (pgn_value pgn.now) k))) out.new }
-{
-    let ft = pgn.pack.field_type(f.ft);
-    let width = f.flags.bits && ft.size != 0;
-    out.put_if(width, pgn_error(14, 1, pgn, k, 0));
-    let resolution = f.authored.resolution.is_some() && !float_eq(ft.resolution, ZERO);
-    out.put_if(resolution, pgn_error(14, 2, pgn, k, 0));
+struct Overrides;
+
+impl FieldRule for Overrides {
+    ghost findings = { λ g k. overrides_at (tree_of g) g.item k (field_at (pgn_value g) k)
+        (fieldtype_of (pack_of g.pack.bytes.now).fieldtypes (field_at (pgn_value g) k)) };
+
+    #[tactic(auto, using(crate::proofs::Fields::type_there), unfolding(crate::specs::FieldTypeOverrides::overrides_at))]
+    fn at(out: &mut Findings, pgn: &PgnRef, k: u32, f: FieldView) {
+        let ft = pgn.pack.field_type(f.ft);
+        let width = f.flags.bits && ft.size != 0;
+        out.put_if(width, pgn_error(14, 1, pgn, k, 0));
+        let resolution = f.authored.resolution.is_some() && !float_eq(ft.resolution, ZERO);
+        out.put_if(resolution, pgn_error(14, 2, pgn, k, 0));
+    }
 }
 
 // R14: a field does not author the width or the resolution that its field type fixes.
@@ -35,8 +35,5 @@ pub fn check_field_type_overrides(out: &mut Findings, pgn: &PgnRef)
     ensures { Emitted out.old
         (check_field_type_overrides (pack_of pgn.now.pack.bytes.now).fieldtypes (tree_of pgn.now) pgn.now.item (pgn_value pgn.now)) out.new }
 {
-    for k in 0..pgn.view.fields {
-        let f = pgn.field(k);
-        overrides_at(out, pgn, k, f);
-    }
+    check_fields::<Overrides>(out, pgn);
 }

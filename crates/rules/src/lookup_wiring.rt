@@ -2,7 +2,7 @@
 ghost use Rattle.std.specs.Prelude.{◌≡◌, not, ◌&&◌, length, ◌==◌};
 ghost use Rattle.pack.specs.Kinds.{kind_number};
 ghost use Rattle.pack.specs.Notation.{concat_below};
-ghost use Rattle.pack.specs.Value.{pgns_of, pgn_at};
+ghost use Rattle.pack.specs.Value.{pgns_of, pgn_at, field_at};
 ghost use Rattle.pack.specs.Loaded.{lookup_value, pgn_value, tree_of};
 ghost use Rattle.pack.specs.Meaning.{optional_reference, field_meaning, pack_of};
 ghost use Rattle.pack.specs.Trees.{tree_number};
@@ -11,6 +11,7 @@ ghost use Rattle.rules.specs.LookupWiring.{beyond_width, unreachable, lookup_wid
 ghost use Rattle.rules.specs.LookupWiring.{check_lookup_wiring};
 
 use crate::emit::{Findings, pgn_error, pgn_warning};
+use crate::field_rules::{FieldRule, check_fields};
 use crate::lookup_uses::check_lookup_uses;
 use crate::lookups::find_lookup;
 use crate::model::value_bits;
@@ -73,23 +74,25 @@ fn lookup_width_at(out: &mut Findings, pgn: &PgnRef, k: u32, f: FieldView, looku
     out.put_if(allowed, pgn_warning(8, 5, pgn, k, lookup.item));
 }
 
-// Field k, which is f.
-#[tactic(auto, unfolding(crate::specs::LookupWiring::lookup_ref_at, crate::specs::LookupWiring::lookup_found_at))]
-fn lookup_ref_at(out: &mut Findings, pgn: &PgnRef, k: u32, f: FieldView)
-    ensures { Emitted out.old
-        (lookup_ref_at (pack_of pgn.now.pack.bytes.now).lookups (tree_of pgn.now) pgn.now.item k (field_meaning pgn.now.pack.bytes.now f)
-        (optional_reference pgn.now.pack.bytes.now f.links.reference)) out.new }
-{
-    let Some(reference) = f.links.reference else {
-        return;
-    };
-    let Some(lookup) = find_lookup(&pgn.pack, reference.name) else {
-        out.put(pgn_error(8, 1, pgn, k, 0));
-        return;
-    };
-    let other = lookup.view.kind != reference.kind;
-    out.put_if(other, pgn_error(8, 2, pgn, k, lookup.item));
-    lookup_width_at(out, pgn, k, f, &lookup);
+struct LookupRefs;
+
+impl FieldRule for LookupRefs {
+    ghost findings = { λ g k. lookup_ref_at (pack_of g.pack.bytes.now).lookups (tree_of g) g.item k (field_at (pgn_value g) k)
+        (field_at (pgn_value g) k).reference };
+
+    #[tactic(auto, unfolding(crate::specs::LookupWiring::lookup_ref_at, crate::specs::LookupWiring::lookup_found_at))]
+    fn at(out: &mut Findings, pgn: &PgnRef, k: u32, f: FieldView) {
+        let Some(reference) = f.links.reference else {
+            return;
+        };
+        let Some(lookup) = find_lookup(&pgn.pack, reference.name) else {
+            out.put(pgn_error(8, 1, pgn, k, 0));
+            return;
+        };
+        let other = lookup.view.kind != reference.kind;
+        out.put_if(other, pgn_error(8, 2, pgn, k, lookup.item));
+        lookup_width_at(out, pgn, k, f, &lookup);
+    }
 }
 
 // The fields of a PGN.
@@ -98,10 +101,7 @@ fn check_lookup_refs(out: &mut Findings, pgn: &PgnRef)
     ensures { Emitted out.old
         (check_lookup_refs (pack_of pgn.now.pack.bytes.now).lookups (tree_of pgn.now) pgn.now.item (pgn_value pgn.now)) out.new }
 {
-    for k in 0..pgn.view.fields {
-        let f = pgn.field(k);
-        lookup_ref_at(out, pgn, k, f);
-    }
+    check_fields::<LookupRefs>(out, pgn);
 }
 
 // The PGNs of a tree.

@@ -5,7 +5,7 @@ ghost use Rattle.rules.specs.MatchKeys.{pieces_from, to_come, first_and, KeyHold
 ghost use Rattle.rules.specs.Variants.{has_match, duplicates};
 ghost use Rattle.pack.specs.Loaded.{pgn_value};
 
-use crate::digits::digits_before;
+use itoa::write_digits;
 use pack::loaded::PgnRef;
 use pack::text::Text;
 
@@ -46,7 +46,7 @@ fn begun(k: u32, text: Text) -> KeyByte
 {
     let mut head = [0u8; 11];
     head[10] = 61;
-    let at = digits_before(&mut head, 10, k);
+    let at = write_digits(k as u64, &mut head, 10);
     let after = MatchKey {
         field: k + 1,
         head,

@@ -7,27 +7,29 @@ ghost use Rattle.rules.specs.Emit.{Emitted};
 ghost use Rattle.rules.specs.MatchValues.{match_value_at, check_match_values};
 
 use crate::emit::{Findings, pgn_error};
+use crate::field_rules::{FieldRule, check_fields};
 use crate::matches::resolve_match;
 use crate::widths::exceeds;
 use pack::field::FieldView;
 use pack::loaded::PgnRef;
 
-// Field k, which is f.
-#[tactic(auto, unfolding(crate::specs::MatchValues::match_value_at, crate::specs::MatchValues::resolved_at))]
-fn match_value_at(out: &mut Findings, pgn: &PgnRef, k: u32, f: FieldView)
-    requires { field_meaning pgn.now.pack.bytes.now f ≡ field_at (pgn_value pgn.now) k }
-    ensures { Emitted out.old
-        (match_value_at (pack_of pgn.now.pack.bytes.now).lookups (tree_of pgn.now) pgn.now.item (pgn_value pgn.now) k) out.new }
-{
-    if f.authored.matched.is_none() {
-        return;
+struct MatchValues;
+
+impl FieldRule for MatchValues {
+    ghost findings = { λ g k. match_value_at (pack_of g.pack.bytes.now).lookups (tree_of g) g.item (pgn_value g) k };
+
+    #[tactic(auto, unfolding(crate::specs::MatchValues::match_value_at, crate::specs::MatchValues::resolved_at))]
+    fn at(out: &mut Findings, pgn: &PgnRef, k: u32, f: FieldView) {
+        if f.authored.matched.is_none() {
+            return;
+        }
+        let Some(v) = resolve_match(&pgn.pack, f) else {
+            out.put(pgn_error(13, 1, pgn, k, 0));
+            return;
+        };
+        let wide = exceeds(f.scaling.bits, v);
+        out.put_if(wide, pgn_error(13, 2, pgn, k, 0));
     }
-    let Some(v) = resolve_match(&pgn.pack, f) else {
-        out.put(pgn_error(13, 1, pgn, k, 0));
-        return;
-    };
-    let wide = exceeds(f.scaling.bits, v);
-    out.put_if(wide, pgn_error(13, 2, pgn, k, 0));
 }
 
 // R13: a match resolves to a number that fits the field's width.
@@ -36,8 +38,5 @@ pub fn check_match_values(out: &mut Findings, pgn: &PgnRef)
     ensures { Emitted out.old
         (check_match_values (pack_of pgn.now.pack.bytes.now).lookups (tree_of pgn.now) pgn.now.item (pgn_value pgn.now)) out.new }
 {
-    for k in 0..pgn.view.fields {
-        let f = pgn.field(k);
-        match_value_at(out, pgn, k, f);
-    }
+    check_fields::<MatchValues>(out, pgn);
 }

@@ -1,13 +1,25 @@
 // The place text call: it answers how long the text is.
 ghost use Rattle.std.specs.Prelude.{◌≡◌, length};
 ghost use Rattle.pack.specs.Meaning.{pack_of};
+ghost use Rattle.pack.specs.Placing.{Stored};
+ghost use Rattle.rules.specs.Locs.{loc_text};
 ghost use Rattle.rules.specs.PlaceCall.{named, text_left, Places};
 ghost use Rattle.rules.specs.PlaceText.{place_text};
 
-use crate::locs::put_loc;
+use crate::locs::Loc;
 use crate::places::find_loc;
+use crate::text_out::TextOut;
 use pack::load::{Refusal, load};
 use pack::loaded::Pack;
+
+// Puts the text from the buffer's beginning on; answers how long it is.
+fn write_loc(loc: Loc, pack: &Pack, text: &mut [u8]) -> usize
+    ensures { Stored text.old 0 (loc_text pack.now.bytes.now loc) text.new result }
+{
+    let mut out = TextOut::new(text);
+    loc.put(&mut out, pack.bytes);
+    out.count
+}
 
 // Over an empty part of the buffer the text is only measured: after 24 it has not changed.
 fn write_named(
@@ -27,11 +39,11 @@ fn write_named(
     let Some(loc) = find_loc(pack, place, tree, item) else {
         return Err(Refusal::Absent);
     };
-    let needed = put_loc(&mut text[..0], pack.bytes, loc);
+    let needed = write_loc(loc, pack, &mut text[..0]);
     if text.len() < needed {
         return Err(Refusal::Place(needed));
     }
-    put_loc(text, pack.bytes, loc);
+    write_loc(loc, pack, text);
     Ok(needed)
 }
 

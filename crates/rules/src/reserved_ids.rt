@@ -11,6 +11,7 @@ ghost use Rattle.rules.specs.ReservedIds.{numbered, reserved_id_at, check_reserv
 ghost use Rattle.rules.specs.Texts.{bytes};
 
 use crate::emit::{Findings, pgn_error};
+use crate::field_rules::{FieldRule, check_fields};
 use pack::field::FieldView;
 use pack::loaded::PgnRef;
 use pack::text::{part, text_is};
@@ -55,13 +56,16 @@ fn misnamed(s: &[u8], f: FieldView) -> bool
     false
 }
 
-#[tactic(auto, unfolding(crate::specs::ReservedIds::reserved_id_at))]
-fn reserved_id_at(out: &mut Findings, pgn: &PgnRef, k: u32, f: FieldView)
-    requires { field_meaning pgn.now.pack.bytes.now f ≡ field_at (pgn_value pgn.now) k }
-    ensures { Emitted out.old (reserved_id_at (tree_of pgn.now) pgn.now.item k (field_at (pgn_value pgn.now) k)) out.new }
-{
-    let report = misnamed(pgn.pack.bytes, f);
-    out.put_if(report, pgn_error(12, 1, pgn, k, 0));
+struct ReservedIds;
+
+impl FieldRule for ReservedIds {
+    ghost findings = { λ g k. reserved_id_at (tree_of g) g.item k (field_at (pgn_value g) k) };
+
+    #[tactic(auto, unfolding(crate::specs::ReservedIds::reserved_id_at))]
+    fn at(out: &mut Findings, pgn: &PgnRef, k: u32, f: FieldView) {
+        let report = misnamed(pgn.pack.bytes, f);
+        out.put_if(report, pgn_error(12, 1, pgn, k, 0));
+    }
 }
 
 // R12: Reserved and Spare fields have the id `reserved` or `spare`, with a number or without.
@@ -69,8 +73,5 @@ fn reserved_id_at(out: &mut Findings, pgn: &PgnRef, k: u32, f: FieldView)
 pub fn check_reserved_ids(out: &mut Findings, pgn: &PgnRef)
     ensures { Emitted out.old (check_reserved_ids (tree_of pgn.now) pgn.now.item (pgn_value pgn.now)) out.new }
 {
-    for k in 0..pgn.view.fields {
-        let f = pgn.field(k);
-        reserved_id_at(out, pgn, k, f);
-    }
+    check_fields::<ReservedIds>(out, pgn);
 }

@@ -1,7 +1,8 @@
 // Answers of searches that go on to the end.
 ghost use Rattle.std.specs.Bool.{then_some};
 ghost use Rattle.std.specs.Prelude.{◌≡◌, ◌+◌, ◌<◌, if◌then◌else◌};
-ghost use Rattle.rules.specs.Search.{or_else, larger, smaller};
+ghost use Rattle.std.specs.Option.{option_or};
+ghost use Rattle.rules.specs.Search.{larger, smaller};
 
 // One more, at a hit.
 pub fn counted(count: u32, hit: bool) -> u32
@@ -16,29 +17,29 @@ pub fn counted(count: u32, hit: bool) -> u32
 
 // The latest hit, when index j is tried.
 pub fn latest(hit: bool, j: u32, earlier: Option<u32>) -> Option<u32>
-    ensures { result ≡ or_else (then_some hit j) earlier }
+    ensures { result ≡ option_or (then_some hit j) earlier }
 {
     if hit { Some(j) } else { earlier }
 }
 
 // The larger of two, where there are any.
+#[tactic(auto, using(crate::proofs::Extremes::max_is_larger))]
 pub fn larger(found: Option<u32>, one: Option<u32>) -> Option<u32>
     ensures { result ≡ larger found one }
 {
     match (found, one) {
-        (None, _) => one,
-        (Some(_), None) => found,
-        (Some(a), Some(b)) => Some(if a < b { b } else { a }),
+        (Some(a), Some(b)) => Some(a.max(b)),
+        _ => found.or(one),
     }
 }
 
 // The smaller of two, where there are any.
+#[tactic(auto, using(crate::proofs::Extremes::min_is_smaller))]
 pub fn smaller(found: Option<u32>, one: Option<u32>) -> Option<u32>
     ensures { result ≡ smaller found one }
 {
     match (found, one) {
-        (None, _) => one,
-        (Some(_), None) => found,
-        (Some(a), Some(b)) => Some(if b < a { b } else { a }),
+        (Some(a), Some(b)) => Some(a.min(b)),
+        _ => found.or(one),
     }
 }

@@ -7,6 +7,7 @@ ghost use Rattle.rules.specs.Emit.{Emitted};
 ghost use Rattle.rules.specs.SpecialValues.{special_max, special_values_at, check_special_values};
 
 use crate::emit::{Findings, pgn_error};
+use crate::field_rules::{FieldRule, check_fields};
 use pack::field::FieldView;
 use pack::loaded::PgnRef;
 
@@ -18,18 +19,19 @@ fn special_max(bits: u32) -> u64
     (1u64 << bits.min(63)) - 1
 }
 
-#[tactic(auto, unfolding(crate::specs::SpecialValues::special_values_at))]
-fn special_values_at(out: &mut Findings, pgn: &PgnRef, k: u32, f: FieldView)
-    requires { field_meaning pgn.now.pack.bytes.now f ≡ field_at (pgn_value pgn.now) k }
-    ensures { Emitted out.old
-        (special_values_at (tree_of pgn.now) pgn.now.item k (field_at (pgn_value pgn.now) k).res_bits
-        (field_at (pgn_value pgn.now) k).special_values) out.new }
-{
-    let Some(special) = f.links.special else {
-        return;
-    };
-    let outside = 3 < special || special_max(f.scaling.bits) < special as u64;
-    out.put_if(outside, pgn_error(9, 1, pgn, k, 0));
+struct SpecialValues;
+
+impl FieldRule for SpecialValues {
+    ghost findings = { λ g k. special_values_at (tree_of g) g.item k (field_at (pgn_value g) k).res_bits (field_at (pgn_value g) k).special_values };
+
+    #[tactic(auto, unfolding(crate::specs::SpecialValues::special_values_at))]
+    fn at(out: &mut Findings, pgn: &PgnRef, k: u32, f: FieldView) {
+        let Some(special) = f.links.special else {
+            return;
+        };
+        let outside = 3 < special || special_max(f.scaling.bits) < special as u64;
+        out.put_if(outside, pgn_error(9, 1, pgn, k, 0));
+    }
 }
 
 // R09: specialValues within 0 to 3, and below 2^bits.
@@ -37,8 +39,5 @@ fn special_values_at(out: &mut Findings, pgn: &PgnRef, k: u32, f: FieldView)
 pub fn check_special_values(out: &mut Findings, pgn: &PgnRef)
     ensures { Emitted out.old (check_special_values (tree_of pgn.now) pgn.now.item (pgn_value pgn.now)) out.new }
 {
-    for k in 0..pgn.view.fields {
-        let f = pgn.field(k);
-        special_values_at(out, pgn, k, f);
-    }
+    check_fields::<SpecialValues>(out, pgn);
 }

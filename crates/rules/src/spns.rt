@@ -8,11 +8,13 @@ ghost use Rattle.pack.specs.Notation.{concat_below};
 ghost use Rattle.pack.specs.Trees.{tree_number};
 ghost use Rattle.pack.specs.Value.{pgns_of, pgn_at, field_at};
 ghost use Rattle.rules.specs.Emit.{Emitted};
+ghost use Rattle.rules.specs.Findings.{report_if, pgn_error};
 ghost use Rattle.rules.specs.Floats.{float_eq};
 ghost use Rattle.rules.specs.SpnNames.{spn_field};
 ghost use Rattle.rules.specs.Spns.{spns_elsewhere, same_unit, first_seen, unlike_first, spn_at, check_scalings, check_spns};
 
 use crate::emit::{Findings, pgn_error};
+use crate::field_rules::{FieldRule, check_fields};
 use crate::spn_names::spn_field;
 use pack::field::{FieldView, ScalingView};
 use pack::float::float;
@@ -177,15 +179,22 @@ fn scalings(out: &mut Findings, pack: &Pack)
     }
 }
 
+struct SpnsElsewhere;
+
+impl FieldRule for SpnsElsewhere {
+    ghost findings = { λ g k. report_if (is_some (field_at (pgn_value g) k).spn) (pgn_error 42 1 (tree_of g) g.item k 0) };
+
+    fn at(out: &mut Findings, pgn: &PgnRef, k: u32, f: FieldView) {
+        out.put_if(f.authored.spn.is_some(), pgn_error(42, 1, pgn, k, 0));
+    }
+}
+
 // A PGN of another tree.
 #[tactic(auto, unfolding(crate::specs::Spns::spns_elsewhere))]
 fn spns_elsewhere(out: &mut Findings, pgn: &PgnRef)
     ensures { Emitted out.old (spns_elsewhere (tree_of pgn.now) pgn.now.item (pgn_value pgn.now)) out.new }
 {
-    for k in 0..pgn.view.fields {
-        let f = pgn.field(k);
-        out.put_if(f.authored.spn.is_some(), pgn_error(42, 1, pgn, k, 0));
-    }
+    check_fields::<SpnsElsewhere>(out, pgn);
 }
 
 // Another tree.

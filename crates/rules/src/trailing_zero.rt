@@ -9,6 +9,7 @@ ghost use Rattle.rules.specs.TrailingZero.{starts_behind, fixed, unsigned_intege
 ghost use Rattle.rules.specs.TrailingZero.{check_trailing_zero_is_digit};
 
 use crate::emit::{Findings, pgn_error};
+use crate::field_rules::{FieldRule, check_fields};
 use crate::floats::{ONE, ZERO, float_eq};
 use crate::targets::{integer, target};
 use pack::field::FieldView;
@@ -114,26 +115,24 @@ fn trailing_zero_target_at(out: &mut Findings, pgn: &PgnRef, k: u32, j: Option<u
     out.put_if(!right, pgn_error(44, 4, pgn, k, j));
 }
 
-// Field k, which is f.
-#[tactic(auto, unfolding(crate::specs::TrailingZero::trailing_zero_at))]
-fn trailing_zero_at(out: &mut Findings, pgn: &PgnRef, k: u32, f: FieldView)
-    requires { record {
-      field : k < pgn.now.view.fields;
-      means : field_meaning pgn.now.pack.bytes.now f ≡ field_at (pgn_value pgn.now) k;
-    } }
-    ensures { Emitted out.old
-        (trailing_zero_at (pack_of pgn.now.pack.bytes.now).fieldtypes (tree_of pgn.now) pgn.now.item (pgn_value pgn.now) k
-        (field_at (pgn_value pgn.now) k).trailing_zero) out.new }
-{
-    let Some(id) = f.links.trailing else {
-        return;
-    };
-    if !text_is(pgn.pack.bytes, f.names.kind, b"DECIMAL") {
-        out.put(pgn_error(44, 1, pgn, k, 0));
-        return;
+struct TrailingZero;
+
+impl FieldRule for TrailingZero {
+    ghost findings = { λ g k. trailing_zero_at (pack_of g.pack.bytes.now).fieldtypes (tree_of g) g.item (pgn_value g) k
+        (field_at (pgn_value g) k).trailing_zero };
+
+    #[tactic(auto, unfolding(crate::specs::TrailingZero::trailing_zero_at))]
+    fn at(out: &mut Findings, pgn: &PgnRef, k: u32, f: FieldView) {
+        let Some(id) = f.links.trailing else {
+            return;
+        };
+        if !text_is(pgn.pack.bytes, f.names.kind, b"DECIMAL") {
+            out.put(pgn_error(44, 1, pgn, k, 0));
+            return;
+        }
+        let j = target(pgn, id);
+        trailing_zero_target_at(out, pgn, k, j);
     }
-    let j = target(pgn, id);
-    trailing_zero_target_at(out, pgn, k, j);
 }
 
 // R44: a DECIMAL's trailingZeroIsDigit names an earlier field of fixed position.
@@ -143,8 +142,5 @@ pub fn check_trailing_zero_is_digit(out: &mut Findings, pgn: &PgnRef)
         (check_trailing_zero_is_digit (pack_of pgn.now.pack.bytes.now).fieldtypes (tree_of pgn.now) pgn.now.item (pgn_value pgn.now))
         out.new }
 {
-    for k in 0..pgn.view.fields {
-        let f = pgn.field(k);
-        trailing_zero_at(out, pgn, k, f);
-    }
+    check_fields::<TrailingZero>(out, pgn);
 }

@@ -16,11 +16,12 @@ use Rattle.pack.specs.Value.{Bytes, Reference, Field, Pgn, Pack, field_at}
 use Rattle.pack.specs.Meaning.{pack_of}
 use Rattle.pack.specs.declared.loaded.LookupRef.{LookupRef}
 use Rattle.pack.specs.declared.protocol.FieldIndex.{FieldIndex}
-use Rattle.rules.specs.Search.{or_else, any_below}
+use Rattle.std.specs.Option.{option_or}
+use Rattle.rules.specs.Search.{any_below}
 use Rattle.rules.specs.SearchLaws.{any_hit, first_is}
 use Rattle.rules.specs.Model.{lookup_ref, find_lookup, target}
 use Rattle.rules.specs.DynamicLength.{length_source}
-use Rattle.rules.proofs.Types.{some_is}
+use Rattle.rules.proofs.OptionMaps.{is_some_map}
 use Rattle.walk.specs.Layout.{Layout, layout, sets_hold}
 use Rattle.walk.specs.ByPlace.{placed}
 use Rattle.walk.specs.Held.{dynamic_value_held}
@@ -33,7 +34,7 @@ use Rattle.walk.proofs.Tests.{and_i}
 -- ---- the whole
 
 joined : (a b : Bool) (x : Option Stop) → (if a then Some LookupMissing else (if b then Some MatchUnfit else x))
-    ≡ or_else (if a then Some LookupMissing else (if b then Some MatchUnfit else None)) x
+    ≡ option_or (if a then Some LookupMissing else (if b then Some MatchUnfit else None)) x
 joined true b x = refl
 joined false true x = refl
 joined false false x = refl
@@ -42,7 +43,7 @@ module _ (P : Pack) (p : Pgn) (current : ℕ → Bool) (i reading : ℕ) where
   abbrev rest : Option Stop
   rest = if reference_names_missing P (lookup_ref (field_at p i)) reading then Some EntryNamesMissing else need_stop P p current i
 
-  parts : stop_at P p current i reading ≡ or_else (field_stop P (field_at p i)) rest
+  parts : stop_at P p current i reading ≡ option_or (field_stop P (field_at p i)) rest
   unfolding stop_at field_stop need_stop
   parts = joined (lookup_missing P (field_at p i)) (match_unfit P (field_at p i)) rest
 
@@ -75,7 +76,7 @@ named_reading N reading b e = e ∙ sym (N.decide reading)
 pub missing_is : (P : Pack) (name : Bytes) (l : Option LookupRef) → option_map (λ v. v.item) l ≡ find_lookup P.lookups name
     → is_missing P (Some name) ≡ not (is_some l)
 unfolding is_missing
-missing_is P name l e = rw (← e, some_is (λ (v : LookupRef). v.item) l)
+missing_is P name l e = rw (← e, is_some_map (λ (v : LookupRef). v.item) l)
 
 less_one : (a b : ℕ) → 0 < a → (a - 1 <ᵇ b) ≡ (a ≤ᵇ b)
 less_one a b h = go (ltb b a) refl

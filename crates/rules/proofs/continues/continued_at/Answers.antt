@@ -1,7 +1,7 @@
 use Rattle.std.specs.Prelude.{is_some, ◌==◌, if◌then◌else◌}
 use Rattle.rules.specs.Continues.{set_of, integer, not_raw, continued_by, continued_at}
 use Rattle.rules.specs.Model.{fieldtype_of, root_of, value_bits}
-use Rattle.rules.proofs.Types.{some_is}
+use Rattle.rules.proofs.OptionMaps.{is_some_map}
 use Rattle.rules.specs.Texts.{NUMBER}
 use Rattle.rules.specs.Floats.{float_eq, ZERO}
 use Rattle.rules.proofs.Emits.{emitted_append}
@@ -35,7 +35,7 @@ module _ (s : List ℕ) (fts : List FieldType) (p : Pgn) (f low : FieldView) (id
   said : continued_at fts t i p k (field_at p k) id j (field_at p j)
       ≡ placed t i p k id j m ++ report_if n F ++ report_if w G ++ report_if d H ++ report_if c I ++ report_if e J
   unfolding continued_at
-  said = rw (← is, ← lis, some_is (bytes_of s) low.authored.continues, ← me, ← ne, ← we, ← de, ← ce, ← ee, ← Fe, ← Ge, ← He, ← Ie, ← Je)
+  said = rw (← is, ← lis, is_some_map (bytes_of s) low.authored.continues, ← me, ← ne, ← we, ← de, ← ce, ← ee, ← Fe, ← Ge, ← He, ← Ie, ← Je)
 
 pub returns : goal.returns
 returns c =

@@ -10,7 +10,7 @@ use mathlib.Core.Bool.{Bool, false, ◌||◌}
 use mathlib.Core.List.{List}
 use mathlib.Core.Path.{◌≡◌, refl, ap, sym}
 use lib.ListN.{length, get_or, set}
-use Rattle.rules.proofs.Loops.{one_more}
+use Rattle.rules.proofs.PgnSearches.{one_more}
 use Rattle.rules.proofs.Marking.{MarkedTo, marked_next, marked_all}
 use Rattle.rules.proofs.lookup_marks.mark.Goals as goal
 

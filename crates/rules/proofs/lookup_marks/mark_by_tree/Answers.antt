@@ -6,7 +6,7 @@ use Rattle.rules.specs.Search.{any_below}
 use native.Mathlib.Omega.{arith}
 use mathlib.Core.Path.{ap}
 use lib.ListN.{length}
-use Rattle.rules.proofs.Loops.{one_more}
+use Rattle.rules.proofs.PgnSearches.{one_more}
 use Rattle.rules.proofs.Marking.{marked_as, marked_turn}
 use Rattle.rules.proofs.lookup_marks.mark_by_tree.Invariants.{has}
 use Rattle.rules.proofs.lookup_marks.mark_by_tree.Goals as goal

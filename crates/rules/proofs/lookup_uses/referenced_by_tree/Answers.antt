@@ -1,6 +1,6 @@
 use Rattle.rules.specs.LookupWiring.{referenced_by_tree}
 use mathlib.Core.Path.{◌∙◌, sym}
-use Rattle.rules.proofs.Loops.{pgn_missed, pgn_hit, no_pgn}
+use Rattle.rules.proofs.PgnSearches.{pgn_missed, pgn_hit, no_pgn}
 use Rattle.rules.proofs.lookup_uses.referenced_by_tree.Goals as goal
 
 pub returns-then-referenced_by_pgn : goal.returns-then-referenced_by_pgn

@@ -6,7 +6,7 @@ use Rattle.rules.specs.LookupWiring.{referenced_by_pgn}
 use Prim.Native.Nat.{ℕ}
 use mathlib.Core.Bool.{Bool}
 use mathlib.Core.List.{List}
-use Rattle.rules.proofs.Loops.{NoneOfPgns}
+use Rattle.rules.proofs.PgnSearches.{NoneOfPgns}
 use Rattle.rules.proofs.lookup_uses.referenced_by_tree.Given as goal
 
 -- whether PGN i of tree t references the name

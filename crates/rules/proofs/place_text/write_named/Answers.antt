@@ -13,15 +13,15 @@ returns-in_default c =
 pub returns-then-text-needed : goal.returns-then-text-needed
 returns-then-text-needed c =
     let text = c.args.text.now in let pack = c.args.pack.now.bytes.now in
-    let x = empty_part c.put_loc-needed.new.out text c.put_loc-needed.auto.out in
+    let x = empty_part c.write_loc-needed.new.text text c.write_loc-needed.auto.text in
     let a = too_short (place_text (pack_of pack) c.args.place c.args.tree c.args.item) text (loc_text pack c.in-Some.loc) c.in-Some.ensures
-    c.put_loc-needed.result c.put_loc-needed.ensures.count (rw x at c.if-text-needed.true) in
+    c.write_loc-needed.result c.write_loc-needed.ensures.count (rw x at c.if-text-needed.true) in
     record { answer = a.answer; text = x ∙ a.text }
 
 pub returns : goal.returns
 returns c =
     let text = c.args.text.now in let pack = c.args.pack.now.bytes.now in
-    let x = empty_part c.put_loc-needed.new.out text c.put_loc-needed.auto.out in
+    let x = empty_part c.write_loc-needed.new.text text c.write_loc-needed.auto.text in
     let a = all_written (place_text (pack_of pack) c.args.place c.args.tree c.args.item) text (loc_text pack c.in-Some.loc) c.in-Some.ensures
-    c.put_loc-needed.result c.put_loc-needed.ensures.count (rw x at c.if-text-needed.false) c.put_loc.new.out c.put_loc.result (rw x at c.put_loc.ensures) in
+    c.write_loc-needed.result c.write_loc-needed.ensures.count (rw x at c.if-text-needed.false) c.write_loc.new.text c.write_loc.result (rw x at c.write_loc.ensures) in
     record { answer = a.answer; text = a.text }

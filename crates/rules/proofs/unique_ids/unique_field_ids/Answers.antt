@@ -1,6 +1,7 @@
 use Rattle.std.specs.Bool.{then_some}
 use Rattle.std.specs.Prelude.{is_some}
-use Rattle.rules.specs.Search.{or_else, any_below, first_below}
+use Rattle.std.specs.Option.{option_or}
+use Rattle.rules.specs.Search.{any_below, first_below}
 use Rattle.rules.proofs.Emits.{reporting_turn}
 use Rattle.rules.specs.Findings.{report_if, pgn_error}
 use Rattle.rules.specs.declared.Finding.{Finding}
@@ -21,7 +22,7 @@ any_first : (q : ℕ → Bool) (n : ℕ) → any_below q n ≡ is_some (first_be
 any_first q zero = refl
 any_first q (suc n) = rw (any_first q n) (go (first_below q n) (q n))
   where
-    go : (o : Option ℕ) (b : Bool) → (is_some o || b) ≡ is_some (or_else o (then_some b n))
+    go : (o : Option ℕ) (b : Bool) → (is_some o || b) ≡ is_some (option_or o (then_some b n))
     go None true = refl
     go None false = refl
     go (Some x) b = refl

@@ -1,5 +1,0 @@
-use Rattle.rules.proofs.Emits.{reporting_turn}
-use Rattle.rules.proofs.special_values.check_special_values.Goals as goal
-
-pub loop-k-preserved : goal.loop-k-preserved
-loop-k-preserved c = reporting_turn c.loop-k.invariant c.loop-k-test.true c.special_values_at.ensures
