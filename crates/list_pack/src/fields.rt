@@ -1,7 +1,7 @@
 // The fields of a PGN.
 use listing::words::{Counted, flags, kind_name, text};
-use pack::field::{AuthoredView, FieldFlags, LinksView, NamesView, ScalingView};
-use pack::loaded::{FieldRef, Pack};
+use pack::field::{AuthoredView, FieldFlags, FieldView, LinksView, NamesView, ScalingView};
+use pack::loaded::Pack;
 use pack::text::Text;
 use std::io;
 use std::io::Write;
@@ -88,13 +88,9 @@ pub fn list(
     out: &mut impl Write,
     pack: &Pack<'_>,
     order: u32,
-    field: FieldRef<'_>,
+    at: u32,
+    field: FieldView,
 ) -> io::Result<()> {
-    let FieldRef {
-        at,
-        view: field,
-        ..
-    } = field;
     names(out, pack, field.names, order, at)?;
     write!(out, ", field type {}", field.ft)?;
     if let Some(field_type) = pack.get_field_type(field.ft) {

@@ -1,7 +1,8 @@
 // The lookups, each with its entries.
 use listing::words::{Counted, kind_name, text};
 use pack::kinds::LookupKind;
-use pack::loaded::{EntryRef, LookupRef, Pack};
+use pack::entry::EntryView;
+use pack::loaded::{LookupRef, Pack};
 use std::io;
 use std::io::Write;
 
@@ -9,13 +10,9 @@ fn list_entry(
     out: &mut impl Write,
     pack: &Pack<'_>,
     kind: LookupKind,
-    entry: EntryRef<'_>,
+    at: u32,
+    entry: EntryView,
 ) -> io::Result<()> {
-    let EntryRef {
-        at,
-        view: entry,
-        ..
-    } = entry;
     write!(out, "   ")?;
     if kind == LookupKind::Triplet {
         write!(out, " {}", entry.first)?;
@@ -36,13 +33,13 @@ fn list_lookup(out: &mut impl Write, pack: &Pack<'_>, lookup: LookupRef<'_>) -> 
     let view = lookup.view;
     write!(out, "  {}", lookup.item)?;
     text(out, " ", pack.text(view.name))?;
-    let at = lookup.at();
+    let at = lookup.byte();
     let kind = kind_name(view.kind);
     let bits = Counted::new(view.bits as usize, "bit", "bits");
     let entries = Counted::new(view.entries as usize, "entry", "entries");
     writeln!(out, " at byte {at}: {kind}, {bits}, {entries}")?;
-    for entry in lookup.entries() {
-        list_entry(out, pack, view.kind, entry)?;
+    for k in 0..view.entries {
+        list_entry(out, pack, view.kind, lookup.byte_of_entry(k), lookup.entry(k))?;
     }
     Ok(())
 }

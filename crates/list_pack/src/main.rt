@@ -7,7 +7,7 @@ mod pgns;
 mod refusal;
 mod types;
 
-use listing::input::{LONGEST, read_pack};
+use listing::input::{LONGEST, load_pack, read_pack};
 use listing::words::Counted;
 use pack::loaded::Pack;
 use pack::protocol::Protocol;
@@ -31,7 +31,7 @@ fn list(out: &mut impl Write, pack: &Pack<'_>) -> io::Result<()> {
 // No record has less than two bytes.
 fn load_and_list(out: &mut impl Write, alloc: Global, bytes: &[u8]) -> io::Result<()> {
     let mut work = vec![in alloc; 0u32; bytes.len() / 2]?;
-    match Pack::load(bytes, &mut work) {
+    match load_pack(bytes, &mut work) {
         Ok(pack) => list(out, &pack),
         Err(refusal) => writeln!(out, "{}", InWords(refusal)),
     }

@@ -36,7 +36,7 @@ fn list_pgn(out: &mut impl Write, pack: &Pack<'_>, pgn: PgnRef<'_>) -> io::Resul
     let view = pgn.view;
     write!(out, "  {}", view.pgn)?;
     text(out, " ", pack.text(view.id))?;
-    let at = pgn.at();
+    let at = pgn.byte();
     let message = message_name(view.kind);
     write!(out, " at byte {at}: {message}, length {}", view.length)?;
     if let Some(minimum) = view.minimum {
@@ -60,8 +60,8 @@ fn list_pgn(out: &mut impl Write, pack: &Pack<'_>, pgn: PgnRef<'_>) -> io::Resul
             list_set(out, place, set)?;
         }
     }
-    for (order, field) in (1..=view.fields).zip(pgn.fields()) {
-        fields::list(out, pack, order, field)?;
+    for k in 0..view.fields {
+        fields::list(out, pack, k + 1, pgn.byte_of_field(k), pgn.field(k))?;
     }
     Ok(())
 }

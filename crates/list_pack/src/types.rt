@@ -1,16 +1,17 @@
 // The field types.
 use listing::words::{flags, text};
-use pack::loaded::{Pack, TypeRef};
+use pack::field_type::FieldTypeView;
+use pack::loaded::Pack;
 use std::io;
 use std::io::Write;
 
 fn list_type(
     out: &mut impl Write,
     pack: &Pack<'_>,
-    i: usize,
-    field_type: TypeRef<'_>,
+    i: u32,
+    at: u32,
+    view: FieldTypeView,
 ) -> io::Result<()> {
-    let TypeRef { at, view, .. } = field_type;
     write!(out, "  {i}")?;
     text(out, " ", pack.text(view.name))?;
     write!(
@@ -32,8 +33,8 @@ fn list_type(
 
 pub fn list(out: &mut impl Write, pack: &Pack<'_>) -> io::Result<()> {
     writeln!(out, "field types {}", pack.index.types.count)?;
-    for (i, field_type) in pack.types().enumerate() {
-        list_type(out, pack, i, field_type)?;
+    for i in 0..pack.index.types.count {
+        list_type(out, pack, i, pack.byte_of_type(i), pack.field_type(i))?;
     }
     Ok(())
 }

@@ -1,6 +1,8 @@
 // The pack on standard input.
 ghost use Rattle.std.specs.Prelude.{◌≤◌, IfOk, IfSome, vec_len};
 
+use pack::load::{Refusal, load};
+use pack::loaded::Pack;
 use std::io;
 use std::io::Read;
 
@@ -20,4 +22,10 @@ pub fn read_pack(rt: &(impl Input + AllocGlobal), longest: u32) -> io::Result<Op
     } else {
         Ok(None)
     }
+}
+
+// The pack that the bytes are, with a work buffer for it.
+pub fn load_pack<'a>(bytes: &'a [u8], work: &'a mut [u32]) -> Result<Pack<'a>, Refusal> {
+    let index = load(bytes, work)?;
+    Ok(Pack { bytes, work, index })
 }

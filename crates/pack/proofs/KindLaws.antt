@@ -2,7 +2,8 @@
 use native.Mathlib.Omega.{arith}
 use mathlib.Core.Path.{◌≡◌, refl}
 use Rattle.pack.specs.Items.{give}
-use Rattle.pack.specs.Kinds.{kind_number}
+use Prim.Native.Nat.{ℕ, zero, suc, ◌≤◌}
+use Rattle.pack.specs.Kinds.{kind_number, kind_of, message_type_number, message_type_of}
 use Rattle.pack.specs.Records.{read_first, no_kind_part, read_kind_part}
 use Rattle.pack.specs.declared.kinds.LookupKind.{LookupKind}
 use Rattle.pack.specs.declared.kinds.LookupKind.TheVariants.{Pair, Triplet, Bit, Fieldtype}
@@ -38,3 +39,18 @@ none_behind Pair h = refl
 none_behind Triplet h = refl
 none_behind Bit h = refl
 none_behind Fieldtype h = absurd (h refl)
+
+-- the number that was read is the kind's
+pub kind_kept : (n : ℕ) → n ≤ 3 → kind_number (kind_of n) ≡ n
+kind_kept zero h = refl
+kind_kept (suc zero) h = refl
+kind_kept (suc (suc zero)) h = refl
+kind_kept (suc (suc (suc zero))) h = refl
+kind_kept (suc (suc (suc (suc n)))) h = absurd (omega arith)
+
+pub type_kept : (n : ℕ) → n ≤ 3 → message_type_number (message_type_of n) ≡ n
+type_kept zero h = refl
+type_kept (suc zero) h = refl
+type_kept (suc (suc zero)) h = refl
+type_kept (suc (suc (suc zero))) h = refl
+type_kept (suc (suc (suc (suc n)))) h = absurd (omega arith)

@@ -3,13 +3,12 @@ use Rattle.pack.specs.Items.{Cursor, Item}
 use Rattle.std.specs.Prelude.{None}
 use Prim.Native.Nat.{ℕ, zero, suc, ◌+◌, ◌-◌, ◌≤◌, ◌<◌}
 use native.Mathlib.Omega.{arith}
-use native.Mathlib.Numerals.{add-one}
 use mathlib.Core.Path.{◌≡◌, refl, ap, ◌∙◌, sym}
 use mathlib.Core.List.{List}
 use lib.ListN.{length, get_or, take, length-append, length-take, get_or-append}
 use lib.Seq.{get_or-append-add, get_or-take}
 use Rattle.pack.specs.Notation.{concat_below}
-use Rattle.pack.specs.Value.{Field, Pgn, Pack, no_field_type, no_entry, pgn_at, field_at, lookup_at}
+use Rattle.pack.specs.Value.{Field, Pgn, no_field_type, no_entry, pgn_at, field_at, lookup_at}
 use Rattle.pack.specs.Items.{◌▷◌, give, fresh, bytes_of, read_number, read_text, read_index, read_code}
 use Rattle.pack.specs.Records.{read_type, read_entry, read_lookup, read_names, read_scaling, read_authored, read_pgn, read_field, read_second_text}
 use Rattle.pack.specs.Format.{types, type_offsets, entries, entry_offsets, lookup_records, lookup_offsets, FieldState, field_next, fields}
@@ -360,10 +359,3 @@ module _ {s w : List ℕ} {t i p : ℕ} (a : PgnAt s w t i p) where
       let e : (field_at (pgn_at (pack_of s) t i) j).ft ≡ (read_field k st.total s st.next).value.ft
       = ap (λ (f : Field). f.ft) (field_is s t i j a.tree (counted_pgn a) m) in
       omega (arith, b, e, types_are s)
-
--- the next record of its kind
-pub lookup_place_next : (P : Pack) (i : ℕ) → place_of_lookup P (i + 1) ≡ place_of_lookup P i + 1 + length (lookup_at P.lookups i).entries
-lookup_place_next P i = rw (add-one i)
-
-pub pgn_place_next : (P : Pack) (t i : ℕ) → place_of_pgn P t (i + 1) ≡ place_of_pgn P t i + 1 + length (pgn_at P t i).fields
-pgn_place_next P t i = rw (add-one i) (omega arith)

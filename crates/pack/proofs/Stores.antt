@@ -2,7 +2,6 @@
 use Prim.Native.Nat.{ℕ, suc, ◌+◌, ◌%◌, ◌≤◌, ◌<◌}
 use Rattle.std.specs.Prelude.{min}
 use native.Mathlib.Omega.{arith}
-use native.Mathlib.Numerals.{add-one}
 use mathlib.Core.Path.{◌≡◌, refl, ◌∙◌, sym}
 use mathlib.Core.List.{List, [], ◌∷◌, ◌++◌}
 use lib.ListN.{length, get_or, set, take, drop, length-append}
@@ -29,10 +28,6 @@ module _ {w : List ℕ} {p : ℕ} {xs w' : List ℕ} {q : ℕ} (a : Stored w p x
 
   pub stored_one : (x : ℕ) → Stored w p (xs ++ x ∷ []) (set w' q x) (q + 1)
   stored_one x = stored_append (record { count = refl; work = refl })
-
--- a number and more behind it
-pub stored_cons : (w : List ℕ) (p x : ℕ) (xs w' : List ℕ) (q : ℕ) → Stored (set w p x) (p + 1) xs w' q → Stored w p (x ∷ xs) w' q
-stored_cons w p x xs w' q a = record { count = omega (arith, a.count); work = a.work ∙ (rw add-one) }
 
 -- stored from the beginning, with room for all
 pub sets_over : (w xs : List ℕ) → length xs ≤ length w → sets w 0 xs ≡ over xs w

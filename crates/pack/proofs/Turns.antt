@@ -11,8 +11,8 @@ use Rattle.pack.specs.Loaded.{LookupSpot, PgnSpot, lookup_spots, pgn_spots, look
 use Rattle.pack.specs.Loaded.{lookups_left, pgns_left}
 use Rattle.pack.specs.Trees.{tree_number}
 use Rattle.pack.specs.Meaning.{pack_of}
-use Rattle.pack.specs.Ready.{LookupIs, PgnIs}
-use Rattle.pack.specs.Value.{lookup_at, pgn_at}
+use Rattle.pack.specs.Ready.{PgnIs}
+use Rattle.pack.specs.Value.{pgn_at}
 use Rattle.pack.specs.declared.loaded.Lookups.{Lookups}
 use Rattle.pack.specs.declared.loaded.Pgns.{Pgns}
 use Rattle.pack.specs.declared.loaded.LookupRef.{LookupRef}
@@ -129,11 +129,6 @@ pgn_found {n = n} item u e =
 
 pub not_found : {A : Type 0} (item n : ℕ) (x : A) → n ≤ item → None ≡ then_some (item <ᵇ n) x
 not_found item n x h = let k : n < suc item = omega (arith, h) in rw (lt-leb (suc item) n k)
-
--- what the view of a record is, of which one is known which it is
-pub lookup_there : {s w : List ℕ} {i : ℕ} (x : LookupRef) → lookup_spot x ≡ record { bytes = s; work = w; item = i }
-    → LookupIs s (lookup_at (pack_of s).lookups i) x.view
-lookup_there x e = rw (ap (λ (o : LookupSpot). o.bytes) e, ap (λ (o : LookupSpot). o.item) e) at x.is
 
 pub pgn_there : {s w : List ℕ} {t i : ℕ} (x : PgnRef) → pgn_spot x ≡ record { bytes = s; work = w; tree = t; item = i }
     → PgnIs s (pgn_at (pack_of s) t i) x.view

@@ -1,19 +1,13 @@
 -- Which records an accepted pack's references are of, and what the iterators over it have still to give.
-use Rattle.std.specs.Prelude.{ℕ, ◌-◌, List, length, map, drop}
+use Rattle.std.specs.Prelude.{ℕ, ◌-◌, List, length, map}
 use Rattle.std.specs.List.{range_with_len}
-use Rattle.pack.specs.Value.{FieldType, Entry, Field, Lookup, Pgn, pgns_of, lookup_at, pgn_at}
-use Rattle.pack.specs.Meaning.{type_meaning, entry_meaning, field_meaning, pack_of}
+use Rattle.pack.specs.Value.{Lookup, Pgn, pgns_of, lookup_at, pgn_at}
+use Rattle.pack.specs.Meaning.{pack_of}
 use Rattle.pack.specs.Trees.{tree_number}
 use Rattle.pack.specs.declared.loaded.LookupRef.{LookupRef}
 use Rattle.pack.specs.declared.loaded.PgnRef.{PgnRef}
-use Rattle.pack.specs.declared.loaded.TypeRef.{TypeRef}
-use Rattle.pack.specs.declared.loaded.EntryRef.{EntryRef}
-use Rattle.pack.specs.declared.loaded.FieldRef.{FieldRef}
-use Rattle.pack.specs.declared.loaded.Types.{Types}
 use Rattle.pack.specs.declared.loaded.Lookups.{Lookups}
-use Rattle.pack.specs.declared.loaded.Entries.{Entries}
 use Rattle.pack.specs.declared.loaded.Pgns.{Pgns}
-use Rattle.pack.specs.declared.loaded.Fields.{Fields}
 
 -- the lookup and the PGN that a reference is of
 abbrev pub lookup_value : LookupRef → Lookup
@@ -51,28 +45,10 @@ lookup_spot l = record { bytes = l.pack.bytes.now; work = l.pack.work.now; item 
 abbrev pub pgn_spot : PgnRef → PgnSpot
 pgn_spot g = record { bytes = g.pack.bytes.now; work = g.pack.work.now; tree = tree_number g.protocol; item = g.item }
 
-abbrev pub type_said : TypeRef → FieldType
-type_said t = type_meaning t.bytes.now t.view
-
-abbrev pub entry_said : EntryRef → Entry
-entry_said e = entry_meaning e.bytes.now e.view
-
-abbrev pub field_said : FieldRef → Field
-field_said f = field_meaning f.bytes.now f.view
-
-abbrev pub types_left : Types → List FieldType
-types_left i = drop i.item (pack_of i.pack.bytes.now).fieldtypes
-
 abbrev pub lookups_left : Lookups → List LookupSpot
 lookups_left i = lookup_spots i.pack.bytes.now i.pack.work.now i.item (length (pack_of i.pack.bytes.now).lookups)
-
-abbrev pub entries_left : Entries → List Entry
-entries_left i = drop i.item (lookup_value i.of).entries
 
 abbrev pub pgns_left : Pgns → List PgnSpot
 pgns_left i =
     pgn_spots i.pack.bytes.now i.pack.work.now (tree_number i.protocol) i.item
     (length (pgns_of (pack_of i.pack.bytes.now) (tree_number i.protocol)))
-
-abbrev pub fields_left : Fields → List Field
-fields_left i = drop i.item (pgn_value i.of).fields

@@ -49,10 +49,11 @@ read_first Pair = give 0
 read_first Bit = give 0
 read_first Fieldtype = give 0
 
--- "Fieldtype: value, name, fieldtype, optional nested lookup": what stands behind an entry's name
+-- of an entry of another kind
 abbrev pub no_kind_part : KindPart
 no_kind_part = record { fieldtype = record { start = 0; len = 0 }; nested = None }
 
+-- "Fieldtype: value, name, fieldtype, optional nested lookup": what stands behind an entry's name
 unfoldable pub read_kind_part : LookupKind → Form KindPart
 read_kind_part Fieldtype =
     read_text ▷ λ fieldtype. optional read_text ▷ λ nested. give (record { fieldtype = fieldtype; nested = nested })

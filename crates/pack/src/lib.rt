@@ -1,7 +1,6 @@
 // The pack layer: document 01's byte format, its five kinds of record, and `load`.
 #![tactic(auto)]
 
-pub mod buffers;
 pub mod entry;
 pub mod field;
 pub mod field_type;
@@ -14,5 +13,5 @@ pub mod lookup;
 mod number;
 pub mod pgn;
 pub mod protocol;
-pub mod reader;
+mod reader;
 pub mod text;

@@ -1,12 +1,10 @@
 // An accepted pack with what `load` left in the work buffer: its records by their index, each with the facts that a reader of it asks.
-ghost use Rattle.std.specs.Prelude.{◌≡◌, ◌+◌, ◌≤◌, ◌<◌, length, get_or, IfOk, IfErr};
+ghost use Rattle.std.specs.Prelude.{◌≡◌, ◌+◌, ◌≤◌, ◌<◌, length, get_or};
 ghost use Rattle.std.specs.List.{slice_get};
 ghost use Rattle.std.specs.Bool.{then_some};
 ghost use Rattle.std.specs.Option.{option_map};
 ghost use Rattle.pack.specs.Notation.{◌<ᵇ◌};
-ghost use Rattle.std.specs.Prelude.{Ok, Err};
 ghost use Rattle.pack.specs.Items.{bytes_of, fresh};
-ghost use Rattle.pack.specs.Load.{Loads};
 ghost use Rattle.pack.specs.Meaning.{type_meaning, entry_meaning, field_meaning, pack_of};
 ghost use Rattle.pack.specs.Ready.{Ready, IndexIs, LookupAt, LookupIs, PgnAt, PgnIs, place_of_lookup, place_of_pgn};
 ghost use Rattle.pack.specs.Reads.{told};
@@ -17,7 +15,7 @@ ghost use Rattle.pack.specs.Value.{no_field_type, no_entry, pgns_of, pgn_at, fie
 use crate::entry::EntryView;
 use crate::field::FieldView;
 use crate::field_type::FieldTypeView;
-use crate::load::{Index, Refusal, load};
+use crate::load::Index;
 use crate::lookup::LookupView;
 use crate::pgn::PgnView;
 use crate::protocol::Protocol;
@@ -56,47 +54,13 @@ pub struct PgnRef<'a> {
     pub ghost is: { PgnIs pack.bytes.now (pgn_at (pack_of pack.bytes.now) (tree_number protocol) item) view },
 }
 
-// A field type, an entry and a field as they are read, and the byte at which each begins.
-#[derive(Clone, Copy)]
-pub struct TypeRef<'a> {
-    pub bytes: &'a [u8],
-    pub at: u32,
-    pub view: FieldTypeView,
-}
-
-#[derive(Clone, Copy)]
-pub struct EntryRef<'a> {
-    pub bytes: &'a [u8],
-    pub at: u32,
-    pub view: EntryView,
-}
-
-#[derive(Clone, Copy)]
-pub struct FieldRef<'a> {
-    pub bytes: &'a [u8],
-    pub at: u32,
-    pub view: FieldView,
-}
-
-// The iterators: `item` comes next.
-#[derive(Clone, Copy)]
-pub struct Types<'a> {
-    pub(crate) pack: Pack<'a>,
-    pub(crate) item: u32,
-}
-
+// The lookups, and the PGNs of a tree: `item` comes next.
 #[derive(Clone, Copy)]
 pub struct Lookups<'a> {
     pub(crate) pack: Pack<'a>,
     pub(crate) item: u32,
     pub(crate) place: usize,
     ghost placed: { place ≡ place_of_lookup (pack_of pack.bytes.now) item },
-}
-
-#[derive(Clone, Copy)]
-pub struct Entries<'a> {
-    pub(crate) of: LookupRef<'a>,
-    pub(crate) item: u32,
 }
 
 #[derive(Clone, Copy)]
@@ -110,12 +74,6 @@ pub struct Pgns<'a> {
     ghost placed: { place ≡ place_of_pgn (pack_of pack.bytes.now) (tree_number protocol) item },
 }
 
-#[derive(Clone, Copy)]
-pub struct Fields<'a> {
-    pub(crate) of: PgnRef<'a>,
-    pub(crate) item: u32,
-}
-
 // The text behind the one that a record begins with: a field's name.
 fn second_text(mut r: Reader) -> Result<Text, InputRefusal>
     ensures { result ≡ told (read_second_text r.entry.bytes.now (fresh r.entry.at)) }
@@ -125,16 +83,7 @@ fn second_text(mut r: Reader) -> Result<Text, InputRefusal>
 }
 
 impl<'a> Pack<'a> {
-    ghost use Rattle.pack.specs.Loaded.{types_left, lookups_left, pgns_left, lookup_spots, pgn_spots};
-
-    // What `load` answers, and what it leaves in the work buffer; after a refusal nothing is written.
-    pub fn load(bytes: &'a [u8], work: &'a mut [u32]) -> Result<Pack<'a>, Refusal>
-        ensures accepted { IfOk result (λ p. record { same : p.bytes.now ≡ bytes.now; loads : Loads bytes.now work.old p.work.now (Ok p.index) }) }
-        ensures refused { IfErr result (λ r. Loads bytes.now work.old work.old (Err r)) }
-    {
-        let index = load(bytes, work)?;
-        Ok(Pack { bytes, work, index })
-    }
+    ghost use Rattle.pack.specs.Loaded.{lookups_left, pgns_left, lookup_spots, pgn_spots};
 
     pub fn text(&self, text: Text) -> &'a [u8]
         ensures { result.now ≡ bytes_of self.now.bytes.now text }
@@ -186,6 +135,14 @@ impl<'a> Pack<'a> {
         field_type
     }
 
+    // The byte at which it begins.
+    pub fn byte_of_type(&self, i: u32) -> u32
+        requires { i < length (pack_of self.now.bytes.now).fieldtypes }
+        ensures { result ≡ get_or self.now.work.now i 0 }
+    {
+        self.work[i as usize]
+    }
+
     // None past the last.
     pub fn get_field_type(&self, i: u32) -> Option<FieldTypeView>
         ensures { option_map (type_meaning self.now.bytes.now) result ≡ slice_get (pack_of self.now.bytes.now).fieldtypes i }
@@ -194,15 +151,6 @@ impl<'a> Pack<'a> {
             return None;
         }
         Some(self.field_type(i))
-    }
-
-    pub fn types(&self) -> Types<'a>
-        ensures { types_left result ≡ (pack_of self.now.bytes.now).fieldtypes }
-    {
-        Types {
-            pack: *self,
-            item: 0,
-        }
     }
 
     pub fn lookups(&self) -> Lookups<'a>
@@ -238,6 +186,9 @@ impl<'a> Pack<'a> {
         ensures { option_map lookup_spot result ≡ then_some (item <ᵇ length (pack_of self.now.bytes.now).lookups)
             (record { bytes = self.now.bytes.now; work = self.now.work.now; item = item }) }
     {
+        if self.index.lookups.count <= item {
+            return None;
+        }
         for lookup in self.lookups() {
             if lookup.item == item {
                 return Some(lookup);
@@ -251,6 +202,10 @@ impl<'a> Pack<'a> {
         ensures { option_map pgn_spot result ≡ then_some (item <ᵇ length (pgns_of (pack_of self.now.bytes.now) (tree_number protocol)))
             (record { bytes = self.now.bytes.now; work = self.now.work.now; tree = tree_number protocol; item = item }) }
     {
+        let section = protocol.section(self.index);
+        if section.count <= item {
+            return None;
+        }
         for pgn in self.pgns(protocol) {
             if pgn.item == item {
                 return Some(pgn);
@@ -261,19 +216,21 @@ impl<'a> Pack<'a> {
 }
 
 impl<'a> LookupRef<'a> {
-    ghost use Rattle.pack.specs.Loaded.{entries_left, lookup_value};
+    ghost use Rattle.pack.specs.Loaded.{lookup_value};
 
     // The byte at which it begins.
-    pub fn at(&self) -> u32
+    pub fn byte(&self) -> u32
         ensures { result ≡ get_or self.now.pack.work.now self.now.place 0 }
     {
         self.pack.work[self.place]
     }
 
-    pub fn entries(&self) -> Entries<'a>
-        ensures { entries_left result ≡ (lookup_value self.now).entries }
+    // The byte at which entry k begins.
+    pub fn byte_of_entry(&self, k: u32) -> u32
+        requires { k < self.now.view.entries }
+        ensures { result ≡ get_or self.now.pack.work.now (self.now.place + 1 + k) 0 }
     {
-        Entries { of: *self, item: 0 }
+        self.pack.work[self.place + 1 + k as usize]
     }
 
     // Entry k.
@@ -293,19 +250,21 @@ impl<'a> LookupRef<'a> {
 }
 
 impl<'a> PgnRef<'a> {
-    ghost use Rattle.pack.specs.Loaded.{fields_left, pgn_value};
+    ghost use Rattle.pack.specs.Loaded.{pgn_value};
 
     // The byte at which it begins.
-    pub fn at(&self) -> u32
+    pub fn byte(&self) -> u32
         ensures { result ≡ get_or self.now.pack.work.now self.now.place 0 }
     {
         self.pack.work[self.place]
     }
 
-    pub fn fields(&self) -> Fields<'a>
-        ensures { fields_left result ≡ (pgn_value self.now).fields }
+    // The byte at which field k begins.
+    pub fn byte_of_field(&self, k: u32) -> u32
+        requires { k < self.now.view.fields }
+        ensures { result ≡ get_or self.now.pack.work.now (self.now.place + 1 + k) 0 }
     {
-        Fields { of: *self, item: 0 }
+        self.pack.work[self.place + 1 + k as usize]
     }
 
     // A reader at field k.
@@ -360,33 +319,6 @@ impl<'a> PgnRef<'a> {
     }
 }
 
-impl<'a> Iterator for Types<'a> {
-    ghost use Rattle.std.specs.Iterator.{item_count, YieldsFirstBy};
-    ghost use Rattle.pack.specs.Loaded.{type_said, types_left};
-
-    type Item = TypeRef<'a>;
-
-    ghost next_gives = { YieldsFirstBy type_said types_left };
-
-    ghost remaining = { item_count types_left };
-
-    fn next(&mut self) -> Option<TypeRef<'a>> {
-        let Types { pack, item } = *self;
-        let count = pack.index.types.count;
-        if count <= item {
-            return None;
-        }
-        let at = pack.work[item as usize];
-        let view = pack.field_type(item);
-        self.item = item + 1;
-        Some(TypeRef {
-            bytes: pack.bytes,
-            at,
-            view,
-        })
-    }
-}
-
 impl<'a> Iterator for Lookups<'a> {
     ghost use Rattle.std.specs.Iterator.{item_count, YieldsFirstBy};
     ghost use Rattle.pack.specs.Loaded.{lookup_spot, lookups_left};
@@ -413,33 +345,6 @@ impl<'a> Iterator for Lookups<'a> {
             pack,
             item,
             place,
-            view,
-        })
-    }
-}
-
-impl<'a> Iterator for Entries<'a> {
-    ghost use Rattle.std.specs.Iterator.{item_count, YieldsFirstBy};
-    ghost use Rattle.pack.specs.Loaded.{entry_said, entries_left};
-
-    type Item = EntryRef<'a>;
-
-    ghost next_gives = { YieldsFirstBy entry_said entries_left };
-
-    ghost remaining = { item_count entries_left };
-
-    fn next(&mut self) -> Option<EntryRef<'a>> {
-        let Entries { of, item } = *self;
-        let count = of.view.entries;
-        if count <= item {
-            return None;
-        }
-        let at = of.pack.work[of.place + 1 + item as usize];
-        let view = of.entry(item);
-        self.item = item + 1;
-        Some(EntryRef {
-            bytes: of.pack.bytes,
-            at,
             view,
         })
     }
@@ -479,33 +384,6 @@ impl<'a> Iterator for Pgns<'a> {
             protocol,
             item,
             place,
-            view,
-        })
-    }
-}
-
-impl<'a> Iterator for Fields<'a> {
-    ghost use Rattle.std.specs.Iterator.{item_count, YieldsFirstBy};
-    ghost use Rattle.pack.specs.Loaded.{field_said, fields_left};
-
-    type Item = FieldRef<'a>;
-
-    ghost next_gives = { YieldsFirstBy field_said fields_left };
-
-    ghost remaining = { item_count fields_left };
-
-    fn next(&mut self) -> Option<FieldRef<'a>> {
-        let Fields { of, item } = *self;
-        let count = of.view.fields;
-        if count <= item {
-            return None;
-        }
-        let at = of.pack.work[of.place + 1 + item as usize];
-        let view = of.field(item);
-        self.item = item + 1;
-        Some(FieldRef {
-            bytes: of.pack.bytes,
-            at,
             view,
         })
     }

@@ -39,10 +39,10 @@ impl Protocol {
     }
 
     // `check_prefix`, before `pgns/`.
-    pub fn prefix(self) -> &'static [u8]
-        ensures { result.now ≡ prefix_of self }
+    pub fn prefix(protocol: Protocol) -> &'static [u8]
+        ensures { result.now ≡ prefix_of protocol }
     {
-        match self {
+        match protocol {
             Protocol::Nmea2000 => b"",
             Protocol::J1939 => b"j1939/",
             Protocol::Quick => b"quick/",

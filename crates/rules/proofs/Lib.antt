@@ -14,7 +14,6 @@ pub mod PlaceTexts
 pub mod Ranks
 pub mod Reports
 pub mod RuleNumbers
-pub mod Sections
 pub mod SpnClashLaws
 pub mod SpnLaws
 pub mod SpnRanks

@@ -68,9 +68,6 @@ pub record MarkedTo (P : Pack) (l : ℕ) (m : List Bool) (q : Bytes → Bool) (m
   pub below : (j : ℕ) → j < l → j < length m → get_or m' j false ≡ (get_or m j false || q (lookup_at P.lookups j).name)
   pub above : (j : ℕ) → l ≤ j → get_or m' j false ≡ get_or m j false
 
-pub marked_first : (P : Pack) (m : List Bool) (q : Bytes → Bool) → MarkedTo P 0 m q m
-marked_first P m q = record { room = refl; below = λ j h k. absurd (omega arith); above = λ j h. refl }
-
 pub marked_next : {P : Pack} {l : ℕ} {m m' m'' : List Bool} {q : Bytes → Bool} (b : Bool) → MarkedTo P l m q m'
     → b ≡ q (lookup_at P.lookups l).name → m'' ≡ marked_at m' l b → MarkedTo P (l + 1) m q m''
 unfolding marked_at

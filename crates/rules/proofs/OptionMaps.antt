@@ -8,7 +8,3 @@ use mathlib.Core.Path.{◌≡◌, refl}
 pub is_some_map : {A B : Type 0} (f : A → B) (o : Option A) → is_some (option_map f o) ≡ is_some o
 is_some_map f None = refl
 is_some_map f (Some a) = refl
-
-pub map_then_some : {A B : Type 0} (f : A → B) (b : Bool) (a : A) → option_map f (then_some b a) ≡ then_some b (f a)
-map_then_some f true a = refl
-map_then_some f false a = refl

@@ -14,7 +14,6 @@ use crate::lookup_wiring::check_lookup_wiring;
 use crate::spn_names::check_spn_names;
 use crate::spns::check_spns;
 use crate::trees::{check_trees, check_trees_continues};
-use pack::buffers::copy;
 use pack::load::{Refusal, load};
 use pack::loaded::Pack;
 
@@ -76,7 +75,7 @@ fn deliver(pack: &Pack, findings: &mut [u32], short: &[u32], count: usize)
 {
     let numbers = 8 * count;
     if numbers <= short.len() {
-        copy(short, findings, numbers);
+        findings[..numbers].copy_from_slice(&short[..numbers]);
         return;
     }
     find_all(findings, pack);

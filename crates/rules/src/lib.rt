@@ -28,7 +28,7 @@ pub mod model;
 pub mod nested_refs;
 mod pgn_range;
 pub mod place_text;
-pub mod places;
+mod places;
 mod proprietary;
 mod repeating;
 mod reserved_ids;

@@ -32,7 +32,7 @@ pub enum Loc {
 fn put_number(out: &mut TextOut, protocol: Protocol, number: u32)
     ensures { Puts out.old (check_prefix (tree_number protocol) ++ bytes "pgns/" ++ six_digits number) out.new }
 {
-    out.put_bytes(protocol.prefix());
+    out.put_bytes(Protocol::prefix(protocol));
     out.put_bytes(b"pgns/");
     out.put_six_digits(number);
 }

@@ -2,6 +2,7 @@
 use crate::arguments::Arguments;
 use crate::find::find;
 use crate::passes::{Passes, indent};
+use listing::input::load_pack;
 use listing::words::{Counted, Refused, protocol_name, text};
 use pack::loaded::{Pack, PgnRef};
 use pack::protocol::{FieldIndex, Protocol};
@@ -187,7 +188,7 @@ pub fn show(
 ) -> io::Result<()> {
     let protocol = arguments.protocol;
     let mut work = vec![in alloc; 0u32; bytes.len() / 2]?;
-    match Pack::load(bytes, &mut work) {
+    match load_pack(bytes, &mut work) {
         Err(refusal) => writeln!(out, "{}", Refused(refusal)),
         Ok(pack) => match find(&pack, protocol, arguments.name) {
             Some(found) => show_found(out, alloc, found, &arguments.readings),

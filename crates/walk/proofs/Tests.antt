@@ -43,10 +43,6 @@ pub or_i : (a b : Bool) → a ≡ false → b ≡ false → (a || b) ≡ false
 or_i true b p q = p
 or_i false b p q = q
 
-pub and_true : (b : Bool) → (b && true) ≡ b
-and_true true = refl
-and_true false = refl
-
 pub and_none : (b : Bool) → (b && false) ≡ false
 and_none true = refl
 and_none false = refl

@@ -11,7 +11,7 @@ use Rattle.pack.specs.Notation.{concat_below}
 use Rattle.pack.specs.Meaning.{pack_of}
 use Rattle.pack.specs.Trees.{tree_number}
 use Rattle.pack.specs.Value.{pgns_of}
-use Rattle.rules.proofs.Sections.{section_count}
+use Rattle.pack.proofs.Few.{section_count}
 use Rattle.rules.proofs.Emits.{reporting_turn}
 use Rattle.rules.proofs.variants.check_variants.Invariants.{least, of_rank}
 use Rattle.rules.proofs.variants.check_variants.Goals as goal
@@ -34,7 +34,7 @@ pub returns-in_default : goal.returns-in_default
 unfolding check_variants
 returns-in_default c =
     let s = c.args.pack.now.bytes.now in let t = tree_number c.args.protocol in
-    let n = section_count (pack_of s) c.args.pack.now.index c.args.pack.now.indexed c.args.protocol c.section-count.result c.section-count.ensures in
+    let n = section_count c.args.pack.now.indexed c.args.protocol c.section-count.ensures in
     rw (over s t c.loop-r.r (length (pgns_of (pack_of s) t)) (omega (arith, c.loop-r-test.true, n))
     (c.loop-r.invariant.ranked ∙ sym c.in_default.ensures)) c.loop-r.invariant.reporting.emitted
 

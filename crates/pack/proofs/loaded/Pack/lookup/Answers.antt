@@ -4,6 +4,9 @@ use mathlib.Core.List.{[], ◌∷◌}
 use native.Mathlib.Omega.{arith}
 use Rattle.pack.proofs.loaded.Pack.lookup.Goals as goal
 
+pub returns-then-self-item : goal.returns-then-self-item
+returns-then-self-item c = not_found c.args.item _ _ (omega (arith, c.args.self.now.indexed.lookups.count, c.if-self-item.true))
+
 pub returns-then-lookup-item : goal.returns-then-lookup-item
 returns-then-lookup-item c =
     let u = lookups_turn c.in-Some.lookup c.next.new.self c.loop-lookup.invariant.given c.in-Some.ensures.steps in

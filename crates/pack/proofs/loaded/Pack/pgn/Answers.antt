@@ -1,8 +1,14 @@
+use Rattle.pack.proofs.Few.{section_count}
 use Rattle.pack.proofs.Turns.{pgns_turn, pgns_given, pgn_found, not_found}
 use lib.ListN.{length-append}
 use mathlib.Core.List.{[], ◌∷◌}
 use native.Mathlib.Omega.{arith}
 use Rattle.pack.proofs.loaded.Pack.pgn.Goals as goal
+
+pub returns-then-section-item : goal.returns-then-section-item
+returns-then-section-item c =
+    not_found c.args.item _ _
+    (omega (arith, section_count c.args.self.now.indexed c.args.protocol c.section-section.ensures, c.if-section-item.true))
 
 pub returns-then-pgn-item : goal.returns-then-pgn-item
 returns-then-pgn-item c =

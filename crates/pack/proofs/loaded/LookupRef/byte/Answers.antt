@@ -1,7 +1,7 @@
 use Rattle.pack.proofs.Few.{entries_few}
 use Rattle.pack.proofs.Positions.{lookup_room}
 use native.Mathlib.Omega.{arith}
-use Rattle.pack.proofs.loaded.LookupRef.at.Goals as goal
+use Rattle.pack.proofs.loaded.LookupRef.byte.Goals as goal
 
 pub offset_bounds-self-self : goal.offset_bounds-self-self
 offset_bounds-self-self c = omega (arith, entries_few c.args.self.now.at)

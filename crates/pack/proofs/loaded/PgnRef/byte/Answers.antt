@@ -1,7 +1,7 @@
 use Rattle.pack.proofs.Few.{fields_few}
 use Rattle.pack.proofs.Positions.{pgn_room}
 use native.Mathlib.Omega.{arith}
-use Rattle.pack.proofs.loaded.PgnRef.at.Goals as goal
+use Rattle.pack.proofs.loaded.PgnRef.byte.Goals as goal
 
 pub offset_bounds-self-self : goal.offset_bounds-self-self
 offset_bounds-self-self c = omega (arith, fields_few c.args.self.now.at)
