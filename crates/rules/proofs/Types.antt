@@ -1,10 +1,8 @@
 -- A field's type, said of the views.
-use Rattle.std.specs.Bool.{then_some}
-use Rattle.std.specs.Prelude.{is_some}
 use Prim.Native.Nat.{ℕ}
 use mathlib.Core.Path.{◌≡◌, ap, sym}
 use mathlib.Core.List.{List}
-use mathlib.Core.Bool.{Bool, true, false, ◌||◌}
+use mathlib.Core.Bool.{◌||◌}
 use Rattle.pack.specs.Notation.{◌≐◌}
 use Rattle.pack.specs.Value.{FieldType}
 use Rattle.pack.specs.Items.{bytes_of}

@@ -29,10 +29,7 @@ use pack::text::{Text, text_is};
 pub fn holds_order(set: Option<RepeatingView>, order: FieldOrder) -> bool
     ensures { result ≡ holds_order (optional_repeating set) order.0 }
 {
-    match set {
-        Some(given) => among(order, given.start, given.count),
-        None => false,
-    }
+    set.is_some_and(|given| among(order, given.start, given.count))
 }
 
 // The highest place whose set holds field k, from 1; 0 for none.
@@ -54,10 +51,7 @@ fn set_of(pgn: &PgnRef, k: u32) -> u32
 fn differs_from(o: Option<u64>, c: u64) -> bool
     ensures { result ≡ differs_from o c }
 {
-    match o {
-        Some(pattern) => !float_eq(pattern, c),
-        None => false,
-    }
+    o.is_some_and(|pattern| !float_eq(pattern, c))
 }
 
 // What a continuing field has of its own beside its bits.

@@ -59,20 +59,9 @@ pub struct Finding {
 }
 
 // pgn.h IS_MANUFACTURER_PGN()
+#[tactic(auto, unfolding(crate::specs::Proprietary::is_manufacturer_pgn))]
 fn is_manufacturer_pgn(pgn: u32) -> bool
     ensures { result ≡ is_manufacturer_pgn pgn }
 {
-    if pgn < 0xff00 {
-        return false;
-    }
-    if pgn <= 0xffff {
-        return true;
-    }
-    if pgn == 0x1ef00 {
-        return true;
-    }
-    if pgn < 0x1ff00 {
-        return false;
-    }
-    pgn <= 0x1ffff
+    matches!(pgn, 0xff00..=0xffff | 0x1ef00 | 0x1ff00..=0x1ffff)
 }

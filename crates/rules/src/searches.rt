@@ -9,17 +9,14 @@ pub fn counted(count: u32, hit: bool) -> u32
     requires { count < 4294967295 }
     ensures { result ≡ (if hit then count + 1 else count) }
 {
-    if hit {
-        return count + 1;
-    }
-    count
+    count + u32::from(hit)
 }
 
 // The latest hit, when index j is tried.
 pub fn latest(hit: bool, j: u32, earlier: Option<u32>) -> Option<u32>
     ensures { result ≡ option_or (then_some hit j) earlier }
 {
-    if hit { Some(j) } else { earlier }
+    hit.then_some(j).or(earlier)
 }
 
 // The larger of two, where there are any.

@@ -14,10 +14,7 @@ use pack::text::{Text, same_text};
 fn differs(n: Option<u32>, spn: u32) -> bool
     ensures { result ≡ differs n spn }
 {
-    match n {
-        Some(own) => own != spn,
-        None => false,
-    }
+    n.is_some_and(|own| own != spn)
 }
 
 // Whether field h has that name, of the same pack, and carries another SPN. Few have the name: only of these more is read.

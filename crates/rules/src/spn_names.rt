@@ -52,10 +52,7 @@ pub fn spn_field(pgn: &PgnRef, spn: u32) -> Option<u32>
 fn comes_after(best: &Option<Namer>, number: u32) -> bool
     ensures { result ≡ comes_after best.now number }
 {
-    match *best {
-        Some(namer) => namer.pgn.view.pgn <= number,
-        None => false,
-    }
+    best.is_some_and(|namer| namer.pgn.view.pgn <= number)
 }
 
 // The best so far, when a PGN of the J1939 tree is tried.
@@ -99,14 +96,9 @@ fn has_name(pack: &Pack, spn: u32, name: Text) -> bool
 fn candidate_at(s: &[u8], b: u32, name: Text, f: FieldView) -> Option<u32>
     ensures { result ≡ candidate_at (bytes_of s.now name) b (bytes_of s.now f.names.name) f.authored.spn }
 {
-    let spn = f.authored.spn?;
-    if b <= spn {
-        return None;
-    }
-    if same_text(s, f.names.name, name) {
-        return Some(spn);
-    }
-    None
+    f.authored
+        .spn
+        .filter(|spn| *spn < b && same_text(s, f.names.name, name))
 }
 
 // The largest SPN below b that a field of a PGN carries under that name.
@@ -156,10 +148,7 @@ fn earlier_spn(pack: &Pack, spn: u32, name: Text) -> Option<u32>
 fn same_place(a: &PgnRef, b: &PgnRef) -> bool
     ensures { result ≡ (pgn_loc 1 (pgn_value a.now) ≐ pgn_loc 1 (pgn_value b.now)) }
 {
-    if a.view.pgn == b.view.pgn {
-        return text_is(a.pack.bytes, a.view.id, b.pack.text(b.view.id));
-    }
-    false
+    a.view.pgn == b.view.pgn && text_is(a.pack.bytes, a.view.id, b.pack.text(b.view.id))
 }
 
 // The earlier SPN is named in PGN `other` of the same pack, this one in `pgn`.
@@ -199,11 +188,7 @@ fn clash_of(out: &mut Findings, pack: &Pack, spn: u32)
 fn spn_from(b: u64, spn: Option<u32>) -> Option<u32>
     ensures { result ≡ spn_from b spn }
 {
-    let spn = spn?;
-    if b <= spn as u64 {
-        return Some(spn);
-    }
-    None
+    spn.filter(|own| b <= *own as u64)
 }
 
 // The least SPN from b on that a field of a PGN carries.

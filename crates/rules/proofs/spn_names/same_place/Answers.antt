@@ -30,7 +30,8 @@ returns-then-a-b c =
     let a = c.args.a.now in let b = c.args.b.now in
     sym (placed a b (omega (arith, c)) (omega (arith, c)) ∙ (rw (eq-eqb a.view.pgn b.view.pgn c.if-a-b.true, ← c.text.ensures) (sym c.text_is.ensures)))
 
-pub returns : goal.returns
-returns c =
+pub returns-else-a-b : goal.returns-else-a-b
+returns-else-a-b c =
     let a = c.args.a.now in let b = c.args.b.now in
-    sym (placed a b (omega (arith, c)) (omega (arith, c)) ∙ (rw (ne_eqb a.view.pgn b.view.pgn c.if-a-b.false)))
+    let other = ne_eqb a.view.pgn b.view.pgn c.if-a-b.false in
+    other ∙ sym (placed a b (omega (arith, c)) (omega (arith, c)) ∙ (rw other))
