@@ -56,7 +56,7 @@ put_fits (f ∷ fs) o few h =
     ∙ ap (λ (k : ℕ). sets o₁ k (all_numbers fs)) e
     ∙ sym (sets_append o.numbers (8 * o.count) (numbers f) (all_numbers fs))
 
-length_numbers : (fs : List Finding) → length (all_numbers fs) ≡ 8 * length fs
+pub length_numbers : (fs : List Finding) → length (all_numbers fs) ≡ 8 * length fs
 length_numbers [] = refl
 length_numbers (f ∷ fs) = omega (arith, length-append (numbers f) (all_numbers fs), length_numbers fs)
 
