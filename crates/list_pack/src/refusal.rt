@@ -1,6 +1,5 @@
 // A refusal in words.
-use pack::load::Refusal;
-use pack::reader::{Fault, InputRefusal};
+use pack::load::{Fault, InputRefusal, Refusal};
 use std::fmt;
 
 // What is wrong with an item of the pack.

@@ -8,7 +8,8 @@ ghost use Rattle.pack.specs.Placing.{Put, Places, PlacesLookup, PlacesTree, Plac
 ghost use Rattle.pack.specs.declared.load.Refusal.TheVariants.{Input};
 
 use crate::kinds::LookupKind;
-use crate::reader::{InputRefusal, Reader};
+pub use crate::reader::{Fault, InputRefusal};
+use crate::reader::Reader;
 use crate::text::Text;
 
 const MOST_BYTES: usize = 1_048_576;

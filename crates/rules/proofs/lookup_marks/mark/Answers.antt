@@ -1,17 +1,15 @@
 use Rattle.pack.specs.Items.{bytes_of}
 use Rattle.pack.specs.Meaning.{pack_of}
 use Rattle.pack.specs.Notation.{◌≐◌}
-use Rattle.pack.specs.Value.{Bytes, Lookup, Pack, lookup_at}
+use Rattle.pack.specs.Value.{Bytes, Lookup, lookup_at}
 use Rattle.pack.specs.declared.loaded.LookupRef.{LookupRef}
 use Rattle.pack.proofs.Turns.{lookups_turn, lookups_given}
-use Prim.Native.Nat.{ℕ, ◌+◌, ◌<◌}
-use native.Mathlib.Omega.{arith}
-use mathlib.Core.Bool.{Bool, false, ◌||◌}
+use Prim.Native.Nat.{ℕ}
+use mathlib.Core.Bool.{Bool}
 use mathlib.Core.List.{List}
-use mathlib.Core.Path.{◌≡◌, refl, ap, sym}
-use lib.ListN.{length, get_or, set}
+use mathlib.Core.Path.{◌≡◌, ap, sym}
 use Rattle.rules.proofs.PgnSearches.{one_more}
-use Rattle.rules.proofs.Marking.{MarkedTo, marked_next, marked_all}
+use Rattle.rules.proofs.Marking.{marked_next, marked_all}
 use Rattle.rules.proofs.lookup_marks.mark.Goals as goal
 
 said : {s : List ℕ} (name : Bytes) {l : ℕ} (x : LookupRef) {b : Bool} → x.pack.bytes.now ≡ s → x.item ≡ l → b ≡ (name ≐ bytes_of s x.view.name)

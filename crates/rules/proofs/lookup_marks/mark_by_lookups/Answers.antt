@@ -1,7 +1,6 @@
 use Rattle.pack.specs.Meaning.{pack_of}
 use Rattle.pack.proofs.Turns.{lookups_turn, lookups_given}
 use Rattle.rules.specs.Search.{any_below}
-use native.Mathlib.Omega.{arith}
 use mathlib.Core.Path.{ap}
 use lib.ListN.{length}
 use Rattle.rules.proofs.PgnSearches.{one_more}

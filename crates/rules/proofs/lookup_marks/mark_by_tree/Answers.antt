@@ -3,7 +3,6 @@ use Rattle.pack.specs.Trees.{tree_number}
 use Rattle.pack.proofs.Turns.{pgns_turn, pgns_given}
 use Rattle.rules.specs.LookupWiring.{referenced_by_tree}
 use Rattle.rules.specs.Search.{any_below}
-use native.Mathlib.Omega.{arith}
 use mathlib.Core.Path.{ap}
 use lib.ListN.{length}
 use Rattle.rules.proofs.PgnSearches.{one_more}
