@@ -1,7 +1,7 @@
 // The lookups, each with its entries.
 use listing::words::{Counted, kind_name, text};
-use pack::kinds::LookupKind;
 use pack::entry::EntryView;
+use pack::kinds::LookupKind;
 use pack::loaded::{LookupRef, Pack};
 use std::io;
 use std::io::Write;
@@ -39,7 +39,13 @@ fn list_lookup(out: &mut impl Write, pack: &Pack<'_>, lookup: LookupRef<'_>) -> 
     let entries = Counted::new(view.entries as usize, "entry", "entries");
     writeln!(out, " at byte {at}: {kind}, {bits}, {entries}")?;
     for k in 0..view.entries {
-        list_entry(out, pack, view.kind, lookup.byte_of_entry(k), lookup.entry(k))?;
+        list_entry(
+            out,
+            pack,
+            view.kind,
+            lookup.byte_of_entry(k),
+            lookup.entry(k),
+        )?;
     }
     Ok(())
 }

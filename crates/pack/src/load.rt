@@ -8,8 +8,8 @@ ghost use Rattle.pack.specs.Placing.{Put, Places, PlacesLookup, PlacesTree, Plac
 ghost use Rattle.pack.specs.declared.load.Refusal.TheVariants.{Input};
 
 use crate::kinds::LookupKind;
-pub use crate::reader::{Fault, InputRefusal};
 use crate::reader::Reader;
+pub use crate::reader::{Fault, InputRefusal};
 use crate::text::Text;
 
 const MOST_BYTES: usize = 1_048_576;

@@ -24,5 +24,5 @@ returns c =
     let x = empty_part c.write_loc-needed.new.text text c.write_loc-needed.auto.text in
     let a = all_written (place_text (pack_of pack) c.args.place c.args.tree c.args.item) text (loc_text pack c.in-Some.loc) c.in-Some.ensures
     c.write_loc-needed.result c.write_loc-needed.ensures.count (rw x at c.if-text-needed.false) c.write_loc.new.text c.write_loc.result (rw x at
-        c.write_loc.ensures) in
+    c.write_loc.ensures) in
     record { answer = a.answer; text = a.text }
