@@ -28,7 +28,7 @@ pub struct Namer<'a> {
 }
 
 // Whether a number is given, and is v.
-fn is_number(n: Option<u32>, v: u32) -> bool
+pub(crate) fn is_number(n: Option<u32>, v: u32) -> bool
     ensures { result ≡ is_number n v }
 {
     n == Some(v)

@@ -14,7 +14,7 @@ ghost use Rattle.rules.specs.Spns.{spns_elsewhere, same_unit, first_seen, unlike
 use crate::emit::{Findings, pgn_error};
 use crate::field_rules::{FieldRule, check_fields};
 use crate::floats::float_eq;
-use crate::spn_names::spn_field;
+use crate::spn_names::is_number;
 use pack::field::{FieldView, ScalingView};
 use pack::loaded::{Pack, PgnRef};
 use pack::protocol::Protocol;
@@ -63,12 +63,18 @@ fn first_seen<'a>(pack: &Pack<'a>, spn: u32) -> Carrier<'a>
       field : spn_field (pgn_value result.pgn) spn ≡ Some result.field;
     } }
 {
-    for pgn in pack.pgns(Protocol::J1939) {
-        if let Some(field) = spn_field(&pgn, spn) {
-            return Carrier { pgn, field };
+    let mut seen = None;
+    'search: for pgn in pack.pgns(Protocol::J1939) {
+        for field in 0..pgn.view.fields {
+            let f = pgn.field(field);
+            if is_number(f.authored.spn, spn) {
+                seen = Some(Carrier { pgn, field });
+                break 'search;
+            }
         }
     }
-    unreachable!()
+    let Some(carrier) = seen else { unreachable!() };
+    carrier
 }
 
 // Whether it is that field of that PGN.
