@@ -4,8 +4,6 @@ ghost use Rattle.std.specs.Prelude.{◌≡◌, [], ◌∷◌};
 ghost use Rattle.rules.specs.Digits.{six_digits};
 ghost use Rattle.rules.specs.TextOut.{nothing_in, written_in, Puts};
 
-use itoa::write_digits;
-
 // What was put so far: as many bytes as fit, and how many there are.
 #[derive(Drop)]
 pub struct TextOut<'a> {
@@ -39,13 +37,14 @@ impl<'a> TextOut<'a> {
         }
     }
 
-    // The Rust's `{:06}`.
+    // The Rust's `{:06}`, the highest digit first.
     pub fn put_six_digits(&mut self, n: u32)
         ensures { Puts self.old (six_digits n) self.new }
     {
-        let mut digits = [b'0'; 10];
-        let start = write_digits(n as u64, &mut digits, 10);
-        let places = start.min(4);
-        self.put_bytes(&digits[places..]);
+        let places = (n.max(1).ilog10() + 1).max(6);
+        for i in 0..places {
+            let place = places - 1 - i;
+            self.put_byte(b'0' + (n / 10u32.pow(place) % 10) as u8);
+        }
     }
 }

@@ -1,36 +1,55 @@
-use Rattle.std.specs.Fmt.{decimal}
-use Rattle.std.proofs.lemmas.List.{take-append-drop, take-replicate, drop-append-le, drop-replicate}
-use Rattle.std.proofs.lemmas.Fmt.{length-decimal-le}
-use Rattle.std.proofs.Common.{rules}
-use Rattle.rules.proofs.DigitLaws.{decimal_is}
+use lib.ListN.{length, take}
+use lib.Seq.{take-suc, take_all}
+use Rattle.rules.proofs.DigitLaws.{from_highest, length_highest, highest_at, highest_are, lowest_are, long}
+use Rattle.rules.proofs.TextOuts.{puts_append}
 use Rattle.rules.specs.Digits.{digits, six_digits}
-use lib.ListN.{length, take, drop, replicate, length-replicate, length-drop}
-use lib.Seq.{take_all}
+use Rattle.rules.specs.TextOut.{Puts}
+use Rattle.rules.specs.declared.text_out.TextOut.{TextOut}
+use borrow.Author.Rules.{rules}
+use native.Mathlib.Nat.{pow-succ', pow-le-pow_right}
+use native.Mathlib.Numerals.{add-one}
 use native.Mathlib.Omega.{arith}
-use Prim.Native.Nat.{ℕ, ◌+◌, ◌-◌, ◌≤◌, min}
-use mathlib.Core.Path.{◌≡◌, ◌∙◌}
-use mathlib.Core.List.{List, ◌++◌, append-nil}
+use Prim.Native.Nat.{ℕ, zero, suc, ◌+◌, ◌-◌, ◌*◌, ◌/◌, ◌%◌, ◌^◌, ◌≤◌, ◌<◌, max}
+use mathlib.Core.List.{[], ◌∷◌}
+use mathlib.Core.Path.{◌≡◌, refl, sym, ◌∙◌}
 use Rattle.rules.proofs.text_out.TextOut.put_six_digits.Goals as goal
 
--- zeros up to six places
-six : (n start places : ℕ) (b : List ℕ) → start + length (digits n) ≡ 10 → places ≡ min start 4 → take start b ≡ replicate start 48 → drop start b ≡ digits n
-    → drop places b ≡ six_digits n
-unfolding six_digits
-six n start places b s p zeros written =
-    let left : start - places ≡ 6 - length (digits n) = omega arith in
-    let all : replicate start 48 ++ digits n ≡ b = rw (← zeros, ← written) (take-append-drop start b) in
-    let few : places ≤ length (replicate {A = ℕ} start 48) = omega (arith, length-replicate {A = ℕ} start 48) in
-    rw (← all, drop-append-le places (replicate {A = ℕ} start 48) (digits n) few, drop-replicate {X = ℕ} places start 48, left)
+-- one digit more
+turn : {o o' o'' : TextOut} (places n i d : ℕ) → i < places → d ≡ 48 + n / 10 ^ (places - 1 - i) % 10 → Puts o (take i (from_highest places n)) o'
+    → Puts o' (d ∷ []) o'' → Puts o (take (i + 1) (from_highest places n)) o''
+turn places n i d h e p q =
+    let within : i < length (from_highest places n) = omega (arith, h, length_highest places n) in
+    rw (add-one i, take-suc (from_highest places n) i 0 within, highest_at places n i h, ← e) (puts_append p q)
 
-pub write_digits-start-requires : goal.write_digits-start-requires
-write_digits-start-requires c = search (rules, length-decimal-le 10)
+-- how many digits n has, by its logarithm
+counted : (n k : ℕ) → k < 10 → 10 ^ k ≤ max n 1 → max n 1 < 10 * 10 ^ k → length (digits n) ≡ k + 1
+unfolding digits
+counted zero zero b p q = refl
+counted zero (suc k) b p q =
+    let ten : 10 ≤ 10 ^ suc k = pow-le-pow_right {n = 10} (omega arith) {i = 1} {j = suc k} (omega arith) in
+    absurd (omega (arith, p, ten))
+counted (suc n) k b p q =
+    let e : max (suc n) 1 ≡ suc n = omega arith in
+    long k (suc n) b (rw e at p) (rw (pow-succ' 10 k) (rw e at q)) ∙ sym (add-one k)
+
+-- zeros up to six places
+whole : (n k places : ℕ) → n < 4294967296 → length (digits n) ≡ k + 1 → places ≡ max (k + 1) 6 → from_highest places n ≡ six_digits n
+unfolding six_digits
+whole n k places l c e =
+    let zeros : places - length (digits n) ≡ 6 - length (digits n) = omega arith in
+    highest_are places n ∙ lowest_are places n l (omega (arith, c, e)) ∙ (rw zeros)
+
+pub nonzero_div-n : goal.nonzero_div-n
+nonzero_div-n c =
+    let some : 1 ≤ 10 ^ (c.max-places.result - 1 - c.loop-i.i) = pow-le-pow_right {n = 10} (omega arith) {i = 0} (omega arith) in
+    omega (arith, c.pow.ensures, some)
+
+pub loop-i-preserved : goal.loop-i-preserved
+loop-i-preserved c = turn c.max-places.result c.args.n c.loop-i.i _ c.loop-i-test.true (rw c.pow.ensures) c.loop-i.invariant c.put_byte.ensures
 
 pub returns : goal.returns
 returns c =
-    let n = c.args.n in let w = c.write_digits-start in let places = c.min-places.result in
-    let e = decimal_is n (search rules) in
-    let start : w.result + length (digits n) ≡ 10 = rw e at w.ensures.start in
-    let zeros = w.ensures.before ∙ take-replicate w.result 10 48 (omega arith) in
-    let text = six n w.result places w.new.buf start c.min-places.ensures zeros (w.ensures.written ∙ append-nil (decimal n) ∙ e) in
-    let whole = take_all (10 - places) (drop places w.new.buf) (omega (arith, length-drop places w.new.buf, w.auto.buf)) in
-    rw (whole, text) at c.put_bytes.ensures
+    let n = c.args.n in let places = c.max-places.result in
+    let all = take_all c.loop-i.i (from_highest places n) (omega (arith, length_highest places n, c.loop-i-test.false)) in
+    let some = counted n c.ilog10.result c.ilog10.ensures.bound (rw c.max.ensures at c.ilog10.ensures.power_le) (rw c.max.ensures at c.ilog10.ensures.next_power_gt) in
+    rw (all, whole n c.ilog10.result places (search rules) some c.max-places.ensures) at c.loop-i.invariant
