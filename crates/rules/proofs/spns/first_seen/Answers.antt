@@ -22,7 +22,7 @@ search-preserved c = record {
       searched_turn c.in-Some.pgn c.next.new.self c.search.invariant.none_yet c.in-Some.ensures.steps
       (λ u none_yet.
       let q : c.loop-field.field ≡ length (pgn_value c.in-Some.pgn).fields =
-          omega (c.in-Some.pgn.is.fields, arith, c.loop-field.auto.field-end, c.loop-field-test.false) in
+      omega (c.in-Some.pgn.is.fields, arith, c.loop-field.auto.field-end, c.loop-field-test.false) in
       let e : spn_field (pgn_value c.in-Some.pgn) c.args.spn ≡ None = rw q at c.loop-field.invariant.none_yet in
       let e2 = rw (u.bytes, u.tree, u.item) at e in
       first_turn (carried (pack_of c.args.pack.now.bytes.now).pgns_j1939 c.args.spn) (length c.search.yielded) ∙ (rw (none_yet, e2)));

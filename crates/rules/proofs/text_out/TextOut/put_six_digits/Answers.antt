@@ -39,10 +39,11 @@ whole n k places l c e =
     let zeros : places - length (digits n) ≡ 6 - length (digits n) = omega arith in
     highest_are places n ∙ lowest_are places n l (omega (arith, c, e)) ∙ (rw zeros)
 
+positive : (k : ℕ) → 0 < 10 ^ k
+positive k = pow-le-pow_right {n = 10} (omega arith) {i = 0} {j = k} (omega arith)
+
 pub nonzero_div-n : goal.nonzero_div-n
-nonzero_div-n c =
-    let some : 1 ≤ 10 ^ (c.max-places.result - 1 - c.loop-i.i) = pow-le-pow_right {n = 10} (omega arith) {i = 0} (omega arith) in
-    omega (arith, c.pow.ensures, some)
+nonzero_div-n c = rw c.pow.ensures (positive _)
 
 pub loop-i-preserved : goal.loop-i-preserved
 loop-i-preserved c = turn c.max-places.result c.args.n c.loop-i.i _ c.loop-i-test.true (rw c.pow.ensures) c.loop-i.invariant c.put_byte.ensures
@@ -51,5 +52,6 @@ pub returns : goal.returns
 returns c =
     let n = c.args.n in let places = c.max-places.result in
     let all = take_all c.loop-i.i (from_highest places n) (omega (arith, length_highest places n, c.loop-i-test.false)) in
-    let some = counted n c.ilog10.result c.ilog10.ensures.bound (rw c.max.ensures at c.ilog10.ensures.power_le) (rw c.max.ensures at c.ilog10.ensures.next_power_gt) in
+    let some = counted n c.ilog10.result c.ilog10.ensures.bound (rw c.max.ensures at c.ilog10.ensures.power_le) (rw c.max.ensures at
+        c.ilog10.ensures.next_power_gt) in
     rw (all, whole n c.ilog10.result places (search rules) some c.max-places.ensures) at c.loop-i.invariant
