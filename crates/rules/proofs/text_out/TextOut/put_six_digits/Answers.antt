@@ -53,5 +53,5 @@ returns c =
     let n = c.args.n in let places = c.max-places.result in
     let all = take_all c.loop-i.i (from_highest places n) (omega (arith, length_highest places n, c.loop-i-test.false)) in
     let some = counted n c.ilog10.result c.ilog10.ensures.bound (rw c.max.ensures at c.ilog10.ensures.power_le) (rw c.max.ensures at
-        c.ilog10.ensures.next_power_gt) in
+    c.ilog10.ensures.next_power_gt) in
     rw (all, whole n c.ilog10.result places (search rules) some c.max-places.ensures) at c.loop-i.invariant
