@@ -1,5 +1,7 @@
 // R42
 ghost use Rattle.std.specs.Prelude.{is_some, ◌≡◌, true, ◌&&◌, ◌<◌, length, ◌==◌, Some};
+ghost use Rattle.std.specs.Float.Ieee.{of_bits};
+ghost use Rattle.std.specs.Float.{binary64};
 ghost use Rattle.pack.specs.Loaded.{tree_of, pgn_value};
 ghost use Rattle.pack.specs.Meaning.{optional_bytes, field_meaning, pack_of};
 ghost use Rattle.pack.specs.Notation.{concat_below};
@@ -13,15 +15,24 @@ ghost use Rattle.rules.specs.Spns.{spns_elsewhere, same_unit, first_seen, unlike
 
 use crate::emit::{Findings, pgn_error};
 use crate::field_rules::{FieldRule, check_fields};
-use crate::floats::float_eq;
 use crate::spn_names::is_number;
 use pack::field::{FieldView, ScalingView};
+use pack::float::float;
 use pack::loaded::{Pack, PgnRef};
 use pack::protocol::Protocol;
 use pack::text::{Text, same_text};
 
 // "The largest SPN: J1939 carries them in 19 bits."
 const MAX_SPN: u32 = 0x7ffff;
+
+// "SPN scaling is a width, two floats compared as floats, and a unit."
+#[derive(Clone, Copy)]
+struct Scaling {
+    width: u32,
+    resolution: f64,
+    offset: f64,
+    unit: Option<Text>,
+}
 
 // A field by its PGN and its index there.
 #[derive(Clone, Copy)]
@@ -41,16 +52,31 @@ fn same_unit(s: &[u8], a: Option<Text>, b: Option<Text>) -> bool
     }
 }
 
-// "SPN scaling is a width, two floats compared as floats, and a unit": `==` of the Rust's tuple, a NaN differs from itself.
+// What a view says of a field's scaling, its patterns as floats.
+fn scaling_of(v: ScalingView) -> Scaling
+    ensures { result ≡ (record { width = v.bits; resolution = of_bits binary64 v.resolution; offset = of_bits binary64 v.offset; unit = v.unit }) }
+{
+    Scaling {
+        width: v.bits,
+        resolution: float(v.resolution),
+        offset: float(v.offset),
+        unit: v.unit,
+    }
+}
+
+// `==` of the Rust's tuple: a NaN differs from itself.
+#[tactic(auto, unfolding(crate::specs::Floats::float_eq))]
 fn same_scaling(s: &[u8], v: ScalingView, w: ScalingView) -> bool
     ensures { result ≡
         ((v.bits == w.bits) && float_eq v.resolution w.resolution && float_eq v.offset w.offset && same_unit
         (optional_bytes s.now v.unit) (optional_bytes s.now w.unit)) }
 {
-    v.bits == w.bits
-        && float_eq(v.resolution, w.resolution)
-        && float_eq(v.offset, w.offset)
-        && same_unit(s, v.unit, w.unit)
+    let a = scaling_of(v);
+    let b = scaling_of(w);
+    a.width == b.width
+        && a.resolution == b.resolution
+        && a.offset == b.offset
+        && same_unit(s, a.unit, b.unit)
 }
 
 // The field of the J1939 tree that carries the SPN first, where one does.
