@@ -13,8 +13,8 @@ use Rattle.pack.specs.Records.{read_type, read_entry}
 use Rattle.pack.specs.Format.{types, type_offsets, entries, entry_offsets, lookup_next, lookup_records, lookups, lookup_offsets}
 use Rattle.pack.specs.Format.{field_next, fields}
 use Rattle.pack.specs.Format.{field_offsets, pgn_next, pgn_records, pgns, pgn_offsets}
-use Rattle.pack.specs.Reads.{told, Reads}
-use Rattle.pack.specs.Placing.{Put, Placing}
+use Rattle.pack.specs.Reads.{item_of, next_of, told, Reads}
+use Rattle.pack.specs.Placing.{past, Put, Placing}
 use Rattle.pack.specs.declared.kinds.LookupKind.{LookupKind}
 use Rattle.pack.specs.declared.load.Offsets.{Offsets}
 use Rattle.pack.specs.declared.reader.Reader.{Reader}
@@ -75,11 +75,10 @@ module _ {r : Reader} {o : Offsets} {end : Cursor} {xs : List ℕ} {d : Reader} 
 
   -- where a `?` returns: the records at hand are refused with the item that was
   pub refused : {A B : Type 0} {g : Form A} {f : InputRefusal} {e : Reader} {form : Form B} {ys : List ℕ → Cursor → List ℕ} {u : Offsets}
-      → {z : Result B InputRefusal} → Reads d g (Err f) e → IsErrAnd z (λ y. y ≡ f)
+      → Reads d g (Err f) e
       → (((g r.bytes.now end).next.refused ≡ 0 → ⊥) → (form r.bytes.now (fresh r.at)).next ≡ (g r.bytes.now end).next)
-      → Placing form ys r o z e u
-  refused {A} {B} {g} {f} {e} {form} {ys} {u} {z} b i h =
-      let y = err_from_is_err_and {Q = λ y. y ≡ f} z i in
+      → Placing form ys r o (Err f) e u
+  refused {A} {B} {g} {f} {e} {form} {ys} {u} b h =
       let k : g d.bytes.now (fresh d.at) ≡ g r.bytes.now end = here g in
       let o = told_err (g r.bytes.now end) f (b.answer ∙ ap told k) in
       let n : (g r.bytes.now end).next.refused ≡ 0 → ⊥ = λ m. eqb-false _ _ o.0 m in
@@ -87,7 +86,7 @@ module _ {r : Reader} {o : Offsets} {end : Cursor} {xs : List ℕ} {d : Reader} 
       record {
         reads = record {
           bytes = b.bytes ∙ a.bytes;
-          answer = y.1 ∙ (rw (s, o.0, y.2, o.1));
+          answer = (rw (s, o.0, o.1));
           at = λ m. absurd (n (rw (← s) m));
         };
         put = λ m. absurd (n (rw (← s) m));
@@ -185,3 +184,22 @@ module _ (s : List ℕ) (c : Cursor) where
   pub pgns_stay : (k i n : ℕ) → i < n → ((pgn_next k s (pgns k s c i)).refused ≡ 0 → ⊥) → pgns k s c n ≡ pgn_next k s (pgns k s c i)
   unfolding pgns
   pgns_stay k i n h = stays (pgn_next_reader s k) c (suc i) n (omega (arith, h))
+
+-- what is told of an answer with the next reader does not depend on where it began, but for its bytes
+module _ {A : Type 0} {form : Form A} {xs : List ℕ → Cursor → List ℕ} {r : Reader} (d : Reader) {o u : Offsets} where
+  pub rebased : (q : Result (A × Reader) InputRefusal) → Placing form xs r o (item_of q) (next_of d q) u → Placing form xs r o (item_of q) (next_of r q) u
+  rebased (Ok x) h = h
+  rebased (Err f) h =
+      let k = told_err (form r.bytes.now (fresh r.at)) f h.reads.answer in
+      record { reads = record { bytes = refl; answer = h.reads.answer; at = λ m. absurd (eqb-false _ _ k.0 m) }; put = h.put }
+
+-- where a `?` returns
+module _ {A : Type 0} {form : Form A} {xs : List ℕ → Cursor → List ℕ} {r d : Reader} {o u : Offsets} where
+  pub placing_out : {f : InputRefusal} (q : Result (A × Reader) InputRefusal) → IsErrAnd q (λ y. y ≡ f) → Placing form xs r o (Err f) d u
+      → Placing form xs r o (item_of q) (next_of r q) u
+  placing_out {f} q i h = let y = err_from_is_err_and {Q = λ y. y ≡ f} q i in rw (y.1, y.2) (rebased d (Err f) h)
+
+module _ {form : Form (Unit {0})} {xs : List ℕ → Cursor → List ℕ} {r d : Reader} {o u : Offsets} where
+  pub past_out : {f : InputRefusal} (q : Result Reader InputRefusal) → IsErrAnd q (λ y. y ≡ f) → Placing form xs r o (Err f) d u
+      → Placing form xs r o (item_of (past q)) (next_of r (past q)) u
+  past_out {f} q i h = let y = err_from_is_err_and {Q = λ y. y ≡ f} q i in rw (y.1, y.2) (rebased d (Err f) h)

@@ -23,14 +23,11 @@ use Rattle.pack.specs.Reads.{fault_of, told, Reads}
 use Rattle.pack.proofs.Reading.{wide_reader, number_reader, version_reader, code_reader, index_reader, sum_reader, bytes_reader, mark_reader, text_reader}
 use Rattle.pack.proofs.Reading.{name_reader, float_reader, kind_part_reader, repeating_reader, scaling_reader, authored_reader, reference_reader, links_reader}
 use Rattle.pack.proofs.Reading as reading
-use Rattle.std.specs.Result.{IsErrAnd, result_from_control_flow}
-use Rattle.std.proofs.Common.{Continue, Break}
-use Rattle.std.proofs.lemmas.Result.{err_from_is_err_and}
 use Rattle.pack.specs.declared.reader.InputRefusal.{InputRefusal}
 use borrow.Author.Tests.{le-leb, lt-leb}
 use Rattle.pack.specs.Items.{judged}
 use Rattle.pack.specs.Reads as spec
-use Rattle.pack.proofs.ReaderLaws.{told_ok, told_err, cursor_is, Sticks, done, reads_then, reads_out, sticks_then, sticks_give}
+use Rattle.pack.proofs.ReaderLaws.{told_ok, told_err, cursor_is, Sticks, done, reads_then, reads_stop, sticks_then, sticks_give}
 
 sticks : {A : Type 0} (p : Form A) → ((s : List ℕ) → reading.Reader s (λ c. (p s c).next)) → Sticks p
 sticks p r = record { stays = λ s c h. (r s).sticky c (λ e. eqb-false _ _ h e) }
@@ -113,16 +110,14 @@ was_read {A} {c} {d} {p} {v} a =
     rw (k, ← o.1) refl
 
 -- where a `?` returns from an item that is part of another
-pub reads_pass : {A B : Type 0} {c d : Reader} {f : InputRefusal} {r : Result B InputRefusal} {p : Form A} (q : Form B) → Reads c p (Err f) d
-    → IsErrAnd r (λ y. y ≡ f)
-    → ((s : List ℕ) (k : Cursor) → ((p s k).next.refused == 0) ≡ false → (q s k).next ≡ (p s k).next) → Reads c q r d
-reads_pass {A} {B} {c} {d} {f} {r} {p} q a e h =
-    let x = err_from_is_err_and {Q = λ y. y ≡ f} r e in
+pub reads_pass : {A B : Type 0} {c d : Reader} {f : InputRefusal} {p : Form A} (q : Form B) → Reads c p (Err f) d
+    → ((s : List ℕ) (k : Cursor) → ((p s k).next.refused == 0) ≡ false → (q s k).next ≡ (p s k).next) → Reads c q (Err f) d
+reads_pass {A} {B} {c} {d} {f} {p} q a h =
     let o = told_err (p c.bytes.now (fresh c.at)) f a.answer in
     let z = h c.bytes.now (fresh c.at) o.0 in
     record {
       bytes = a.bytes;
-      answer = rw (x.1, x.2, z, o.0, o.1) refl;
+      answer = rw (z, o.0, o.1) refl;
       at = λ w. absurd (eqb-false _ _ o.0 (rw (← z) w));
     }
 
@@ -162,18 +157,18 @@ module _ (test : ℕ → Bool) (k : ℕ) where
   abbrev tested : Form ℕ
   tested s c = judged c (read_number s c) (test (read_number s c).value) (suc k)
 
-  pub reads_judged : {c d : Reader} {n : ℕ} {r : Result ℕ InputRefusal} → Reads c read_number (Ok n) d
-      → r ≡ spec.judged c.at n (test n) (fault_of (suc k)) → Reads c tested r d
+  pub reads_judged : {c d : Reader} {n : ℕ} {r : Result (ℕ × Reader) InputRefusal} → Reads c read_number (Ok n) d
+      → r ≡ spec.judged c n (test n) (fault_of (suc k)) d → spec.Gives c tested r
   unfolding judged
   reads_judged {c} {d} {n} {r} a e = go (test n) refl
     where
-      go : (b : Bool) → test n ≡ b → Reads c tested r d
+      go : (b : Bool) → test n ≡ b → spec.Gives c tested r
       go true x = rw (e, x) (reads_ok c d tested n d.at (rw (was_read a, x)) a.bytes refl)
-      go false x = rw (e, x) (reads_err c d tested 0 c.at k (rw (was_read a, x)) a.bytes)
+      go false x = rw (e, x) (reads_err c c tested 0 c.at k (rw (was_read a, x)) refl)
 
-  pub judged_out : {c d : Reader} {f : InputRefusal} {r : Result ℕ InputRefusal} → Reads c read_number (Err f) d → IsErrAnd r (λ y. y ≡ f) → Reads c tested r d
+  pub judged_out : {c d : Reader} {f : InputRefusal} → Reads c read_number (Err f) d → Reads c tested (Err f) d
   unfolding judged
-  judged_out a e = reads_pass tested a e (λ s c h. rw h)
+  judged_out a = reads_pass tested a (λ s c h. rw h)
 
 -- ---- texts
 
@@ -186,16 +181,15 @@ reads_text {c} {d} {n} e a h b z =
     reads_ok c e read_text _ (d.at + n) (rw (was_read a, le-leb _ _ w)) (b ∙ a.bytes) z
 
 pub text_cut : {c d : Reader} {n : ℕ} → Reads c read_number (Ok n) d → length d.bytes.now < d.at + n
-    → Reads c read_text (Err (record { fault = fault_of 1; offset = c.at })) d
+    → Reads c read_text (Err (record { fault = fault_of 1; offset = c.at })) c
 unfolding read_text
 text_cut {c} {d} {n} a h =
     let w : length c.bytes.now < d.at + n = rw a.bytes at h in
-    reads_err c d read_text (record { start = 0; len = 0 }) c.at 0 (rw (was_read a, lt-leb _ _ w)) a.bytes
+    reads_err c c read_text (record { start = 0; len = 0 }) c.at 0 (rw (was_read a, lt-leb _ _ w)) refl
 
-pub text_out : {c d : Reader} {f : InputRefusal} {r : Result Text InputRefusal} → Reads c read_number (Err f) d → IsErrAnd r (λ y. y ≡ f)
-    → Reads c read_text r d
+pub text_out : {c d : Reader} {f : InputRefusal} → Reads c read_number (Err f) d → Reads c read_text (Err f) d
 unfolding read_text
-text_out a e = reads_pass read_text a e (λ s c h. rw h)
+text_out a = reads_pass read_text a (λ s c h. rw h)
 
 module _ (before : Option Text) where
   pub reads_name : {c d : Reader} {t : Text} → Reads c read_text (Ok t) d → rises d.bytes.now before t ≡ true → Reads c (read_name before) (Ok t) d
@@ -203,19 +197,17 @@ module _ (before : Option Text) where
   reads_name {c} {d} {t} a k = let h = rw a.bytes at k in reads_ok c d (read_name before) t d.at (rw (was_read a, h)) a.bytes refl
 
   pub name_order : {c d : Reader} {t : Text} → Reads c read_text (Ok t) d → rises d.bytes.now before t ≡ false
-      → Reads c (read_name before) (Err (record { fault = fault_of 5; offset = c.at })) d
+      → Reads c (read_name before) (Err (record { fault = fault_of 5; offset = c.at })) c
   unfolding read_name
-  name_order {c} {d} {t} a k = let h = rw a.bytes at k in reads_err c d (read_name before) (record { start = 0; len = 0 }) c.at 4 (rw (was_read a, h)) a.bytes
+  name_order {c} {d} {t} a k = let h = rw a.bytes at k in reads_err c c (read_name before) (record { start = 0; len = 0 }) c.at 4 (rw (was_read a, h)) refl
 
-  pub name_out : {c d : Reader} {f : InputRefusal} {r : Result Text InputRefusal} → Reads c read_text (Err f) d → IsErrAnd r (λ y. y ≡ f)
-      → Reads c (read_name before) r d
+  pub name_out : {c d : Reader} {f : InputRefusal} → Reads c read_text (Err f) d → Reads c (read_name before) (Err f) d
   unfolding read_name
-  name_out a e = reads_pass (read_name before) a e (λ s c h. rw h)
+  name_out a = reads_pass (read_name before) a (λ s c h. rw h)
 
-pub number_out : {c d : Reader} {f : InputRefusal} {r : Result ℕ InputRefusal} → Reads c (read_wide largest32) (Err f) d → IsErrAnd r (λ y. y ≡ f)
-    → Reads c read_number r d
+pub number_out : {c d : Reader} {f : InputRefusal} → Reads c (read_wide largest32) (Err f) d → Reads c read_number (Err f) d
 unfolding read_number
-number_out a e = reads_pass read_number a e (λ s c h. refl)
+number_out a = reads_pass read_number a (λ s c h. refl)
 
 -- ---- sums in 32 bits, and floats
 
@@ -267,61 +259,25 @@ module _ {A : Type 0} (p : Form A) where
   unfolding optional
   optional_given m z a = reads_then _ _ m (rw z (reads_then _ _ a (done _ _)))
 
-  pub optional_out : {c d e : Reader} {b : Bool} {f : InputRefusal} {r : Result (Option A) InputRefusal} → Reads c read_mark (Ok b) d → b ≡ true
-      → Reads d p (Err f) e → IsErrAnd r (λ y. y ≡ f) → Reads c (optional p) r e
+  pub optional_out : {c d e : Reader} {b : Bool} {f : InputRefusal} → Reads c read_mark (Ok b) d → b ≡ true
+      → Reads d p (Err f) e → Reads c (optional p) (Err f) e
   unfolding optional
-  optional_out m z a x = reads_then _ _ m (rw z (reads_out _ _ a x (λ v. sticks_give _)))
+  optional_out m z a = reads_then _ _ m (rw z (reads_stop _ _ a (λ v. sticks_give _)))
 
   pub optional_none : {c d : Reader} {b : Bool} → Reads c read_mark (Ok b) d → b ≡ false → Reads c (optional p) (Ok None) d
   unfolding optional
   optional_none m z = reads_then _ _ m (rw z (done _ _))
 
-  pub mark_out : {c d : Reader} {f : InputRefusal} {r : Result (Option A) InputRefusal} → Reads c read_mark (Err f) d → IsErrAnd r (λ y. y ≡ f)
-      → Reads c (optional p) r d
+  pub mark_out : {c d : Reader} {f : InputRefusal} → Reads c read_mark (Err f) d → Reads c (optional p) (Err f) d
   unfolding optional ◌▷◌ give
-  mark_out m x = reads_pass (optional p) m x (λ s c h. rw (mark_false s c h) refl)
+  mark_out m = reads_pass (optional p) m (λ s c h. rw (mark_false s c h) refl)
 
 -- ---- chains of `?`
-
-module _ {A B : Type 0} (p : Form A) (q : A → Form B) where
-  -- goes on behind a `?`
-  pub on : {c d e : Reader} {r : Result A InputRefusal} {k : _} {v : A} {t : Result B InputRefusal}
-      → Reads c p r d → r ≡ result_from_control_flow k → k ≡ Continue v → Reads d (q v) t e → Reads c (p ▷ q) t e
-  on a x y b = reads_then p q (rw (x, y) at a) b
-
-  -- where it returns
-  pub out : {c d : Reader} {r : Result A InputRefusal} {k : _} {f : _} {t : Result B InputRefusal}
-      → Reads c p r d → r ≡ result_from_control_flow k → k ≡ Break f → IsErrAnd t (λ y. y ≡ f.0) → ((v : A) → Sticks (q v)) → Reads c (p ▷ q) t d
-  out a x y e k = reads_out p q (rw (x, y) at a) e k
-
-pub ruleset chain = (
-  done,
-  on,
-  out,
-  sticks_then,
-  sticks_give,
-  sticks_wide,
-  sticks_number,
-  sticks_code,
-  sticks_index,
-  sticks_sum,
-  sticks_bytes,
-  sticks_mark,
-  sticks_text,
-  sticks_float,
-  sticks_optional,
-  sticks_kind_part,
-  sticks_reference,
-  sticks_repeating,
-  sticks_scaling,
-  sticks_authored,
-  sticks_links,
-)
 
 pub ruleset reads = (
   done,
   reads_then,
-  reads_out,
+  reads_stop,
   sticks_then,
   sticks_give,
   sticks_wide,

@@ -8,7 +8,7 @@ use borrow.Author.Tests.{eqb-true, eqb-false}
 use Rattle.pack.specs.declared.reader.Reader.{Reader}
 use Rattle.pack.specs.declared.reader.InputRefusal.{InputRefusal}
 use Rattle.pack.specs.Items.{Cursor, Item, Form, fresh, ◌▷◌, give}
-use Rattle.pack.specs.Reads.{refusal_of, told, Reads}
+use Rattle.pack.specs.Reads.{refusal_of, told, Reads, item_of, Gives}
 
 -- from a refused cursor nothing is read
 pub record Sticks {A : Type 0} (p : Form A) : Type 0 where
@@ -71,13 +71,6 @@ module _ {A B : Type 0} (p : Form A) (q : A → Form B) where
         at = λ w. absurd (eqb-false _ _ o.0 (rw (← z) w));
       }
 
-  -- where a `?` returns
-  pub reads_out : {c d : Reader} {f : InputRefusal} {r : Result B InputRefusal} → Reads c p (Err f) d → IsErrAnd r (λ y. y ≡ f)
-      → ((v : A) → Sticks (q v)) → Reads c (p ▷ q) r d
-  reads_out {c} {d} {f} {r} a e k =
-      let x = err_from_is_err_and {Q = λ y. y ≡ f} r e in
-      rw (x.1, x.2) (reads_stop a k)
-
   pub sticks_then : Sticks p → ((v : A) → Sticks (q v)) → Sticks (p ▷ q)
   sticks_then a b = record {
     stays = λ s c h. (let e = a.stays s c h in ap (λ (x : Item B). x.next) (run s c)
@@ -87,3 +80,16 @@ module _ {A B : Type 0} (p : Form A) (q : A → Form B) where
 pub sticks_give : {A : Type 0} (v : A) → Sticks (give v)
 unfolding give
 sticks_give v = record { stays = λ s c h. refl }
+
+-- where a `?` returns, with no reader behind it
+pub out : {A : Type 0} {c d : Reader} {form : Form A} {f : InputRefusal} (r : Result (A × Reader) InputRefusal) → IsErrAnd r (λ y. y ≡ f)
+    → Reads c form (Err f) d → Gives c form r
+out {A} {c} {d} {form} {f} r e h =
+    let x = err_from_is_err_and {Q = λ y. y ≡ f} r e in
+    let o = told_err (form c.bytes.now (fresh c.at)) f h.answer in
+    rw (x.1, x.2) (record { bytes = refl; answer = h.answer; at = λ w. absurd (eqb-false _ _ o.0 w) })
+
+-- an answer whose item is known
+pub none_there : {A : Type 0} (q : Result (A × Reader) InputRefusal) (v : A) → item_of q ≡ Ok v → ((x : A × Reader) → q ≡ Ok x → ⊥) → ⊥
+none_there (Ok x) v h n = n x refl
+none_there (Err e) v h n = Ok-Err v e (sym h)

@@ -2,6 +2,7 @@
 use Rattle.pack.specs.Items.{Cursor, Form}
 use Rattle.std.specs.Prelude.{Result, Ok, Err, ◌==◌}
 use Rattle.std.specs.Result.{IsErrAnd}
+use Rattle.std.proofs.lemmas.Result.{err_from_is_err_and}
 use Prim.Native.Nat.{ℕ, suc, ◌+◌, ◌≤◌, ◌<◌}
 use native.Mathlib.Omega.{arith}
 use mathlib.Core.Path.{◌≡◌, refl, ap, ◌∙◌, sym}
@@ -77,10 +78,11 @@ module _ {r : Reader} {o : Offsets} where
       {w u : List ℕ}
       → Along r o end xs d v → Reads d g (Err f) e → IsErrAnd z (λ y. y ≡ f) → Ending r.bytes.now (g r.bytes.now end).next
       → PlacesAll r.bytes.now w z u
-  walk_refused {end} {g = g} {f = f} a b i h =
-      let p = refused a {form = all_form} {ys = λ s c. offsets s} {u = o} b i h in
+  walk_refused {end} {g = g} {f = f} {z = z} a b i h =
+      let p = refused a {form = all_form} {ys = λ s c. offsets s} {u = o} b h in
+      let y = err_from_is_err_and {Q = λ y. y ≡ f} z i in
       let n : (g r.bytes.now end).next.refused ≡ 0 → ⊥ = eqb-false _ _ (told_err (g r.bytes.now end) f (b.answer ∙ ap told (here a g))).0 in
-      record { answer = p.reads.answer; work = λ z. absurd (n (rw (← h n) z)) }
+      record { answer = y.1 ∙ (rw y.2) ∙ p.reads.answer; work = λ z. absurd (n (rw (← h n) z)) }
 
   pub begun : {d : Reader} {v : ℕ} → r.at ≡ 0 → Reads r read_version (Ok v) d → Along r o (read_version r.bytes.now (fresh 0)).next [] d o
   begun {d} {v} z b =
@@ -94,11 +96,11 @@ module _ {r : Reader} {o : Offsets} where
     upto_types a b = record { types = along_value a b; along = along_read a b }
 
     module _ {v u : Offsets} where
-      pub upto_lookups : Upto r o n (type_list r.bytes.now).next [] d v → Places (λ s c. types s c n) (λ s c. type_offsets s c n) d v (Ok tt) e u
+      pub upto_lookups : Upto r o n (type_list r.bytes.now).next [] d v → Places (λ s c. types s c n) (λ s c. type_offsets s c n) d v (Ok e) u
           → Upto r o n (types r.bytes.now (type_list r.bytes.now).next (type_list r.bytes.now).value) (type_part r.bytes.now) e u
       upto_lookups a b = record { types = a.types; along = rw a.types at (along_then a.along b) }
 
-      pub upto_tree : (t : ℕ) → Upto r o n (tree_start r.bytes.now t) (before r.bytes.now t) d v → {x : Section} → PlacesTree n d v (Ok x) e u
+      pub upto_tree : (t : ℕ) → Upto r o n (tree_start r.bytes.now t) (before r.bytes.now t) d v → {x : Section} → PlacesTree n d v (Ok (x, e)) u
           → Upto r o n (tree_start r.bytes.now (suc t)) (before r.bytes.now (suc t)) e u
           × (x ≡ record { count = (tree_list r.bytes.now t).value; place = v.count })
       unfolding tree_start tree_list before
@@ -112,7 +114,7 @@ module _ {r : Reader} {o : Offsets} where
     upto_number a b = (record { types = a.types; along = along_read a.along b }, along_value a.along b)
 
     pub upto_trees : {v u : Offsets} {m : ℕ} → Upto r o n (lookup_list r.bytes.now).next (type_part r.bytes.now) d v → m ≡ (lookup_list r.bytes.now).value
-        → Places (λ s c. (lookups s c m).next) (λ s c. lookup_offsets s c m) d v (Ok tt) e u
+        → Places (λ s c. (lookups s c m).next) (λ s c. lookup_offsets s c m) d v (Ok e) u
         → Upto r o n (tree_start r.bytes.now 0) (before r.bytes.now 0) e u
     unfolding tree_start before
     upto_trees a k b = record { types = a.types; along = rw k at (along_then a.along b) }

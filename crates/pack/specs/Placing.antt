@@ -1,3 +1,4 @@
+use Rattle.std.specs.Prelude.{Ok, Err}
 -- What the steps of `load` promise each other: how far they read, and the offsets that they stored on the way.
 use Rattle.std.specs.Prelude.{ℕ, ◌+◌, ◌%◌, ◌≡◌, min, List, [], ◌∷◌, length, set}
 use Rattle.std.specs.Prelude.{Option, Result}
@@ -6,7 +7,7 @@ use Rattle.pack.specs.Items.{Cursor, Form, fresh, read_number}
 use Rattle.pack.specs.Records.{read_lookup}
 use Rattle.pack.specs.Format.{lookup_next, lookup_records, pgns, pgn_offsets, pack_end, offsets}
 use Rattle.pack.specs.Load.{load_index}
-use Rattle.pack.specs.Reads.{told, Reads}
+use Rattle.pack.specs.Reads.{told, Reads, item_of, next_of}
 use Rattle.pack.specs.declared.text.Text.{Text}
 use Rattle.pack.specs.declared.load.Section.{Section}
 use Rattle.pack.specs.declared.load.Index.{Index}
@@ -53,28 +54,33 @@ pub record Placing {A : Type 0} (form : Form A) (xs : List ℕ → Cursor → Li
   pub reads : Reads r form q r'
   pub put : (form r.bytes.now (fresh r.at)).next.refused ≡ 0 → Put o (xs r.bytes.now (fresh r.at)) o'
 
+-- of an answer that is the next reader alone
+abbrev pub past : Result Reader InputRefusal → Result (Unit {0} × Reader) InputRefusal
+past (Ok c) = Ok (tt, c)
+past (Err e) = Err e
+
 -- records up to the cursor `end`
-abbrev pub Places : (end : List ℕ → Cursor → Cursor) (xs : List ℕ → Cursor → List ℕ) (r : Reader) (o : Offsets) → Result (Unit {0}) InputRefusal → Reader
-    → Offsets → Type 0
-Places end xs r o q r' o' = Placing (λ s c. record { value = tt; next = end s c }) xs r o q r' o'
+abbrev pub Places : (end : List ℕ → Cursor → Cursor) (xs : List ℕ → Cursor → List ℕ) (r : Reader) (o : Offsets) → Result Reader InputRefusal → Offsets
+    → Type 0
+Places end xs r o q o' = Placing (λ s c. record { value = tt; next = end s c }) xs r o (item_of (past q)) (next_of r (past q)) o'
 
 -- a lookup behind the one of that name, and its name
-abbrev pub PlacesLookup : (before : Option Text) (r : Reader) (o : Offsets) → Result Text InputRefusal → Reader → Offsets → Type 0
-PlacesLookup before r o q r' o' =
+abbrev pub PlacesLookup : (before : Option Text) (r : Reader) (o : Offsets) → Result (Text × Reader) InputRefusal → Offsets → Type 0
+PlacesLookup before r o q o' =
     Placing
     (λ s c. record { value = (read_lookup before s c).value.name; next = (lookup_next s (record { next = c; before = before })).next })
-    (λ s c. lookup_records s (record { next = c; before = before })) r o q r' o'
+    (λ s c. lookup_records s (record { next = c; before = before })) r o (item_of q) (next_of r q) o'
 
 -- a tree of a pack of k field types, and its section
-abbrev pub PlacesTree : (k : ℕ) (r : Reader) (o : Offsets) → Result Section InputRefusal → Reader → Offsets → Type 0
-PlacesTree k r o q r' o' =
+abbrev pub PlacesTree : (k : ℕ) (r : Reader) (o : Offsets) → Result (Section × Reader) InputRefusal → Offsets → Type 0
+PlacesTree k r o q o' =
     Placing
     (λ s c.
     record {
       value = record { count = (read_number s c).value; place = o.count };
       next = pgns k s (read_number s c).next (read_number s c).value;
     })
-    (λ s c. pgn_offsets k s (read_number s c).next (read_number s c).value) r o q r' o'
+    (λ s c. pgn_offsets k s (read_number s c).next (read_number s c).value) r o (item_of q) (next_of r q) o'
 
 -- all records of the pack s, from the beginning on
 pub record PlacesAll (s w : List ℕ) (q : Result Index InputRefusal) (w' : List ℕ) : Type 0 where

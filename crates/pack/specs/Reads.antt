@@ -31,8 +31,21 @@ pub record Reads {A : Type 0} (c : Reader) (form : Form A) (r : Result A InputRe
   pub answer : r ≡ told (form c.bytes.now (fresh c.at))
   pub at : (form c.bytes.now (fresh c.at)).next.refused ≡ 0 → c'.at ≡ (form c.bytes.now (fresh c.at)).next.at
 
-abbrev pub judged : (at value : ℕ) → Bool → Fault → Result ℕ InputRefusal
-judged at value good fault = if good then Ok value else Err (record { fault = fault; offset = at })
+-- of an answer with the next reader: the item alone, and that reader; after a refusal there is none, and it stays
+abbrev pub item_of : {A : Type 0} → Result (A × Reader) InputRefusal → Result A InputRefusal
+item_of (Ok x) = Ok x.0
+item_of (Err e) = Err e
+
+abbrev pub next_of : {A : Type 0} → Reader → Result (A × Reader) InputRefusal → Reader
+next_of c (Ok x) = x.1
+next_of c (Err e) = c
+
+-- the reader c gives an item of that form with the next reader, or its refusal
+abbrev pub Gives : {A : Type 0} (c : Reader) (form : Form A) → Result (A × Reader) InputRefusal → Type 0
+Gives c form r = Reads c form (item_of r) (next_of c r)
+
+abbrev pub judged : (c : Reader) (value : ℕ) → Bool → Fault → (next : Reader) → Result (ℕ × Reader) InputRefusal
+judged c value good fault next = if good then Ok (value, next) else Err (record { fault = fault; offset = c.at })
 
 -- 8: "bytes after the last tree", at the end of the trees
 pub record Ends (c : Reader) (r : Result (Unit {0}) InputRefusal) : Type 0 where

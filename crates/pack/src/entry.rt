@@ -1,5 +1,5 @@
 // An entry of a lookup, read item by item in 01's order.
-ghost use Rattle.pack.specs.Reads.{Reads};
+ghost use Rattle.pack.specs.Reads.{Gives};
 ghost use Rattle.pack.specs.Records.{read_first, read_kind_part, read_entry};
 
 use crate::items::Words;
@@ -24,46 +24,51 @@ pub struct KindPart {
     pub nested: Option<Text>,
 }
 
-impl Reader<'_> {
+impl<'a> Reader<'a> {
     // A triplet's first value, which stands before its second.
-    fn first(&mut self, kind: LookupKind) -> Result<u64, InputRefusal>
-        ensures { Reads self.old (read_first kind) result self.new }
+    fn first(self, kind: LookupKind) -> Result<(u64, Self), InputRefusal>
+        ensures { Gives self.entry (read_first kind) result }
     {
         match kind {
             LookupKind::Triplet => self.wide(u64::MAX),
-            _ => Ok(0),
+            _ => Ok((0, self)),
         }
     }
 
-    fn kind_part(&mut self, kind: LookupKind) -> Result<KindPart, InputRefusal>
-        ensures { Reads self.old (read_kind_part kind) result self.new }
+    fn kind_part(self, kind: LookupKind) -> Result<(KindPart, Self), InputRefusal>
+        ensures { Gives self.entry (read_kind_part kind) result }
     {
         match kind {
-            LookupKind::Fieldtype => Ok(KindPart {
-                fieldtype: self.text()?,
-                nested: self.optional(Words)?,
-            }),
-            _ => Ok(KindPart {
-                fieldtype: Text { start: 0, len: 0 },
-                nested: None,
-            }),
+            LookupKind::Fieldtype => {
+                let (fieldtype, next) = self.text()?;
+                let (nested, next) = next.optional(Words)?;
+                Ok((KindPart { fieldtype, nested }, next))
+            }
+            _ => {
+                let none = KindPart {
+                    fieldtype: Text { start: 0, len: 0 },
+                    nested: None,
+                };
+                Ok((none, self))
+            }
         }
     }
 
     // An entry of a lookup of that kind.
-    pub(crate) fn entry(&mut self, kind: LookupKind) -> Result<EntryView, InputRefusal>
-        ensures { Reads self.old (read_entry kind) result self.new }
+    pub(crate) fn entry(self, kind: LookupKind) -> Result<(EntryView, Self), InputRefusal>
+        ensures { Gives self.entry (read_entry kind) result }
     {
-        let first = self.first(kind)?;
-        let value = self.wide(u64::MAX)?;
-        let name = self.text()?;
-        let rest = self.kind_part(kind)?;
-        Ok(EntryView {
+        let (first, next) = self.first(kind)?;
+        let (value, next) = next.wide(u64::MAX)?;
+        let (name, next) = next.text()?;
+        let (rest, next) = next.kind_part(kind)?;
+        let view = EntryView {
             first,
             value,
             name,
             fieldtype: rest.fieldtype,
             nested: rest.nested,
-        })
+        };
+        Ok((view, next))
     }
 }

@@ -1,6 +1,6 @@
 // A field, read item by item in 01's order.
 ghost use Rattle.std.specs.Prelude.{◌≡◌};
-ghost use Rattle.pack.specs.Reads.{Reads};
+ghost use Rattle.pack.specs.Reads.{Gives};
 ghost use Rattle.pack.specs.Records.{read_names, field_flags_of, read_scaling, read_authored, read_reference, read_links, read_field};
 
 use crate::items::{Float, Item, Number, Sum, Words};
@@ -84,81 +84,102 @@ fn field_flags(n: u32) -> FieldFlags
     }
 }
 
-impl Reader<'_> {
-    fn names(&mut self) -> Result<NamesView, InputRefusal>
-        ensures { Reads self.old read_names result self.new }
+impl<'a> Reader<'a> {
+    fn names(self) -> Result<(NamesView, Self), InputRefusal>
+        ensures { Gives self.entry read_names result }
     {
-        Ok(NamesView {
-            id: self.text()?,
-            name: self.text()?,
-            kind: self.text()?,
-        })
+        let (id, next) = self.text()?;
+        let (name, next) = next.text()?;
+        let (kind, next) = next.text()?;
+        let view = NamesView { id, name, kind };
+        Ok((view, next))
     }
 
     // The scaling of a field, in a PGN whose fields before it have `total` bits.
-    fn scaling(&mut self, total: u32) -> Result<ScalingView, InputRefusal>
-        ensures { Reads self.old (read_scaling total) result self.new }
+    fn scaling(self, total: u32) -> Result<(ScalingView, Self), InputRefusal>
+        ensures { Gives self.entry (read_scaling total) result }
     {
-        Ok(ScalingView {
-            bits: self.sum(total)?,
-            resolution: self.float()?,
-            offset: self.float()?,
-            unit: self.optional(Words)?,
-        })
+        let (bits, next) = self.sum(total)?;
+        let (resolution, next) = next.float()?;
+        let (offset, next) = next.float()?;
+        let (unit, next) = next.optional(Words)?;
+        let view = ScalingView {
+            bits,
+            resolution,
+            offset,
+            unit,
+        };
+        Ok((view, next))
     }
 
-    fn authored(&mut self) -> Result<AuthoredView, InputRefusal>
-        ensures { Reads self.old read_authored result self.new }
+    fn authored(self) -> Result<(AuthoredView, Self), InputRefusal>
+        ensures { Gives self.entry read_authored result }
     {
-        Ok(AuthoredView {
-            resolution: self.optional(Float)?,
-            offset: self.optional(Float)?,
-            spn: self.optional(Number)?,
-            continues: self.optional(Words)?,
-            matched: self.optional(Words)?,
-        })
+        let (resolution, next) = self.optional(Float)?;
+        let (offset, next) = next.optional(Float)?;
+        let (spn, next) = next.optional(Number)?;
+        let (continues, next) = next.optional(Words)?;
+        let (matched, next) = next.optional(Words)?;
+        let view = AuthoredView {
+            resolution,
+            offset,
+            spn,
+            continues,
+            matched,
+        };
+        Ok((view, next))
     }
 
-    fn reference(&mut self) -> Result<ReferenceView, InputRefusal>
-        ensures { Reads self.old read_reference result self.new }
+    fn reference(self) -> Result<(ReferenceView, Self), InputRefusal>
+        ensures { Gives self.entry read_reference result }
     {
-        Ok(ReferenceView {
-            kind: LookupKind::of(self.code(3)?),
-            name: self.text()?,
-        })
+        let (kind, next) = self.code(3)?;
+        let (name, next) = next.text()?;
+        let view = ReferenceView {
+            kind: LookupKind::of(kind),
+            name,
+        };
+        Ok((view, next))
     }
 
     // What a field of `bits` bits refers to.
-    fn links(&mut self, bits: u32) -> Result<LinksView, InputRefusal>
-        ensures { Reads self.old (read_links bits) result self.new }
+    fn links(self, bits: u32) -> Result<(LinksView, Self), InputRefusal>
+        ensures { Gives self.entry (read_links bits) result }
     {
-        Ok(LinksView {
-            reference: self.optional(Reference)?,
-            special: self.optional(Number)?,
-            length: self.optional(Words)?,
-            trailing: self.optional(Words)?,
-            continuation: self.optional(Sum(bits))?,
-        })
+        let (reference, next) = self.optional(Reference)?;
+        let (special, next) = next.optional(Number)?;
+        let (length, next) = next.optional(Words)?;
+        let (trailing, next) = next.optional(Words)?;
+        let (continuation, next) = next.optional(Sum(bits))?;
+        let view = LinksView {
+            reference,
+            special,
+            length,
+            trailing,
+            continuation,
+        };
+        Ok((view, next))
     }
 
     // A field, in a pack of `types` field types and a PGN whose fields before it have `total` bits.
-    pub(crate) fn field(&mut self, types: u64, total: u32) -> Result<FieldView, InputRefusal>
-        ensures { Reads self.old (read_field types total) result self.new }
+    pub(crate) fn field(self, types: u64, total: u32) -> Result<(FieldView, Self), InputRefusal>
+        ensures { Gives self.entry (read_field types total) result }
     {
-        let names = self.names()?;
-        let ft = self.index(types)?;
-        let flags = self.code(63)?;
-        let scaling = self.scaling(total)?;
-        let authored = self.authored()?;
-        let links = self.links(scaling.bits)?;
-        Ok(FieldView {
+        let (names, next) = self.names()?;
+        let (ft, next) = next.index(types)?;
+        let (flags, next) = next.code(63)?;
+        let (scaling, next) = next.scaling(total)?;
+        let (authored, next) = next.authored()?;
+        let (links, next) = next.links(scaling.bits)?;
+        let view = FieldView {
             names,
             ft,
             flags: field_flags(flags),
             scaling,
             authored,
             links,
-        })
+        };
+        Ok((view, next))
     }
 }
 
@@ -170,7 +191,7 @@ impl Item for Reference {
 
     ghost form = { λ _. read_reference };
 
-    fn read(self, reader: &mut Reader) -> Result<ReferenceView, InputRefusal> {
+    fn read<'a>(self, reader: Reader<'a>) -> Result<(ReferenceView, Reader<'a>), InputRefusal> {
         reader.reference()
     }
 }

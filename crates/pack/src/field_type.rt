@@ -1,5 +1,5 @@
 // A field type, read item by item in 01's order. A view holds numbers, float patterns, and texts as parts of the pack.
-ghost use Rattle.pack.specs.Reads.{Reads};
+ghost use Rattle.pack.specs.Reads.{Gives};
 ghost use Rattle.pack.specs.Records.{read_type};
 
 use crate::reader::{InputRefusal, Reader};
@@ -16,16 +16,16 @@ pub struct FieldTypeView {
     pub root: Text,
 }
 
-impl Reader<'_> {
-    pub(crate) fn field_type(&mut self) -> Result<FieldTypeView, InputRefusal>
-        ensures { Reads self.old read_type result self.new }
+impl<'a> Reader<'a> {
+    pub(crate) fn field_type(self) -> Result<(FieldTypeView, Self), InputRefusal>
+        ensures { Gives self.entry read_type result }
     {
-        let name = self.text()?;
-        let flags = self.code(7)?;
-        let size = self.number()?;
-        let resolution = self.float()?;
-        let root = self.text()?;
-        Ok(FieldTypeView {
+        let (name, next) = self.text()?;
+        let (flags, next) = next.code(7)?;
+        let (size, next) = next.number()?;
+        let (resolution, next) = next.float()?;
+        let (root, next) = next.text()?;
+        let view = FieldTypeView {
             name,
             base: flags % 2 == 1,
             print: flags / 2 % 2 == 1,
@@ -33,6 +33,7 @@ impl Reader<'_> {
             size,
             resolution,
             root,
-        })
+        };
+        Ok((view, next))
     }
 }

@@ -2,35 +2,47 @@
 ghost use Rattle.std.specs.Prelude.{◌≡◌, ◌+◌, ◌≤◌, IfOk};
 ghost use Rattle.pack.specs.Items.{Form, optional, read_wide, read_number, read_code, read_version, read_index, read_sum, read_bytes, read_mark};
 ghost use Rattle.pack.specs.Items.{read_text, read_name, read_float};
-ghost use Rattle.pack.specs.Reads.{Reads, Ends, judged};
+ghost use Rattle.pack.specs.Reads.{Gives, Ends, judged};
 
 use crate::number::{decode, is_shortest, last_byte};
 use crate::reader::{Fault, InputRefusal, Reader};
 use crate::text::{Text, text_precedes};
 
-// The item that was read at an offset, where it is good.
-fn judged(at: usize, value: u32, good: bool, fault: Fault) -> Result<u32, InputRefusal>
-    ensures { result ≡ judged at value good fault }
-{
-    if good {
-        return Ok(value);
+impl<'a> Reader<'a> {
+    // The item that was read here, where it is good.
+    fn judged(
+        self,
+        value: u32,
+        good: bool,
+        fault: Fault,
+        next: Reader<'a>,
+    ) -> Result<(u32, Self), InputRefusal>
+        ensures { result ≡ judged self.entry value good fault next.entry }
+    {
+        if good {
+            return Ok((value, next));
+        }
+        Err(InputRefusal {
+            fault,
+            offset: self.at,
+        })
     }
-    Err(InputRefusal { fault, offset: at })
-}
 
-impl Reader<'_> {
     // A number, most often of one byte.
-    pub(crate) fn wide(&mut self, most: u64) -> Result<u64, InputRefusal>
-        ensures read { Reads self.old (read_wide most) result self.new }
-        ensures bound { IfOk result (λ v. v ≤ most) }
+    pub(crate) fn wide(self, most: u64) -> Result<(u64, Self), InputRefusal>
+        ensures read { Gives self.entry (read_wide most) result }
+        ensures bound { IfOk result (λ x. x.0 ≤ most) }
     {
         let at = self.at;
         if at < self.bytes.len() {
             let b = self.bytes[at] as u64;
             if b < 128 {
                 if b <= most {
-                    self.at = at + 1;
-                    return Ok(b);
+                    let next = Reader {
+                        bytes: self.bytes,
+                        at: at + 1,
+                    };
+                    return Ok((b, next));
                 }
             }
         }
@@ -38,9 +50,9 @@ impl Reader<'_> {
     }
 
     // A number of any length.
-    fn wide_long(&mut self, most: u64) -> Result<u64, InputRefusal>
-        ensures read { Reads self.old (read_wide most) result self.new }
-        ensures bound { IfOk result (λ v. v ≤ most) }
+    fn wide_long(self, most: u64) -> Result<(u64, Self), InputRefusal>
+        ensures read { Gives self.entry (read_wide most) result }
+        ensures bound { IfOk result (λ x. x.0 ≤ most) }
     {
         let offset = self.at;
         let Some(end) = last_byte(self.bytes, offset) else {
@@ -61,103 +73,105 @@ impl Reader<'_> {
                 offset,
             });
         };
-        self.at = end + 1;
-        Ok(value)
+        let next = Reader {
+            bytes: self.bytes,
+            at: end + 1,
+        };
+        Ok((value, next))
     }
 
-    pub(crate) fn number(&mut self) -> Result<u32, InputRefusal>
-        ensures { Reads self.old read_number result self.new }
+    pub(crate) fn number(self) -> Result<(u32, Self), InputRefusal>
+        ensures { Gives self.entry read_number result }
     {
-        Ok(self.wide(u32::MAX as u64)? as u32)
+        let (n, next) = self.wide(u32::MAX as u64)?;
+        Ok((n as u32, next))
     }
 
     // A code, mark or flags.
-    pub(crate) fn code(&mut self, most: u32) -> Result<u32, InputRefusal>
-        ensures { Reads self.old (read_code most) result self.new }
+    pub(crate) fn code(self, most: u32) -> Result<(u32, Self), InputRefusal>
+        ensures { Gives self.entry (read_code most) result }
     {
-        let at = self.at;
-        let n = self.number()?;
-        judged(at, n, n <= most, Fault::Code)
+        let (n, next) = self.number()?;
+        self.judged(n, n <= most, Fault::Code, next)
     }
 
-    pub(crate) fn version(&mut self) -> Result<u32, InputRefusal>
-        ensures { Reads self.old read_version result self.new }
+    pub(crate) fn version(self) -> Result<(u32, Self), InputRefusal>
+        ensures { Gives self.entry read_version result }
     {
-        let at = self.at;
-        let n = self.number()?;
-        judged(at, n, n == 1, Fault::Version)
+        let (n, next) = self.number()?;
+        self.judged(n, n == 1, Fault::Version, next)
     }
 
     // An index below `count`.
-    pub(crate) fn index(&mut self, count: u64) -> Result<u32, InputRefusal>
-        ensures { Reads self.old (read_index count) result self.new }
+    pub(crate) fn index(self, count: u64) -> Result<(u32, Self), InputRefusal>
+        ensures { Gives self.entry (read_index count) result }
     {
-        let at = self.at;
-        let n = self.number()?;
-        judged(at, n, (n as u64) < count, Fault::TypeIndex)
+        let (n, next) = self.number()?;
+        self.judged(n, (n as u64) < count, Fault::TypeIndex, next)
     }
 
     // A number that completes a sum whose other part is `other`.
-    pub(crate) fn sum(&mut self, other: u32) -> Result<u32, InputRefusal>
-        ensures { Reads self.old (read_sum other) result self.new }
+    pub(crate) fn sum(self, other: u32) -> Result<(u32, Self), InputRefusal>
+        ensures { Gives self.entry (read_sum other) result }
     {
-        let at = self.at;
-        let n = self.number()?;
-        judged(at, n, other.checked_add(n).is_some(), Fault::Sum)
+        let (n, next) = self.number()?;
+        self.judged(n, other.checked_add(n).is_some(), Fault::Sum, next)
     }
 
     // A length in bytes whose bits are counted in 32 bits.
-    pub(crate) fn length(&mut self) -> Result<u32, InputRefusal>
-        ensures { Reads self.old read_bytes result self.new }
+    pub(crate) fn length(self) -> Result<(u32, Self), InputRefusal>
+        ensures { Gives self.entry read_bytes result }
     {
-        let at = self.at;
-        let n = self.number()?;
-        judged(at, n, n.checked_mul(8).is_some(), Fault::Sum)
+        let (n, next) = self.number()?;
+        self.judged(n, n.checked_mul(8).is_some(), Fault::Sum, next)
     }
 
-    pub(crate) fn mark(&mut self) -> Result<bool, InputRefusal>
-        ensures { Reads self.old read_mark result self.new }
+    pub(crate) fn mark(self) -> Result<(bool, Self), InputRefusal>
+        ensures { Gives self.entry read_mark result }
     {
-        Ok(self.code(1)? == 1)
+        let (n, next) = self.code(1)?;
+        Ok((n == 1, next))
     }
 
-    pub(crate) fn text(&mut self) -> Result<Text, InputRefusal>
-        ensures { Reads self.old read_text result self.new }
+    pub(crate) fn text(self) -> Result<(Text, Self), InputRefusal>
+        ensures { Gives self.entry read_text result }
     {
-        let offset = self.at;
-        let len = self.number()? as usize;
-        let start = self.at;
+        let (n, after) = self.number()?;
+        let len = n as usize;
+        let start = after.at;
         if len <= self.bytes.len() - start {
-            self.at = start + len;
-            return Ok(Text { start, len });
+            let next = Reader {
+                bytes: self.bytes,
+                at: start + len,
+            };
+            return Ok((Text { start, len }, next));
         }
         Err(InputRefusal {
             fault: Fault::CutShort,
-            offset,
+            offset: self.at,
         })
     }
 
     // A lookup's name, which is above the one before it.
-    pub(crate) fn name(&mut self, before: Option<Text>) -> Result<Text, InputRefusal>
-        ensures { Reads self.old (read_name before) result self.new }
+    pub(crate) fn name(self, before: Option<Text>) -> Result<(Text, Self), InputRefusal>
+        ensures { Gives self.entry (read_name before) result }
     {
-        let offset = self.at;
-        let name = self.text()?;
+        let (name, next) = self.text()?;
         let Some(earlier) = before else {
-            return Ok(name);
+            return Ok((name, next));
         };
         if text_precedes(self.bytes, earlier, name) {
-            return Ok(name);
+            return Ok((name, next));
         }
         Err(InputRefusal {
             fault: Fault::NameOrder,
-            offset,
+            offset: self.at,
         })
     }
 
     // A float, by its 64-bit pattern.
-    pub(crate) fn float(&mut self) -> Result<u64, InputRefusal>
-        ensures { Reads self.old read_float result self.new }
+    pub(crate) fn float(self) -> Result<(u64, Self), InputRefusal>
+        ensures { Gives self.entry read_float result }
     {
         let offset = self.at;
         let Some(bytes) = self.bytes[offset..].first_chunk::<8>() else {
@@ -166,18 +180,23 @@ impl Reader<'_> {
                 offset,
             });
         };
-        self.at = offset + 8;
-        Ok(u64::from_le_bytes(*bytes))
+        let next = Reader {
+            bytes: self.bytes,
+            at: offset + 8,
+        };
+        Ok((u64::from_le_bytes(*bytes), next))
     }
 
     // A mark, 0 or 1, then the item if 1.
-    pub(crate) fn optional<I: Item>(&mut self, item: I) -> Result<Option<I::Value>, InputRefusal>
-        ensures { Reads self.old (optional (I.form item)) result self.new }
+    pub(crate) fn optional<I: Item>(self, item: I) -> Result<(Option<I::Value>, Self), InputRefusal>
+        ensures { Gives self.entry (optional (I.form item)) result }
     {
-        if self.mark()? {
-            return Ok(Some(item.read(self)?));
+        let (there, next) = self.mark()?;
+        if there {
+            let (value, next) = item.read(next)?;
+            return Ok((Some(value), next));
         }
-        Ok(None)
+        Ok((None, next))
     }
 
     // The end of the pack.
@@ -200,8 +219,8 @@ pub(crate) trait Item: Drop {
 
     ghost form: { Self → Form Self.Value };
 
-    fn read(self, reader: &mut Reader) -> Result<Self::Value, InputRefusal>
-        ensures { Reads reader.old (form self) result reader.new };
+    fn read<'a>(self, reader: Reader<'a>) -> Result<(Self::Value, Reader<'a>), InputRefusal>
+        ensures { Gives reader.entry (form self) result };
 }
 
 #[derive(Drop)]
@@ -212,7 +231,7 @@ impl Item for Number {
 
     ghost form = { λ _. read_number };
 
-    fn read(self, reader: &mut Reader) -> Result<u32, InputRefusal> {
+    fn read<'a>(self, reader: Reader<'a>) -> Result<(u32, Reader<'a>), InputRefusal> {
         reader.number()
     }
 }
@@ -226,7 +245,7 @@ impl Item for Sum {
 
     ghost form = { λ it. read_sum it.0 };
 
-    fn read(self, reader: &mut Reader) -> Result<u32, InputRefusal> {
+    fn read<'a>(self, reader: Reader<'a>) -> Result<(u32, Reader<'a>), InputRefusal> {
         reader.sum(self.0)
     }
 }
@@ -239,7 +258,7 @@ impl Item for Length {
 
     ghost form = { λ _. read_bytes };
 
-    fn read(self, reader: &mut Reader) -> Result<u32, InputRefusal> {
+    fn read<'a>(self, reader: Reader<'a>) -> Result<(u32, Reader<'a>), InputRefusal> {
         reader.length()
     }
 }
@@ -252,7 +271,7 @@ impl Item for Words {
 
     ghost form = { λ _. read_text };
 
-    fn read(self, reader: &mut Reader) -> Result<Text, InputRefusal> {
+    fn read<'a>(self, reader: Reader<'a>) -> Result<(Text, Reader<'a>), InputRefusal> {
         reader.text()
     }
 }
@@ -265,7 +284,7 @@ impl Item for Float {
 
     ghost form = { λ _. read_float };
 
-    fn read(self, reader: &mut Reader) -> Result<u64, InputRefusal> {
+    fn read<'a>(self, reader: Reader<'a>) -> Result<(u64, Reader<'a>), InputRefusal> {
         reader.float()
     }
 }

@@ -111,100 +111,130 @@ impl<'a> Offsets<'a> {
 }
 
 // Each of these places the offsets of the records that it reads.
-fn place_types(r: &mut Reader, offsets: &mut Offsets, n: u32) -> Result<(), InputRefusal>
-    ensures { Places (λ s c. types s c n) (λ s c. type_offsets s c n) r.old offsets.old result r.new offsets.new }
+fn place_types<'a>(
+    reader: Reader<'a>,
+    offsets: &mut Offsets,
+    n: u32,
+) -> Result<Reader<'a>, InputRefusal>
+    ensures { Places (λ s c. types s c n) (λ s c. type_offsets s c n) reader.entry offsets.old result offsets.new }
 {
+    let mut next = reader;
     for _i in 0..n {
-        offsets.put(r.at);
-        r.field_type()?;
+        offsets.put(next.at);
+        let (_, after) = next.field_type()?;
+        next = after;
     }
-    Ok(())
+    Ok(next)
 }
 
-fn place_entries(
-    r: &mut Reader,
+fn place_entries<'a>(
+    reader: Reader<'a>,
     offsets: &mut Offsets,
     kind: LookupKind,
     n: u32,
-) -> Result<(), InputRefusal>
-    ensures { Places (λ s c. entries kind s c n) (λ s c. entry_offsets kind s c n) r.old offsets.old result r.new offsets.new }
+) -> Result<Reader<'a>, InputRefusal>
+    ensures { Places (λ s c. entries kind s c n) (λ s c. entry_offsets kind s c n) reader.entry offsets.old result offsets.new }
 {
+    let mut next = reader;
     for _i in 0..n {
-        offsets.put(r.at);
-        r.entry(kind)?;
+        offsets.put(next.at);
+        let (_, after) = next.entry(kind)?;
+        next = after;
     }
-    Ok(())
+    Ok(next)
 }
 
 // A lookup whose name is above the one before it, and its entries; and its name.
-fn place_lookup(
-    r: &mut Reader,
+fn place_lookup<'a>(
+    reader: Reader<'a>,
     offsets: &mut Offsets,
     before: Option<Text>,
-) -> Result<Text, InputRefusal>
-    ensures { PlacesLookup before r.old offsets.old result r.new offsets.new }
+) -> Result<(Text, Reader<'a>), InputRefusal>
+    ensures { PlacesLookup before reader.entry offsets.old result offsets.new }
 {
-    offsets.put(r.at);
-    let lookup = r.lookup(before)?;
-    place_entries(r, offsets, lookup.kind, lookup.entries)?;
-    Ok(lookup.name)
+    offsets.put(reader.at);
+    let (lookup, next) = reader.lookup(before)?;
+    let next = place_entries(next, offsets, lookup.kind, lookup.entries)?;
+    Ok((lookup.name, next))
 }
 
-fn place_lookups(r: &mut Reader, offsets: &mut Offsets, n: u32) -> Result<(), InputRefusal>
-    ensures { Places (λ s c. (lookups s c n).next) (λ s c. lookup_offsets s c n) r.old offsets.old result r.new offsets.new }
+fn place_lookups<'a>(
+    reader: Reader<'a>,
+    offsets: &mut Offsets,
+    n: u32,
+) -> Result<Reader<'a>, InputRefusal>
+    ensures { Places (λ s c. (lookups s c n).next) (λ s c. lookup_offsets s c n) reader.entry offsets.old result offsets.new }
 {
+    let mut next = reader;
     let mut before = None;
     for _i in 0..n {
-        let name = place_lookup(r, offsets, before)?;
+        let (name, after) = place_lookup(next, offsets, before)?;
+        next = after;
         before = Some(name);
     }
-    Ok(())
+    Ok(next)
 }
 
 // The fields of a PGN, in a pack of `types` field types.
-fn place_fields(
-    r: &mut Reader,
+fn place_fields<'a>(
+    reader: Reader<'a>,
     offsets: &mut Offsets,
     types: u32,
     n: u32,
-) -> Result<(), InputRefusal>
-    ensures { Places (λ s c. (fields types s c n).next) (λ s c. field_offsets types s c n) r.old offsets.old result r.new offsets.new }
+) -> Result<Reader<'a>, InputRefusal>
+    ensures { Places (λ s c. (fields types s c n).next) (λ s c. field_offsets types s c n) reader.entry offsets.old result offsets.new }
 {
+    let mut next = reader;
     let mut total: u32 = 0;
     for _i in 0..n {
-        offsets.put(r.at);
-        let field = r.field(types as u64, total)?;
+        offsets.put(next.at);
+        let (field, after) = next.field(types as u64, total)?;
+        next = after;
         total += field.scaling.bits;
     }
-    Ok(())
+    Ok(next)
 }
 
 // A PGN and its fields.
-fn place_pgn(r: &mut Reader, offsets: &mut Offsets, types: u32) -> Result<(), InputRefusal>
-    ensures { Places (pgn_next types) (pgn_records types) r.old offsets.old result r.new offsets.new }
+fn place_pgn<'a>(
+    reader: Reader<'a>,
+    offsets: &mut Offsets,
+    types: u32,
+) -> Result<Reader<'a>, InputRefusal>
+    ensures { Places (pgn_next types) (pgn_records types) reader.entry offsets.old result offsets.new }
 {
-    offsets.put(r.at);
-    let pgn = r.pgn()?;
-    place_fields(r, offsets, types, pgn.fields)
+    offsets.put(reader.at);
+    let (pgn, next) = reader.pgn()?;
+    place_fields(next, offsets, types, pgn.fields)
 }
 
-fn place_pgns(r: &mut Reader, offsets: &mut Offsets, types: u32, n: u32) -> Result<(), InputRefusal>
-    ensures { Places (λ s c. pgns types s c n) (λ s c. pgn_offsets types s c n) r.old offsets.old result r.new offsets.new }
+fn place_pgns<'a>(
+    reader: Reader<'a>,
+    offsets: &mut Offsets,
+    types: u32,
+    n: u32,
+) -> Result<Reader<'a>, InputRefusal>
+    ensures { Places (λ s c. pgns types s c n) (λ s c. pgn_offsets types s c n) reader.entry offsets.old result offsets.new }
 {
+    let mut next = reader;
     for _i in 0..n {
-        place_pgn(r, offsets, types)?;
+        next = place_pgn(next, offsets, types)?;
     }
-    Ok(())
+    Ok(next)
 }
 
 // A tree: the count of its PGNs, and them.
-fn place_tree(r: &mut Reader, offsets: &mut Offsets, types: u32) -> Result<Section, InputRefusal>
-    ensures { PlacesTree types r.old offsets.old result r.new offsets.new }
+fn place_tree<'a>(
+    reader: Reader<'a>,
+    offsets: &mut Offsets,
+    types: u32,
+) -> Result<(Section, Reader<'a>), InputRefusal>
+    ensures { PlacesTree types reader.entry offsets.old result offsets.new }
 {
     let place = offsets.count;
-    let count = r.number()?;
-    place_pgns(r, offsets, types, count)?;
-    Ok(Section { count, place })
+    let (count, next) = reader.number()?;
+    let next = place_pgns(next, offsets, types, count)?;
+    Ok((Section { count, place }, next))
 }
 
 // The offsets of all records, from the beginning of a buffer on, as far as it has room; and the index.
@@ -212,18 +242,18 @@ fn place_all(pack: &[u8], work: &mut [u32]) -> Result<Index, InputRefusal>
     requires { length pack.now ≤ most_bytes }
     ensures { PlacesAll pack.now work.old result work.new }
 {
-    let mut r = Reader { bytes: pack, at: 0 };
+    let reader = Reader { bytes: pack, at: 0 };
     let mut offsets = Offsets { work, count: 0 };
-    r.version()?;
-    let types = r.number()?;
-    place_types(&mut r, &mut offsets, types)?;
-    let lookups = r.number()?;
+    let (_, next) = reader.version()?;
+    let (types, next) = next.number()?;
+    let next = place_types(next, &mut offsets, types)?;
+    let (lookups, next) = next.number()?;
     let lookups_at = offsets.count;
-    place_lookups(&mut r, &mut offsets, lookups)?;
-    let nmea2000 = place_tree(&mut r, &mut offsets, types)?;
-    let j1939 = place_tree(&mut r, &mut offsets, types)?;
-    let quick = place_tree(&mut r, &mut offsets, types)?;
-    r.finish()?;
+    let next = place_lookups(next, &mut offsets, lookups)?;
+    let (nmea2000, next) = place_tree(next, &mut offsets, types)?;
+    let (j1939, next) = place_tree(next, &mut offsets, types)?;
+    let (quick, next) = place_tree(next, &mut offsets, types)?;
+    next.finish()?;
     Ok(Index {
         types: Section {
             count: types,

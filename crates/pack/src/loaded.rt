@@ -75,11 +75,12 @@ pub struct Pgns<'a> {
 }
 
 // The text behind the one that a record begins with: a field's name.
-fn second_text(mut r: Reader) -> Result<Text, InputRefusal>
-    ensures { result ≡ told (read_second_text r.entry.bytes.now (fresh r.entry.at)) }
+fn second_text(reader: Reader) -> Result<Text, InputRefusal>
+    ensures { result ≡ told (read_second_text reader.entry.bytes.now (fresh reader.entry.at)) }
 {
-    r.text()?;
-    r.text()
+    let (_, next) = reader.text()?;
+    let (text, _) = next.text()?;
+    Ok(text)
 }
 
 impl<'a> Pack<'a> {
@@ -107,7 +108,7 @@ impl<'a> Pack<'a> {
         requires { LookupAt self.now.bytes.now self.now.work.now item place }
         ensures { LookupIs self.now.bytes.now (lookup_at (pack_of self.now.bytes.now).lookups item) result }
     {
-        let Ok(lookup) = self.reader(place).lookup(None) else {
+        let Ok((lookup, _)) = self.reader(place).lookup(None) else {
             unreachable!()
         };
         lookup
@@ -118,7 +119,7 @@ impl<'a> Pack<'a> {
         requires { PgnAt self.now.bytes.now self.now.work.now (tree_number protocol) item place }
         ensures { PgnIs self.now.bytes.now (pgn_at (pack_of self.now.bytes.now) (tree_number protocol) item) result }
     {
-        let Ok(pgn) = self.reader(place).pgn() else {
+        let Ok((pgn, _)) = self.reader(place).pgn() else {
             unreachable!()
         };
         pgn
@@ -129,7 +130,7 @@ impl<'a> Pack<'a> {
         requires { i < length (pack_of self.now.bytes.now).fieldtypes }
         ensures { type_meaning self.now.bytes.now result ≡ get_or (pack_of self.now.bytes.now).fieldtypes i no_field_type }
     {
-        let Ok(field_type) = self.reader(i as usize).field_type() else {
+        let Ok((field_type, _)) = self.reader(i as usize).field_type() else {
             unreachable!()
         };
         field_type
@@ -238,7 +239,7 @@ impl<'a> LookupRef<'a> {
         requires { k < self.now.view.entries }
         ensures { entry_meaning self.now.pack.bytes.now result ≡ get_or (lookup_value self.now).entries k no_entry }
     {
-        let Ok(entry) = self
+        let Ok((entry, _)) = self
             .pack
             .reader(self.place + 1 + k as usize)
             .entry(self.view.kind)
@@ -280,7 +281,7 @@ impl<'a> PgnRef<'a> {
         requires { k < self.now.view.fields }
         ensures { field_meaning self.now.pack.bytes.now result ≡ field_at (pgn_value self.now) k }
     {
-        let Ok(field) = self.reader(k).field(0x1_0000_0000, 0) else {
+        let Ok((field, _)) = self.reader(k).field(0x1_0000_0000, 0) else {
             unreachable!()
         };
         field
@@ -291,7 +292,7 @@ impl<'a> PgnRef<'a> {
         requires { k < self.now.view.fields }
         ensures { bytes_of self.now.pack.bytes.now result ≡ (field_at (pgn_value self.now) k).id }
     {
-        let Ok(id) = self.reader(k).text() else {
+        let Ok((id, _)) = self.reader(k).text() else {
             unreachable!()
         };
         id

@@ -1,5 +1,5 @@
 // A lookup, read item by item in 01's order, up to its entries.
-ghost use Rattle.pack.specs.Reads.{Reads};
+ghost use Rattle.pack.specs.Reads.{Gives};
 ghost use Rattle.pack.specs.Records.{read_lookup};
 
 use crate::kinds::LookupKind;
@@ -15,16 +15,21 @@ pub struct LookupView {
     pub entries: u32,
 }
 
-impl Reader<'_> {
+impl<'a> Reader<'a> {
     // A lookup up to its entries, its name above the one before it.
-    pub(crate) fn lookup(&mut self, before: Option<Text>) -> Result<LookupView, InputRefusal>
-        ensures { Reads self.old (read_lookup before) result self.new }
+    pub(crate) fn lookup(self, before: Option<Text>) -> Result<(LookupView, Self), InputRefusal>
+        ensures { Gives self.entry (read_lookup before) result }
     {
-        Ok(LookupView {
-            name: self.name(before)?,
-            kind: LookupKind::of(self.code(3)?),
-            bits: self.number()?,
-            entries: self.number()?,
-        })
+        let (name, next) = self.name(before)?;
+        let (kind, next) = next.code(3)?;
+        let (bits, next) = next.number()?;
+        let (entries, next) = next.number()?;
+        let view = LookupView {
+            name,
+            kind: LookupKind::of(kind),
+            bits,
+            entries,
+        };
+        Ok((view, next))
     }
 }

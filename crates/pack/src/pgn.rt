@@ -1,7 +1,7 @@
 // A PGN and its sets, read item by item in 01's order, up to its fields.
 ghost use Rattle.std.specs.Prelude.{◌≡◌, ◌<◌, get_or};
 ghost use Rattle.std.specs.Prelude.{None};
-ghost use Rattle.pack.specs.Reads.{Reads};
+ghost use Rattle.pack.specs.Reads.{Gives};
 ghost use Rattle.pack.specs.Records.{order_of, pgn_flags_of, read_repeating, read_pgn};
 
 use crate::items::{Item, Length, Number};
@@ -63,36 +63,38 @@ fn pgn_flags(n: u32) -> PgnFlags
     }
 }
 
-impl Reader<'_> {
-    fn repeating(&mut self) -> Result<RepeatingView, InputRefusal>
-        ensures { Reads self.old read_repeating result self.new }
+impl<'a> Reader<'a> {
+    fn repeating(self) -> Result<(RepeatingView, Self), InputRefusal>
+        ensures { Gives self.entry read_repeating result }
     {
-        let count = self.number()?;
-        let start = self.sum(count)?;
-        let counter = self.optional(Number)?;
-        let nested = self.mark()?;
-        Ok(RepeatingView {
+        let (count, next) = self.number()?;
+        let (start, next) = next.sum(count)?;
+        let (counter, next) = next.optional(Number)?;
+        let (nested, next) = next.mark()?;
+        let view = RepeatingView {
             count,
             start: FieldOrder(start),
             counter: order_of(counter),
             nested,
-        })
+        };
+        Ok((view, next))
     }
 
     // A PGN up to its fields.
-    pub(crate) fn pgn(&mut self) -> Result<PgnView, InputRefusal>
-        ensures { Reads self.old read_pgn result self.new }
+    pub(crate) fn pgn(self) -> Result<(PgnView, Self), InputRefusal>
+        ensures { Gives self.entry read_pgn result }
     {
-        let pgn = self.number()?;
-        let id = self.text()?;
-        let kind = MessageType::of(self.code(3)?);
-        let flags = self.code(7)?;
-        let length = self.number()?;
-        let minimum = self.optional(Length)?;
-        let first = self.optional(Repeating)?;
-        let second = self.optional(Repeating)?;
-        let fields = self.number()?;
-        Ok(PgnView {
+        let (pgn, next) = self.number()?;
+        let (id, next) = next.text()?;
+        let (kind, next) = next.code(3)?;
+        let kind = MessageType::of(kind);
+        let (flags, next) = next.code(7)?;
+        let (length, next) = next.number()?;
+        let (minimum, next) = next.optional(Length)?;
+        let (first, next) = next.optional(Repeating)?;
+        let (second, next) = next.optional(Repeating)?;
+        let (fields, next) = next.number()?;
+        let view = PgnView {
             pgn,
             id,
             kind,
@@ -102,7 +104,8 @@ impl Reader<'_> {
             sets: [first, second, None, None],
             places: 2,
             fields,
-        })
+        };
+        Ok((view, next))
     }
 }
 
@@ -114,7 +117,7 @@ impl Item for Repeating {
 
     ghost form = { λ _. read_repeating };
 
-    fn read(self, reader: &mut Reader) -> Result<RepeatingView, InputRefusal> {
+    fn read<'a>(self, reader: Reader<'a>) -> Result<(RepeatingView, Reader<'a>), InputRefusal> {
         reader.repeating()
     }
 }

@@ -29,7 +29,7 @@ pub struct InputRefusal {
     pub offset: usize,
 }
 
-// The bytes of a pack, and the offset of the next item. A method reads an item and goes past it, or tells what is wrong with it.
+// The bytes of a pack, and the offset of the next item. A method takes it and gives the item with the next one, or tells what is wrong.
 #[derive(Clone, Copy)]
 pub struct Reader<'a> {
     pub(crate) bytes: &'a [u8],

@@ -9,69 +9,69 @@ use native.Mathlib.Omega.{arith}
 use mathlib.Core.Path.{refl}
 use Rattle.pack.proofs.load.place_all.Goals as goal
 
-pub returns-in_err-version : goal.returns-in_err-version
-returns-in_err-version c =
-    walk_refused (along_none _ (record { work = c.args.work; count = 0 })) c.in_err-version.ensures c.from_residual.ensures.1 (version_ends c.args.pack.now)
+pub returns-in_err-next : goal.returns-in_err-next
+returns-in_err-next c =
+    walk_refused (along_none _ (record { work = c.args.work; count = 0 })) c.in_err-next.ensures c.from_residual.ensures.1 (version_ends c.args.pack.now)
 
 pub returns-in_err-types : goal.returns-in_err-types
 unfolding type_list
 returns-in_err-types c =
-    let a = begun {o = record { work = c.args.work; count = 0 }} refl c.in_ok-version.ensures in
+    let a = begun {o = record { work = c.args.work; count = 0 }} refl c.in_ok-next.ensures in
     walk_refused a c.in_err-types.ensures c.from_residual-in_err-types.ensures.1 (type_list_ends c.args.pack.now)
 
-pub returns-in_err-place_types : goal.returns-in_err-place_types
-returns-in_err-place_types c =
-    let a = begun {o = record { work = c.args.work; count = 0 }} refl c.in_ok-version.ensures in
+pub returns-in_err-next-2 : goal.returns-in_err-next-2
+returns-in_err-next-2 c =
+    let a = begun {o = record { work = c.args.work; count = 0 }} refl c.in_ok-next.ensures in
     let b = upto_types a c.in_ok-types.ensures in
-    walk_refused b.along c.in_err-place_types.ensures.reads c.from_residual-in_err-place_types.ensures.1 (rw b.types (types_ends c.args.pack.now))
+    walk_refused b.along c.in_err-next-2.ensures.reads c.from_residual-in_err-next-2.ensures.1 (rw b.types (types_ends c.args.pack.now))
 
 pub returns-in_err-lookups : goal.returns-in_err-lookups
 unfolding lookup_list
 returns-in_err-lookups c =
-    let a = begun refl c.in_ok-version.ensures in
+    let a = begun refl c.in_ok-next.ensures in
     let b = upto_types a c.in_ok-types.ensures in
-    let d = upto_lookups b c.in_ok-place_types.ensures in
+    let d = upto_lookups b c.in_ok-next-2.ensures in
     walk_refused d.along c.in_err-lookups.ensures c.from_residual-in_err-lookups.ensures.1 (lookup_list_ends c.args.pack.now)
 
-pub returns-in_err-place_lookups : goal.returns-in_err-place_lookups
+pub returns-in_err-next-3 : goal.returns-in_err-next-3
 unfolding tree_start
-returns-in_err-place_lookups c =
-    let a = begun refl c.in_ok-version.ensures in
+returns-in_err-next-3 c =
+    let a = begun refl c.in_ok-next.ensures in
     let b = upto_types a c.in_ok-types.ensures in
-    let d = upto_lookups b c.in_ok-place_types.ensures in
+    let d = upto_lookups b c.in_ok-next-2.ensures in
     let e = upto_number d c.in_ok-lookups.ensures in
-    walk_refused e.0.along c.in_err-place_lookups.ensures.reads c.from_residual-in_err-place_lookups.ensures.1
+    walk_refused e.0.along c.in_err-next-3.ensures.reads c.from_residual-in_err-next-3.ensures.1
     (rw e.1 (tree_ends c.args.pack.now 0 (omega arith)))
 
 pub returns-in_err-nmea2000 : goal.returns-in_err-nmea2000
 unfolding tree_start
 returns-in_err-nmea2000 c =
-    let a = begun refl c.in_ok-version.ensures in
+    let a = begun refl c.in_ok-next.ensures in
     let b = upto_types a c.in_ok-types.ensures in
-    let d = upto_lookups b c.in_ok-place_types.ensures in
+    let d = upto_lookups b c.in_ok-next-2.ensures in
     let e = upto_number d c.in_ok-lookups.ensures in
-    let f = upto_trees e.0 e.1 c.in_ok-place_lookups.ensures in
+    let f = upto_trees e.0 e.1 c.in_ok-next-3.ensures in
     walk_refused f.along c.in_err-nmea2000.ensures.reads c.from_residual-in_err-nmea2000.ensures.1 (rw f.types (tree_ends c.args.pack.now 1 (omega arith)))
 
 pub returns-in_err-j1939 : goal.returns-in_err-j1939
 unfolding tree_start
 returns-in_err-j1939 c =
-    let a = begun refl c.in_ok-version.ensures in
+    let a = begun refl c.in_ok-next.ensures in
     let b = upto_types a c.in_ok-types.ensures in
-    let d = upto_lookups b c.in_ok-place_types.ensures in
+    let d = upto_lookups b c.in_ok-next-2.ensures in
     let e = upto_number d c.in_ok-lookups.ensures in
-    let f = upto_trees e.0 e.1 c.in_ok-place_lookups.ensures in
+    let f = upto_trees e.0 e.1 c.in_ok-next-3.ensures in
     let g = upto_tree 0 f c.in_ok-nmea2000.ensures in
     walk_refused g.0.along c.in_err-j1939.ensures.reads c.from_residual-in_err-j1939.ensures.1 (rw g.0.types (tree_ends c.args.pack.now 2 (omega arith)))
 
 pub returns-in_err-quick : goal.returns-in_err-quick
 unfolding tree_start
 returns-in_err-quick c =
-    let a = begun refl c.in_ok-version.ensures in
+    let a = begun refl c.in_ok-next.ensures in
     let b = upto_types a c.in_ok-types.ensures in
-    let d = upto_lookups b c.in_ok-place_types.ensures in
+    let d = upto_lookups b c.in_ok-next-2.ensures in
     let e = upto_number d c.in_ok-lookups.ensures in
-    let f = upto_trees e.0 e.1 c.in_ok-place_lookups.ensures in
+    let f = upto_trees e.0 e.1 c.in_ok-next-3.ensures in
     let g = upto_tree 0 f c.in_ok-nmea2000.ensures in
     let h = upto_tree 1 g.0 c.in_ok-j1939.ensures in
     walk_refused h.0.along c.in_err-quick.ensures.reads c.from_residual-in_err-quick.ensures.1 (rw h.0.types (tree_ends c.args.pack.now 3 (omega arith)))
@@ -79,11 +79,11 @@ returns-in_err-quick c =
 pub returns-in_err-finish : goal.returns-in_err-finish
 unfolding pack_end
 returns-in_err-finish c =
-    let a = begun refl c.in_ok-version.ensures in
+    let a = begun refl c.in_ok-next.ensures in
     let b = upto_types a c.in_ok-types.ensures in
-    let d = upto_lookups b c.in_ok-place_types.ensures in
+    let d = upto_lookups b c.in_ok-next-2.ensures in
     let e = upto_number d c.in_ok-lookups.ensures in
-    let f = upto_trees e.0 e.1 c.in_ok-place_lookups.ensures in
+    let f = upto_trees e.0 e.1 c.in_ok-next-3.ensures in
     let g = upto_tree 0 f c.in_ok-nmea2000.ensures in
     let h = upto_tree 1 g.0 c.in_ok-j1939.ensures in
     let i = upto_tree 2 h.0 c.in_ok-quick.ensures in
@@ -92,11 +92,11 @@ returns-in_err-finish c =
 pub returns : goal.returns
 unfolding load_index offsets
 returns c =
-    let a = begun refl c.in_ok-version.ensures in
+    let a = begun refl c.in_ok-next.ensures in
     let b = upto_types a c.in_ok-types.ensures in
-    let d = upto_lookups b c.in_ok-place_types.ensures in
+    let d = upto_lookups b c.in_ok-next-2.ensures in
     let e = upto_number d c.in_ok-lookups.ensures in
-    let f = upto_trees e.0 e.1 c.in_ok-place_lookups.ensures in
+    let f = upto_trees e.0 e.1 c.in_ok-next-3.ensures in
     let g = upto_tree 0 f c.in_ok-nmea2000.ensures in
     let h = upto_tree 1 g.0 c.in_ok-j1939.ensures in
     let i = upto_tree 2 h.0 c.in_ok-quick.ensures in

@@ -1,3 +1,4 @@
+use Rattle.pack.proofs.Places.{past_out}
 use Rattle.pack.proofs.Places.{along_none, along_put, along_read, placed, refused, entries_turn, entry_offsets_turn, entries_stay}
 use Rattle.pack.specs.Items.{fresh}
 use Rattle.pack.specs.Format.{entries, entry_offsets}
@@ -11,16 +12,16 @@ loop-i-init c = along_none _ _
 
 pub loop-i-preserved : goal.loop-i-preserved
 loop-i-preserved c =
-    let s = c.args.r.now.bytes.now in
-    let k = fresh c.args.r.now.at in
+    let s = c.args.reader.bytes.now in
+    let k = fresh c.args.reader.at in
     let i = c.loop-i._i in
     rw (entries_turn s k c.args.kind i, entry_offsets_turn s k c.args.kind i)
-    (along_read (along_put c.loop-i.invariant c.put.ensures) c.in_ok-entry.ensures)
+    (along_read (along_put c.loop-i.invariant c.put.ensures) c.in_ok-after.ensures)
 
-pub returns-in_err-entry : goal.returns-in_err-entry
-returns-in_err-entry c =
-    refused c.loop-i.invariant c.in_err-entry.ensures c.from_residual.ensures.1
-    (entries_stay c.args.r.now.bytes.now (fresh c.args.r.now.at) c.args.kind c.loop-i._i c.args.n c.loop-i-test.true)
+pub returns-in_err-after : goal.returns-in_err-after
+returns-in_err-after c =
+    past_out _ c.from_residual.ensures.1 (refused c.loop-i.invariant c.in_err-after.ensures
+    (entries_stay c.args.reader.bytes.now (fresh c.args.reader.at) c.args.kind c.loop-i._i c.args.n c.loop-i-test.true))
 
 pub returns : goal.returns
 returns c =

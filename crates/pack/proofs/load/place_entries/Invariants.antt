@@ -5,5 +5,5 @@ use Rattle.pack.proofs.load.place_entries.Given as goal
 
 abbrev pub invariant-loop-i : goal.invariant-loop-i
 invariant-loop-i l =
-    Along l.initial.r l.initial.offsets (entries l.kind l.initial.r.bytes.now (fresh l.initial.r.at) l._i)
-    (entry_offsets l.kind l.initial.r.bytes.now (fresh l.initial.r.at) l._i) l.r l.offsets
+    Along l.initial.next l.initial.offsets (entries l.kind l.initial.next.bytes.now (fresh l.initial.next.at) l._i)
+    (entry_offsets l.kind l.initial.next.bytes.now (fresh l.initial.next.at) l._i) l.next l.offsets

@@ -1,3 +1,4 @@
+use Rattle.pack.proofs.Places.{past_out}
 use Rattle.pack.proofs.Places.{along_none, along_put, along_read, along_value, placed, refused, fields_turn, field_offsets_turn, fields_stay}
 use Rattle.pack.proofs.ReaderLaws.{told_ok}
 use Rattle.pack.proofs.Free.{field_fits}
@@ -15,16 +16,16 @@ loop-i-init c = record { along = along_none _ _; total = refl }
 
 pub overflow_add-total : goal.overflow_add-total
 overflow_add-total c =
-    let f = read_field c.args.types c.loop-i.total c.loop-i.r.bytes.now (fresh c.loop-i.r.at) in
+    let f = read_field c.args.types c.loop-i.total c.loop-i.next.bytes.now (fresh c.loop-i.next.at) in
     let o = told_ok f c.in_ok-field.field c.in_ok-field.ensures.answer in
-    omega (arith, (rw o.1 at (field_fits c.loop-i.r.bytes.now (fresh c.loop-i.r.at) c.args.types c.loop-i.total o.0)))
+    omega (arith, (rw o.1 at (field_fits c.loop-i.next.bytes.now (fresh c.loop-i.next.at) c.args.types c.loop-i.total o.0)))
 
 pub loop-i-preserved : goal.loop-i-preserved
 unfolding field_next
 loop-i-preserved c =
     let types = c.args.types in
-    let s = c.args.r.now.bytes.now in
-    let k = fresh c.args.r.now.at in
+    let s = c.args.reader.bytes.now in
+    let k = fresh c.args.reader.at in
     let i = c.loop-i._i in
     let a = along_put c.loop-i.invariant.along c.put.ensures in
     let t = c.loop-i.invariant.total in
@@ -36,8 +37,8 @@ loop-i-preserved c =
 pub returns-in_err-field : goal.returns-in_err-field
 unfolding field_next
 returns-in_err-field c =
-    let stay = fields_stay c.args.r.now.bytes.now (fresh c.args.r.now.at) c.args.types c.loop-i._i c.args.n c.loop-i-test.true in
-    refused c.loop-i.invariant.along c.in_err-field.ensures c.from_residual.ensures.1 (rw (← c.loop-i.invariant.total) at stay)
+    let stay = fields_stay c.args.reader.bytes.now (fresh c.args.reader.at) c.args.types c.loop-i._i c.args.n c.loop-i-test.true in
+    past_out _ c.from_residual.ensures.1 (refused c.loop-i.invariant.along c.in_err-field.ensures (rw (← c.loop-i.invariant.total) at stay))
 
 pub returns : goal.returns
 returns c =

@@ -7,7 +7,7 @@ use Rattle.pack.proofs.load.place_fields.Given as goal
 abbrev pub invariant-loop-i : goal.invariant-loop-i
 invariant-loop-i l =
     record {
-      along : Along l.initial.r l.initial.offsets (fields l.types l.initial.r.bytes.now (fresh l.initial.r.at) l._i).next
-          (field_offsets l.types l.initial.r.bytes.now (fresh l.initial.r.at) l._i) l.r l.offsets;
-      total : l.total ≡ (fields l.types l.initial.r.bytes.now (fresh l.initial.r.at) l._i).total;
+      along : Along l.initial.next l.initial.offsets (fields l.types l.initial.next.bytes.now (fresh l.initial.next.at) l._i).next
+          (field_offsets l.types l.initial.next.bytes.now (fresh l.initial.next.at) l._i) l.next l.offsets;
+      total : l.total ≡ (fields l.types l.initial.next.bytes.now (fresh l.initial.next.at) l._i).total;
     }

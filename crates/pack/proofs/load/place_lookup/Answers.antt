@@ -1,3 +1,4 @@
+use Rattle.pack.proofs.Places.{placing_out}
 use Rattle.pack.proofs.Places.{along_none, along_put, along_read, along_value, along_then, placed, refused}
 use Rattle.pack.proofs.Reading.{entries_reader}
 use Rattle.pack.specs.Items.{fresh}
@@ -8,20 +9,21 @@ use Rattle.pack.proofs.load.place_lookup.Goals as goal
 pub returns-in_err-lookup : goal.returns-in_err-lookup
 unfolding lookup_next
 returns-in_err-lookup c =
-    let s = c.args.r.now.bytes.now in
-    let l = read_lookup c.args.before s (fresh c.args.r.now.at) in
-    refused (along_none _ c.args.offsets.now) c.in_err-lookup.ensures c.from_residual.ensures.1 ((entries_reader s l.value.kind l.value.entries).sticky l.next)
+    let s = c.args.reader.bytes.now in
+    let l = read_lookup c.args.before s (fresh c.args.reader.at) in
+    placing_out _ c.from_residual.ensures.1 (refused (along_none _ c.args.offsets.now) c.in_err-lookup.ensures ((entries_reader s l.value.kind
+    l.value.entries).sticky l.next))
 
-pub returns-in_err-place_entries : goal.returns-in_err-place_entries
+pub returns-in_err-next : goal.returns-in_err-next
 unfolding lookup_next
-returns-in_err-place_entries c =
-    let head = along_put (along_none c.args.r.now c.args.offsets.now) c.put.ensures in
+returns-in_err-next c =
+    let head = along_put (along_none c.args.reader c.args.offsets.now) c.put.ensures in
     let v = along_value head c.in_ok-lookup.ensures in
-    refused (along_read head c.in_ok-lookup.ensures) c.in_err-place_entries.ensures.reads c.from_residual-in_err-place_entries.ensures.1 (λ _. rw v)
+    placing_out _ c.from_residual-in_err-next.ensures.1 (refused (along_read head c.in_ok-lookup.ensures) c.in_err-next.ensures.reads (λ _. rw v))
 
 pub returns : goal.returns
 unfolding lookup_next lookup_records
 returns c =
-    let head = along_put (along_none c.args.r.now c.args.offsets.now) c.put.ensures in
+    let head = along_put (along_none c.args.reader c.args.offsets.now) c.put.ensures in
     let v = along_value head c.in_ok-lookup.ensures in
-    placed _ _ (rw v at (along_then (along_read head c.in_ok-lookup.ensures) c.in_ok-place_entries.ensures)) (rw v)
+    placed _ _ (rw v at (along_then (along_read head c.in_ok-lookup.ensures) c.in_ok-next.ensures)) (rw v)

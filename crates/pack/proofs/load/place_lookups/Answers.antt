@@ -1,3 +1,4 @@
+use Rattle.pack.proofs.Places.{past_out}
 use Rattle.pack.proofs.Places.{along_none, along_value, along_then, placed, refused, lookups_turn, lookup_offsets_turn, lookups_stay}
 use Rattle.pack.specs.Items.{Cursor, fresh}
 use Rattle.std.specs.Prelude.{Option, Some}
@@ -21,8 +22,8 @@ loop-i-init c = record { along = along_none _ _; before = refl }
 pub loop-i-preserved : goal.loop-i-preserved
 unfolding lookup_next
 loop-i-preserved c =
-    let s = c.args.r.now.bytes.now in
-    let k = fresh c.args.r.now.at in
+    let s = c.args.reader.bytes.now in
+    let k = fresh c.args.reader.at in
     let i = c.loop-i._i in
     let a = c.loop-i.invariant.along in
     let st = state s k i c.loop-i.before c.loop-i.invariant.before in
@@ -33,12 +34,12 @@ loop-i-preserved c =
 
 pub returns-in_err-name : goal.returns-in_err-name
 returns-in_err-name c =
-    let s = c.args.r.now.bytes.now in
-    let k = fresh c.args.r.now.at in
+    let s = c.args.reader.bytes.now in
+    let k = fresh c.args.reader.at in
     let i = c.loop-i._i in
     let st = state s k i c.loop-i.before c.loop-i.invariant.before in
-    refused c.loop-i.invariant.along c.in_err-name.ensures.reads c.from_residual.ensures.1
-    (rw st at (lookups_stay s k i c.args.n c.loop-i-test.true))
+    past_out _ c.from_residual.ensures.1 (refused c.loop-i.invariant.along c.in_err-name.ensures.reads
+    (rw st at (lookups_stay s k i c.args.n c.loop-i-test.true)))
 
 pub returns : goal.returns
 returns c =

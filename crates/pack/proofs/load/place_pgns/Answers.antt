@@ -1,3 +1,4 @@
+use Rattle.pack.proofs.Places.{past_out}
 use Rattle.pack.proofs.Places.{along_none, along_then, placed, refused, pgns_turn, pgn_offsets_turn, pgns_stay}
 use Rattle.pack.specs.Items.{fresh}
 use Rattle.pack.specs.Format.{pgns, pgn_offsets}
@@ -11,15 +12,15 @@ loop-i-init c = along_none _ _
 
 pub loop-i-preserved : goal.loop-i-preserved
 loop-i-preserved c =
-    let s = c.args.r.now.bytes.now in
-    let k = fresh c.args.r.now.at in
+    let s = c.args.reader.bytes.now in
+    let k = fresh c.args.reader.at in
     let i = c.loop-i._i in
-    rw (pgns_turn s k c.args.types i, pgn_offsets_turn s k c.args.types i) (along_then c.loop-i.invariant c.in_ok-place_pgn.ensures)
+    rw (pgns_turn s k c.args.types i, pgn_offsets_turn s k c.args.types i) (along_then c.loop-i.invariant c.in_ok-next.ensures)
 
-pub returns-in_err-place_pgn : goal.returns-in_err-place_pgn
-returns-in_err-place_pgn c =
-    refused c.loop-i.invariant c.in_err-place_pgn.ensures.reads c.from_residual.ensures.1
-    (pgns_stay c.args.r.now.bytes.now (fresh c.args.r.now.at) c.args.types c.loop-i._i c.args.n c.loop-i-test.true)
+pub returns-in_err-next : goal.returns-in_err-next
+returns-in_err-next c =
+    past_out _ c.from_residual.ensures.1 (refused c.loop-i.invariant c.in_err-next.ensures.reads
+    (pgns_stay c.args.reader.bytes.now (fresh c.args.reader.at) c.args.types c.loop-i._i c.args.n c.loop-i-test.true))
 
 pub returns : goal.returns
 returns c =

@@ -1,3 +1,4 @@
+use Rattle.pack.proofs.Places.{placing_out}
 use Rattle.pack.proofs.Places.{along_none, along_read, along_value, along_then, placed, refused}
 use Rattle.pack.proofs.Reading.{pgns_reader}
 use Rattle.pack.specs.Items.{fresh, read_number}
@@ -5,18 +6,19 @@ use Rattle.pack.proofs.load.place_tree.Goals as goal
 
 pub returns-in_err-count : goal.returns-in_err-count
 returns-in_err-count c =
-    let s = c.args.r.now.bytes.now in
-    let n = read_number s (fresh c.args.r.now.at) in
-    refused (along_none c.args.r.now c.args.offsets.now) c.in_err-count.ensures c.from_residual.ensures.1 ((pgns_reader s c.args.types n.value).sticky n.next)
+    let s = c.args.reader.bytes.now in
+    let n = read_number s (fresh c.args.reader.at) in
+    placing_out _ c.from_residual.ensures.1 (refused (along_none c.args.reader c.args.offsets.now) c.in_err-count.ensures ((pgns_reader s
+    c.args.types n.value).sticky n.next))
 
-pub returns-in_err-place_pgns : goal.returns-in_err-place_pgns
-returns-in_err-place_pgns c =
-    let none = along_none c.args.r.now c.args.offsets.now in
+pub returns-in_err-next : goal.returns-in_err-next
+returns-in_err-next c =
+    let none = along_none c.args.reader c.args.offsets.now in
     let v = along_value none c.in_ok-count.ensures in
-    refused (along_read none c.in_ok-count.ensures) c.in_err-place_pgns.ensures.reads c.from_residual-in_err-place_pgns.ensures.1 (λ _. rw v)
+    placing_out _ c.from_residual-in_err-next.ensures.1 (refused (along_read none c.in_ok-count.ensures) c.in_err-next.ensures.reads (λ _. rw v))
 
 pub returns : goal.returns
 returns c =
-    let none = along_none c.args.r.now c.args.offsets.now in
+    let none = along_none c.args.reader c.args.offsets.now in
     let v = along_value none c.in_ok-count.ensures in
-    placed _ _ (rw v at (along_then (along_read none c.in_ok-count.ensures) c.in_ok-place_pgns.ensures)) (rw v)
+    placed _ _ (rw v at (along_then (along_read none c.in_ok-count.ensures) c.in_ok-next.ensures)) (rw v)

@@ -1,3 +1,4 @@
+use Rattle.pack.proofs.Places.{past_out}
 use Rattle.pack.proofs.Places.{along_none, along_put, along_read, placed, refused, types_turn, type_offsets_turn, types_stay}
 use Rattle.pack.specs.Items.{fresh}
 use Rattle.pack.specs.Format.{types, type_offsets}
@@ -11,15 +12,15 @@ loop-i-init c = along_none _ _
 
 pub loop-i-preserved : goal.loop-i-preserved
 loop-i-preserved c =
-    let s = c.args.r.now.bytes.now in
-    let k = fresh c.args.r.now.at in
+    let s = c.args.reader.bytes.now in
+    let k = fresh c.args.reader.at in
     let i = c.loop-i._i in
-    rw (types_turn s k i, type_offsets_turn s k i) (along_read (along_put c.loop-i.invariant c.put.ensures) c.in_ok-field_type.ensures)
+    rw (types_turn s k i, type_offsets_turn s k i) (along_read (along_put c.loop-i.invariant c.put.ensures) c.in_ok-after.ensures)
 
-pub returns-in_err-field_type : goal.returns-in_err-field_type
-returns-in_err-field_type c =
-    refused c.loop-i.invariant c.in_err-field_type.ensures c.from_residual.ensures.1
-    (types_stay c.args.r.now.bytes.now (fresh c.args.r.now.at) c.loop-i._i c.args.n c.loop-i-test.true)
+pub returns-in_err-after : goal.returns-in_err-after
+returns-in_err-after c =
+    past_out _ c.from_residual.ensures.1 (refused c.loop-i.invariant c.in_err-after.ensures
+    (types_stay c.args.reader.bytes.now (fresh c.args.reader.at) c.loop-i._i c.args.n c.loop-i-test.true))
 
 pub returns : goal.returns
 returns c =

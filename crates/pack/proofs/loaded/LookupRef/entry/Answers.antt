@@ -1,3 +1,6 @@
+use Rattle.pack.proofs.ReaderLaws.{none_there}
+use Rattle.pack.specs.Reads.{item_of}
+use mathlib.Core.Path.{ap}
 use Rattle.pack.proofs.Few.{entries_few}
 use Rattle.pack.proofs.Positions.{entry_law, entry_stands}
 use Rattle.pack.proofs.ReaderLaws.{same_Ok}
@@ -36,7 +39,7 @@ pub unreachable-requires : goal.unreachable-requires
 unreachable-requires c =
     let x = c.args.self.now in
     let t = entry_stands x.at x.view.kind (kind x) c.args.k (inside x c.args.k c.requires) in
-    c.in_default.not-Ok _ (reads_there (read_entry x.view.kind) t c.reader.ensures.bytes c.reader.ensures.at c.entry.ensures)
+    none_there _ _ (reads_there (read_entry x.view.kind) t c.reader.ensures.bytes c.reader.ensures.at c.entry.ensures) c.in_default.not-Ok
 
 pub returns : goal.returns
 returns c =
@@ -44,4 +47,4 @@ returns c =
     let h = inside x c.args.k c.requires in
     let t = entry_stands x.at x.view.kind (kind x) c.args.k h in
     let e = reads_there (read_entry x.view.kind) t c.reader.ensures.bytes c.reader.ensures.at c.entry.ensures in
-    rw (same_Ok _ _ (sym c.in-Ok.is ∙ e)) (entry_law x.at x.view.kind (kind x) c.args.k h)
+    rw (same_Ok _ _ (ap item_of (sym c.in-Ok.is) ∙ e)) (entry_law x.at x.view.kind (kind x) c.args.k h)

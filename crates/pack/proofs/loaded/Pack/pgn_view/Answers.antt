@@ -1,3 +1,6 @@
+use Rattle.pack.proofs.ReaderLaws.{none_there}
+use Rattle.pack.specs.Reads.{item_of}
+use mathlib.Core.Path.{ap}
 use Rattle.pack.proofs.Positions.{pgn_law, pgn_stands}
 use Rattle.pack.proofs.ReaderLaws.{same_Ok}
 use Rattle.pack.proofs.Standing.{reads_there}
@@ -10,9 +13,9 @@ reader-requires c = let t = pgn_stands c.requires in record { place = t.place; i
 
 pub unreachable-requires : goal.unreachable-requires
 unreachable-requires c =
-    c.in_default.not-Ok _ (reads_there read_pgn (pgn_stands c.requires) c.reader.ensures.bytes c.reader.ensures.at c.pgn.ensures)
+    none_there _ _ (reads_there read_pgn (pgn_stands c.requires) c.reader.ensures.bytes c.reader.ensures.at c.pgn.ensures) c.in_default.not-Ok
 
 pub returns : goal.returns
 returns c =
     let e = reads_there read_pgn (pgn_stands c.requires) c.reader.ensures.bytes c.reader.ensures.at c.pgn.ensures in
-    rw (same_Ok _ _ (sym c.in-Ok.is ∙ e)) (pgn_law c.requires)
+    rw (same_Ok _ _ (ap item_of (sym c.in-Ok.is) ∙ e)) (pgn_law c.requires)

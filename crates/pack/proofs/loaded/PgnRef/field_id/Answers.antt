@@ -1,3 +1,6 @@
+use Rattle.pack.proofs.ReaderLaws.{none_there}
+use Rattle.pack.specs.Reads.{item_of}
+use mathlib.Core.Path.{ap}
 use Rattle.pack.proofs.Positions.{field_id_law, field_id_stands}
 use Rattle.pack.proofs.ReaderLaws.{same_Ok}
 use Rattle.pack.proofs.Standing.{reads_there}
@@ -10,11 +13,11 @@ pub unreachable-requires : goal.unreachable-requires
 unreachable-requires c =
     let x = c.args.self.now in
     let t = field_id_stands x.at c.args.k (omega (arith, x.is.fields, c.requires)) in
-    c.in_default.not-Ok _ (reads_there read_text t c.reader.ensures.bytes c.reader.ensures.at c.text.ensures)
+    none_there _ _ (reads_there read_text t c.reader.ensures.bytes c.reader.ensures.at c.text.ensures) c.in_default.not-Ok
 
 pub returns : goal.returns
 returns c =
     let x = c.args.self.now in
     let t = field_id_stands x.at c.args.k (omega (arith, x.is.fields, c.requires)) in
     let e = reads_there read_text t c.reader.ensures.bytes c.reader.ensures.at c.text.ensures in
-    rw (same_Ok _ _ (sym c.in-Ok.is ∙ e)) (field_id_law x.at c.args.k (omega (arith, x.is.fields, c.requires)))
+    rw (same_Ok _ _ (ap item_of (sym c.in-Ok.is) ∙ e)) (field_id_law x.at c.args.k (omega (arith, x.is.fields, c.requires)))

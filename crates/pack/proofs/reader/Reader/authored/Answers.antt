@@ -1,44 +1,48 @@
+use Rattle.pack.proofs.ReaderLaws.{out}
 use Rattle.pack.specs.Records.{read_authored}
-use Rattle.pack.proofs.ReaderLaws.{done, reads_then, reads_out, sticks_then, sticks_give}
+use Rattle.pack.proofs.ReaderLaws.{done, reads_then, reads_stop, sticks_then, sticks_give}
 use Rattle.pack.proofs.ReaderItems.{sticks_float, sticks_number, sticks_optional, sticks_text}
 use Rattle.pack.proofs.reader.Reader.authored.Goals as goal
 
-pub returns-in_err-optional : goal.returns-in_err-optional
+pub returns-in_err-resolution : goal.returns-in_err-resolution
 unfolding read_authored
-returns-in_err-optional c =
-    reads_out _ _ c.in_err-optional.ensures c.from_residual.ensures.1 (λ _. sticks_then _ _ (sticks_optional _ sticks_float) (λ _. sticks_then _ _
+returns-in_err-resolution c =
+    out _ c.from_residual.ensures.1 (reads_stop _ _ c.in_err-resolution.ensures (λ _. sticks_then _ _ (sticks_optional _ sticks_float) (λ _. sticks_then _ _
     (sticks_optional _ sticks_number) (λ _. sticks_then _ _ (sticks_optional _ sticks_text) (λ _. sticks_then _ _ (sticks_optional _ sticks_text) (λ
-    _. sticks_give _)))))
+    _. sticks_give _))))))
 
-pub returns-in_err-optional-2 : goal.returns-in_err-optional-2
+pub returns-in_err-offset : goal.returns-in_err-offset
 unfolding read_authored
-returns-in_err-optional-2 c =
-    reads_then _ _ c.in_ok-optional.ensures (reads_out _ _ c.in_err-optional-2.ensures c.from_residual-in_err-optional-2.ensures.1 (λ _. sticks_then
+returns-in_err-offset c =
+    out _ c.from_residual-in_err-offset.ensures.1 (reads_then _ _ c.in_ok-resolution.ensures (reads_stop _ _ c.in_err-offset.ensures (λ _. sticks_then
     _ _ (sticks_optional _ sticks_number) (λ _. sticks_then _ _ (sticks_optional _ sticks_text) (λ _. sticks_then _ _ (sticks_optional _ sticks_text)
-    (λ _. sticks_give _)))))
+    (λ _. sticks_give _))))))
 
-pub returns-in_err-optional-3 : goal.returns-in_err-optional-3
+pub returns-in_err-spn : goal.returns-in_err-spn
 unfolding read_authored
-returns-in_err-optional-3 c =
-    reads_then _ _ c.in_ok-optional.ensures (reads_then _ _ c.in_ok-optional-2.ensures (reads_out _ _ c.in_err-optional-3.ensures
-    c.from_residual-in_err-optional-3.ensures.1 (λ _. sticks_then _ _ (sticks_optional _ sticks_text) (λ _. sticks_then _ _ (sticks_optional _
-    sticks_text) (λ _. sticks_give _)))))
+returns-in_err-spn c =
+    out _ c.from_residual-in_err-spn.ensures.1 (reads_then _ _ c.in_ok-resolution.ensures (reads_then _ _ c.in_ok-offset.ensures (reads_stop _ _
+    c.in_err-spn.ensures
+    (λ _. sticks_then _ _ (sticks_optional _ sticks_text) (λ _. sticks_then _ _ (sticks_optional _
+    sticks_text) (λ _. sticks_give _))))))
 
-pub returns-in_err-optional-4 : goal.returns-in_err-optional-4
+pub returns-in_err-continues : goal.returns-in_err-continues
 unfolding read_authored
-returns-in_err-optional-4 c =
-    reads_then _ _ c.in_ok-optional.ensures (reads_then _ _ c.in_ok-optional-2.ensures (reads_then _ _ c.in_ok-optional-3.ensures (reads_out _ _
-    c.in_err-optional-4.ensures c.from_residual-in_err-optional-4.ensures.1 (λ _. sticks_then _ _ (sticks_optional _ sticks_text) (λ _. sticks_give
-    _)))))
+returns-in_err-continues c =
+    out _ c.from_residual-in_err-continues.ensures.1 (reads_then _ _ c.in_ok-resolution.ensures (reads_then _ _ c.in_ok-offset.ensures (reads_then _
+    _ c.in_ok-spn.ensures (reads_stop _ _
+    c.in_err-continues.ensures (λ _. sticks_then _ _ (sticks_optional _ sticks_text) (λ _. sticks_give
+    _))))))
 
-pub returns-in_err-optional-5 : goal.returns-in_err-optional-5
+pub returns-in_err-matched : goal.returns-in_err-matched
 unfolding read_authored
-returns-in_err-optional-5 c =
-    reads_then _ _ c.in_ok-optional.ensures (reads_then _ _ c.in_ok-optional-2.ensures (reads_then _ _ c.in_ok-optional-3.ensures (reads_then _ _
-    c.in_ok-optional-4.ensures (reads_out _ _ c.in_err-optional-5.ensures c.from_residual-in_err-optional-5.ensures.1 (λ _. sticks_give _)))))
+returns-in_err-matched c =
+    out _ c.from_residual-in_err-matched.ensures.1 (reads_then _ _ c.in_ok-resolution.ensures (reads_then _ _ c.in_ok-offset.ensures (reads_then _ _
+    c.in_ok-spn.ensures (reads_then _ _
+    c.in_ok-continues.ensures (reads_stop _ _ c.in_err-matched.ensures (λ _. sticks_give _))))))
 
 pub returns : goal.returns
 unfolding read_authored
 returns c =
-    reads_then _ _ c.in_ok-optional.ensures (reads_then _ _ c.in_ok-optional-2.ensures (reads_then _ _ c.in_ok-optional-3.ensures (reads_then _ _
-    c.in_ok-optional-4.ensures (reads_then _ _ c.in_ok-optional-5.ensures (done _ _)))))
+    reads_then _ _ c.in_ok-resolution.ensures (reads_then _ _ c.in_ok-offset.ensures (reads_then _ _ c.in_ok-spn.ensures (reads_then _ _
+    c.in_ok-continues.ensures (reads_then _ _ c.in_ok-matched.ensures (done _ _)))))

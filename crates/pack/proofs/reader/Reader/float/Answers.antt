@@ -8,13 +8,13 @@ use Rattle.pack.proofs.reader.Reader.float.Goals as goal
 
 pub returns-in_default : goal.returns-in_default
 returns-in_default c =
-    let r = c.args.self.now in
+    let r = c.args.self in
     let l = length-drop r.at r.bytes.now in
     float_cut r r (omega (arith, c.in_default.ensures.cases, l, r.inside)) refl
 
 pub returns : goal.returns
 returns c =
-    let r = c.args.self.now in
+    let r = c.args.self in
     let s = r.bytes.now in
     let l = length-drop r.at s in
     let e : take (length s - r.at) (drop r.at s) ≡ drop r.at s = take_all _ _ (omega (arith, l)) in

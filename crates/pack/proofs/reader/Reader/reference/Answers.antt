@@ -1,16 +1,18 @@
+use Rattle.pack.proofs.ReaderLaws.{out}
 use Rattle.pack.specs.Records.{read_reference}
-use Rattle.pack.proofs.ReaderLaws.{done, reads_then, reads_out, sticks_then, sticks_give}
+use Rattle.pack.proofs.ReaderLaws.{done, reads_then, reads_stop, sticks_then, sticks_give}
 use Rattle.pack.proofs.ReaderItems.{sticks_text}
 use Rattle.pack.proofs.reader.Reader.reference.Goals as goal
 
-pub returns-in_err-code : goal.returns-in_err-code
+pub returns-in_err-kind : goal.returns-in_err-kind
 unfolding read_reference
-returns-in_err-code c = reads_out _ _ c.in_err-code.ensures c.from_residual.ensures.1 (λ _. sticks_then _ _ sticks_text (λ _. sticks_give _))
+returns-in_err-kind c = out _ c.from_residual.ensures.1 (reads_stop _ _ c.in_err-kind.ensures (λ _. sticks_then _ _ sticks_text (λ _. sticks_give _)))
 
-pub returns-in_err-text : goal.returns-in_err-text
+pub returns-in_err-name : goal.returns-in_err-name
 unfolding read_reference
-returns-in_err-text c = reads_then _ _ c.in_ok-code.ensures (reads_out _ _ c.in_err-text.ensures c.from_residual-in_err-text.ensures.1 (λ _. sticks_give _))
+returns-in_err-name c =
+    out _ c.from_residual-in_err-name.ensures.1 (reads_then _ _ c.in_ok-kind.ensures (reads_stop _ _ c.in_err-name.ensures (λ _. sticks_give _)))
 
 pub returns : goal.returns
 unfolding read_reference
-returns c = rw c.of.ensures (reads_then _ _ c.in_ok-code.ensures (reads_then _ _ c.in_ok-text.ensures (done _ _)))
+returns c = rw c.of.ensures (reads_then _ _ c.in_ok-kind.ensures (reads_then _ _ c.in_ok-name.ensures (done _ _)))

@@ -1,3 +1,4 @@
+use Rattle.pack.proofs.ReaderLaws.{out}
 use Rattle.std.specs.Prelude.{ℕ, ◌==◌}
 use Rattle.pack.specs.Items.{read_version}
 use Rattle.pack.proofs.ReaderItems.{reads_judged, judged_out}
@@ -5,7 +6,7 @@ use Rattle.pack.proofs.reader.Reader.version.Goals as goal
 
 pub returns-in_err-n : goal.returns-in_err-n
 unfolding read_version
-returns-in_err-n c = judged_out (λ (v : ℕ). v == 1) 2 c.in_err-n.ensures c.from_residual.ensures.1
+returns-in_err-n c = out _ c.from_residual.ensures.1 (judged_out (λ (v : ℕ). v == 1) 2 c.in_err-n.ensures)
 
 pub returns : goal.returns
 unfolding read_version
