@@ -10,6 +10,7 @@ use crate::text::{Text, text_precedes};
 
 impl<'a> Reader<'a> {
     // The item that was read here, where it is good.
+    #[inline(always)]
     fn judged(
         self,
         value: u32,
@@ -29,6 +30,7 @@ impl<'a> Reader<'a> {
     }
 
     // A number, most often of one byte.
+    #[inline(always)]
     pub(crate) fn wide(self, most: u64) -> Result<(u64, Self), InputRefusal>
         ensures read { Gives self.entry (read_wide most) result }
         ensures bound { IfOk result (λ x. x.0 ≤ most) }
@@ -80,6 +82,7 @@ impl<'a> Reader<'a> {
         Ok((value, next))
     }
 
+    #[inline(always)]
     pub(crate) fn number(self) -> Result<(u32, Self), InputRefusal>
         ensures { Gives self.entry read_number result }
     {
@@ -88,6 +91,7 @@ impl<'a> Reader<'a> {
     }
 
     // A code, mark or flags.
+    #[inline(always)]
     pub(crate) fn code(self, most: u32) -> Result<(u32, Self), InputRefusal>
         ensures { Gives self.entry (read_code most) result }
     {
@@ -95,6 +99,7 @@ impl<'a> Reader<'a> {
         self.judged(n, n <= most, Fault::Code, next)
     }
 
+    #[inline(always)]
     pub(crate) fn version(self) -> Result<(u32, Self), InputRefusal>
         ensures { Gives self.entry read_version result }
     {
@@ -103,6 +108,7 @@ impl<'a> Reader<'a> {
     }
 
     // An index below `count`.
+    #[inline(always)]
     pub(crate) fn index(self, count: u64) -> Result<(u32, Self), InputRefusal>
         ensures { Gives self.entry (read_index count) result }
     {
@@ -111,6 +117,7 @@ impl<'a> Reader<'a> {
     }
 
     // A number that completes a sum whose other part is `other`.
+    #[inline(always)]
     pub(crate) fn sum(self, other: u32) -> Result<(u32, Self), InputRefusal>
         ensures { Gives self.entry (read_sum other) result }
     {
@@ -119,6 +126,7 @@ impl<'a> Reader<'a> {
     }
 
     // A length in bytes whose bits are counted in 32 bits.
+    #[inline(always)]
     pub(crate) fn length(self) -> Result<(u32, Self), InputRefusal>
         ensures { Gives self.entry read_bytes result }
     {
@@ -126,6 +134,7 @@ impl<'a> Reader<'a> {
         self.judged(n, n.checked_mul(8).is_some(), Fault::Sum, next)
     }
 
+    #[inline(always)]
     pub(crate) fn mark(self) -> Result<(bool, Self), InputRefusal>
         ensures { Gives self.entry read_mark result }
     {
@@ -133,6 +142,7 @@ impl<'a> Reader<'a> {
         Ok((n == 1, next))
     }
 
+    #[inline(always)]
     pub(crate) fn text(self) -> Result<(Text, Self), InputRefusal>
         ensures { Gives self.entry read_text result }
     {
@@ -153,6 +163,7 @@ impl<'a> Reader<'a> {
     }
 
     // A lookup's name, which is above the one before it.
+    #[inline(always)]
     pub(crate) fn name(self, before: Option<Text>) -> Result<(Text, Self), InputRefusal>
         ensures { Gives self.entry (read_name before) result }
     {
@@ -170,6 +181,7 @@ impl<'a> Reader<'a> {
     }
 
     // A float, by its 64-bit pattern.
+    #[inline(always)]
     pub(crate) fn float(self) -> Result<(u64, Self), InputRefusal>
         ensures { Gives self.entry read_float result }
     {
@@ -188,6 +200,7 @@ impl<'a> Reader<'a> {
     }
 
     // A mark, 0 or 1, then the item if 1.
+    #[inline(always)]
     pub(crate) fn optional<I: Item>(self, item: I) -> Result<(Option<I::Value>, Self), InputRefusal>
         ensures { Gives self.entry (optional (I.form item)) result }
     {
