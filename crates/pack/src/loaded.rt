@@ -54,6 +54,17 @@ pub struct PgnRef<'a> {
     pub ghost is: { PgnIs pack.bytes.now (pgn_at (pack_of pack.bytes.now) (tree_number protocol) item) view },
 }
 
+// A field of a PGN of an accepted pack: which one, and the view.
+#[derive(Clone, Copy)]
+pub struct FieldRef<'a> {
+    pub pgn: &'a PgnRef<'a>,
+    pub index: u32,
+    pub view: FieldView,
+    pub ghost inside: { index < pgn.now.view.fields },
+    pub ghost means: { field_meaning pgn.now.pack.bytes.now view ≡ field_at
+        (pgn_at (pack_of pgn.now.pack.bytes.now) (tree_number pgn.now.protocol) pgn.now.item) index },
+}
+
 // The lookups, and the PGNs of a tree: `item` comes next.
 #[derive(Clone, Copy)]
 pub struct Lookups<'a> {
@@ -187,15 +198,7 @@ impl<'a> Pack<'a> {
         ensures { option_map lookup_spot result ≡ then_some (item <ᵇ length (pack_of self.now.bytes.now).lookups)
             (record { bytes = self.now.bytes.now; work = self.now.work.now; item = item }) }
     {
-        if self.index.lookups.count <= item {
-            return None;
-        }
-        for lookup in self.lookups() {
-            if lookup.item == item {
-                return Some(lookup);
-            }
-        }
-        None
+        self.lookups().nth(item as usize)
     }
 
     // That PGN of that tree; None past the last.
@@ -203,16 +206,7 @@ impl<'a> Pack<'a> {
         ensures { option_map pgn_spot result ≡ then_some (item <ᵇ length (pgns_of (pack_of self.now.bytes.now) (tree_number protocol)))
             (record { bytes = self.now.bytes.now; work = self.now.work.now; tree = tree_number protocol; item = item }) }
     {
-        let section = protocol.section(self.index);
-        if section.count <= item {
-            return None;
-        }
-        for pgn in self.pgns(protocol) {
-            if pgn.item == item {
-                return Some(pgn);
-            }
-        }
-        None
+        self.pgns(protocol).nth(item as usize)
     }
 }
 
@@ -285,6 +279,18 @@ impl<'a> PgnRef<'a> {
             unreachable!()
         };
         field
+    }
+
+    // The same with its PGN and its index.
+    pub fn field_ref(&'a self, k: u32) -> FieldRef<'a>
+        requires { k < self.now.view.fields }
+        ensures { record { pgn : result.pgn.now ≡ self.now; index : result.index ≡ k } }
+    {
+        FieldRef {
+            pgn: self,
+            index: k,
+            view: self.field(k),
+        }
     }
 
     // The id of field k.
