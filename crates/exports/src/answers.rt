@@ -1,7 +1,7 @@
 // Answers as numbers.
 ghost use Rattle.std.specs.Prelude.{◌≡◌, List, ℕ, [], ◌∷◌};
-ghost use Rattle.exports.specs.Answers.{filled, told};
-ghost use Rattle.pack.specs.Load.{index_values};
+ghost use Rattle.exports.specs.Answers.{filled};
+ghost use Rattle.pack.specs.Load.{in_numbers, index_values};
 ghost use Rattle.walk.specs.WalkCall.{ending_number, yes_number};
 
 use pack::load::{Index, Refusal};
@@ -93,8 +93,8 @@ fn refused<const N: usize>(detail: u64) -> [u64; N]
 
 // The refusal's number, 0 where there is none; and the numbers of the answer.
 pub fn tell<T: Values<N>, const N: usize>(r: Result<T, Refusal>, answer: &mut [u64; N]) -> u32
-    ensures number { result ≡ (told T.values r).number }
-    ensures numbers { answer.new ≡ filled N (told T.values r).values }
+    ensures number { result ≡ (in_numbers T.values r).number }
+    ensures numbers { answer.new ≡ filled N (in_numbers T.values r).values }
 {
     match r {
         Err(refusal) => {

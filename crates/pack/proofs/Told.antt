@@ -9,7 +9,7 @@ use mathlib.Core.List.{List}
 use lib.ListN.{length}
 use Rattle.pack.specs.Notation.{◌<ᵇ◌, ◌≤ᵇ◌}
 use Rattle.pack.specs.Format.{pack_end, offsets}
-use Rattle.pack.specs.Load.{Answer, refusal_answer, after, load_answer, most_bytes, verdict, load_index, loaded, load_tells, work_after, Loads}
+use Rattle.pack.specs.Load.{Answer, refusal_answer, after, in_numbers, load_answer, after_load, most_bytes, verdict, load_index, loaded, load_tells, work_after, Loads}
 use Rattle.pack.specs.Load.{refusal_number, fault_number}
 use Rattle.pack.specs.Reads.{fault_of}
 use Rattle.pack.proofs.Bounds.{input_bound}
@@ -63,8 +63,17 @@ numbered s m r e = go (most_bytes <ᵇ length s) refl ((pack_end s).refused == 0
     go false x true y true z = back 1 (rw (x, y, z)) refl
     go false x true y false z = back 21 (rw (x, y, z)) refl
 
-pub after_refused : (s : List ℕ) (m : ℕ) (r : Refusal) → loaded s m ≡ Err r → (rest : Answer) → refusal_answer r ≡ after (load_tells s m) rest
+after_refused : (s : List ℕ) (m : ℕ) (r : Refusal) → loaded s m ≡ Err r → (rest : Answer) → refusal_answer r ≡ after (load_tells s m) rest
 after_refused s m r e rest = rw (← load_told s m, e, numbered s m r e)
 
-pub after_accepted : (s : List ℕ) (m : ℕ) (i : Index) → loaded s m ≡ Ok i → (rest : Answer) → rest ≡ after (load_tells s m) rest
+after_accepted : (s : List ℕ) (m : ℕ) (i : Index) → loaded s m ≡ Ok i → (rest : Answer) → rest ≡ after (load_tells s m) rest
 after_accepted s m i e rest = rw (← load_told s m, e)
+
+-- a call that goes on after its load tells in numbers what the rest of it does
+pub told_after : {T : Type 0} (values : T → List ℕ) (s : List ℕ) (m : ℕ) (rest : Result T Refusal) (tells : Answer) → in_numbers values rest ≡ tells
+    → in_numbers values (after_load (loaded s m) rest) ≡ after (load_tells s m) tells
+told_after {T} values s m rest tells e = go (loaded s m) refl
+  where
+    go : (l : Result Index Refusal) → loaded s m ≡ l → in_numbers values (after_load l rest) ≡ after (load_tells s m) tells
+    go (Err r) l = after_refused s m r l tells
+    go (Ok i) l = e ∙ after_accepted s m i l tells

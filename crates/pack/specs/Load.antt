@@ -62,6 +62,11 @@ after load rest = if load.number == 0 then rest else load
 abbrev pub refusal_answer : Refusal → Answer
 refusal_answer r = refuses (refusal_number r) (refusal_detail r)
 
+-- an answer by its refusal, or by the values of what is answered
+abbrev pub in_numbers : {T : Type 0} → (T → List ℕ) → Result T Refusal → Answer
+in_numbers values (Err r) = refusal_answer r
+in_numbers values (Ok x) = gives (values x)
+
 -- the count of a list of records, and the work position at which it begins
 abbrev pub section_values : Section → List ℕ
 section_values s = s.count ∷ s.place ∷ []
@@ -77,8 +82,7 @@ index_values i =
     ++ section_values i.quick
 
 abbrev pub load_answer : Result Index Refusal → Answer
-load_answer (Err r) = refusal_answer r
-load_answer (Ok i) = gives (index_values i)
+load_answer = in_numbers index_values
 
 -- ---- load
 
@@ -132,13 +136,19 @@ load_tells s m =
 abbrev pub over : List ℕ → List ℕ → List ℕ
 over front w = front ++ drop (length front) w
 
-abbrev pub work_left : Result Index Refusal → List ℕ → List ℕ → List ℕ
-work_left (Err r) front w = w
-work_left (Ok i) front w = over front w
+-- "Success writes only the entries it reports."; after a refusal the buffer is what it was
+abbrev pub buffer_left : {T : Type 0} → Result T Refusal → (front w : List ℕ) → List ℕ
+buffer_left (Err r) front w = w
+buffer_left (Ok x) front w = over front w
 
 -- "After 1 to 9 and 21 no buffer has changed. Otherwise the work buffer holds the offset of each record .., its rest unchanged."
 unfoldable pub work_after : List ℕ → List ℕ → List ℕ
-work_after s w = work_left (loaded s (length w)) (offsets s) w
+work_after s w = buffer_left (loaded s (length w)) (offsets s) w
+
+-- "Input refusals come before these": what a call answers that goes on where its load is not refused
+abbrev pub after_load : {T : Type 0} → Result Index Refusal → Result T Refusal → Result T Refusal
+after_load (Err r) rest = Err r
+after_load (Ok i) rest = rest
 
 -- What `load` promises: its answer r, also in 01's numbers, and the work buffer, w before and w' after.
 pub record Loads (s w w' : List ℕ) (r : Result Index Refusal) : Type 0 where

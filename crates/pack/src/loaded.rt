@@ -56,8 +56,8 @@ pub struct PgnRef<'a> {
 
 // A field of a PGN of an accepted pack: which one, and the view.
 #[derive(Clone, Copy)]
-pub struct FieldRef<'a> {
-    pub pgn: &'a PgnRef<'a>,
+pub struct FieldRef<'p, 'a> {
+    pub pgn: &'p PgnRef<'a>,
     pub index: u32,
     pub view: FieldView,
     pub ghost inside: { index < pgn.now.view.fields },
@@ -282,7 +282,7 @@ impl<'a> PgnRef<'a> {
     }
 
     // The same with its PGN and its index.
-    pub fn field_ref(&'a self, k: u32) -> FieldRef<'a>
+    pub fn field_ref<'p>(&'p self, k: u32) -> FieldRef<'p, 'a>
         requires { k < self.now.view.fields }
         ensures { record { pgn : result.pgn.now ≡ self.now; index : result.index ≡ k } }
     {

@@ -9,7 +9,7 @@ use Rattle.std.specs.Prelude.{Option, None, Some, Result, Ok, Err}
 use lib.ListN.{length}
 use borrow.Author.Tests.{le-leb, lt-leb}
 use Rattle.pack.specs.Notation.{◌≤ᵇ◌}
-use Rattle.pack.specs.Load.{Answer, loaded, work_after}
+use Rattle.pack.specs.Load.{loaded, work_after}
 use Rattle.pack.specs.Meaning.{pack_of}
 use Rattle.pack.specs.Placing.{Stored}
 use Rattle.pack.specs.Value.{Bytes}
@@ -17,7 +17,7 @@ use Rattle.pack.specs.declared.load.Index.{Index}
 use Rattle.pack.specs.declared.load.Refusal.{Refusal}
 use Rattle.pack.specs.declared.load.Refusal.TheVariants.{Absent, Place}
 use Rattle.pack.proofs.Stores.{sets_over}
-use Rattle.pack.proofs.Told.{after_refused, after_accepted}
+use Rattle.pack.proofs.Told.{told_after}
 use Rattle.rules.specs.PlaceCall.{named, placed, text_left, text_after, place_answer, text_tells, place_tells, Places}
 use Rattle.rules.specs.PlaceText.{place_text}
 
@@ -74,14 +74,7 @@ named_told (Some b) n = go (length b ≤ᵇ n) refl
 
 place_told : (s : List ℕ) (m place t item n : ℕ) → place_answer (placed s m place t item n) ≡ place_tells s m place t item n
 unfolding placed place_tells
-place_told s m place t item n = go (loaded s m) refl
-  where
-    rest : Answer
-    rest = text_tells (place_text (pack_of s) place t item) n
-
-    go : (l : Result Index Refusal) → loaded s m ≡ l → place_answer (placed s m place t item n) ≡ place_tells s m place t item n
-    go (Err r) e = rw e (after_refused s m r e rest)
-    go (Ok i) e = rw e (named_told (place_text (pack_of s) place t item) n ∙ after_accepted s m i e rest)
+place_told s m place t item n = told_after _ s m _ _ (named_told (place_text (pack_of s) place t item) n)
 
 pub promised : (s : List ℕ) (place t item : ℕ) (w o w' o' : List ℕ) (r : Result ℕ Refusal) → Answered s (length w) place t item o r o' → w' ≡ work_after s w
     → Places s place t item w o w' o' r

@@ -10,15 +10,15 @@ use lib.ListN.{length, get_or, take, drop, length-append}
 use lib.Seq.{sets, length-sets, take-append_seam}
 use borrow.Author.Tests.{le-leb, lt-leb}
 use Rattle.pack.specs.Notation.{◌≤ᵇ◌}
-use Rattle.pack.specs.Load.{Answer, loaded, over, work_after}
+use Rattle.pack.specs.Load.{loaded, over, buffer_left, work_after}
 use Rattle.pack.specs.Meaning.{pack_of}
 use Rattle.pack.specs.declared.load.Index.{Index}
 use Rattle.pack.specs.declared.load.Refusal.{Refusal}
 use Rattle.pack.specs.declared.load.Refusal.TheVariants.{Findings}
 use Rattle.pack.proofs.Stores.{sets_append, sets_over}
-use Rattle.pack.proofs.Told.{after_refused, after_accepted}
+use Rattle.pack.proofs.Told.{told_after}
 use Rattle.rules.specs.declared.Finding.{Finding}
-use Rattle.rules.specs.Checked.{all_numbers, judged, checked, findings_left, findings_after, check_answer, findings_tell, check_tells, Checks}
+use Rattle.rules.specs.Checked.{all_numbers, reported, checked, findings_after, check_answer, findings_tell, check_tells, Checks}
 use Rattle.rules.specs.Check.{check}
 use Rattle.rules.specs.declared.check.Reported.{Reported}
 use Rattle.rules.specs.Emit.{numbers, Found, none_in, stored, put_one, put_all}
@@ -108,8 +108,8 @@ errors_read (f ∷ fs) rest =
 -- ---- the two ends of a report
 
 pub record Judges (fs : List Finding) (o : List ℕ) (r : Result Reported Refusal) (o' : List ℕ) : Type 0 where
-  pub answer : r ≡ judged fs (length o)
-  pub out : o' ≡ findings_left (judged fs (length o)) (all_numbers fs) o
+  pub answer : r ≡ reported fs (length o)
+  pub out : o' ≡ buffer_left (reported fs (length o)) (all_numbers fs) o
 
 pub buffer_short : (fs : List Finding) (o : List ℕ) (n : ℕ) → n ≡ length fs → length o < 8 * n → Judges fs o (Err (Findings (8 * n))) o
 buffer_short fs o n e h =
@@ -134,28 +134,21 @@ unfolding checked findings_after
 not_loaded s w o q e = record { answer = rw e; out = rw e }
 
 pub is_loaded : (s w o : List ℕ) (i : Index) {r : Result Reported Refusal} {o' : List ℕ} → loaded s (length w) ≡ Ok i
-    → r ≡ judged (check (pack_of s)) (length o) → o' ≡ findings_left (judged (check (pack_of s)) (length o)) (all_numbers (check (pack_of s))) o
+    → r ≡ reported (check (pack_of s)) (length o) → o' ≡ buffer_left (reported (check (pack_of s)) (length o)) (all_numbers (check (pack_of s))) o
     → Answers s w o r o'
 unfolding checked findings_after
 is_loaded s w o i e x y = record { answer = rw e x; out = rw e y }
 
-judged_told : (fs : List Finding) (n : ℕ) → check_answer (judged fs n) ≡ findings_tell fs n
-judged_told fs n = go (8 * length fs ≤ᵇ n) refl
+reported_told : (fs : List Finding) (n : ℕ) → check_answer (reported fs n) ≡ findings_tell fs n
+reported_told fs n = go (8 * length fs ≤ᵇ n) refl
   where
-    go : (b : Bool) → (8 * length fs ≤ᵇ n) ≡ b → check_answer (judged fs n) ≡ findings_tell fs n
+    go : (b : Bool) → (8 * length fs ≤ᵇ n) ≡ b → check_answer (reported fs n) ≡ findings_tell fs n
     go true e = rw e
     go false e = rw e
 
 check_told : (s : List ℕ) (m n : ℕ) → check_answer (checked s m n) ≡ check_tells s m n
 unfolding checked check_tells
-check_told s m n = go (loaded s m) refl
-  where
-    rest : Answer
-    rest = findings_tell (check (pack_of s)) n
-
-    go : (l : Result Index Refusal) → loaded s m ≡ l → check_answer (checked s m n) ≡ check_tells s m n
-    go (Err r) e = rw e (after_refused s m r e rest)
-    go (Ok i) e = rw e (judged_told (check (pack_of s)) n ∙ after_accepted s m i e rest)
+check_told s m n = told_after _ s m _ _ (reported_told (check (pack_of s)) n)
 
 pub promised : (s w o w' o' : List ℕ) (r : Result Reported Refusal) → Answers s w o r o' → w' ≡ work_after s w → Checks s w o w' o' r
 promised s w o w' o' r a e =

@@ -1,9 +1,8 @@
 -- What the call `check` answers, and what it leaves in the findings buffer.
 use Rattle.std.specs.Prelude.{ℕ, ◌*◌, ◌≡◌, List, [], ◌∷◌, ◌++◌, length, Result, Ok, Err, if◌then◌else◌}
 use Rattle.pack.specs.Notation.{◌≤ᵇ◌}
-use Rattle.pack.specs.Load.{Answer, refuses, gives, after, refusal_answer, loaded, load_tells, over, work_after}
+use Rattle.pack.specs.Load.{Answer, refuses, gives, after, in_numbers, loaded, after_load, load_tells, buffer_left, work_after}
 use Rattle.pack.specs.Meaning.{pack_of}
-use Rattle.pack.specs.declared.load.Index.{Index}
 use Rattle.pack.specs.declared.load.Refusal.{Refusal}
 use Rattle.pack.specs.declared.load.Refusal.TheVariants.{Findings}
 use Rattle.rules.specs.declared.Finding.{Finding}
@@ -13,17 +12,12 @@ use Rattle.rules.specs.Emit.{numbers}
 use Rattle.rules.specs.Findings.{errors}
 
 -- 22: "findings buffer below 8 numbers a finding"; the detail is "the length needed"
-abbrev pub judged : List Finding → ℕ → Result Reported Refusal
-judged fs n = if 8 * length fs ≤ᵇ n then Ok (record { findings = length fs; errors = errors fs }) else Err (Findings (8 * length fs))
+abbrev pub reported : List Finding → ℕ → Result Reported Refusal
+reported fs n = if 8 * length fs ≤ᵇ n then Ok (record { findings = length fs; errors = errors fs }) else Err (Findings (8 * length fs))
 
--- "Input refusals come before these; then 21, .. 22."
-abbrev pub after_load : Result Index Refusal → List Finding → ℕ → Result Reported Refusal
-after_load (Err r) fs n = Err r
-after_load (Ok i) fs n = judged fs n
-
--- `check` of the pack s with a work buffer of m numbers and a findings buffer of n
+-- "Input refusals come before these; then 21, .. 22.": `check` of the pack s with a work buffer of m numbers and a findings buffer of n
 unfoldable pub checked : List ℕ → (m n : ℕ) → Result Reported Refusal
-checked s m n = after_load (loaded s m) (check (pack_of s)) n
+checked s m n = after_load (loaded s m) (reported (check (pack_of s)) n)
 
 -- "Eight numbers" a finding, in order
 abbrev pub all_numbers : List Finding → List ℕ
@@ -31,19 +25,14 @@ all_numbers [] = []
 all_numbers (f ∷ fs) = numbers f ++ all_numbers fs
 
 -- "After 22 and higher numbers no other buffer has changed"; "Success writes only the entries it reports."
-abbrev pub findings_left : Result Reported Refusal → List ℕ → List ℕ → List ℕ
-findings_left (Err r) front o = o
-findings_left (Ok x) front o = over front o
-
 unfoldable pub findings_after : List ℕ → (m : ℕ) → List ℕ → List ℕ
-findings_after s m o = findings_left (checked s m (length o)) (all_numbers (check (pack_of s))) o
+findings_after s m o = buffer_left (checked s m (length o)) (all_numbers (check (pack_of s))) o
 
 -- ---- the same in 01's numbers
 
 -- for each case of the answer its number and values: the numbers of findings and of errors
 abbrev pub check_answer : Result Reported Refusal → Answer
-check_answer (Err r) = refusal_answer r
-check_answer (Ok x) = gives (x.findings ∷ x.errors ∷ [])
+check_answer = in_numbers (λ x. x.findings ∷ x.errors ∷ [])
 
 -- 22: "findings buffer below 8 numbers a finding"; the detail is "the length needed"
 abbrev pub findings_tell : List Finding → ℕ → Answer

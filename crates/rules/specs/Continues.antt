@@ -49,14 +49,19 @@ not_raw f =
 unfoldable pub continued_by : Pgn → Bytes → ℕ
 continued_by p id = count_below (λ k. is_text (field_at p k).continues id) (length p.fields)
 
--- field k, f, continues field j, low, whose id it names
--- 2 across a repeating-set boundary, 3 a field of no fixed width lies between, 4 more than one field continues it,
+-- field k continues field j, whose id it names; `continuation` says whether the distance of j to it is fixed
+-- 2 across a repeating-set boundary, 3 a field of no fixed width lies between, 4 more than one field continues it
+abbrev pub continued_place : (t i : ℕ) → Pgn → (k : ℕ) → Bytes → (j : ℕ) → (continuation : Bool) → List Finding
+continued_place t i p k id j continuation =
+    if not (set_of p j == set_of p k) then pgn_error 43 2 t i k j ∷ []
+    else (if not continuation then pgn_error 43 3 t i k j ∷ []
+    else report_if (1 <ᵇ continued_by p id) (pgn_error 43 4 t i k j))
+
+-- field k, f, continues field j, low
 -- 5 it continues one itself, 6 not integers, 7 not raw bits, 8 a sign or an offset, 9 wider than 64 bits
 unfoldable pub continued_at : List FieldType → (t i : ℕ) → Pgn → (k : ℕ) → Field → Bytes → (j : ℕ) → Field → List Finding
 continued_at fts t i p k f id j low =
-    (if not (set_of p j == set_of p k) then pgn_error 43 2 t i k j ∷ []
-    else (if not (is_some low.continuation) then pgn_error 43 3 t i k j ∷ []
-    else report_if (1 <ᵇ continued_by p id) (pgn_error 43 4 t i k j)))
+    continued_place t i p k id j (is_some low.continuation)
     ++ report_if (is_some low.continues) (pgn_error 43 5 t i k j)
     ++ report_if (not (integer fts low) || not (root_of fts f ≐ NUMBER)) (pgn_error 43 6 t i k j)
     ++ report_if (not_raw f) (pgn_error 43 7 t i k j)

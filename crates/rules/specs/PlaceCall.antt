@@ -2,10 +2,10 @@
 use Rattle.std.specs.Prelude.{ℕ, ◌≡◌, List, [], ◌∷◌, length, if◌then◌else◌}
 use Rattle.std.specs.Prelude.{Option, None, Some, Result, Ok, Err}
 use Rattle.pack.specs.Notation.{◌≤ᵇ◌}
-use Rattle.pack.specs.Load.{Answer, refuses, gives, after, refusal_answer, loaded, load_tells, over, work_after}
+use Rattle.pack.specs.Load.{Answer, refuses, gives, after, in_numbers, loaded, after_load, load_tells, buffer_left, work_after}
 use Rattle.pack.specs.Meaning.{pack_of}
 use Rattle.pack.specs.Value.{Bytes}
-use Rattle.pack.specs.declared.load.Index.{Index}
+use Rattle.std.specs.Option.{unwrap_or}
 use Rattle.pack.specs.declared.load.Refusal.{Refusal}
 use Rattle.pack.specs.declared.load.Refusal.TheVariants.{Absent, Place}
 use Rattle.rules.specs.PlaceText.{place_text}
@@ -19,20 +19,13 @@ abbrev pub named : Option Bytes → ℕ → Result ℕ Refusal
 named None n = Err Absent
 named (Some b) n = fitted b n
 
--- "Input refusals come before these; then 21, 23, .. 24"
-abbrev pub after_load : Result Index Refusal → Option Bytes → ℕ → Result ℕ Refusal
-after_load (Err r) b n = Err r
-after_load (Ok i) b n = named b n
-
--- the text of a finding's place, of the pack s with a work buffer of m numbers and a text buffer of n bytes
+-- "Input refusals come before these; then 21, 23, .. 24": the text of a finding's place, of the pack s with a work buffer of m numbers and a text buffer of n bytes
 unfoldable pub placed : List ℕ → (m place tree item n : ℕ) → Result ℕ Refusal
-placed s m place t item n = after_load (loaded s m) (place_text (pack_of s) place t item) n
+placed s m place t item n = after_load (loaded s m) (named (place_text (pack_of s) place t item) n)
 
 -- "After 22 and higher numbers no other buffer has changed"; "Success writes only the entries it reports."
 abbrev pub text_left : Result ℕ Refusal → Option Bytes → List ℕ → List ℕ
-text_left (Err r) b o = o
-text_left (Ok n) None o = o
-text_left (Ok n) (Some b) o = over b o
+text_left r b o = buffer_left r (unwrap_or b []) o
 
 unfoldable pub text_after : List ℕ → (m place tree item : ℕ) → List ℕ → List ℕ
 text_after s m place t item o = text_left (placed s m place t item (length o)) (place_text (pack_of s) place t item) o
@@ -41,8 +34,7 @@ text_after s m place t item o = text_left (placed s m place t item (length o)) (
 
 -- for each case of the answer its number and values: the length of the text
 abbrev pub place_answer : Result ℕ Refusal → Answer
-place_answer (Err r) = refusal_answer r
-place_answer (Ok n) = gives (n ∷ [])
+place_answer = in_numbers (λ n. n ∷ [])
 
 -- 23, then 24 with "the length needed"
 abbrev pub text_tells : Option Bytes → ℕ → Answer

@@ -7,12 +7,12 @@ ghost use Rattle.rules.specs.Emit.{Emitted};
 ghost use Rattle.rules.specs.Floats.{float_eq, ONE};
 ghost use Rattle.rules.specs.BitLengthField.{variable_binary, bit_length_target_at, bit_length_field_at, check_bit_length_field};
 
-use crate::emit::{Findings, pgn_error};
+use crate::emit::{Findings, field_error, pgn_error};
 use crate::field_rules::{FieldRule, check_fields};
 use crate::floats::{ONE, float_eq};
 use crate::targets::target;
 use pack::field::FieldView;
-use pack::loaded::PgnRef;
+use pack::loaded::{FieldRef, PgnRef};
 use pack::text::text_is;
 
 #[tactic(auto, unfolding(crate::specs::BitLengthField::variable_binary))]
@@ -54,18 +54,19 @@ impl FieldRule for BitLengthField {
     ghost findings = { λ g k. bit_length_field_at (tree_of g) g.item (pgn_value g) k (field_at (pgn_value g) k).bit_length_field };
 
     #[tactic(auto, unfolding(crate::specs::BitLengthField::bit_length_field_at))]
-    fn at(out: &mut Findings, pgn: &PgnRef, k: u32, f: FieldView) {
-        let binary = variable_binary(pgn.pack.bytes, f);
-        let Some(id) = f.links.length else {
-            out.put_if(binary, pgn_error(15, 1, pgn, k, 0));
+    fn at(out: &mut Findings, field: &FieldRef) {
+        let pgn = field.pgn;
+        let binary = variable_binary(pgn.pack.bytes, field.view);
+        let Some(id) = field.view.links.length else {
+            out.put_if(binary, field_error(15, 1, field, 0));
             return;
         };
         if !binary {
-            out.put(pgn_error(15, 2, pgn, k, 0));
+            out.put(field_error(15, 2, field, 0));
             return;
         }
         let j = target(pgn, id);
-        bit_length_target_at(out, pgn, k, j);
+        bit_length_target_at(out, pgn, field.index, j);
     }
 }
 

@@ -1,9 +1,9 @@
 // The call `check`.
 ghost use Rattle.std.specs.Prelude.{◌≡◌, ◌+◌, ◌*◌, ◌≤◌, length, get_or, take, ◌==◌};
-ghost use Rattle.pack.specs.Load.{over};
+ghost use Rattle.pack.specs.Load.{over, buffer_left};
 ghost use Rattle.pack.specs.Meaning.{pack_of};
 ghost use Rattle.rules.specs.Check.{check};
-ghost use Rattle.rules.specs.Checked.{all_numbers, judged, findings_left, Checks};
+ghost use Rattle.rules.specs.Checked.{all_numbers, reported, Checks};
 ghost use Rattle.rules.specs.Emit.{none_in, put_all, Emitted};
 ghost use Rattle.rules.specs.Search.{count_below};
 
@@ -84,8 +84,8 @@ fn deliver(pack: &Pack, findings: &mut [u32], short: &[u32], count: usize)
 // Into a short list first, since after 22 the buffer has not changed.
 fn report(pack: &Pack, findings: &mut [u32]) -> Result<Reported, Refusal>
     ensures { record {
-      answer : result ≡ judged (check (pack_of pack.now.bytes.now)) (length findings.old);
-      findings : findings.new ≡ findings_left (judged (check (pack_of pack.now.bytes.now)) (length findings.old))
+      answer : result ≡ reported (check (pack_of pack.now.bytes.now)) (length findings.old);
+      findings : findings.new ≡ buffer_left (reported (check (pack_of pack.now.bytes.now)) (length findings.old))
           (all_numbers (check (pack_of pack.now.bytes.now))) findings.old;
     } }
 {

@@ -10,17 +10,17 @@ ghost use Rattle.rules.specs.Findings.{report_if, pgn_error};
 ghost use Rattle.rules.specs.Floats.{float_eq, ZERO};
 ghost use Rattle.rules.specs.Texts.{NUMBER};
 ghost use Rattle.rules.specs.Model.{fieldtype_of, root_of, value_bits};
-ghost use Rattle.rules.specs.Continues.{holds_order, set_of, integer, differs_from, not_raw, continued_by, continued_at, continues_at, check_continues};
+ghost use Rattle.rules.specs.Continues.{holds_order, set_of, integer, differs_from, not_raw, continued_by, continued_place, continued_at, continues_at, check_continues};
 
 use crate::Finding;
-use crate::emit::{Findings, pgn_error};
+use crate::emit::{Findings, field_error};
 use crate::field_rules::{FieldRule, check_fields};
 use crate::floats::{ONE, ZERO, float_eq};
 use crate::model::{is_text, value_bits};
 use crate::searches::counted;
 use crate::targets::{first_with_id, integer};
 use pack::field::FieldView;
-use pack::loaded::{Pack, PgnRef};
+use pack::loaded::{FieldRef, Pack, PgnRef};
 use pack::pgn::{RepeatingView, set_at};
 use pack::protocol::{FieldIndex, FieldOrder, among};
 use pack::text::{Text, text_is};
@@ -118,64 +118,60 @@ fn too_wide(s: &[u8], low: FieldView) -> bool
 
 // A field that continues an earlier one, by its id.
 #[derive(Clone, Copy)]
-struct Continuing {
-    field: u32,
+struct Continuing<'f, 'p, 'a> {
+    field: &'f FieldRef<'p, 'a>,
     id: Text,
     earlier: u32,
+    ghost before: { earlier < field.now.index },
 }
 
-fn link_error(cause: u32, pgn: &PgnRef, link: Continuing) -> Finding
-    ensures { result ≡ pgn_error 43 cause (tree_of pgn.now) pgn.now.item link.field link.earlier }
+fn link_error(cause: u32, link: &Continuing) -> Finding
+    ensures { result ≡ pgn_error 43 cause (tree_of link.now.field.now.pgn.now) link.now.field.now.pgn.now.item link.now.field.now.index link.now.earlier }
 {
-    pgn_error(43, cause, pgn, link.field, link.earlier)
+    field_error(43, cause, link.field, link.earlier)
 }
 
 // Where a field lies that continues another: another set, no fixed distance, or not the only one.
-fn placed_at(out: &mut Findings, pgn: &PgnRef, link: Continuing, continued: bool)
-    requires { record { field : link.field < pgn.now.view.fields; earlier : link.earlier < link.field } }
+fn placed_at(out: &mut Findings, link: &Continuing, continued: bool)
     ensures { Emitted out.old
-        (if not (set_of (pgn_value pgn.now) link.earlier == set_of (pgn_value pgn.now) link.field) then pgn_error 43 2
-        (tree_of pgn.now) pgn.now.item link.field link.earlier ∷ [] else (if not continued then pgn_error 43 3
-        (tree_of pgn.now) pgn.now.item link.field link.earlier ∷ [] else report_if
-        (1 <ᵇ continued_by (pgn_value pgn.now) (bytes_of pgn.now.pack.bytes.now link.id))
-        (pgn_error 43 4 (tree_of pgn.now) pgn.now.item link.field link.earlier))) out.new }
+        (continued_place (tree_of link.now.field.now.pgn.now) link.now.field.now.pgn.now.item (pgn_value link.now.field.now.pgn.now)
+        link.now.field.now.index (bytes_of link.now.field.now.pgn.now.pack.bytes.now link.now.id) link.now.earlier continued) out.new }
 {
-    if set_of(pgn, link.earlier) != set_of(pgn, link.field) {
-        out.put(link_error(2, pgn, link));
+    let pgn = link.field.pgn;
+    if set_of(pgn, link.earlier) != set_of(pgn, link.field.index) {
+        out.put(link_error(2, link));
         return;
     }
     if !continued {
-        out.put(link_error(3, pgn, link));
+        out.put(link_error(3, link));
         return;
     }
     let count = continued_by(pgn, link.id);
-    out.put_if(1 < count, link_error(4, pgn, link));
+    out.put_if(1 < count, link_error(4, link));
 }
 
-// Field f continues the earlier one.
+// The field continues the earlier one.
 #[tactic(auto, using(crate::proofs::Fields::type_there))]
-fn continued_at(out: &mut Findings, pgn: &PgnRef, f: FieldView, link: Continuing)
-    requires { record {
-      field : link.field < pgn.now.view.fields;
-      earlier : link.earlier < link.field;
-      means : field_meaning pgn.now.pack.bytes.now f ≡ field_at (pgn_value pgn.now) link.field;
-    } }
+fn continued_at(out: &mut Findings, link: &Continuing)
     ensures { Emitted out.old
-        (continued_at (pack_of pgn.now.pack.bytes.now).fieldtypes (tree_of pgn.now) pgn.now.item (pgn_value pgn.now) link.field
-        (field_at (pgn_value pgn.now) link.field) (bytes_of pgn.now.pack.bytes.now link.id) link.earlier
-        (field_at (pgn_value pgn.now) link.earlier)) out.new }
+        (continued_at (pack_of link.now.field.now.pgn.now.pack.bytes.now).fieldtypes (tree_of link.now.field.now.pgn.now)
+        link.now.field.now.pgn.now.item (pgn_value link.now.field.now.pgn.now) link.now.field.now.index
+        (field_at (pgn_value link.now.field.now.pgn.now) link.now.field.now.index) (bytes_of link.now.field.now.pgn.now.pack.bytes.now link.now.id)
+        link.now.earlier (field_at (pgn_value link.now.field.now.pgn.now) link.now.earlier)) out.new }
 {
+    let pgn = link.field.pgn;
+    let f = link.field.view;
     let low = pgn.field(link.earlier);
     let words = not_integers(&pgn.pack, low, f);
     let dressed = not_raw(pgn.pack.bytes, f);
     let scaled = not_plain(&pgn.pack, low);
     let wide = too_wide(pgn.pack.bytes, low);
-    placed_at(out, pgn, link, low.links.continuation.is_some());
-    out.put_if(low.authored.continues.is_some(), link_error(5, pgn, link));
-    out.put_if(words, link_error(6, pgn, link));
-    out.put_if(dressed, link_error(7, pgn, link));
-    out.put_if(scaled, link_error(8, pgn, link));
-    out.put_if(wide, link_error(9, pgn, link));
+    placed_at(out, link, low.links.continuation.is_some());
+    out.put_if(low.authored.continues.is_some(), link_error(5, link));
+    out.put_if(words, link_error(6, link));
+    out.put_if(dressed, link_error(7, link));
+    out.put_if(scaled, link_error(8, link));
+    out.put_if(wide, link_error(9, link));
 }
 
 struct Continues;
@@ -184,20 +180,16 @@ impl FieldRule for Continues {
     ghost findings = { λ g k. continues_at (pack_of g.pack.bytes.now).fieldtypes (tree_of g) g.item (pgn_value g) k (field_at (pgn_value g) k).continues };
 
     #[tactic(auto, unfolding(crate::specs::Continues::continues_at, crate::specs::Continues::continued_found_at))]
-    fn at(out: &mut Findings, pgn: &PgnRef, k: u32, f: FieldView) {
-        let Some(id) = f.authored.continues else {
+    fn at(out: &mut Findings, field: &FieldRef) {
+        let Some(id) = field.view.authored.continues else {
             return;
         };
-        let Some(earlier) = first_with_id(pgn, k, id) else {
-            out.put(pgn_error(43, 1, pgn, k, 0));
+        let Some(earlier) = first_with_id(field.pgn, field.index, id) else {
+            out.put(field_error(43, 1, field, 0));
             return;
         };
-        let link = Continuing {
-            field: k,
-            id,
-            earlier,
-        };
-        continued_at(out, pgn, f, link);
+        let link = Continuing { field, id, earlier };
+        continued_at(out, &link);
     }
 }
 

@@ -7,7 +7,7 @@ ghost use Rattle.rules.specs.Findings.{report_if, fieldtype_error, pgn_error, pg
 ghost use Rattle.rules.specs.Emit.{numbers, stored, none_in, found_in, Emitted};
 
 use crate::Finding;
-use pack::loaded::PgnRef;
+use pack::loaded::{FieldRef, PgnRef};
 use pack::protocol::Protocol;
 
 // What was found so far: as many findings as fit, and how many there are.
@@ -94,6 +94,13 @@ pub fn pgn_error(rule: u32, cause: u32, pgn: &PgnRef, part: u32, other: u32) -> 
         other,
         ..error(rule, cause, 1, pgn.protocol.tree(), pgn.item)
     }
+}
+
+// An error at a field.
+pub fn field_error(rule: u32, cause: u32, field: &FieldRef, other: u32) -> Finding
+    ensures { result ≡ pgn_error rule cause (tree_of field.now.pgn.now) field.now.pgn.now.item field.now.index other }
+{
+    pgn_error(rule, cause, field.pgn, field.index, other)
 }
 
 // A warning at a PGN.

@@ -7,11 +7,10 @@ ghost use Rattle.rules.specs.Emit.{Emitted};
 ghost use Rattle.rules.specs.FieldTypeOverrides.{overrides_at, check_field_type_overrides};
 ghost use Rattle.rules.specs.Model.{fieldtype_of};
 
-use crate::emit::{Findings, pgn_error};
+use crate::emit::{Findings, field_error};
 use crate::field_rules::{FieldRule, check_fields};
 use crate::floats::{ZERO, float_eq};
-use pack::field::FieldView;
-use pack::loaded::PgnRef;
+use pack::loaded::{FieldRef, PgnRef};
 
 struct Overrides;
 
@@ -20,12 +19,13 @@ impl FieldRule for Overrides {
         (fieldtype_of (pack_of g.pack.bytes.now).fieldtypes (field_at (pgn_value g) k)) };
 
     #[tactic(auto, using(crate::proofs::Fields::type_there), unfolding(crate::specs::FieldTypeOverrides::overrides_at))]
-    fn at(out: &mut Findings, pgn: &PgnRef, k: u32, f: FieldView) {
-        let ft = pgn.pack.field_type(f.ft);
+    fn at(out: &mut Findings, field: &FieldRef) {
+        let f = field.view;
+        let ft = field.pgn.pack.field_type(f.ft);
         let width = f.flags.bits && ft.size != 0;
-        out.put_if(width, pgn_error(14, 1, pgn, k, 0));
+        out.put_if(width, field_error(14, 1, field, 0));
         let resolution = f.authored.resolution.is_some() && !float_eq(ft.resolution, ZERO);
-        out.put_if(resolution, pgn_error(14, 2, pgn, k, 0));
+        out.put_if(resolution, field_error(14, 2, field, 0));
     }
 }
 

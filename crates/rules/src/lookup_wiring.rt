@@ -10,16 +10,15 @@ ghost use Rattle.rules.specs.Emit.{Emitted};
 ghost use Rattle.rules.specs.LookupWiring.{beyond_width, unreachable, lookup_width_at, lookup_ref_at, check_lookup_refs};
 ghost use Rattle.rules.specs.LookupWiring.{check_lookup_wiring};
 
-use crate::emit::{Findings, pgn_error, pgn_warning};
+use crate::emit::{Findings, field_error, pgn_warning};
 use crate::field_rules::{FieldRule, check_fields};
 use crate::lookup_uses::check_lookup_uses;
 use crate::lookups::find_lookup;
 use crate::model::value_bits;
 use crate::nested_refs::check_all_nested_refs;
 use crate::widths::exceeds;
-use pack::field::FieldView;
 use pack::kinds::LookupKind;
-use pack::loaded::{LookupRef, Pack, PgnRef};
+use pack::loaded::{FieldRef, LookupRef, Pack, PgnRef};
 use pack::protocol::Protocol;
 
 // A field of this width can't have the value: a bit's position counts from 0.
@@ -54,24 +53,29 @@ fn is_finding(lost: bool, kind: LookupKind, allowed: bool) -> bool
     lost && !(kind == LookupKind::Bit && allowed)
 }
 
-// Causes 3 to 5, field k, which is f, and the lookup of its reference.
+// Causes 3 to 5, of a field and the lookup of its reference.
 #[tactic(auto, unfolding(crate::specs::LookupWiring::lookup_width_at))]
-fn lookup_width_at(out: &mut Findings, pgn: &PgnRef, k: u32, f: FieldView, lookup: &LookupRef)
+fn lookup_width_at(out: &mut Findings, field: &FieldRef, lookup: &LookupRef)
     ensures { Emitted out.old
-        (lookup_width_at (tree_of pgn.now) pgn.now.item k (field_meaning pgn.now.pack.bytes.now f) lookup.now.item (lookup_value lookup.now)) out.new }
+        (lookup_width_at (tree_of field.now.pgn.now) field.now.pgn.now.item field.now.index (field_at (pgn_value field.now.pgn.now) field.now.index)
+        lookup.now.item (lookup_value lookup.now)) out.new }
 {
-    let width = value_bits(pgn.pack.bytes, f);
-    let allowed = f.flags.mismatch;
+    let pgn = field.pgn;
+    let width = value_bits(pgn.pack.bytes, field.view);
+    let allowed = field.view.flags.mismatch;
     let lost = unreachable(lookup, width);
     if is_finding(lost, lookup.view.kind, allowed) {
-        out.put(pgn_error(8, 3, pgn, k, lookup.item));
+        out.put(field_error(8, 3, field, lookup.item));
         return;
     }
     if width != lookup.view.bits as u64 {
-        out.put_if(!allowed, pgn_error(8, 4, pgn, k, lookup.item));
+        out.put_if(!allowed, field_error(8, 4, field, lookup.item));
         return;
     }
-    out.put_if(allowed, pgn_warning(8, 5, pgn, k, lookup.item));
+    out.put_if(
+        allowed,
+        pgn_warning(8, 5, pgn, field.index, lookup.item),
+    );
 }
 
 struct LookupRefs;
@@ -81,17 +85,17 @@ impl FieldRule for LookupRefs {
         (field_at (pgn_value g) k).reference };
 
     #[tactic(auto, unfolding(crate::specs::LookupWiring::lookup_ref_at, crate::specs::LookupWiring::lookup_found_at))]
-    fn at(out: &mut Findings, pgn: &PgnRef, k: u32, f: FieldView) {
-        let Some(reference) = f.links.reference else {
+    fn at(out: &mut Findings, field: &FieldRef) {
+        let Some(reference) = field.view.links.reference else {
             return;
         };
-        let Some(lookup) = find_lookup(&pgn.pack, reference.name) else {
-            out.put(pgn_error(8, 1, pgn, k, 0));
+        let Some(lookup) = find_lookup(&field.pgn.pack, reference.name) else {
+            out.put(field_error(8, 1, field, 0));
             return;
         };
         let other = lookup.view.kind != reference.kind;
-        out.put_if(other, pgn_error(8, 2, pgn, k, lookup.item));
-        lookup_width_at(out, pgn, k, f, &lookup);
+        out.put_if(other, field_error(8, 2, field, lookup.item));
+        lookup_width_at(out, field, &lookup);
     }
 }
 

@@ -6,12 +6,11 @@ ghost use Rattle.pack.specs.Value.{field_at};
 ghost use Rattle.rules.specs.Emit.{Emitted};
 ghost use Rattle.rules.specs.MatchValues.{match_value_at, check_match_values};
 
-use crate::emit::{Findings, pgn_error};
+use crate::emit::{Findings, field_error};
 use crate::field_rules::{FieldRule, check_fields};
 use crate::matches::resolve_match;
 use crate::widths::exceeds;
-use pack::field::FieldView;
-use pack::loaded::PgnRef;
+use pack::loaded::{FieldRef, PgnRef};
 
 struct MatchValues;
 
@@ -19,16 +18,17 @@ impl FieldRule for MatchValues {
     ghost findings = { λ g k. match_value_at (pack_of g.pack.bytes.now).lookups (tree_of g) g.item (pgn_value g) k };
 
     #[tactic(auto, unfolding(crate::specs::MatchValues::match_value_at, crate::specs::MatchValues::resolved_at))]
-    fn at(out: &mut Findings, pgn: &PgnRef, k: u32, f: FieldView) {
+    fn at(out: &mut Findings, field: &FieldRef) {
+        let f = field.view;
         if f.authored.matched.is_none() {
             return;
         }
-        let Some(v) = resolve_match(&pgn.pack, f) else {
-            out.put(pgn_error(13, 1, pgn, k, 0));
+        let Some(v) = resolve_match(&field.pgn.pack, f) else {
+            out.put(field_error(13, 1, field, 0));
             return;
         };
         let wide = exceeds(f.scaling.bits, v);
-        out.put_if(wide, pgn_error(13, 2, pgn, k, 0));
+        out.put_if(wide, field_error(13, 2, field, 0));
     }
 }
 

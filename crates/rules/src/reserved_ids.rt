@@ -10,10 +10,10 @@ ghost use Rattle.numerals.specs.Numerals.{all_digits};
 ghost use Rattle.rules.specs.ReservedIds.{numbered, reserved_id_at, check_reserved_ids};
 ghost use Rattle.rules.specs.Texts.{bytes};
 
-use crate::emit::{Findings, pgn_error};
+use crate::emit::{Findings, field_error};
 use crate::field_rules::{FieldRule, check_fields};
 use pack::field::FieldView;
-use pack::loaded::PgnRef;
+use pack::loaded::{FieldRef, PgnRef};
 use pack::text::{part, text_is};
 
 // Whether all bytes are ASCII digits.
@@ -62,9 +62,10 @@ impl FieldRule for ReservedIds {
     ghost findings = { λ g k. reserved_id_at (tree_of g) g.item k (field_at (pgn_value g) k) };
 
     #[tactic(auto, unfolding(crate::specs::ReservedIds::reserved_id_at))]
-    fn at(out: &mut Findings, pgn: &PgnRef, k: u32, f: FieldView) {
-        let report = misnamed(pgn.pack.bytes, f);
-        out.put_if(report, pgn_error(12, 1, pgn, k, 0));
+    fn at(out: &mut Findings, field: &FieldRef) {
+        let pgn = field.pgn;
+        let report = misnamed(pgn.pack.bytes, field.view);
+        out.put_if(report, field_error(12, 1, field, 0));
     }
 }
 

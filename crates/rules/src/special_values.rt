@@ -6,10 +6,9 @@ ghost use Rattle.pack.specs.Value.{field_at};
 ghost use Rattle.rules.specs.Emit.{Emitted};
 ghost use Rattle.rules.specs.SpecialValues.{special_max, special_values_at, check_special_values};
 
-use crate::emit::{Findings, pgn_error};
+use crate::emit::{Findings, field_error};
 use crate::field_rules::{FieldRule, check_fields};
-use pack::field::FieldView;
-use pack::loaded::PgnRef;
+use pack::loaded::{FieldRef, PgnRef};
 
 // The largest value of so many bits, at most of 63.
 #[tactic(auto, unfolding(crate::specs::SpecialValues::special_max))]
@@ -25,12 +24,12 @@ impl FieldRule for SpecialValues {
     ghost findings = { λ g k. special_values_at (tree_of g) g.item k (field_at (pgn_value g) k).res_bits (field_at (pgn_value g) k).special_values };
 
     #[tactic(auto, unfolding(crate::specs::SpecialValues::special_values_at))]
-    fn at(out: &mut Findings, pgn: &PgnRef, k: u32, f: FieldView) {
-        let Some(special) = f.links.special else {
+    fn at(out: &mut Findings, field: &FieldRef) {
+        let Some(special) = field.view.links.special else {
             return;
         };
-        let outside = 3 < special || special_max(f.scaling.bits) < special as u64;
-        out.put_if(outside, pgn_error(9, 1, pgn, k, 0));
+        let outside = 3 < special || special_max(field.view.scaling.bits) < special as u64;
+        out.put_if(outside, field_error(9, 1, field, 0));
     }
 }
 

@@ -13,12 +13,12 @@ ghost use Rattle.rules.specs.Floats.{float_eq};
 ghost use Rattle.rules.specs.SpnNames.{spn_field};
 ghost use Rattle.rules.specs.Spns.{spns_elsewhere, same_unit, first_seen, unlike_first, spn_at, check_scalings, check_spns};
 
-use crate::emit::{Findings, pgn_error};
+use crate::emit::{Findings, field_error, pgn_error};
 use crate::field_rules::{FieldRule, check_fields};
 use crate::spn_names::is_number;
 use pack::field::{FieldView, ScalingView};
 use pack::float::float;
-use pack::loaded::{Pack, PgnRef};
+use pack::loaded::{FieldRef, Pack, PgnRef};
 use pack::protocol::Protocol;
 use pack::text::{Text, same_text};
 
@@ -111,44 +111,37 @@ fn is_at(seen: &Carrier, item: u32, field: u32) -> bool
 }
 
 // A field of the J1939 tree that carries an SPN against the first that does.
-fn unlike_first(out: &mut Findings, pgn: &PgnRef, k: u32, f: FieldView, spn: u32)
-    requires { record {
-      tree : tree_of pgn.now ≡ 1;
-      field : k < pgn.now.view.fields;
-      means : field_meaning pgn.now.pack.bytes.now f ≡ field_at (pgn_value pgn.now) k;
-      spn : f.authored.spn ≡ Some spn;
-    } }
+fn unlike_first(out: &mut Findings, field: &FieldRef, spn: u32)
+    requires { record { tree : tree_of field.now.pgn.now ≡ 1; spn : field.now.view.authored.spn ≡ Some spn } }
     ensures { Emitted out.old
-        (unlike_first (pack_of pgn.now.pack.bytes.now).pgns_j1939 pgn.now.item k spn
-        (first_seen (pack_of pgn.now.pack.bytes.now).pgns_j1939 spn)) out.new }
+        (unlike_first (pack_of field.now.pgn.now.pack.bytes.now).pgns_j1939 field.now.pgn.now.item field.now.index spn
+        (first_seen (pack_of field.now.pgn.now.pack.bytes.now).pgns_j1939 spn)) out.new }
 {
+    let pgn = field.pgn;
     let seen = first_seen(&pgn.pack, spn);
-    if is_at(&seen, pgn.item, k) {
+    if is_at(&seen, pgn.item, field.index) {
         return;
     }
     let g = seen.pgn.field(seen.field);
-    let alike = same_scaling(pgn.pack.bytes, g.scaling, f.scaling);
-    out.put_if(!alike, pgn_error(42, 3, pgn, k, seen.pgn.item));
+    let alike = same_scaling(pgn.pack.bytes, g.scaling, field.view.scaling);
+    out.put_if(!alike, field_error(42, 3, field, seen.pgn.item));
 }
 
-// Field k of a PGN of the J1939 tree.
-fn spn_at(out: &mut Findings, pgn: &PgnRef, k: u32, f: FieldView)
-    requires { record {
-      tree : tree_of pgn.now ≡ 1;
-      field : k < pgn.now.view.fields;
-      means : field_meaning pgn.now.pack.bytes.now f ≡ field_at (pgn_value pgn.now) k;
-    } }
+// A field of the J1939 tree.
+fn spn_at(out: &mut Findings, field: &FieldRef)
+    requires { tree_of field.now.pgn.now ≡ 1 }
     ensures { Emitted out.old
-        (spn_at (pack_of pgn.now.pack.bytes.now).pgns_j1939 pgn.now.item k (field_at (pgn_value pgn.now) k).spn) out.new }
+        (spn_at (pack_of field.now.pgn.now.pack.bytes.now).pgns_j1939 field.now.pgn.now.item field.now.index
+        (field_at (pgn_value field.now.pgn.now) field.now.index).spn) out.new }
 {
-    let Some(spn) = f.authored.spn else {
+    let Some(spn) = field.view.authored.spn else {
         return;
     };
     if MAX_SPN < spn {
-        out.put(pgn_error(42, 2, pgn, k, 0));
+        out.put(field_error(42, 2, field, 0));
         return;
     }
-    unlike_first(out, pgn, k, f, spn);
+    unlike_first(out, field, spn);
 }
 
 // A PGN of the J1939 tree.
@@ -159,8 +152,7 @@ fn check_scalings(out: &mut Findings, pgn: &PgnRef)
         (check_scalings (pack_of pgn.now.pack.bytes.now).pgns_j1939 pgn.now.item (pgn_value pgn.now)) out.new }
 {
     for k in 0..pgn.view.fields {
-        let f = pgn.field(k);
-        spn_at(out, pgn, k, f);
+        spn_at(out, &pgn.field_ref(k));
     }
 }
 
@@ -180,8 +172,9 @@ struct SpnsElsewhere;
 impl FieldRule for SpnsElsewhere {
     ghost findings = { λ g k. report_if (is_some (field_at (pgn_value g) k).spn) (pgn_error 42 1 (tree_of g) g.item k 0) };
 
-    fn at(out: &mut Findings, pgn: &PgnRef, k: u32, f: FieldView) {
-        out.put_if(f.authored.spn.is_some(), pgn_error(42, 1, pgn, k, 0));
+    fn at(out: &mut Findings, field: &FieldRef) {
+        let carried = field.view.authored.spn.is_some();
+        out.put_if(carried, field_error(42, 1, field, 0));
     }
 }
 

@@ -8,12 +8,12 @@ ghost use Rattle.rules.specs.Search.{any_below, every_below};
 ghost use Rattle.rules.specs.TrailingZero.{starts_behind, fixed, unsigned_integer, trailing_zero_target_at, trailing_zero_at};
 ghost use Rattle.rules.specs.TrailingZero.{check_trailing_zero_is_digit};
 
-use crate::emit::{Findings, pgn_error};
+use crate::emit::{Findings, field_error, pgn_error};
 use crate::field_rules::{FieldRule, check_fields};
 use crate::floats::{ONE, ZERO, float_eq};
 use crate::targets::{integer, target};
 use pack::field::FieldView;
-use pack::loaded::{Pack, PgnRef};
+use pack::loaded::{FieldRef, Pack, PgnRef};
 use pack::pgn::{RepeatingView, set_at};
 use pack::protocol::{FieldIndex, FieldOrder, precedes};
 use pack::text::text_is;
@@ -122,16 +122,17 @@ impl FieldRule for TrailingZero {
         (field_at (pgn_value g) k).trailing_zero };
 
     #[tactic(auto, unfolding(crate::specs::TrailingZero::trailing_zero_at))]
-    fn at(out: &mut Findings, pgn: &PgnRef, k: u32, f: FieldView) {
-        let Some(id) = f.links.trailing else {
+    fn at(out: &mut Findings, field: &FieldRef) {
+        let pgn = field.pgn;
+        let Some(id) = field.view.links.trailing else {
             return;
         };
-        if !text_is(pgn.pack.bytes, f.names.kind, b"DECIMAL") {
-            out.put(pgn_error(44, 1, pgn, k, 0));
+        if !text_is(pgn.pack.bytes, field.view.names.kind, b"DECIMAL") {
+            out.put(field_error(44, 1, field, 0));
             return;
         }
         let j = target(pgn, id);
-        trailing_zero_target_at(out, pgn, k, j);
+        trailing_zero_target_at(out, pgn, field.index, j);
     }
 }
 

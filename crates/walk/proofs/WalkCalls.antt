@@ -7,9 +7,9 @@ use Rattle.std.specs.Prelude.{Result, Ok, Err}
 use Rattle.std.specs.Result.{result_ok, result_err}
 use Rattle.std.proofs.lemmas.Option.{none-some, same_Some}
 use lib.ListN.{length}
-use Rattle.pack.specs.Load.{Answer as Numbers, loaded, work_after}
+use Rattle.pack.specs.Load.{loaded, work_after}
 use Rattle.pack.specs.Notation.{◌≤ᵇ◌}
-use Rattle.pack.proofs.Told.{after_refused, after_accepted}
+use Rattle.pack.proofs.Told.{told_after}
 use Rattle.pack.specs.Loaded.{PgnSpot, pgn_spot, pgn_value}
 use Rattle.pack.specs.Meaning.{pack_of}
 use Rattle.pack.specs.declared.load.Index.{Index}
@@ -20,7 +20,7 @@ use Rattle.pack.specs.Value.{Pgn, Pack, pgn_at}
 use Rattle.walk.specs.Held.{held}
 use Rattle.walk.specs.Naming.{naming, Judges}
 use Rattle.walk.specs.Walk.{End, whole, used_up, stop, Answer, walk}
-use Rattle.walk.specs.WalkCall.{in_pack, ending, judged, walk_of, walked}
+use Rattle.walk.specs.WalkCall.{in_pack, ending, walk_judged, walk_of, walked}
 use Rattle.walk.specs.WalkCall.{visits_after, end_number, ending_number, walk_answer, visits_tell}
 use Rattle.walk.specs.WalkCall.{walk_tells, Walks}
 use Rattle.walk.specs.WalkCall.{held_judged, held_told, held_answer, held_tell, held_tells, TellsHeld}
@@ -91,11 +91,11 @@ end_told whole = refl
 end_told used_up = refl
 end_told (stop n) = refl
 
-judged_told : (there : Bool) (readings room : ℕ) (A : Answer) → walk_answer (judged there readings room A) ≡ visits_tell there readings room A
-judged_told false readings room A = refl
-judged_told true readings room A = go (readings ≤ᵇ room) refl
+walk_judged_told : (there : Bool) (readings room : ℕ) (A : Answer) → walk_answer (walk_judged there readings room A) ≡ visits_tell there readings room A
+walk_judged_told false readings room A = refl
+walk_judged_told true readings room A = go (readings ≤ᵇ room) refl
   where
-    go : (b : Bool) → (readings ≤ᵇ room) ≡ b → walk_answer (judged true readings room A) ≡ visits_tell true readings room A
+    go : (b : Bool) → (readings ≤ᵇ room) ≡ b → walk_answer (walk_judged true readings room A) ≡ visits_tell true readings room A
     go true e = rw (e, end_told A.ends)
     go false e = rw e
 
@@ -106,31 +106,11 @@ held_judged_told false h = refl
 module _ (s : List ℕ) (m t i : ℕ) where
   walk_told : (readings : List ℕ) (n : ℕ) → walk_answer (walked s m t i readings n) ≡ walk_tells s m t i readings n
   unfolding walked walk_tells
-  walk_told readings n = go (loaded s m) refl
-    where
-      there : Bool
-      there = in_pack (pack_of s) t i
-
-      rest : Numbers
-      rest = visits_tell there (length readings) n (walk_of s t i readings)
-
-      go : (l : Result Index Refusal) → loaded s m ≡ l → walk_answer (walked s m t i readings n) ≡ walk_tells s m t i readings n
-      go (Err r) e = rw e (after_refused s m r e rest)
-      go (Ok x) e = rw e (judged_told there (length readings) n (walk_of s t i readings) ∙ after_accepted s m x e rest)
+  walk_told readings n = told_after _ s m _ _ (walk_judged_told (in_pack (pack_of s) t i) (length readings) n (walk_of s t i readings))
 
   held_numbers : held_answer (held_told s m t i) ≡ held_tells s m t i
   unfolding held_told held_tells
-  held_numbers = go (loaded s m) refl
-    where
-      there : Bool
-      there = in_pack (pack_of s) t i
-
-      h : Bool
-      h = held (pack_of s) (pgn_at (pack_of s) t i)
-
-      go : (l : Result Index Refusal) → loaded s m ≡ l → held_answer (held_told s m t i) ≡ held_tells s m t i
-      go (Err r) e = rw e (after_refused s m r e (held_tell there h))
-      go (Ok x) e = rw e (held_judged_told there h ∙ after_accepted s m x e (held_tell there h))
+  held_numbers = told_after _ s m _ _ (held_judged_told (in_pack (pack_of s) t i) (held (pack_of s) (pgn_at (pack_of s) t i)))
 
 pub walk_promised : (s : List ℕ) (t i : ℕ) (readings w o w' o' : List ℕ) (r : Result Ended Refusal) → Answers s (length w) t i readings o r o'
     → w' ≡ work_after s w → Walks s t i readings w o w' o' r

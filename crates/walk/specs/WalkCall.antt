@@ -1,10 +1,10 @@
 -- What the calls `walk` and `held` answer, and what they leave in the visit buffer.
 use Rattle.std.specs.Prelude.{ℕ, ◌≡◌, Bool, ◌&&◌, List, [], ◌∷◌, length, Result, Ok, Err, if◌then◌else◌}
 use Rattle.pack.specs.Notation.{◌<ᵇ◌, ◌≤ᵇ◌}
-use Rattle.pack.specs.Load.{Answer as Numbers, refuses, gives, after, refusal_answer, loaded, load_tells, over, work_after}
+use Rattle.pack.specs.Load.{Answer as Numbers, refuses, gives, after, in_numbers, loaded, after_load, load_tells}
+use Rattle.pack.specs.Load.{over, buffer_left, work_after}
 use Rattle.pack.specs.Meaning.{pack_of}
 use Rattle.pack.specs.Value.{Pack, pgns_of, pgn_at}
-use Rattle.pack.specs.declared.load.Index.{Index}
 use Rattle.pack.specs.declared.load.Refusal.{Refusal}
 use Rattle.pack.specs.declared.load.Refusal.TheVariants.{Absent, Visits}
 use Rattle.walk.specs.Walk.{End, whole, used_up, stop, Answer, walk}
@@ -25,37 +25,28 @@ ending used_up = UsedUp
 ending (stop n) = Stop n
 
 -- "The answer is the end and the number of visits, one for each reading taken."
-abbrev pub told : Answer → Ended
-told a = record { end = ending a.ends; visits = length a.visits }
+abbrev pub ended_by : Answer → Ended
+ended_by a = record { end = ending a.ends; visits = length a.visits }
 
 -- the walk's answer r is A's, and of the visit buffer w it has made w'
 pub record Told (A : Answer) (w w' : List ℕ) (r : Ended) : Type 0 where
-  pub answer : r ≡ told A
+  pub answer : r ≡ ended_by A
   pub out : w' ≡ over A.visits w
 
 -- 25: "visit buffer shorter than the readings"; the detail is "the length needed". 23 comes before it. So many readings, and room for so many visits
-abbrev pub judged : Bool → (readings room : ℕ) → Answer → Result Ended Refusal
-judged there readings room a = if there then (if readings ≤ᵇ room then Ok (told a) else Err (Visits readings)) else Err Absent
-
--- "Input refusals come before these; then 21, 23, 25"
-abbrev pub after_load : Result Index Refusal → Result Ended Refusal → Result Ended Refusal
-after_load (Err r) a = Err r
-after_load (Ok i) a = a
+abbrev pub walk_judged : Bool → (readings room : ℕ) → Answer → Result Ended Refusal
+walk_judged there readings room a = if there then (if readings ≤ᵇ room then Ok (ended_by a) else Err (Visits readings)) else Err Absent
 
 abbrev pub walk_of : List ℕ → (tree pgn : ℕ) → List ℕ → Answer
 walk_of s t i readings = walk (pack_of s) (pgn_at (pack_of s) t i) readings
 
--- `walk` of PGN i of tree t of the pack s, with a work buffer of m numbers and a visit buffer of n
+-- "Input refusals come before these; then 21, 23, 25": `walk` of PGN i of tree t of the pack s, with a work buffer of m numbers and a visit buffer of n
 unfoldable pub walked : List ℕ → (m t i : ℕ) → List ℕ → (n : ℕ) → Result Ended Refusal
-walked s m t i readings n = after_load (loaded s m) (judged (in_pack (pack_of s) t i) (length readings) n (walk_of s t i readings))
+walked s m t i readings n = after_load (loaded s m) (walk_judged (in_pack (pack_of s) t i) (length readings) n (walk_of s t i readings))
 
 -- "After 22 and higher numbers no other buffer has changed"; "each visit .. writes the index"; "Success writes only the entries it reports."
-abbrev pub visits_left : Result Ended Refusal → List ℕ → List ℕ → List ℕ
-visits_left (Err r) front o = o
-visits_left (Ok x) front o = over front o
-
 unfoldable pub visits_after : List ℕ → (m t i : ℕ) → List ℕ → List ℕ → List ℕ
-visits_after s m t i readings o = visits_left (walked s m t i readings (length o)) (walk_of s t i readings).visits o
+visits_after s m t i readings o = buffer_left (walked s m t i readings (length o)) (walk_of s t i readings).visits o
 
 -- ---- the same in 01's numbers
 
@@ -72,8 +63,7 @@ ending_number UsedUp = 10
 ending_number (Stop n) = number_of n
 
 abbrev pub walk_answer : Result Ended Refusal → Numbers
-walk_answer (Err r) = refusal_answer r
-walk_answer (Ok x) = gives (ending_number x.end ∷ x.visits ∷ [])
+walk_answer = in_numbers (λ x. ending_number x.end ∷ x.visits ∷ [])
 
 -- 23, then 25 with "the length needed"
 abbrev pub visits_tell : Bool → (readings room : ℕ) → Answer → Numbers
@@ -97,20 +87,15 @@ pub record Walks (s : List ℕ) (t i : ℕ) (readings w o w' o' : List ℕ) (r :
 abbrev pub held_judged : Bool → Bool → Result Bool Refusal
 held_judged there h = if there then Ok h else Err Absent
 
-abbrev pub held_after : Result Index Refusal → Result Bool Refusal → Result Bool Refusal
-held_after (Err r) a = Err r
-held_after (Ok i) a = a
-
 unfoldable pub held_told : List ℕ → (m t i : ℕ) → Result Bool Refusal
-held_told s m t i = held_after (loaded s m) (held_judged (in_pack (pack_of s) t i) (held (pack_of s) (pgn_at (pack_of s) t i)))
+held_told s m t i = after_load (loaded s m) (held_judged (in_pack (pack_of s) t i) (held (pack_of s) (pgn_at (pack_of s) t i)))
 
 -- in 01's numbers: 1 where the PGN is held, 0 where it is not
 abbrev pub yes_number : Bool → ℕ
 yes_number h = if h then 1 else 0
 
 abbrev pub held_answer : Result Bool Refusal → Numbers
-held_answer (Err r) = refusal_answer r
-held_answer (Ok h) = gives (yes_number h ∷ [])
+held_answer = in_numbers (λ h. yes_number h ∷ [])
 
 abbrev pub held_tell : Bool → Bool → Numbers
 held_tell there h = if there then gives (yes_number h ∷ []) else refuses 23 0

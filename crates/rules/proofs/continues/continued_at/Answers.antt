@@ -1,5 +1,5 @@
-use Rattle.std.specs.Prelude.{is_some, ◌==◌, if◌then◌else◌}
-use Rattle.rules.specs.Continues.{set_of, integer, not_raw, continued_by, continued_at}
+use Rattle.std.specs.Prelude.{is_some}
+use Rattle.rules.specs.Continues.{integer, not_raw, continued_place, continued_at}
 use Rattle.rules.specs.Model.{fieldtype_of, root_of, value_bits}
 use Rattle.rules.proofs.OptionMaps.{is_some_map}
 use Rattle.rules.specs.Texts.{NUMBER}
@@ -16,13 +16,8 @@ use Rattle.pack.specs.Notation.{◌<ᵇ◌, ◌≐◌}
 use mathlib.Core.Bool.{not, ◌||◌, Bool}
 use Prim.Native.Nat.{ℕ}
 use mathlib.Core.Path.{◌≡◌}
-use mathlib.Core.List.{List, [], ◌∷◌, ◌++◌}
+use mathlib.Core.List.{List, ◌++◌}
 use Rattle.rules.proofs.continues.continued_at.Goals as goal
-
-abbrev placed : ℕ → ℕ → Pgn → ℕ → Bytes → ℕ → Bool → List Finding
-placed t i p k id j b =
-    if not (set_of p j == set_of p k) then pgn_error 43 2 t i k j ∷ [] else (if not b then pgn_error 43 3 t i k j ∷ [] else report_if (1 <ᵇ continued_by p id)
-    (pgn_error 43 4 t i k j))
 
 -- said of the views
 module _ (s : List ℕ) (fts : List FieldType) (p : Pgn) (f low : FieldView) (id : Bytes) {t i k j : ℕ} {m n w d c e : Bool} {F G H I J : Finding}
@@ -33,15 +28,15 @@ module _ (s : List ℕ) (fts : List FieldType) (p : Pgn) (f low : FieldView) (id
     (ee : e ≡ (64 <ᵇ value_bits (field_meaning s low))) (Fe : F ≡ pgn_error 43 5 t i k j) (Ge : G ≡ pgn_error 43 6 t i k j)
     (He : H ≡ pgn_error 43 7 t i k j) (Ie : I ≡ pgn_error 43 8 t i k j) (Je : J ≡ pgn_error 43 9 t i k j) where
   said : continued_at fts t i p k (field_at p k) id j (field_at p j)
-      ≡ placed t i p k id j m ++ report_if n F ++ report_if w G ++ report_if d H ++ report_if c I ++ report_if e J
+      ≡ continued_place t i p k id j m ++ report_if n F ++ report_if w G ++ report_if d H ++ report_if c I ++ report_if e J
   unfolding continued_at
   said = rw (← is, ← lis, is_some_map (bytes_of s) low.authored.continues, ← me, ← ne, ← we, ← de, ← ce, ← ee, ← Fe, ← Ge, ← He, ← Ie, ← Je)
 
 pub returns : goal.returns
 returns c =
-    let g = c.args.pgn.now in
+    let x = c.args.link.now in let f = x.field.now in let g = f.pgn.now in
     let s = g.pack.bytes.now in
-    let all = said s (pack_of s).fieldtypes (pgn_value g) c.args.f c.field-low.result (bytes_of s c.args.link.id) c.requires.means c.field-low.ensures
+    let all = said s (pack_of s).fieldtypes (pgn_value g) f.view c.field-low.result (bytes_of s x.id) f.means c.field-low.ensures
     c.is_some.ensures c.is_some-2.ensures c.not_integers-words.ensures c.not_raw-dressed.ensures c.not_plain-scaled.ensures
     c.too_wide-wide.ensures c.link_error.ensures c.link_error-2.ensures c.link_error-3.ensures c.link_error-4.ensures c.link_error-5.ensures in
     rw all (emitted_append (emitted_append (emitted_append (emitted_append (emitted_append c.placed_at.ensures c.put_if.ensures) c.put_if-2.ensures)

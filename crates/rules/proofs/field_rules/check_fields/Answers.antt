@@ -2,4 +2,5 @@ use Rattle.rules.proofs.Emits.{reporting_turn}
 use Rattle.rules.proofs.field_rules.check_fields.Goals as goal
 
 pub loop-k-preserved : goal.loop-k-preserved
-loop-k-preserved g c = reporting_turn c.loop-k.invariant c.loop-k-test.true c.at.ensures
+loop-k-preserved g c =
+    reporting_turn c.loop-k.invariant c.loop-k-test.true (rw (c.field_ref.ensures.pgn, c.field_ref.ensures.index) at c.at.ensures)

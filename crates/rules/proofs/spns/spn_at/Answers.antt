@@ -29,18 +29,18 @@ module _ (s : List ℕ) (pgns : List Pgn) (i k : ℕ) (F : Field) (f : FieldView
 
 pub returns-in_default : goal.returns-in_default
 returns-in_default c =
-    let g = c.args.pgn.now in
-    rw (absent g.pack.bytes.now (pack_of g.pack.bytes.now).pgns_j1939 g.item c.args.k (field_at (pgn_value g) c.args.k) c.args.f c.requires.means
+    let f = c.args.field.now in let g = f.pgn.now in
+    rw (absent g.pack.bytes.now (pack_of g.pack.bytes.now).pgns_j1939 g.item f.index (field_at (pgn_value g) f.index) f.view f.means
     c.in_default.is) (emitted_none c.args.out.now)
 
 pub returns-then-spn-gt-MAX_SPN : goal.returns-then-spn-gt-MAX_SPN
 returns-then-spn-gt-MAX_SPN c =
-    let g = c.args.pgn.now in
-    rw (beyond g.pack.bytes.now (pack_of g.pack.bytes.now).pgns_j1939 g.item c.args.k (field_at (pgn_value g) c.args.k) c.args.f c.requires.means
-    c.in-Some.spn c.in-Some.is c.if-spn-gt-MAX_SPN.true c.pgn_error.result (rw c.requires.tree at c.pgn_error.ensures)) c.put.ensures
+    let f = c.args.field.now in let g = f.pgn.now in
+    rw (beyond g.pack.bytes.now (pack_of g.pack.bytes.now).pgns_j1939 g.item f.index (field_at (pgn_value g) f.index) f.view f.means
+    c.in-Some.spn c.in-Some.is c.if-spn-gt-MAX_SPN.true c.field_error.result (rw c.requires at c.field_error.ensures)) c.put.ensures
 
 pub returns : goal.returns
 returns c =
-    let g = c.args.pgn.now in
-    rw (within g.pack.bytes.now (pack_of g.pack.bytes.now).pgns_j1939 g.item c.args.k (field_at (pgn_value g) c.args.k) c.args.f c.requires.means
+    let f = c.args.field.now in let g = f.pgn.now in
+    rw (within g.pack.bytes.now (pack_of g.pack.bytes.now).pgns_j1939 g.item f.index (field_at (pgn_value g) f.index) f.view f.means
     c.in-Some.spn c.in-Some.is c.if-spn-gt-MAX_SPN.false) c.unlike_first.ensures

@@ -63,16 +63,16 @@ alike s g f G F p q a h = h ∙ (λ j. same_scaling (p j) (q j))
 
 pub first_seen-seen-requires : goal.first_seen-seen-requires
 first_seen-seen-requires c =
-    let g = c.args.pgn.now in
-    let own = ap (λ (F : Field). F.spn) (sym c.requires.means) ∙ c.requires.spn in
-    let inside : c.args.k < length (pgn_value g).fields = omega (arith, c.requires.field, g.is.fields) in
-    carried_seen (pack_of g.pack.bytes.now).pgns_j1939 c.args.spn g.item c.args.k (rw c.requires.tree at g.at.pgn) (rw c.requires.tree at inside)
+    let f = c.args.field.now in let g = f.pgn.now in
+    let own = ap (λ (F : Field). F.spn) (sym f.means) ∙ c.requires.spn in
+    let inside : f.index < length (pgn_value g).fields = omega (arith, f.inside, g.is.fields) in
+    carried_seen (pack_of g.pack.bytes.now).pgns_j1939 c.args.spn g.item f.index (rw c.requires.tree at g.at.pgn) (rw c.requires.tree at inside)
     (rw c.requires.tree at own)
 
 pub returns-then-is_at : goal.returns-then-is_at
 returns-then-is_at c =
-    let g = c.args.pgn.now in let x = c.first_seen-seen.result in let a = c.first_seen-seen.ensures in
-    rw (itself (pack_of g.pack.bytes.now).pgns_j1939 g.item c.args.k c.args.spn x.pgn.item x.field a.seen (rw (a.bytes, a.tree) at a.field)
+    let f = c.args.field.now in let g = f.pgn.now in let x = c.first_seen-seen.result in let a = c.first_seen-seen.ensures in
+    rw (itself (pack_of g.pack.bytes.now).pgns_j1939 g.item f.index c.args.spn x.pgn.item x.field a.seen (rw (a.bytes, a.tree) at a.field)
     c.is_at.result c.is_at.ensures c.if-is_at.true) (emitted_none c.args.out.now)
 
 pub field-g-requires : goal.field-g-requires
@@ -82,10 +82,10 @@ field-g-requires c =
 
 pub returns : goal.returns
 returns c =
-    let g = c.args.pgn.now in let x = c.first_seen-seen.result in let a = c.first_seen-seen.ensures in let s = g.pack.bytes.now in
+    let f = c.args.field.now in let g = f.pgn.now in let x = c.first_seen-seen.result in let a = c.first_seen-seen.ensures in let s = g.pack.bytes.now in
     let first = rw (a.bytes, a.tree) at c.field-g.ensures in
-    let own = rw c.requires.tree at c.requires.means in
-    let same = alike s c.field-g.result c.args.f _ _ first own c.same_scaling-alike.result c.same_scaling-alike.ensures in
-    rw (another (pack_of s).pgns_j1939 g.item c.args.k c.args.spn x.pgn.item x.field a.seen (rw (a.bytes, a.tree) at a.field)
-    c.is_at.result c.is_at.ensures c.if-is_at.false c.same_scaling-alike.result same c.pgn_error.result (rw c.requires.tree at c.pgn_error.ensures))
+    let own = rw c.requires.tree at f.means in
+    let same = alike s c.field-g.result f.view _ _ first own c.same_scaling-alike.result c.same_scaling-alike.ensures in
+    rw (another (pack_of s).pgns_j1939 g.item f.index c.args.spn x.pgn.item x.field a.seen (rw (a.bytes, a.tree) at a.field)
+    c.is_at.result c.is_at.ensures c.if-is_at.false c.same_scaling-alike.result same c.field_error.result (rw c.requires.tree at c.field_error.ensures))
     c.put_if.ensures
