@@ -7,7 +7,7 @@ ghost use Rattle.rules.specs.Emit.{Emitted};
 ghost use Rattle.rules.specs.Floats.{float_eq, ONE};
 ghost use Rattle.rules.specs.BitLengthField.{variable_binary, bit_length_target_at, bit_length_field_at, check_bit_length_field};
 
-use crate::emit::{Findings, field_error, pgn_error};
+use crate::emit::{Findings, field_error};
 use crate::field_rules::{FieldRule, check_fields};
 use crate::floats::{ONE, float_eq};
 use crate::targets::target;
@@ -29,23 +29,24 @@ fn not_bit_count(f: FieldView) -> bool
     f.links.reference.is_some() || !float_eq(f.scaling.resolution, ONE) || f.scaling.bits == 0
 }
 
-// The target of field k.
+// The target of a field.
 #[tactic(auto, unfolding(crate::specs::BitLengthField::bit_length_target_at, crate::specs::BitLengthField::not_bit_count))]
-fn bit_length_target_at(out: &mut Findings, pgn: &PgnRef, k: u32, j: Option<u32>)
-    requires { k < pgn.now.view.fields }
-    ensures { Emitted out.old (bit_length_target_at (tree_of pgn.now) pgn.now.item (pgn_value pgn.now) k j) out.new }
+fn bit_length_target_at(out: &mut Findings, field: &FieldRef, j: Option<u32>)
+    ensures { Emitted out.old
+        (bit_length_target_at (tree_of field.now.pgn.now) field.now.pgn.now.item (pgn_value field.now.pgn.now) field.now.index j) out.new }
 {
     let Some(j) = j else {
-        out.put(pgn_error(15, 3, pgn, k, 0));
+        out.put(field_error(15, 3, field, 0));
         return;
     };
-    if k <= j {
-        out.put(pgn_error(15, 4, pgn, k, j));
+    if field.index <= j {
+        out.put(field_error(15, 4, field, j));
         return;
     }
+    let pgn = field.pgn;
     let f = pgn.field(j);
     let wrong = not_bit_count(f);
-    out.put_if(wrong, pgn_error(15, 5, pgn, k, j));
+    out.put_if(wrong, field_error(15, 5, field, j));
 }
 
 struct BitLengthField;
@@ -66,7 +67,7 @@ impl FieldRule for BitLengthField {
             return;
         }
         let j = target(pgn, id);
-        bit_length_target_at(out, pgn, field.index, j);
+        bit_length_target_at(out, field, j);
     }
 }
 

@@ -10,10 +10,9 @@ ghost use Rattle.rules.specs.Emit.{Emitted};
 ghost use Rattle.rules.specs.Model.{root_of};
 ghost use Rattle.rules.specs.Texts.{DYNAMIC_FIELD_KEY};
 
-use crate::emit::{Findings, pgn_error};
+use crate::emit::{Findings, field_error};
 use crate::model::root_of;
-use pack::field::FieldView;
-use pack::loaded::PgnRef;
+use pack::loaded::{FieldRef, PgnRef};
 use pack::text::{Text, text_is};
 
 // Whether a field is a length source: dynamicFieldLength or DYNAMIC_FIELD_KEY.
@@ -23,27 +22,29 @@ pub fn length_source(s: &[u8], dynamic: bool, root: Text) -> bool
     dynamic || text_is(s, root, b"DYNAMIC_FIELD_KEY")
 }
 
-// Field k with its root's name, and whether there is a length source by then.
-fn dynamic_length_at(out: &mut Findings, pgn: &PgnRef, k: u32, f: FieldView, root: Text, have: bool)
+// A field with its root's name, and whether there is a length source by then.
+fn dynamic_length_at(out: &mut Findings, field: &FieldRef, root: Text, have: bool)
     requires { record {
-      means : field_meaning pgn.now.pack.bytes.now f ≡ field_at (pgn_value pgn.now) k;
-      root : bytes_of pgn.now.pack.bytes.now root ≡ root_of (pack_of pgn.now.pack.bytes.now).fieldtypes (field_at (pgn_value pgn.now) k);
-      have : have ≡ have_length_source (pack_of pgn.now.pack.bytes.now).fieldtypes (pgn_value pgn.now) k;
+      root : bytes_of field.now.pgn.now.pack.bytes.now root ≡ root_of (pack_of field.now.pgn.now.pack.bytes.now).fieldtypes
+          (field_at (pgn_value field.now.pgn.now) field.now.index);
+      have : have ≡ have_length_source (pack_of field.now.pgn.now.pack.bytes.now).fieldtypes (pgn_value field.now.pgn.now) field.now.index;
     } }
     ensures { Emitted out.old
-        (dynamic_length_at (pack_of pgn.now.pack.bytes.now).fieldtypes (tree_of pgn.now) pgn.now.item (pgn_value pgn.now) k
-        (field_at (pgn_value pgn.now) k)) out.new }
+        (dynamic_length_at (pack_of field.now.pgn.now.pack.bytes.now).fieldtypes (tree_of field.now.pgn.now) field.now.pgn.now.item
+        (pgn_value field.now.pgn.now) field.now.index (field_at (pgn_value field.now.pgn.now) field.now.index)) out.new }
 {
+    let pgn = field.pgn;
     let s = pgn.pack.bytes;
-    let dynamic = f.flags.dynamic;
+    let flags = field.view.flags;
+    let dynamic = flags.dynamic;
     let is_length = text_is(s, root, b"DYNAMIC_FIELD_LENGTH");
     let is_value = text_is(s, root, b"DYNAMIC_FIELD_VALUE");
     let misplaced = dynamic && !is_length;
-    out.put_if(misplaced, pgn_error(6, 1, pgn, k, 0));
-    let overhead = f.flags.overhead && !dynamic;
-    out.put_if(overhead, pgn_error(6, 2, pgn, k, 0));
+    out.put_if(misplaced, field_error(6, 1, field, 0));
+    let overhead = flags.overhead && !dynamic;
+    out.put_if(overhead, field_error(6, 2, field, 0));
     let sourceless = is_value && !have;
-    out.put_if(sourceless, pgn_error(6, 3, pgn, k, 0));
+    out.put_if(sourceless, field_error(6, 3, field, 0));
 }
 
 // R06: DYNAMIC_FIELD_VALUE needs an earlier length source; overhead only on length fields; dynamicFieldLength only on
@@ -55,9 +56,10 @@ pub(crate) fn check_dynamic_length(out: &mut Findings, pgn: &PgnRef)
 {
     let mut have = false;
     for k in 0..pgn.view.fields {
-        let f = pgn.field(k);
+        let field = pgn.field_ref(k);
+        let f = field.view;
         let root = root_of(&pgn.pack, f.ft);
         have |= length_source(pgn.pack.bytes, f.flags.dynamic, root);
-        dynamic_length_at(out, pgn, k, f, root, have);
+        dynamic_length_at(out, &field, root, have);
     }
 }

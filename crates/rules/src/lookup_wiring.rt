@@ -72,10 +72,7 @@ fn lookup_width_at(out: &mut Findings, field: &FieldRef, lookup: &LookupRef)
         out.put_if(!allowed, field_error(8, 4, field, lookup.item));
         return;
     }
-    out.put_if(
-        allowed,
-        pgn_warning(8, 5, pgn, field.index, lookup.item),
-    );
+    out.put_if(allowed, pgn_warning(8, 5, pgn, field.index, lookup.item));
 }
 
 struct LookupRefs;

@@ -8,7 +8,7 @@ ghost use Rattle.rules.specs.Search.{any_below, every_below};
 ghost use Rattle.rules.specs.TrailingZero.{starts_behind, fixed, unsigned_integer, trailing_zero_target_at, trailing_zero_at};
 ghost use Rattle.rules.specs.TrailingZero.{check_trailing_zero_is_digit};
 
-use crate::emit::{Findings, field_error, pgn_error};
+use crate::emit::{Findings, field_error};
 use crate::field_rules::{FieldRule, check_fields};
 use crate::floats::{ONE, ZERO, float_eq};
 use crate::targets::{integer, target};
@@ -90,29 +90,29 @@ fn unsigned_integer(pack: &Pack, f: FieldView) -> bool
         && f.scaling.bits <= 63
 }
 
-// The target of field k.
+// The target of a field.
 #[tactic(auto, using(crate::proofs::Fields::type_there), unfolding(crate::specs::TrailingZero::trailing_zero_target_at))]
-fn trailing_zero_target_at(out: &mut Findings, pgn: &PgnRef, k: u32, j: Option<u32>)
-    requires { k < pgn.now.view.fields }
+fn trailing_zero_target_at(out: &mut Findings, field: &FieldRef, j: Option<u32>)
     ensures { Emitted out.old
-        (trailing_zero_target_at (pack_of pgn.now.pack.bytes.now).fieldtypes (tree_of pgn.now) pgn.now.item (pgn_value pgn.now) k j)
-        out.new }
+        (trailing_zero_target_at (pack_of field.now.pgn.now.pack.bytes.now).fieldtypes (tree_of field.now.pgn.now) field.now.pgn.now.item
+        (pgn_value field.now.pgn.now) field.now.index j) out.new }
 {
     let Some(j) = j else {
-        out.put(pgn_error(44, 2, pgn, k, 0));
+        out.put(field_error(44, 2, field, 0));
         return;
     };
-    if k <= j {
-        out.put(pgn_error(44, 3, pgn, k, j));
+    let pgn = field.pgn;
+    if field.index <= j {
+        out.put(field_error(44, 3, field, j));
         return;
     }
     if !fixed(pgn, j) {
-        out.put(pgn_error(44, 3, pgn, k, j));
+        out.put(field_error(44, 3, field, j));
         return;
     }
     let f = pgn.field(j);
     let right = unsigned_integer(&pgn.pack, f);
-    out.put_if(!right, pgn_error(44, 4, pgn, k, j));
+    out.put_if(!right, field_error(44, 4, field, j));
 }
 
 struct TrailingZero;
@@ -132,7 +132,7 @@ impl FieldRule for TrailingZero {
             return;
         }
         let j = target(pgn, id);
-        trailing_zero_target_at(out, pgn, field.index, j);
+        trailing_zero_target_at(out, field, j);
     }
 }
 

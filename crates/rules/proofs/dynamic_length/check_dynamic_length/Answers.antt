@@ -25,24 +25,28 @@ found : (g : PgnRef) (k : ℕ) (v : FieldView) (root : List ℕ) (old one : Bool
 unfolding length_source
 found g k v root old one is r o n = rw (n, o, r, ← is)
 
-pub dynamic_length_at-requires : goal.dynamic_length_at-requires
+-- the same, as the rule says it
+by_then : (g : PgnRef) (k : ℕ) (b : Bool) → b ≡ any_below (source g) (suc k) → b ≡ have_length_source (pack_of g.pack.bytes.now).fieldtypes (pgn_value g) k
 unfolding have_length_source
+by_then g k b h = h
+
+pub dynamic_length_at-requires : goal.dynamic_length_at-requires
 dynamic_length_at-requires c =
-    let g = c.args.pgn.now in
-    record {
-      means = c.field-f.ensures;
-      root = (rw (← c.field-f.ensures) c.root_of-root.ensures);
-      have = found g c.loop-k.k c.field-f.result (bytes_of g.pack.bytes.now c.root_of-root.result) c.loop-k.have _ c.field-f.ensures c.root_of-root.ensures
-          c.loop-k.invariant.have
-          c.length_source-have.ensures;
-    }
+    let g = c.args.pgn.now in let x = c.field_ref-field.result in let same = c.field_ref-field.ensures in
+    let means = rw (same.pgn, same.index) at x.means in
+    rw (same.pgn, same.index)
+    (record {
+      root = (rw (← means) c.root_of-root.ensures);
+      have = by_then g c.loop-k.k _
+          (found g c.loop-k.k x.view (bytes_of g.pack.bytes.now c.root_of-root.result) c.loop-k.have _ means c.root_of-root.ensures
+          c.loop-k.invariant.have c.length_source-have.ensures);
+    })
 
 pub loop-k-preserved : goal.loop-k-preserved
 loop-k-preserved c =
-    let g = c.args.pgn.now in
+    let g = c.args.pgn.now in let x = c.field_ref-field.result in let same = c.field_ref-field.ensures in
     record {
-      reporting = reporting_turn c.loop-k.invariant.reporting c.loop-k-test.true c.dynamic_length_at.ensures;
-      have = (rw (add-one c.loop-k.k) (found g c.loop-k.k c.field-f.result (bytes_of g.pack.bytes.now c.root_of-root.result) c.loop-k.have _
-          c.field-f.ensures
-          c.root_of-root.ensures c.loop-k.invariant.have c.length_source-have.ensures));
+      reporting = reporting_turn c.loop-k.invariant.reporting c.loop-k-test.true (rw (same.pgn, same.index) at c.dynamic_length_at.ensures);
+      have = (rw (add-one c.loop-k.k) (found g c.loop-k.k x.view (bytes_of g.pack.bytes.now c.root_of-root.result) c.loop-k.have _
+          (rw (same.pgn, same.index) at x.means) c.root_of-root.ensures c.loop-k.invariant.have c.length_source-have.ensures));
     }

@@ -29,11 +29,11 @@ viewed s fts t i P k F v root have is r hv a b d l w f g h xl xw xa xf xb xg xd 
 
 pub returns : goal.returns
 returns c =
-    let g = c.args.pgn.now in let s = g.pack.bytes.now in let f = c.args.f.flags in
+    let x = c.args.field.now in let g = x.pgn.now in let s = g.pack.bytes.now in let f = x.view.flags in
     let misplaced : c.if-dynamic.misplaced ≡ (f.dynamic && not c.text_is-is_length.result) = search rules in
-    let overhead : c.if-f.overhead ≡ (f.overhead && not f.dynamic) = search rules in
+    let overhead : c.if-flags.overhead ≡ (f.overhead && not f.dynamic) = search rules in
     let sourceless : c.if-is_value.sourceless ≡ (c.text_is-is_value.result && not c.args.have) = search rules in
-    rw (viewed s (pack_of s).fieldtypes (tree_of g) g.item (pgn_value g) c.args.k _ c.args.f (bytes_of s c.args.root) c.args.have
-    c.requires.means c.requires.root c.requires.have _ _ _ _ _ _ _ _ c.text_is-is_length.ensures c.text_is-is_value.ensures misplaced
-    c.pgn_error.ensures overhead c.pgn_error-2.ensures sourceless c.pgn_error-3.ensures)
+    rw (viewed s (pack_of s).fieldtypes (tree_of g) g.item (pgn_value g) x.index _ x.view (bytes_of s c.args.root) c.args.have
+    x.means c.requires.root c.requires.have _ _ _ _ _ _ _ _ c.text_is-is_length.ensures c.text_is-is_value.ensures misplaced
+    c.field_error.ensures overhead c.field_error-2.ensures sourceless c.field_error-3.ensures)
     (emitted_append (emitted_append c.put_if.ensures c.put_if-2.ensures) c.put_if-3.ensures)
