@@ -284,7 +284,11 @@ impl<'a> PgnRef<'a> {
     // The same with its PGN and its index.
     pub fn field_ref<'p>(&'p self, k: u32) -> FieldRef<'p, 'a>
         requires { k < self.now.view.fields }
-        ensures { record { pgn : result.pgn.now ≡ self.now; index : result.index ≡ k } }
+        ensures { record {
+          pgn : result.pgn.now ≡ self.now;
+          index : result.index ≡ k;
+          means : field_meaning self.now.pack.bytes.now result.view ≡ field_at (pgn_value self.now) k;
+        } }
     {
         FieldRef {
             pgn: self,

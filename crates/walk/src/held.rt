@@ -1,7 +1,7 @@
 // Which PGNs are held.
 ghost use Rattle.std.specs.Prelude.{◌≡◌, IfSome, is_some, not, ◌&&◌, ◌||◌, suc, ◌<◌, length};
 ghost use Rattle.pack.specs.Loaded.{pgn_value};
-ghost use Rattle.pack.specs.Meaning.{field_meaning, pack_of};
+ghost use Rattle.pack.specs.Meaning.{pack_of};
 ghost use Rattle.pack.specs.Value.{field_at};
 ghost use Rattle.walk.specs.Held.{shares_held, count_field_held, count_fields_held, bit_length_held, dynamic_value_held, held};
 ghost use Rattle.rules.specs.DynamicLength.{length_source};
@@ -13,7 +13,6 @@ ghost use Rattle.rules.specs.Search.{any_below, every_below};
 use crate::named::FoundPgn;
 use crate::sets::{Sets, clashes, holds, nested_in, sets_hold};
 use crate::stops::{is_value, length_giver};
-use pack::field::FieldView;
 use pack::protocol::{FieldIndex, FieldOrder};
 use rules::targets::target;
 
@@ -66,14 +65,12 @@ fn count_fields_held(sets: Sets) -> bool
     true
 }
 
-// Whether the sets of the bitLengthField target of field k, which is f, hold field k.
-fn bit_length_held(found: &FoundPgn, k: u32, f: FieldView) -> bool
-    requires { record {
-      field : k < found.now.pgn.view.fields;
-      means : field_meaning found.now.pgn.pack.bytes.now f ≡ field_at (pgn_value found.now.pgn) k;
-    } }
+// Whether the sets of the bitLengthField target of field k hold field k.
+fn bit_length_held(found: &FoundPgn, k: u32) -> bool
+    requires { k < found.now.pgn.view.fields }
     ensures { result ≡ bit_length_held (pgn_value found.now.pgn) k }
 {
+    let f = found.pgn.field(k);
     let Some(id) = f.links.length else {
         return true;
     };
@@ -91,8 +88,7 @@ fn bit_lengths_held(found: &FoundPgn) -> bool
 {
     let fields = found.pgn.view.fields;
     for k in 0..fields {
-        let f = found.pgn.field(k);
-        if !bit_length_held(found, k, f) {
+        if !bit_length_held(found, k) {
             return false;
         }
     }
@@ -139,8 +135,8 @@ fn dynamic_values_held(found: &FoundPgn) -> bool
     let fields = found.pgn.view.fields;
     let mut giver = None;
     for k in 0..fields {
-        let f = found.pgn.field(k);
-        if !is_value(&found.pgn, k, f) {
+        let field = found.pgn.field_ref(k);
+        if !is_value(&field) {
             continue;
         }
         giver = latest_giver(found, k, giver);

@@ -17,7 +17,7 @@ use crate::named::FoundPgn;
 use crate::sets::{placed, sets_hold};
 use pack::entry::EntryView;
 use pack::field::{FieldView, ReferenceView};
-use pack::loaded::{LookupRef, Pack, PgnRef};
+use pack::loaded::{FieldRef, LookupRef, Pack, PgnRef};
 use pack::protocol::{FieldIndex, FieldOrder};
 use pack::text::{Text, text_is};
 use rules::dynamic_length::length_source;
@@ -195,49 +195,41 @@ pub fn length_giver(found: &FoundPgn, k: u32) -> Option<FieldIndex>
     None
 }
 
-// Whether field k of a PGN, which is f, has the root DYNAMIC_FIELD_VALUE.
-pub fn is_value(pgn: &PgnRef, k: u32, f: FieldView) -> bool
-    requires { record {
-      field : k < pgn.now.view.fields;
-      means : field_meaning pgn.now.pack.bytes.now f ≡ field_at (pgn_value pgn.now) k;
-    } }
-    ensures { result ≡ is_dynamic_value (pack_of pgn.now.pack.bytes.now) (field_at (pgn_value pgn.now) k) }
+// Whether a field has the root DYNAMIC_FIELD_VALUE.
+pub fn is_value(field: &FieldRef) -> bool
+    ensures { result ≡ is_dynamic_value (pack_of field.now.pgn.now.pack.bytes.now) (field_at (pgn_value field.now.pgn.now) field.now.index) }
 {
-    let root = root_of(&pgn.pack, f.ft);
+    let pgn = field.pgn;
+    let root = root_of(&pgn.pack, field.view.ft);
     text_is(pgn.pack.bytes, root, b"DYNAMIC_FIELD_VALUE")
 }
 
-// "8 root DYNAMIC_FIELD_VALUE and no lower-order dynamicFieldLength or DYNAMIC_FIELD_KEY field current": field k, which is f.
+// "8 root DYNAMIC_FIELD_VALUE and no lower-order dynamicFieldLength or DYNAMIC_FIELD_KEY field current": of a field of the PGN.
 #[tactic(auto, unfolding(crate::specs::Stops::lacks_length))]
-fn lacks_length(found: &FoundPgn, k: u32, f: FieldView) -> bool
-    requires { record {
-      field : k < found.now.pgn.view.fields;
-      means : field_meaning found.now.pgn.pack.bytes.now f ≡ field_at (pgn_value found.now.pgn) k;
-    } }
+fn lacks_length(found: &FoundPgn, field: &FieldRef) -> bool
+    requires { field.now.pgn.now ≡ found.now.pgn }
     ensures { result ≡ lacks_length (pack_of found.now.pgn.pack.bytes.now) (pgn_value found.now.pgn)
-        (placed (layout (pgn_value found.now.pgn)) (suc k)) k }
+        (placed (layout (pgn_value found.now.pgn)) (suc field.now.index)) field.now.index }
 {
-    is_value(&found.pgn, k, f) && length_giver(found, k).is_none()
+    is_value(field) && length_giver(found, field.index).is_none()
 }
 
-// The stops that go by what is current: 6 to 9. Field k, which is f.
+// The stops that go by what is current: 6 to 9. Of a field of the PGN.
 #[tactic(auto, unfolding(crate::specs::StopParts::need_stop))]
-fn need_stop(found: &FoundPgn, k: u32, f: FieldView) -> Option<Stop>
-    requires { record {
-      field : k < found.now.pgn.view.fields;
-      means : field_meaning found.now.pgn.pack.bytes.now f ≡ field_at (pgn_value found.now.pgn) k;
-    } }
+fn need_stop(found: &FoundPgn, field: &FieldRef) -> Option<Stop>
+    requires { field.now.pgn.now ≡ found.now.pgn }
     ensures { result ≡ need_stop (pack_of found.now.pgn.pack.bytes.now) (pgn_value found.now.pgn)
-        (placed (layout (pgn_value found.now.pgn)) (suc k)) k }
+        (placed (layout (pgn_value found.now.pgn)) (suc field.now.index)) field.now.index }
 {
-    let own = FieldIndex(k).order();
+    let f = field.view;
+    let own = FieldIndex(field.index).order();
     if lacks(found, own, f.links.length) {
         return Some(Stop::LengthNotCurrent);
     }
     if lacks(found, own, f.authored.continues) {
         return Some(Stop::ContinuedNotCurrent);
     }
-    if lacks_length(found, k, f) {
+    if lacks_length(found, field) {
         return Some(Stop::NoLengthSource);
     }
     if lacks(found, own, f.links.trailing) {
@@ -257,7 +249,8 @@ pub fn judge<'a>(found: &FoundPgn<'a>, k: u32, reading: u64) -> Result<Option<Lo
     } }
 {
     let pack = &found.pgn.pack;
-    let f = found.pgn.field(k);
+    let field = found.pgn.field_ref(k);
+    let f = field.view;
     if let Some(stop) = field_stop(pack, f) {
         return Err(stop);
     }
@@ -265,7 +258,7 @@ pub fn judge<'a>(found: &FoundPgn<'a>, k: u32, reading: u64) -> Result<Option<Lo
     if lookup_names_missing(pack, &lookup, reading) {
         return Err(Stop::EntryNamesMissing);
     }
-    if let Some(stop) = need_stop(found, k, f) {
+    if let Some(stop) = need_stop(found, &field) {
         return Err(stop);
     }
     Ok(lookup)

@@ -33,12 +33,11 @@ by_then g k b h = h
 pub dynamic_length_at-requires : goal.dynamic_length_at-requires
 dynamic_length_at-requires c =
     let g = c.args.pgn.now in let x = c.field_ref-field.result in let same = c.field_ref-field.ensures in
-    let means = rw (same.pgn, same.index) at x.means in
     rw (same.pgn, same.index)
     (record {
-      root = (rw (← means) c.root_of-root.ensures);
+      root = (rw (← same.means) c.root_of-root.ensures);
       have = by_then g c.loop-k.k _
-          (found g c.loop-k.k x.view (bytes_of g.pack.bytes.now c.root_of-root.result) c.loop-k.have _ means c.root_of-root.ensures
+          (found g c.loop-k.k x.view (bytes_of g.pack.bytes.now c.root_of-root.result) c.loop-k.have _ same.means c.root_of-root.ensures
           c.loop-k.invariant.have c.length_source-have.ensures);
     })
 
@@ -48,5 +47,5 @@ loop-k-preserved c =
     record {
       reporting = reporting_turn c.loop-k.invariant.reporting c.loop-k-test.true (rw (same.pgn, same.index) at c.dynamic_length_at.ensures);
       have = (rw (add-one c.loop-k.k) (found g c.loop-k.k x.view (bytes_of g.pack.bytes.now c.root_of-root.result) c.loop-k.have _
-          (rw (same.pgn, same.index) at x.means) c.root_of-root.ensures c.loop-k.invariant.have c.length_source-have.ensures));
+          same.means c.root_of-root.ensures c.loop-k.invariant.have c.length_source-have.ensures));
     }

@@ -36,17 +36,17 @@ module _ (p : Pgn) (k : ℕ) (F : Field) (is : F ≡ field_at p k) where
 pub returns-in_default : goal.returns-in_default
 returns-in_default c =
     let s = c.args.found.now.pgn.pack.bytes.now in
-    sym (nothing (pgn_value c.args.found.now.pgn) c.args.k (field_meaning s c.args.f) c.requires.means
+    sym (nothing (pgn_value c.args.found.now.pgn) c.args.k (field_meaning s c.field-f.result) c.field-f.ensures
     (ap (optional_bytes s) c.in_default.is))
 
 pub returns-in_default-target : goal.returns-in_default-target
 returns-in_default-target c =
     let s = c.args.found.now.pgn.pack.bytes.now in
-    sym (unknown (pgn_value c.args.found.now.pgn) c.args.k (field_meaning s c.args.f) c.requires.means
+    sym (unknown (pgn_value c.args.found.now.pgn) c.args.k (field_meaning s c.field-f.result) c.field-f.ensures
     (bytes_of s c.in-Some.id) (ap (optional_bytes s) c.in-Some.is) (sym (rw c.in_default-target.is at c.target.ensures)))
 
 pub order-own-requires : goal.order-own-requires
-order-own-requires c = order_fits c.args.found.now.pgn c.args.k c.requires.field
+order-own-requires c = order_fits c.args.found.now.pgn c.args.k c.requires
 
 pub order-requires : goal.order-requires
 order-requires c =
@@ -64,5 +64,5 @@ returns c =
     let L = layout p in
     c.sets_hold.ensures L c.args.found.now.sets_are
     ∙ (λ j. sets_hold L ((c.order.ensures ∙ add-one t) j) ((c.order-own.ensures ∙ add-one k) j))
-    ∙ sym (known p k (field_meaning s c.args.f) c.requires.means (bytes_of s c.in-Some.id) (ap (optional_bytes s) c.in-Some.is) t
+    ∙ sym (known p k (field_meaning s c.field-f.result) c.field-f.ensures (bytes_of s c.in-Some.id) (ap (optional_bytes s) c.in-Some.is) t
     (sym c.in-Some-target.ensures))

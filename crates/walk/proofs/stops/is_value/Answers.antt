@@ -16,10 +16,10 @@ told : (P : Pack) (F G : Field) → F ≡ G → (root : Bytes) → root ≡ root
 told P F G is root r b e = rw (← is, ← r) e
 
 pub root_of-root-requires : goal.root_of-root-requires
-root_of-root-requires c = type_there c.args.pgn.now c.args.f c.args.k c.requires.field c.requires.means
+root_of-root-requires c = let x = c.args.field.now in type_there x.pgn.now x.view x.index x.inside x.means
 
 pub returns : goal.returns
 returns c =
-    let s = c.args.pgn.now.pack.bytes.now in
-    told (pack_of s) (field_meaning s c.args.f) (field_at (pgn_value c.args.pgn.now) c.args.k) c.requires.means
-    (bytes_of s c.root_of-root.result) c.root_of-root.ensures c.text_is.result c.text_is.ensures
+    let x = c.args.field.now in let s = x.pgn.now.pack.bytes.now in
+    told (pack_of s) (field_meaning s x.view) (field_at (pgn_value x.pgn.now) x.index) x.means (bytes_of s c.root_of-root.result) c.root_of-root.ensures
+    c.text_is.result c.text_is.ensures

@@ -13,7 +13,7 @@ returns-in-Some c =
     let s = c.args.found.now.pgn.pack.bytes.now in let k = c.args.k in let P = pack_of s in
     let p = pgn_value c.args.found.now.pgn in
     record {
-      stop = by_field P p (placed (layout p) (suc k)) k c.args.reading (field_meaning s c.field-f.result) c.field-f.ensures
+      stop = by_field P p (placed (layout p) (suc k)) k c.args.reading (field_meaning s c.field_ref-field.result.view) c.field_ref-field.ensures.means
           c.in-Some.stop c.in-Some.ensures;
       named = tt;
       only = tt;
@@ -24,7 +24,7 @@ returns-then-lookup_names_missing c =
     let s = c.args.found.now.pgn.pack.bytes.now in let k = c.args.k in let P = pack_of s in let reading = c.args.reading in
     let p = pgn_value c.args.found.now.pgn in
     record {
-      stop = by_reading P p (placed (layout p) (suc k)) k reading (field_meaning s c.field-f.result) c.field-f.ensures c.in_default.ensures
+      stop = by_reading P p (placed (layout p) (suc k)) k reading (field_meaning s c.field_ref-field.result.view) c.field_ref-field.ensures.means c.in_default.ensures
           c.lookup_names_missing.result (named_reading c.fieldtype_lookup-lookup.ensures reading c.lookup_names_missing.result c.lookup_names_missing.ensures)
           c.if-lookup_names_missing.true;
       named = tt;
@@ -36,9 +36,10 @@ returns-in-Some-need_stop c =
     let s = c.args.found.now.pgn.pack.bytes.now in let k = c.args.k in let P = pack_of s in let reading = c.args.reading in
     let p = pgn_value c.args.found.now.pgn in
     record {
-      stop = by_need P p (placed (layout p) (suc k)) k reading (field_meaning s c.field-f.result) c.field-f.ensures c.in_default.ensures
+      stop = by_need P p (placed (layout p) (suc k)) k reading (field_meaning s c.field_ref-field.result.view) c.field_ref-field.ensures.means c.in_default.ensures
           c.lookup_names_missing.result (named_reading c.fieldtype_lookup-lookup.ensures reading c.lookup_names_missing.result c.lookup_names_missing.ensures)
-          c.if-lookup_names_missing.false (Some c.in-Some-need_stop.stop) c.in-Some-need_stop.ensures;
+          c.if-lookup_names_missing.false (Some c.in-Some-need_stop.stop)
+          (rw c.field_ref-field.ensures.index at c.in-Some-need_stop.ensures);
       named = tt;
       only = tt;
     }
@@ -48,12 +49,12 @@ returns c =
     let s = c.args.found.now.pgn.pack.bytes.now in let k = c.args.k in let P = pack_of s in let reading = c.args.reading in
     let p = pgn_value c.args.found.now.pgn in
     record {
-      stop = by_need P p (placed (layout p) (suc k)) k reading (field_meaning s c.field-f.result) c.field-f.ensures c.in_default.ensures
+      stop = by_need P p (placed (layout p) (suc k)) k reading (field_meaning s c.field_ref-field.result.view) c.field_ref-field.ensures.means c.in_default.ensures
           c.lookup_names_missing.result (named_reading c.fieldtype_lookup-lookup.ensures reading c.lookup_names_missing.result c.lookup_names_missing.ensures)
-          c.if-lookup_names_missing.false None c.in_default-need_stop.ensures;
-      named = named_field (field_meaning s c.field-f.result) (field_at p k) c.field-f.ensures c.fieldtype_lookup-lookup.ensures;
+          c.if-lookup_names_missing.false None (rw c.field_ref-field.ensures.index at c.in_default-need_stop.ensures);
+      named = named_field (field_meaning s c.field_ref-field.result.view) (field_at p k) c.field_ref-field.ensures.means c.fieldtype_lookup-lookup.ensures;
       only = record {
-        only = λ other. by_reading_only P p (placed (layout p) (suc k)) k other (field_meaning s c.field-f.result) c.field-f.ensures
-            c.in_default.ensures c.in_default-need_stop.ensures;
+        only = λ other. by_reading_only P p (placed (layout p) (suc k)) k other (field_meaning s c.field_ref-field.result.view) c.field_ref-field.ensures.means
+            c.in_default.ensures (rw c.field_ref-field.ensures.index at c.in_default-need_stop.ensures);
       };
     }
