@@ -63,10 +63,10 @@ numbered s m r e = go (most_bytes <ᵇ length s) refl ((pack_end s).refused == 0
     go false x true y true z = back 1 (rw (x, y, z)) refl
     go false x true y false z = back 21 (rw (x, y, z)) refl
 
-after_refused : (s : List ℕ) (m : ℕ) (r : Refusal) → loaded s m ≡ Err r → (rest : Answer) → refusal_answer r ≡ after (load_tells s m) rest
+pub after_refused : (s : List ℕ) (m : ℕ) (r : Refusal) → loaded s m ≡ Err r → (rest : Answer) → refusal_answer r ≡ after (load_tells s m) rest
 after_refused s m r e rest = rw (← load_told s m, e, numbered s m r e)
 
-after_accepted : (s : List ℕ) (m : ℕ) (i : Index) → loaded s m ≡ Ok i → (rest : Answer) → rest ≡ after (load_tells s m) rest
+pub after_accepted : (s : List ℕ) (m : ℕ) (i : Index) → loaded s m ≡ Ok i → (rest : Answer) → rest ≡ after (load_tells s m) rest
 after_accepted s m i e rest = rw (← load_told s m, e)
 
 -- a call that goes on after its load tells in numbers what the rest of it does
