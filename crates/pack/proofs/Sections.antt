@@ -10,11 +10,11 @@ use mathlib.Core.List.{List, []}
 use lib.ListN.{length, length-append}
 use Rattle.pack.specs.Items.{fresh, read_number, read_version, finish}
 use Rattle.pack.specs.Notation.{◌<ᵇ◌}
-use Rattle.pack.specs.Format.{types, type_offsets, lookups, lookup_offsets, type_list, lookup_list, tree_start, tree_list, type_part, lookup_part}
+use Rattle.pack.specs.Format.{type_next, types, type_offsets, lookups, lookup_offsets, type_list, lookup_list, tree_start, tree_list, type_part, lookup_part}
 use Rattle.pack.specs.Format.{before, offsets, pack_end}
 use Rattle.pack.specs.Load.{most_bytes, load_index}
 use Rattle.pack.specs.Reads.{told, Reads, Ends}
-use Rattle.pack.specs.Placing.{Placed, none_in, put_all, placed_in, Put, Places, PlacesTree, PlacesAll}
+use Rattle.pack.specs.Placing.{Placed, none_in, put_all, placed_in, Put, alone, Places, PlacesList, PlacesTree, PlacesAll}
 use Rattle.pack.specs.declared.load.Section.{Section}
 use Rattle.pack.specs.declared.load.Index.{Index}
 use Rattle.pack.specs.declared.load.Offsets.{Offsets}
@@ -96,8 +96,9 @@ module _ {r : Reader} {o : Offsets} where
     upto_types a b = record { types = along_value a b; along = along_read a b }
 
     module _ {v u : Offsets} where
-      pub upto_lookups : Upto r o n (type_list r.bytes.now).next [] d v → Places (λ s c. types s c n) (λ s c. type_offsets s c n) d v (Ok e) u
+      pub upto_lookups : Upto r o n (type_list r.bytes.now).next [] d v → PlacesList type_next alone n d v (Ok e) u
           → Upto r o n (types r.bytes.now (type_list r.bytes.now).next (type_list r.bytes.now).value) (type_part r.bytes.now) e u
+      unfolding types type_offsets
       upto_lookups a b = record { types = a.types; along = rw a.types at (along_then a.along b) }
 
       pub upto_tree : (t : ℕ) → Upto r o n (tree_start r.bytes.now t) (before r.bytes.now t) d v → {x : Section} → PlacesTree n d v (Ok (x, e)) u

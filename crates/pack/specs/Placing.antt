@@ -5,7 +5,8 @@ use Rattle.std.specs.Prelude.{Option, Result}
 use Rattle.std.proofs.lemmas.List.Edits.{sets}
 use Rattle.pack.specs.Items.{Cursor, Form, fresh, read_number}
 use Rattle.pack.specs.Records.{read_lookup}
-use Rattle.pack.specs.Format.{lookup_next, lookup_records, pgns, pgn_offsets, pack_end, offsets}
+use Rattle.pack.specs.Notation.{concat_below}
+use Rattle.pack.specs.Format.{iter, lookup_next, lookup_records, pgns, pgn_offsets, pack_end, offsets}
 use Rattle.pack.specs.Load.{load_index}
 use Rattle.pack.specs.Reads.{told, Reads, item_of, next_of}
 use Rattle.pack.specs.declared.text.Text.{Text}
@@ -63,6 +64,19 @@ past (Err e) = Err e
 abbrev pub Places : (end : List ℕ → Cursor → Cursor) (xs : List ℕ → Cursor → List ℕ) (r : Reader) (o : Offsets) → Result Reader InputRefusal → Offsets
     → Type 0
 Places end xs r o q o' = Placing (λ s c. record { value = tt; next = end s c }) xs r o (item_of (past q)) (next_of r (past q)) o'
+
+-- from a refused cursor nothing is read
+abbrev pub Stays : (end : List ℕ → Cursor → Cursor) → Type 0
+Stays end = (s : List ℕ) (c : Cursor) → (c.refused ≡ 0 → ⊥) → end s c ≡ c
+
+-- where a record begins that has none within it
+abbrev pub alone : List ℕ → Cursor → List ℕ
+alone s c = c.at ∷ []
+
+-- n records, each of which ends where `end` says and begins, with those within it, where `starts` says
+abbrev pub PlacesList : (end : List ℕ → Cursor → Cursor) (starts : List ℕ → Cursor → List ℕ) (n : ℕ) (r : Reader) (o : Offsets)
+    → Result Reader InputRefusal → Offsets → Type 0
+PlacesList end starts n = Places (λ s c. iter (end s) c n) (λ s c. concat_below (λ i. starts s (iter (end s) c i)) n)
 
 -- a lookup behind the one of that name, and its name
 abbrev pub PlacesLookup : (before : Option Text) (r : Reader) (o : Offsets) → Result (Text × Reader) InputRefusal → Offsets → Type 0
