@@ -13,14 +13,14 @@ use Rattle.pack.specs.Records.{read_type, read_entry}
 use Rattle.pack.specs.Format.{iter, types, entries, lookup_next, lookup_records, lookups, lookup_offsets}
 use Rattle.pack.specs.Format.{field_next, fields}
 use Rattle.pack.specs.Format.{field_offsets, pgn_next, pgns}
-use Rattle.pack.specs.Reads.{item_of, next_of, told, Reads}
+use Rattle.pack.specs.Reads.{item_of, next_of, outcome, Reads}
 use Rattle.pack.specs.Placing.{past, Put, Placing, Stays}
 use Rattle.pack.specs.declared.kinds.LookupKind.{LookupKind}
 use Rattle.pack.specs.declared.load.Offsets.{Offsets}
 use Rattle.pack.specs.declared.reader.Reader.{Reader}
 use Rattle.pack.specs.declared.reader.InputRefusal.{InputRefusal}
 use Rattle.pack.proofs.Reading.{iter_add, stays, lookup_steps, field_steps}
-use Rattle.pack.proofs.ReaderLaws.{told_ok, told_err, cursor_is}
+use Rattle.pack.proofs.ReaderLaws.{outcome_ok, outcome_err, cursor_is}
 use Rattle.pack.proofs.Stores.{put_none, put_append}
 
 -- Nothing was refused so far: the reader has come from r to the cursor `end`, and the offsets xs were put.
@@ -50,7 +50,7 @@ module _ {r : Reader} {o : Offsets} {end : Cursor} {xs : List ℕ} {d : Reader} 
     same = here form
 
     ok : (k.next.refused ≡ 0) × (k.value ≡ x)
-    ok = told_ok k x b.answer
+    ok = outcome_ok k x b.answer
 
     -- what was read there
     pub along_value : x ≡ (form r.bytes.now end).value
@@ -80,7 +80,7 @@ module _ {r : Reader} {o : Offsets} {end : Cursor} {xs : List ℕ} {d : Reader} 
       → Placing form ys r o (Err f) e u
   refused {A} {B} {g} {f} {e} {form} {ys} {u} b h =
       let k : g d.bytes.now (fresh d.at) ≡ g r.bytes.now end = here g in
-      let o = told_err (g r.bytes.now end) f (b.answer ∙ ap told k) in
+      let o = outcome_err (g r.bytes.now end) f (b.answer ∙ ap outcome k) in
       let n : (g r.bytes.now end).next.refused ≡ 0 → ⊥ = λ m. eqb-false _ _ o.0 m in
       let s = h n in
       record {
@@ -102,7 +102,7 @@ module _ {r : Reader} {o : Offsets} {end : Cursor} {xs : List ℕ} {d : Reader} 
       record {
         reads = record {
           bytes = b.reads.bytes ∙ a.bytes;
-          answer = b.reads.answer ∙ ap told k;
+          answer = b.reads.answer ∙ ap outcome k;
           at = rw k at b.reads.at;
         };
         put = λ m. rw (y, i) at (put_append a.put (b.put (rw k m)));
@@ -177,7 +177,7 @@ module _ {A : Type 0} {form : Form A} {xs : List ℕ → Cursor → List ℕ} {r
   pub rebased : (q : Result (A × Reader) InputRefusal) → Placing form xs r o (item_of q) (next_of d q) u → Placing form xs r o (item_of q) (next_of r q) u
   rebased (Ok x) h = h
   rebased (Err f) h =
-      let k = told_err (form r.bytes.now (fresh r.at)) f h.reads.answer in
+      let k = outcome_err (form r.bytes.now (fresh r.at)) f h.reads.answer in
       record { reads = record { bytes = refl; answer = h.reads.answer; at = λ m. absurd (eqb-false _ _ k.0 m) }; put = h.put }
 
 -- where a `?` returns

@@ -4,7 +4,7 @@ ghost use Rattle.std.specs.Prelude.{◌≡◌, ◌≤◌, ℕ, List, [], ◌∷�
 ghost use Rattle.pack.specs.Items.{Cursor};
 ghost use Rattle.pack.specs.Format.{type_next, entry_next, lookups, lookup_offsets, fields, field_offsets, pgn_next, pgn_records};
 ghost use Rattle.pack.specs.Load.{refusal_number, refusal_detail, most_bytes, Loads};
-ghost use Rattle.pack.specs.Placing.{Put, Places, Stays, alone, PlacesList, PlacesLookup, PlacesTree, PlacesAll};
+ghost use Rattle.pack.specs.Placing.{Put, PlacesRecords, Stays, alone, PlacesList, PlacesLookup, PlacesTree, PlacesAll};
 ghost use Rattle.pack.specs.declared.load.Refusal.TheVariants.{Input};
 
 use crate::kinds::LookupKind;
@@ -119,7 +119,7 @@ trait Listed: Copy {
     ghost starts: { Self → List ℕ → Cursor → List ℕ };
 
     fn place<'a>(self, reader: Reader<'a>, out: &mut Offsets) -> Result<Reader<'a>, InputRefusal>
-        ensures { Places (end self) (starts self) reader.entry out.old result out.new };
+        ensures { PlacesRecords (end self) (starts self) reader.entry out.old result out.new };
 }
 
 // n such records, one after the other.
@@ -206,7 +206,7 @@ fn place_lookups<'a>(
     offsets: &mut Offsets,
     n: u32,
 ) -> Result<Reader<'a>, InputRefusal>
-    ensures { Places (λ s c. (lookups s c n).next) (λ s c. lookup_offsets s c n) reader.entry offsets.old result offsets.new }
+    ensures { PlacesRecords (λ s c. (lookups s c n).next) (λ s c. lookup_offsets s c n) reader.entry offsets.old result offsets.new }
 {
     let mut next = reader;
     let mut before = None;
@@ -225,7 +225,7 @@ fn place_fields<'a>(
     types: u32,
     n: u32,
 ) -> Result<Reader<'a>, InputRefusal>
-    ensures { Places (λ s c. (fields types s c n).next) (λ s c. field_offsets types s c n) reader.entry offsets.old result offsets.new }
+    ensures { PlacesRecords (λ s c. (fields types s c n).next) (λ s c. field_offsets types s c n) reader.entry offsets.old result offsets.new }
 {
     let mut next = reader;
     let mut total: u32 = 0;
