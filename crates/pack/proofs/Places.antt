@@ -3,24 +3,24 @@ use Rattle.pack.specs.Items.{Cursor, Item, Form, fresh}
 use Rattle.std.specs.Prelude.{None, Result, Ok, Err}
 use Rattle.std.specs.Result.{IsErrAnd}
 use Rattle.std.proofs.lemmas.Result.{err_from_is_err_and}
-use Prim.Native.Nat.{ℕ, suc, ◌+◌, ◌<◌}
+use Prim.Native.Nat.{ℕ, zero, suc, ◌+◌, ◌-◌, ◌<◌}
 use native.Mathlib.Omega.{arith}
 use native.Mathlib.Numerals.{add-one}
 use mathlib.Core.Path.{◌≡◌, refl, ap, ◌∙◌, sym}
 use mathlib.Core.List.{List, [], ◌∷◌, ◌++◌}
 use borrow.Author.Tests.{eq-eqb, eqb-false}
 use Rattle.pack.specs.Records.{read_type, read_entry}
-use Rattle.pack.specs.Format.{types, type_offsets, entries, entry_offsets, lookup_next, lookup_records, lookups, lookup_offsets}
+use Rattle.pack.specs.Format.{iter, types, entries, lookup_next, lookup_records, lookups, lookup_offsets}
 use Rattle.pack.specs.Format.{field_next, fields}
-use Rattle.pack.specs.Format.{field_offsets, pgn_next, pgn_records, pgns, pgn_offsets}
-use Rattle.pack.specs.Reads.{item_of, next_of, told, Reads}
-use Rattle.pack.specs.Placing.{past, Put, Placing}
+use Rattle.pack.specs.Format.{field_offsets, pgn_next, pgns}
+use Rattle.pack.specs.Reads.{item_of, next_of, outcome, Reads}
+use Rattle.pack.specs.Placing.{past, Put, Placing, Stays}
 use Rattle.pack.specs.declared.kinds.LookupKind.{LookupKind}
 use Rattle.pack.specs.declared.load.Offsets.{Offsets}
 use Rattle.pack.specs.declared.reader.Reader.{Reader}
 use Rattle.pack.specs.declared.reader.InputRefusal.{InputRefusal}
-use Rattle.pack.proofs.Reading.{stays, type_reader, entry_reader, lookup_steps, field_steps, pgn_next_reader}
-use Rattle.pack.proofs.ReaderLaws.{told_ok, told_err, cursor_is}
+use Rattle.pack.proofs.Reading.{iter_add, stays, lookup_steps, field_steps}
+use Rattle.pack.proofs.ReaderLaws.{outcome_ok, outcome_err, cursor_is}
 use Rattle.pack.proofs.Stores.{put_none, put_append}
 
 -- Nothing was refused so far: the reader has come from r to the cursor `end`, and the offsets xs were put.
@@ -50,7 +50,7 @@ module _ {r : Reader} {o : Offsets} {end : Cursor} {xs : List ℕ} {d : Reader} 
     same = here form
 
     ok : (k.next.refused ≡ 0) × (k.value ≡ x)
-    ok = told_ok k x b.answer
+    ok = outcome_ok k x b.answer
 
     -- what was read there
     pub along_value : x ≡ (form r.bytes.now end).value
@@ -80,7 +80,7 @@ module _ {r : Reader} {o : Offsets} {end : Cursor} {xs : List ℕ} {d : Reader} 
       → Placing form ys r o (Err f) e u
   refused {A} {B} {g} {f} {e} {form} {ys} {u} b h =
       let k : g d.bytes.now (fresh d.at) ≡ g r.bytes.now end = here g in
-      let o = told_err (g r.bytes.now end) f (b.answer ∙ ap told k) in
+      let o = outcome_err (g r.bytes.now end) f (b.answer ∙ ap outcome k) in
       let n : (g r.bytes.now end).next.refused ≡ 0 → ⊥ = λ m. eqb-false _ _ o.0 m in
       let s = h n in
       record {
@@ -102,7 +102,7 @@ module _ {r : Reader} {o : Offsets} {end : Cursor} {xs : List ℕ} {d : Reader} 
       record {
         reads = record {
           bytes = b.reads.bytes ∙ a.bytes;
-          answer = b.reads.answer ∙ ap told k;
+          answer = b.reads.answer ∙ ap outcome k;
           at = rw k at b.reads.at;
         };
         put = λ m. rw (y, i) at (put_append a.put (b.put (rw k m)));
@@ -119,6 +119,18 @@ placed {A} form ys {r} {o} {d} {v} {x} a y =
       put = λ _. a.put;
     }
 
+-- ---- where a list that is refused stays
+
+-- all behind the one that is refused have its cursor
+pub list_stays : {end : List ℕ → Cursor → Cursor} → Stays end → (s : List ℕ) (c : Cursor) (i n : ℕ) → i < n
+    → ((end s (iter (end s) c i)).refused ≡ 0 → ⊥) → iter (end s) c n ≡ end s (iter (end s) c i)
+list_stays {end} stay s c i n h b =
+    let e : n ≡ suc i + (n - suc i) = omega (arith, h) in rw (e, iter_add (end s) c (suc i) (n - suc i)) (held (n - suc i))
+  where
+    held : (d : ℕ) → iter (end s) (iter (end s) c (suc i)) d ≡ iter (end s) c (suc i)
+    held zero = refl
+    held (suc d) = stay s _ (λ z. b (rw (held d) at z)) ∙ held d
+
 -- ---- a turn of each loop, and where one that is refused stays
 
 module _ (s : List ℕ) (c : Cursor) where
@@ -126,26 +138,9 @@ module _ (s : List ℕ) (c : Cursor) where
   unfolding types
   types_turn i = rw add-one
 
-  pub type_offsets_turn : (i : ℕ) → type_offsets s c (i + 1) ≡ type_offsets s c i ++ (types s c i).at ∷ []
-  unfolding type_offsets
-  type_offsets_turn i = rw add-one
-
-  pub types_stay : (i n : ℕ) → i < n → ((read_type s (types s c i)).next.refused ≡ 0 → ⊥) → types s c n ≡ (read_type s (types s c i)).next
-  unfolding types
-  types_stay i n h = stays (type_reader s) c (suc i) n (omega (arith, h))
-
   pub entries_turn : (k : LookupKind) (i : ℕ) → entries k s c (i + 1) ≡ (read_entry k s (entries k s c i)).next
   unfolding entries
   entries_turn k i = rw add-one
-
-  pub entry_offsets_turn : (k : LookupKind) (i : ℕ) → entry_offsets k s c (i + 1) ≡ entry_offsets k s c i ++ (entries k s c i).at ∷ []
-  unfolding entry_offsets
-  entry_offsets_turn k i = rw add-one
-
-  pub entries_stay : (k : LookupKind) (i n : ℕ) → i < n → ((read_entry k s (entries k s c i)).next.refused ≡ 0 → ⊥)
-      → entries k s c n ≡ (read_entry k s (entries k s c i)).next
-  unfolding entries
-  entries_stay k i n h = stays (entry_reader s k) c (suc i) n (omega (arith, h))
 
   pub lookups_turn : (i : ℕ) → lookups s c (i + 1) ≡ lookup_next s (lookups s c i)
   unfolding lookups
@@ -177,20 +172,12 @@ module _ (s : List ℕ) (c : Cursor) where
   unfolding pgns
   pgns_turn k i = rw add-one
 
-  pub pgn_offsets_turn : (k i : ℕ) → pgn_offsets k s c (i + 1) ≡ pgn_offsets k s c i ++ pgn_records k s (pgns k s c i)
-  unfolding pgn_offsets
-  pgn_offsets_turn k i = rw add-one
-
-  pub pgns_stay : (k i n : ℕ) → i < n → ((pgn_next k s (pgns k s c i)).refused ≡ 0 → ⊥) → pgns k s c n ≡ pgn_next k s (pgns k s c i)
-  unfolding pgns
-  pgns_stay k i n h = stays (pgn_next_reader s k) c (suc i) n (omega (arith, h))
-
 -- what is told of an answer with the next reader does not depend on where it began, but for its bytes
 module _ {A : Type 0} {form : Form A} {xs : List ℕ → Cursor → List ℕ} {r : Reader} (d : Reader) {o u : Offsets} where
   pub rebased : (q : Result (A × Reader) InputRefusal) → Placing form xs r o (item_of q) (next_of d q) u → Placing form xs r o (item_of q) (next_of r q) u
   rebased (Ok x) h = h
   rebased (Err f) h =
-      let k = told_err (form r.bytes.now (fresh r.at)) f h.reads.answer in
+      let k = outcome_err (form r.bytes.now (fresh r.at)) f h.reads.answer in
       record { reads = record { bytes = refl; answer = h.reads.answer; at = λ m. absurd (eqb-false _ _ k.0 m) }; put = h.put }
 
 -- where a `?` returns

@@ -19,7 +19,7 @@ use Rattle.pack.specs.declared.text.Text.{Text}
 use Rattle.pack.specs.Items.{Cursor, Form, fresh, ◌▷◌, give, optional, read_wide, read_number, read_code, read_index, read_sum, read_bytes}
 use Rattle.pack.specs.Items.{read_mark, read_text, read_name, read_float, refuse, last_byte_at, shortest, capped, groups, rises, largest32}
 use Rattle.pack.specs.Records.{read_kind_part, read_reference, read_repeating, read_scaling, read_authored, read_links}
-use Rattle.pack.specs.Reads.{fault_of, told, Reads}
+use Rattle.pack.specs.Reads.{fault_of, outcome, Reads}
 use Rattle.pack.proofs.Reading.{wide_reader, number_reader, version_reader, code_reader, index_reader, sum_reader, bytes_reader, mark_reader, text_reader}
 use Rattle.pack.proofs.Reading.{name_reader, float_reader, kind_part_reader, repeating_reader, scaling_reader, authored_reader, reference_reader, links_reader}
 use Rattle.pack.proofs.Reading as reading
@@ -27,7 +27,7 @@ use Rattle.pack.specs.declared.reader.InputRefusal.{InputRefusal}
 use borrow.Author.Tests.{le-leb, lt-leb}
 use Rattle.pack.specs.Items.{judged}
 use Rattle.pack.specs.Reads as spec
-use Rattle.pack.proofs.ReaderLaws.{told_ok, told_err, cursor_is, Sticks, done, reads_then, reads_stop, sticks_then, sticks_give}
+use Rattle.pack.proofs.ReaderLaws.{outcome_ok, outcome_err, cursor_is, Sticks, done, reads_then, reads_stop, sticks_then, sticks_give}
 
 sticks : {A : Type 0} (p : Form A) → ((s : List ℕ) → reading.Reader s (λ c. (p s c).next)) → Sticks p
 sticks p r = record { stays = λ s c h. (r s).sticky c (λ e. eqb-false _ _ h e) }
@@ -105,7 +105,7 @@ reads_err c d p v at n h b = record {
 pub was_read : {A : Type 0} {c d : Reader} {p : Form A} {v : A} → Reads c p (Ok v) d → p c.bytes.now (fresh c.at) ≡ record { value = v; next = fresh d.at }
 was_read {A} {c} {d} {p} {v} a =
     let i = p c.bytes.now (fresh c.at) in
-    let o = told_ok i v a.answer in
+    let o = outcome_ok i v a.answer in
     let k : fresh d.at ≡ i.next = cursor_is i.next d.at o.0 (a.at o.0) in
     rw (k, ← o.1) refl
 
@@ -113,7 +113,7 @@ was_read {A} {c} {d} {p} {v} a =
 pub reads_pass : {A B : Type 0} {c d : Reader} {f : InputRefusal} {p : Form A} (q : Form B) → Reads c p (Err f) d
     → ((s : List ℕ) (k : Cursor) → ((p s k).next.refused == 0) ≡ false → (q s k).next ≡ (p s k).next) → Reads c q (Err f) d
 reads_pass {A} {B} {c} {d} {f} {p} q a h =
-    let o = told_err (p c.bytes.now (fresh c.at)) f a.answer in
+    let o = outcome_err (p c.bytes.now (fresh c.at)) f a.answer in
     let z = h c.bytes.now (fresh c.at) o.0 in
     record {
       bytes = a.bytes;
@@ -158,7 +158,7 @@ module _ (test : ℕ → Bool) (k : ℕ) where
   tested s c = judged c (read_number s c) (test (read_number s c).value) (suc k)
 
   pub reads_judged : {c d : Reader} {n : ℕ} {r : Result (ℕ × Reader) InputRefusal} → Reads c read_number (Ok n) d
-      → r ≡ spec.judged c n (test n) (fault_of (suc k)) d → spec.Gives c tested r
+      → r ≡ spec.refuse_unless c n (test n) (fault_of (suc k)) d → spec.Gives c tested r
   unfolding judged
   reads_judged {c} {d} {n} {r} a e = go (test n) refl
     where

@@ -8,7 +8,7 @@ use borrow.Author.Tests.{eqb-true, eqb-false}
 use Rattle.pack.specs.declared.reader.Reader.{Reader}
 use Rattle.pack.specs.declared.reader.InputRefusal.{InputRefusal}
 use Rattle.pack.specs.Items.{Cursor, Item, Form, fresh, ◌▷◌, give}
-use Rattle.pack.specs.Reads.{refusal_of, told, Reads, item_of, Gives}
+use Rattle.pack.specs.Reads.{refusal_of, outcome, Reads, item_of, Gives}
 
 -- from a refused cursor nothing is read
 pub record Sticks {A : Type 0} (p : Form A) : Type 0 where
@@ -28,16 +28,16 @@ same_Err : {T E : Type 0} (v w : E) → ◌≡◌ {A = Result T E} (Err v) (Err 
 same_Err v w h = same_Some v w (ap result_err h)
 
 -- what was read where the answer is no error
-pub told_ok : {A : Type 0} (i : Item A) (v : A) → Ok v ≡ told i → (i.next.refused ≡ 0) × (i.value ≡ v)
-told_ok {A} i v e = go (i.next.refused == 0) refl
+pub outcome_ok : {A : Type 0} (i : Item A) (v : A) → Ok v ≡ outcome i → (i.next.refused ≡ 0) × (i.value ≡ v)
+outcome_ok {A} i v e = go (i.next.refused == 0) refl
   where
     go : (b : Bool) → (i.next.refused == 0) ≡ b → (i.next.refused ≡ 0) × (i.value ≡ v)
     go true x = let y : ◌≡◌ {A = Result A InputRefusal} (Ok v) (Ok i.value) = rw x at e in (eqb-true _ _ x, sym (same_Ok _ _ y))
     go false x = let y : ◌≡◌ {A = Result A InputRefusal} (Ok v) (Err (refusal_of i.next)) = rw x at e in absurd (Ok-Err _ _ y)
 
-pub told_err : {A : Type 0} (i : Item A) (e : InputRefusal) → Err e ≡ told i
+pub outcome_err : {A : Type 0} (i : Item A) (e : InputRefusal) → Err e ≡ outcome i
     → ((i.next.refused == 0) ≡ false) × (e ≡ refusal_of i.next)
-told_err {A} i e h = go (i.next.refused == 0) refl
+outcome_err {A} i e h = go (i.next.refused == 0) refl
   where
     go : (b : Bool) → (i.next.refused == 0) ≡ b → ((i.next.refused == 0) ≡ false) × (e ≡ refusal_of i.next)
     go true x = let y : ◌≡◌ {A = Result A InputRefusal} (Err e) (Ok i.value) = rw x at h in absurd (Ok-Err _ _ (sym y))
@@ -54,7 +54,7 @@ module _ {A B : Type 0} (p : Form A) (q : A → Form B) where
   pub reads_then : {c d e : Reader} {v : A} {t : Result B InputRefusal} → Reads c p (Ok v) d → Reads d (q v) t e → Reads c (p ▷ q) t e
   reads_then {c} {d} {e} {v} {t} a b =
       let i = p c.bytes.now (fresh c.at) in
-      let o = told_ok i v a.answer in
+      let o = outcome_ok i v a.answer in
       let k : fresh d.at ≡ i.next = cursor_is i.next d.at o.0 (a.at o.0) in
       let x : (p ▷ q) c.bytes.now (fresh c.at) ≡ q v d.bytes.now (fresh d.at) = run c.bytes.now (fresh c.at) ∙ (rw (o.1, ← k, a.bytes) refl) in
       record { bytes = b.bytes ∙ a.bytes; answer = rw x b.answer; at = rw x b.at }
@@ -62,7 +62,7 @@ module _ {A B : Type 0} (p : Form A) (q : A → Form B) where
   pub reads_stop : {c d : Reader} {f : InputRefusal} → Reads c p (Err f) d → ((v : A) → Sticks (q v)) → Reads c (p ▷ q) (Err f) d
   reads_stop {c} {d} {f} a k =
       let i = p c.bytes.now (fresh c.at) in
-      let o = told_err i f a.answer in
+      let o = outcome_err i f a.answer in
       let z : ((p ▷ q) c.bytes.now (fresh c.at)).next ≡ i.next = ap (λ (x : Item B). x.next) (run c.bytes.now (fresh c.at))
       ∙ (k i.value).stays c.bytes.now i.next o.0 in
       record {
@@ -86,7 +86,7 @@ pub out : {A : Type 0} {c d : Reader} {form : Form A} {f : InputRefusal} (r : Re
     → Reads c form (Err f) d → Gives c form r
 out {A} {c} {d} {form} {f} r e h =
     let x = err_from_is_err_and {Q = λ y. y ≡ f} r e in
-    let o = told_err (form c.bytes.now (fresh c.at)) f h.answer in
+    let o = outcome_err (form c.bytes.now (fresh c.at)) f h.answer in
     rw (x.1, x.2) (record { bytes = refl; answer = h.answer; at = λ w. absurd (eqb-false _ _ o.0 w) })
 
 -- an answer whose item is known

@@ -10,11 +10,11 @@ use mathlib.Core.List.{List, []}
 use lib.ListN.{length, length-append}
 use Rattle.pack.specs.Items.{fresh, read_number, read_version, finish}
 use Rattle.pack.specs.Notation.{◌<ᵇ◌}
-use Rattle.pack.specs.Format.{types, type_offsets, lookups, lookup_offsets, type_list, lookup_list, tree_start, tree_list, type_part, lookup_part}
+use Rattle.pack.specs.Format.{type_next, types, type_offsets, lookups, lookup_offsets, type_list, lookup_list, tree_start, tree_list, type_part, lookup_part}
 use Rattle.pack.specs.Format.{before, offsets, pack_end}
 use Rattle.pack.specs.Load.{most_bytes, load_index}
-use Rattle.pack.specs.Reads.{told, Reads, Ends}
-use Rattle.pack.specs.Placing.{Placed, none_in, put_all, placed_in, Put, Places, PlacesTree, PlacesAll}
+use Rattle.pack.specs.Reads.{outcome, Reads, Ends}
+use Rattle.pack.specs.Placing.{Placed, none_in, put_all, placed_in, Put, alone, PlacesRecords, PlacesList, PlacesTree, PlacesAll}
 use Rattle.pack.specs.declared.load.Section.{Section}
 use Rattle.pack.specs.declared.load.Index.{Index}
 use Rattle.pack.specs.declared.load.Offsets.{Offsets}
@@ -25,7 +25,7 @@ use Rattle.pack.proofs.Whole.{Ending}
 use Rattle.pack.proofs.Bounds.{before_few, offsets_bound}
 use Rattle.pack.proofs.Stores.{put_count, put_stored}
 use Rattle.pack.proofs.Places.{Along, along_none, along_value, along_read, along_then, refused, here}
-use Rattle.pack.proofs.ReaderLaws.{told_err}
+use Rattle.pack.proofs.ReaderLaws.{outcome_err}
 use borrow.Author.Tests.{eq-eqb, eqb-false}
 
 -- the end of the pack, as an item
@@ -81,7 +81,7 @@ module _ {r : Reader} {o : Offsets} where
   walk_refused {end} {g = g} {f = f} {z = z} a b i h =
       let p = refused a {form = all_form} {ys = λ s c. offsets s} {u = o} b h in
       let y = err_from_is_err_and {Q = λ y. y ≡ f} z i in
-      let n : (g r.bytes.now end).next.refused ≡ 0 → ⊥ = eqb-false _ _ (told_err (g r.bytes.now end) f (b.answer ∙ ap told (here a g))).0 in
+      let n : (g r.bytes.now end).next.refused ≡ 0 → ⊥ = eqb-false _ _ (outcome_err (g r.bytes.now end) f (b.answer ∙ ap outcome (here a g))).0 in
       record { answer = y.1 ∙ (rw y.2) ∙ p.reads.answer; work = λ z. absurd (n (rw (← h n) z)) }
 
   pub begun : {d : Reader} {v : ℕ} → r.at ≡ 0 → Reads r read_version (Ok v) d → Along r o (read_version r.bytes.now (fresh 0)).next [] d o
@@ -96,8 +96,9 @@ module _ {r : Reader} {o : Offsets} where
     upto_types a b = record { types = along_value a b; along = along_read a b }
 
     module _ {v u : Offsets} where
-      pub upto_lookups : Upto r o n (type_list r.bytes.now).next [] d v → Places (λ s c. types s c n) (λ s c. type_offsets s c n) d v (Ok e) u
+      pub upto_lookups : Upto r o n (type_list r.bytes.now).next [] d v → PlacesList type_next alone n d v (Ok e) u
           → Upto r o n (types r.bytes.now (type_list r.bytes.now).next (type_list r.bytes.now).value) (type_part r.bytes.now) e u
+      unfolding types type_offsets
       upto_lookups a b = record { types = a.types; along = rw a.types at (along_then a.along b) }
 
       pub upto_tree : (t : ℕ) → Upto r o n (tree_start r.bytes.now t) (before r.bytes.now t) d v → {x : Section} → PlacesTree n d v (Ok (x, e)) u
@@ -114,7 +115,7 @@ module _ {r : Reader} {o : Offsets} where
     upto_number a b = (record { types = a.types; along = along_read a.along b }, along_value a.along b)
 
     pub upto_trees : {v u : Offsets} {m : ℕ} → Upto r o n (lookup_list r.bytes.now).next (type_part r.bytes.now) d v → m ≡ (lookup_list r.bytes.now).value
-        → Places (λ s c. (lookups s c m).next) (λ s c. lookup_offsets s c m) d v (Ok e) u
+        → PlacesRecords (λ s c. (lookups s c m).next) (λ s c. lookup_offsets s c m) d v (Ok e) u
         → Upto r o n (tree_start r.bytes.now 0) (before r.bytes.now 0) e u
     unfolding tree_start before
     upto_trees a k b = record { types = a.types; along = rw k at (along_then a.along b) }

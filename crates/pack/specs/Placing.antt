@@ -5,9 +5,10 @@ use Rattle.std.specs.Prelude.{Option, Result}
 use Rattle.std.proofs.lemmas.List.Edits.{sets}
 use Rattle.pack.specs.Items.{Cursor, Form, fresh, read_number}
 use Rattle.pack.specs.Records.{read_lookup}
-use Rattle.pack.specs.Format.{lookup_next, lookup_records, pgns, pgn_offsets, pack_end, offsets}
+use Rattle.pack.specs.Notation.{concat_below}
+use Rattle.pack.specs.Format.{iter, lookup_next, lookup_records, pgns, pgn_offsets, pack_end, offsets}
 use Rattle.pack.specs.Load.{load_index}
-use Rattle.pack.specs.Reads.{told, Reads, item_of, next_of}
+use Rattle.pack.specs.Reads.{outcome, Reads, item_of, next_of}
 use Rattle.pack.specs.declared.text.Text.{Text}
 use Rattle.pack.specs.declared.load.Section.{Section}
 use Rattle.pack.specs.declared.load.Index.{Index}
@@ -60,9 +61,22 @@ past (Ok c) = Ok (tt, c)
 past (Err e) = Err e
 
 -- records up to the cursor `end`
-abbrev pub Places : (end : List ℕ → Cursor → Cursor) (xs : List ℕ → Cursor → List ℕ) (r : Reader) (o : Offsets) → Result Reader InputRefusal → Offsets
+abbrev pub PlacesRecords : (end : List ℕ → Cursor → Cursor) (xs : List ℕ → Cursor → List ℕ) (r : Reader) (o : Offsets) → Result Reader InputRefusal → Offsets
     → Type 0
-Places end xs r o q o' = Placing (λ s c. record { value = tt; next = end s c }) xs r o (item_of (past q)) (next_of r (past q)) o'
+PlacesRecords end xs r o q o' = Placing (λ s c. record { value = tt; next = end s c }) xs r o (item_of (past q)) (next_of r (past q)) o'
+
+-- from a refused cursor nothing is read
+abbrev pub Stays : (end : List ℕ → Cursor → Cursor) → Type 0
+Stays end = (s : List ℕ) (c : Cursor) → (c.refused ≡ 0 → ⊥) → end s c ≡ c
+
+-- where a record begins that has none within it
+abbrev pub alone : List ℕ → Cursor → List ℕ
+alone s c = c.at ∷ []
+
+-- n records, each of which ends where `end` says and begins, with those within it, where `starts` says
+abbrev pub PlacesList : (end : List ℕ → Cursor → Cursor) (starts : List ℕ → Cursor → List ℕ) (n : ℕ) (r : Reader) (o : Offsets)
+    → Result Reader InputRefusal → Offsets → Type 0
+PlacesList end starts n = PlacesRecords (λ s c. iter (end s) c n) (λ s c. concat_below (λ i. starts s (iter (end s) c i)) n)
 
 -- a lookup behind the one of that name, and its name
 abbrev pub PlacesLookup : (before : Option Text) (r : Reader) (o : Offsets) → Result (Text × Reader) InputRefusal → Offsets → Type 0
@@ -84,5 +98,5 @@ PlacesTree k r o q o' =
 
 -- all records of the pack s, from the beginning on
 pub record PlacesAll (s w : List ℕ) (q : Result Index InputRefusal) (w' : List ℕ) : Type 0 where
-  pub answer : q ≡ told (record { value = load_index s; next = pack_end s })
+  pub answer : q ≡ outcome (record { value = load_index s; next = pack_end s })
   pub work : (pack_end s).refused ≡ 0 → w' ≡ sets w 0 (offsets s)

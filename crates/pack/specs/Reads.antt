@@ -22,13 +22,13 @@ abbrev pub refusal_of : Cursor → InputRefusal
 refusal_of c = record { fault = fault_of c.refused; offset = c.at }
 
 -- the item, or the refusal
-abbrev pub told : {A : Type 0} → Item A → Result A InputRefusal
-told i = if i.next.refused == 0 then Ok i.value else Err (refusal_of i.next)
+abbrev pub outcome : {A : Type 0} → Item A → Result A InputRefusal
+outcome i = if i.next.refused == 0 then Ok i.value else Err (refusal_of i.next)
 
 -- The reader c has read an item of that form and answered r, and is c' then. After a refusal it is not said where.
 pub record Reads {A : Type 0} (c : Reader) (form : Form A) (r : Result A InputRefusal) (c' : Reader) : Type 0 where
   pub bytes : c'.bytes.now ≡ c.bytes.now
-  pub answer : r ≡ told (form c.bytes.now (fresh c.at))
+  pub answer : r ≡ outcome (form c.bytes.now (fresh c.at))
   pub at : (form c.bytes.now (fresh c.at)).next.refused ≡ 0 → c'.at ≡ (form c.bytes.now (fresh c.at)).next.at
 
 -- of an answer with the next reader: the item alone, and that reader; after a refusal there is none, and it stays
@@ -44,8 +44,9 @@ next_of c (Err e) = c
 abbrev pub Gives : {A : Type 0} (c : Reader) (form : Form A) → Result (A × Reader) InputRefusal → Type 0
 Gives c form r = Reads c form (item_of r) (next_of c r)
 
-abbrev pub judged : (c : Reader) (value : ℕ) → Bool → Fault → (next : Reader) → Result (ℕ × Reader) InputRefusal
-judged c value good fault next = if good then Ok (value, next) else Err (record { fault = fault; offset = c.at })
+-- the item that was read at c, where it is good, with the reader behind it; else the fault, at c
+abbrev pub refuse_unless : (c : Reader) (value : ℕ) → Bool → Fault → (next : Reader) → Result (ℕ × Reader) InputRefusal
+refuse_unless c value good fault next = if good then Ok (value, next) else Err (record { fault = fault; offset = c.at })
 
 -- 8: "bytes after the last tree", at the end of the trees
 pub record Ends (c : Reader) (r : Result (Unit {0}) InputRefusal) : Type 0 where

@@ -2,7 +2,7 @@
 ghost use Rattle.std.specs.Prelude.{◌≡◌, ◌+◌, ◌≤◌, IfOk};
 ghost use Rattle.pack.specs.Items.{Form, optional, read_wide, read_number, read_code, read_version, read_index, read_sum, read_bytes, read_mark};
 ghost use Rattle.pack.specs.Items.{read_text, read_name, read_float};
-ghost use Rattle.pack.specs.Reads.{Gives, Ends, judged};
+ghost use Rattle.pack.specs.Reads.{Gives, Ends, refuse_unless};
 
 use crate::number::{decode, is_shortest, last_byte};
 use crate::reader::{Fault, InputRefusal, Reader};
@@ -11,14 +11,14 @@ use crate::text::{Text, text_precedes};
 impl<'a> Reader<'a> {
     // The item that was read here, where it is good.
     #[inline(always)]
-    fn judged(
+    fn refuse_unless(
         self,
         value: u32,
         good: bool,
         fault: Fault,
         next: Reader<'a>,
     ) -> Result<(u32, Self), InputRefusal>
-        ensures { result ≡ judged self.entry value good fault next.entry }
+        ensures { result ≡ refuse_unless self.entry value good fault next.entry }
     {
         if good {
             return Ok((value, next));
@@ -96,7 +96,7 @@ impl<'a> Reader<'a> {
         ensures { Gives self.entry (read_code most) result }
     {
         let (n, next) = self.number()?;
-        self.judged(n, n <= most, Fault::Code, next)
+        self.refuse_unless(n, n <= most, Fault::Code, next)
     }
 
     #[inline(always)]
@@ -104,7 +104,7 @@ impl<'a> Reader<'a> {
         ensures { Gives self.entry read_version result }
     {
         let (n, next) = self.number()?;
-        self.judged(n, n == 1, Fault::Version, next)
+        self.refuse_unless(n, n == 1, Fault::Version, next)
     }
 
     // An index below `count`.
@@ -113,7 +113,7 @@ impl<'a> Reader<'a> {
         ensures { Gives self.entry (read_index count) result }
     {
         let (n, next) = self.number()?;
-        self.judged(n, (n as u64) < count, Fault::TypeIndex, next)
+        self.refuse_unless(n, (n as u64) < count, Fault::TypeIndex, next)
     }
 
     // A number that completes a sum whose other part is `other`.
@@ -122,7 +122,7 @@ impl<'a> Reader<'a> {
         ensures { Gives self.entry (read_sum other) result }
     {
         let (n, next) = self.number()?;
-        self.judged(n, other.checked_add(n).is_some(), Fault::Sum, next)
+        self.refuse_unless(n, other.checked_add(n).is_some(), Fault::Sum, next)
     }
 
     // A length in bytes whose bits are counted in 32 bits.
@@ -131,7 +131,7 @@ impl<'a> Reader<'a> {
         ensures { Gives self.entry read_bytes result }
     {
         let (n, next) = self.number()?;
-        self.judged(n, n.checked_mul(8).is_some(), Fault::Sum, next)
+        self.refuse_unless(n, n.checked_mul(8).is_some(), Fault::Sum, next)
     }
 
     #[inline(always)]

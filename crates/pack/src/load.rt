@@ -1,10 +1,10 @@
 // `load`: every input refusal, then the offset of each record into the work buffer. One walk over the pack serves both: it judges, counts
 // and places the offsets in a list on the stack, from which they are copied.
-ghost use Rattle.std.specs.Prelude.{◌≡◌, ◌≤◌, [], ◌∷◌, length};
-ghost use Rattle.pack.specs.Format.{types, type_offsets, entries, entry_offsets, lookups, lookup_offsets, fields, field_offsets};
-ghost use Rattle.pack.specs.Format.{pgn_next, pgn_records, pgns, pgn_offsets};
+ghost use Rattle.std.specs.Prelude.{◌≡◌, ◌≤◌, ℕ, List, [], ◌∷◌, length};
+ghost use Rattle.pack.specs.Items.{Cursor};
+ghost use Rattle.pack.specs.Format.{type_next, entry_next, lookups, lookup_offsets, fields, field_offsets, pgn_next, pgn_records};
 ghost use Rattle.pack.specs.Load.{refusal_number, refusal_detail, most_bytes, Loads};
-ghost use Rattle.pack.specs.Placing.{Put, Places, PlacesLookup, PlacesTree, PlacesAll};
+ghost use Rattle.pack.specs.Placing.{Put, PlacesRecords, Stays, alone, PlacesList, PlacesLookup, PlacesTree, PlacesAll};
 ghost use Rattle.pack.specs.declared.load.Refusal.TheVariants.{Input};
 
 use crate::kinds::LookupKind;
@@ -110,38 +110,80 @@ impl<'a> Offsets<'a> {
     }
 }
 
-// Each of these places the offsets of the records that it reads.
-fn place_types<'a>(
+// A record that is placed with those within it, and without a look at the one before it.
+trait Listed: Copy {
+    // where it ends
+    ghost end: { Self → List ℕ → Cursor → Cursor };
+
+    // where it and those within it begin
+    ghost starts: { Self → List ℕ → Cursor → List ℕ };
+
+    fn place<'a>(self, reader: Reader<'a>, out: &mut Offsets) -> Result<Reader<'a>, InputRefusal>
+        ensures { PlacesRecords (end self) (starts self) reader.entry out.old result out.new };
+}
+
+// n such records, one after the other.
+fn place_list<'a, R: Listed>(
     reader: Reader<'a>,
     offsets: &mut Offsets,
+    each: R,
     n: u32,
 ) -> Result<Reader<'a>, InputRefusal>
-    ensures { Places (λ s c. types s c n) (λ s c. type_offsets s c n) reader.entry offsets.old result offsets.new }
+    requires { Stays (R.end each) }
+    ensures { PlacesList (R.end each) (R.starts each) n reader.entry offsets.old result offsets.new }
 {
     let mut next = reader;
     for _i in 0..n {
-        offsets.put(next.at);
-        let (_, after) = next.field_type()?;
-        next = after;
+        next = each.place(next, offsets)?;
     }
     Ok(next)
 }
 
-fn place_entries<'a>(
-    reader: Reader<'a>,
-    offsets: &mut Offsets,
-    kind: LookupKind,
-    n: u32,
-) -> Result<Reader<'a>, InputRefusal>
-    ensures { Places (λ s c. entries kind s c n) (λ s c. entry_offsets kind s c n) reader.entry offsets.old result offsets.new }
-{
-    let mut next = reader;
-    for _i in 0..n {
-        offsets.put(next.at);
-        let (_, after) = next.entry(kind)?;
-        next = after;
+#[derive(Clone, Copy)]
+struct TypeRecord;
+
+impl Listed for TypeRecord {
+    ghost end = { λ _. type_next };
+
+    ghost starts = { λ _. alone };
+
+    fn place<'a>(self, reader: Reader<'a>, out: &mut Offsets) -> Result<Reader<'a>, InputRefusal> {
+        out.put(reader.at);
+        let (_, next) = reader.field_type()?;
+        Ok(next)
     }
-    Ok(next)
+}
+
+// An entry of a lookup of that kind.
+#[derive(Clone, Copy)]
+struct EntryRecord(LookupKind);
+
+impl Listed for EntryRecord {
+    ghost end = { λ it. entry_next it.0 };
+
+    ghost starts = { λ _. alone };
+
+    fn place<'a>(self, reader: Reader<'a>, out: &mut Offsets) -> Result<Reader<'a>, InputRefusal> {
+        out.put(reader.at);
+        let (_, next) = reader.entry(self.0)?;
+        Ok(next)
+    }
+}
+
+// A PGN and its fields, in a pack of that many field types.
+#[derive(Clone, Copy)]
+struct PgnRecord(u32);
+
+impl Listed for PgnRecord {
+    ghost end = { λ it. pgn_next it.0 };
+
+    ghost starts = { λ it. pgn_records it.0 };
+
+    fn place<'a>(self, reader: Reader<'a>, out: &mut Offsets) -> Result<Reader<'a>, InputRefusal> {
+        out.put(reader.at);
+        let (pgn, next) = reader.pgn()?;
+        place_fields(next, out, self.0, pgn.fields)
+    }
 }
 
 // A lookup whose name is above the one before it, and its entries; and its name.
@@ -154,16 +196,17 @@ fn place_lookup<'a>(
 {
     offsets.put(reader.at);
     let (lookup, next) = reader.lookup(before)?;
-    let next = place_entries(next, offsets, lookup.kind, lookup.entries)?;
+    let next = place_list(next, offsets, EntryRecord(lookup.kind), lookup.entries)?;
     Ok((lookup.name, next))
 }
 
+// Each lookup is told the name of the one before it, so that they are not `Listed`.
 fn place_lookups<'a>(
     reader: Reader<'a>,
     offsets: &mut Offsets,
     n: u32,
 ) -> Result<Reader<'a>, InputRefusal>
-    ensures { Places (λ s c. (lookups s c n).next) (λ s c. lookup_offsets s c n) reader.entry offsets.old result offsets.new }
+    ensures { PlacesRecords (λ s c. (lookups s c n).next) (λ s c. lookup_offsets s c n) reader.entry offsets.old result offsets.new }
 {
     let mut next = reader;
     let mut before = None;
@@ -175,14 +218,14 @@ fn place_lookups<'a>(
     Ok(next)
 }
 
-// The fields of a PGN, in a pack of `types` field types.
+// The fields of a PGN, in a pack of `types` field types. Each is told the bits of those before it, so that they are not `Listed`.
 fn place_fields<'a>(
     reader: Reader<'a>,
     offsets: &mut Offsets,
     types: u32,
     n: u32,
 ) -> Result<Reader<'a>, InputRefusal>
-    ensures { Places (λ s c. (fields types s c n).next) (λ s c. field_offsets types s c n) reader.entry offsets.old result offsets.new }
+    ensures { PlacesRecords (λ s c. (fields types s c n).next) (λ s c. field_offsets types s c n) reader.entry offsets.old result offsets.new }
 {
     let mut next = reader;
     let mut total: u32 = 0;
@@ -191,34 +234,6 @@ fn place_fields<'a>(
         let (field, after) = next.field(types as u64, total)?;
         next = after;
         total += field.scaling.bits;
-    }
-    Ok(next)
-}
-
-// A PGN and its fields.
-fn place_pgn<'a>(
-    reader: Reader<'a>,
-    offsets: &mut Offsets,
-    types: u32,
-) -> Result<Reader<'a>, InputRefusal>
-    ensures { Places (pgn_next types) (pgn_records types) reader.entry offsets.old result offsets.new }
-{
-    offsets.put(reader.at);
-    let (pgn, next) = reader.pgn()?;
-    place_fields(next, offsets, types, pgn.fields)
-}
-
-fn place_pgns<'a>(
-    reader: Reader<'a>,
-    offsets: &mut Offsets,
-    types: u32,
-    n: u32,
-) -> Result<Reader<'a>, InputRefusal>
-    ensures { Places (λ s c. pgns types s c n) (λ s c. pgn_offsets types s c n) reader.entry offsets.old result offsets.new }
-{
-    let mut next = reader;
-    for _i in 0..n {
-        next = place_pgn(next, offsets, types)?;
     }
     Ok(next)
 }
@@ -233,7 +248,7 @@ fn place_tree<'a>(
 {
     let place = offsets.count;
     let (count, next) = reader.number()?;
-    let next = place_pgns(next, offsets, types, count)?;
+    let next = place_list(next, offsets, PgnRecord(types), count)?;
     Ok((Section { count, place }, next))
 }
 
@@ -246,7 +261,7 @@ fn place_all(pack: &[u8], work: &mut [u32]) -> Result<Index, InputRefusal>
     let mut offsets = Offsets { work, count: 0 };
     let (_, next) = reader.version()?;
     let (types, next) = next.number()?;
-    let next = place_types(next, &mut offsets, types)?;
+    let next = place_list(next, &mut offsets, TypeRecord, types)?;
     let (lookups, next) = next.number()?;
     let lookups_at = offsets.count;
     let next = place_lookups(next, &mut offsets, lookups)?;

@@ -7,7 +7,7 @@ ghost use Rattle.pack.specs.Notation.{◌<ᵇ◌};
 ghost use Rattle.pack.specs.Items.{bytes_of, fresh};
 ghost use Rattle.pack.specs.Meaning.{type_meaning, entry_meaning, field_meaning, pack_of};
 ghost use Rattle.pack.specs.Ready.{Ready, IndexIs, LookupAt, LookupIs, PgnAt, PgnIs, place_of_lookup, place_of_pgn};
-ghost use Rattle.pack.specs.Reads.{told};
+ghost use Rattle.pack.specs.Reads.{outcome};
 ghost use Rattle.pack.specs.Records.{read_second_text};
 ghost use Rattle.pack.specs.Trees.{tree_number};
 ghost use Rattle.pack.specs.Value.{no_field_type, no_entry, pgns_of, pgn_at, field_at, lookup_at};
@@ -87,7 +87,7 @@ pub struct Pgns<'a> {
 
 // The text behind the one that a record begins with: a field's name.
 fn second_text(reader: Reader) -> Result<Text, InputRefusal>
-    ensures { result ≡ told (read_second_text reader.entry.bytes.now (fresh reader.entry.at)) }
+    ensures { result ≡ outcome (read_second_text reader.entry.bytes.now (fresh reader.entry.at)) }
 {
     let (_, next) = reader.text()?;
     let (text, _) = next.text()?;

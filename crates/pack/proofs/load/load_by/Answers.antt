@@ -13,7 +13,7 @@ use Rattle.pack.specs.Placing.{PlacesAll}
 use Rattle.pack.specs.declared.load.Index.{Index}
 use Rattle.pack.specs.declared.load.Refusal.TheVariants.{Input}
 use Rattle.pack.specs.declared.reader.InputRefusal.{InputRefusal}
-use Rattle.pack.proofs.ReaderLaws.{told_ok, told_err}
+use Rattle.pack.proofs.ReaderLaws.{outcome_ok, outcome_err}
 use Rattle.pack.proofs.Told.{promised}
 use Rattle.pack.proofs.Stores.{sets_over, take_stored}
 use Rattle.pack.proofs.Loading.{input_refused, work_short, loads}
@@ -25,10 +25,10 @@ whole s = record { value = load_index s; next = pack_end s }
 
 module _ {s w w' : List ℕ} {i : Index} (a : PlacesAll s w (Ok i) w') where
   accepted : (pack_end s).refused ≡ 0
-  accepted = (told_ok (whole s) i a.answer).0
+  accepted = (outcome_ok (whole s) i a.answer).0
 
   index : i ≡ load_index s
-  index = sym (told_ok (whole s) i a.answer).1
+  index = sym (outcome_ok (whole s) i a.answer).1
 
   counted : i.records ≡ length (offsets s)
   unfolding load_index
@@ -42,14 +42,14 @@ module _ {s w w' : List ℕ} {i : Index} (a : PlacesAll s w (Ok i) w') where
 
 -- a walk that was refused: so is the pack
 not_accepted : {s w w' : List ℕ} {f : InputRefusal} → PlacesAll s w (Err f) w' → (pack_end s).refused ≡ 0 → ⊥
-not_accepted {s} {w} {w'} {f} a z = eqb-false _ _ (told_err (whole s) f a.answer).0 z
+not_accepted {s} {w} {w'} {f} a z = eqb-false _ _ (outcome_err (whole s) f a.answer).0 z
 
 pub returns-in_err-index : goal.returns-in_err-index
 returns-in_err-index c =
     let s = c.args.pack.now in
     let f = c.in_err-index.field-0.0 in
     let y = err_from_is_err_and {Q = λ y. y ≡ Input f} c.from_residual.result c.from_residual.ensures.1 in
-    let e = (told_err (whole s) f c.in_err-index.ensures.answer).1 in
+    let e = (outcome_err (whole s) f c.in_err-index.ensures.answer).1 in
     let a = input_refused s c.args.work.now c.requires (not_accepted c.in_err-index.ensures) in
     promised _ _ _ _ (rw (y.1, y.2, e) a.answer) a.work
 

@@ -1,13 +1,17 @@
 use Rattle.pack.proofs.Sections.{begun, upto_types, upto_lookups, upto_number, upto_trees, upto_tree, ends, ended, walk_refused, walked}
 use Rattle.pack.proofs.Sections.{counted_before, types_counted}
 use Rattle.pack.proofs.Places.{along_none}
+use Rattle.pack.proofs.Reading.{type_reader}
 use Rattle.pack.proofs.Whole.{version_ends, type_list_ends, types_ends, lookup_list_ends, tree_ends}
-use Rattle.pack.specs.Format.{type_list, lookup_list, tree_start, offsets, pack_end}
+use Rattle.pack.specs.Format.{types, type_list, lookup_list, tree_start, offsets, pack_end}
 use Rattle.pack.specs.Load.{load_index}
 use Rattle.std.proofs.Common.{rules}
 use native.Mathlib.Omega.{arith}
 use mathlib.Core.Path.{refl}
 use Rattle.pack.proofs.load.place_all.Goals as goal
+
+pub place_list-requires : goal.place_list-requires
+place_list-requires c s = (type_reader s).sticky
 
 pub returns-in_err-next : goal.returns-in_err-next
 returns-in_err-next c =
@@ -20,6 +24,7 @@ returns-in_err-types c =
     walk_refused a c.in_err-types.ensures c.from_residual-in_err-types.ensures.1 (type_list_ends c.args.pack.now)
 
 pub returns-in_err-next-2 : goal.returns-in_err-next-2
+unfolding types
 returns-in_err-next-2 c =
     let a = begun {o = record { work = c.args.work; count = 0 }} refl c.in_ok-next.ensures in
     let b = upto_types a c.in_ok-types.ensures in

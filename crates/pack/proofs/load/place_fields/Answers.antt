@@ -1,6 +1,6 @@
 use Rattle.pack.proofs.Places.{past_out}
 use Rattle.pack.proofs.Places.{along_none, along_put, along_read, along_value, placed, refused, fields_turn, field_offsets_turn, fields_stay}
-use Rattle.pack.proofs.ReaderLaws.{told_ok}
+use Rattle.pack.proofs.ReaderLaws.{outcome_ok}
 use Rattle.pack.proofs.Free.{field_fits}
 use Rattle.pack.specs.Items.{fresh}
 use Rattle.pack.specs.Format.{fields, field_offsets, field_next}
@@ -17,7 +17,7 @@ loop-i-init c = record { along = along_none _ _; total = refl }
 pub overflow_add-total : goal.overflow_add-total
 overflow_add-total c =
     let f = read_field c.args.types c.loop-i.total c.loop-i.next.bytes.now (fresh c.loop-i.next.at) in
-    let o = told_ok f c.in_ok-field.field c.in_ok-field.ensures.answer in
+    let o = outcome_ok f c.in_ok-field.field c.in_ok-field.ensures.answer in
     omega (arith, (rw o.1 at (field_fits c.loop-i.next.bytes.now (fresh c.loop-i.next.at) c.args.types c.loop-i.total o.0)))
 
 pub loop-i-preserved : goal.loop-i-preserved

@@ -1,5 +1,5 @@
 use Rattle.pack.specs.Items.{Item}
-use Rattle.pack.specs.Reads.{told}
+use Rattle.pack.specs.Reads.{outcome}
 use Rattle.pack.specs.Records.{read_second_text}
 use Rattle.pack.specs.declared.reader.InputRefusal.{InputRefusal}
 use Rattle.pack.proofs.ReaderLaws.{reads_then, reads_stop}
@@ -11,7 +11,7 @@ use mathlib.Core.Path.{◌∙◌}
 use Rattle.pack.proofs.loaded.second_text.Goals as goal
 
 -- where a `?` returns
-refused : {A : Type 0} (r : Result A InputRefusal) (f : InputRefusal) (i : Item A) → IsErrAnd r (λ y. y ≡ f) → Err f ≡ told i → r ≡ told i
+refused : {A : Type 0} (r : Result A InputRefusal) (f : InputRefusal) (i : Item A) → IsErrAnd r (λ y. y ≡ f) → Err f ≡ outcome i → r ≡ outcome i
 refused r f i e h = let x = err_from_is_err_and {Q = λ y. y ≡ f} r e in x.1 ∙ (rw x.2) ∙ h
 
 pub returns-in_err-next : goal.returns-in_err-next

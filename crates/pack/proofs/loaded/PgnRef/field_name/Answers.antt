@@ -1,6 +1,6 @@
 use Rattle.pack.proofs.Positions.{field_name_law, field_name_stands}
 use Rattle.pack.proofs.ReaderLaws.{same_Ok}
-use Rattle.pack.proofs.Standing.{told_there}
+use Rattle.pack.proofs.Standing.{outcome_there}
 use Rattle.pack.specs.Records.{read_second_text}
 use mathlib.Core.Path.{◌∙◌, sym}
 use native.Mathlib.Omega.{arith}
@@ -10,11 +10,11 @@ pub unreachable-requires : goal.unreachable-requires
 unreachable-requires c =
     let x = c.args.self.now in
     let t = field_name_stands x.at c.args.k (omega (arith, x.is.fields, c.requires)) in
-    c.in_default.not-Ok _ (told_there read_second_text c.reader.result t c.reader.ensures.bytes c.reader.ensures.at c.second_text.ensures)
+    c.in_default.not-Ok _ (outcome_there read_second_text c.reader.result t c.reader.ensures.bytes c.reader.ensures.at c.second_text.ensures)
 
 pub returns : goal.returns
 returns c =
     let x = c.args.self.now in
     let t = field_name_stands x.at c.args.k (omega (arith, x.is.fields, c.requires)) in
-    let e = told_there read_second_text c.reader.result t c.reader.ensures.bytes c.reader.ensures.at c.second_text.ensures in
+    let e = outcome_there read_second_text c.reader.result t c.reader.ensures.bytes c.reader.ensures.at c.second_text.ensures in
     rw (same_Ok _ _ (sym c.in-Ok.is ∙ e)) (field_name_law x.at c.args.k (omega (arith, x.is.fields, c.requires)))

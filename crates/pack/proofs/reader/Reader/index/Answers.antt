@@ -11,4 +11,4 @@ returns-in_err-n c = out _ c.from_residual.ensures.1 (judged_out (λ (v : ℕ). 
 
 pub returns : goal.returns
 unfolding read_index
-returns c = reads_judged (λ (v : ℕ). v <ᵇ c.args.count) 5 c.in_ok-n.ensures c.judged.ensures
+returns c = reads_judged (λ (v : ℕ). v <ᵇ c.args.count) 5 c.in_ok-n.ensures c.refuse_unless.ensures

@@ -12,5 +12,5 @@ returns-in_err-n c = out _ c.from_residual.ensures.1 (judged_out (λ (v : ℕ). 
 pub returns : goal.returns
 unfolding read_bytes
 returns c =
-    let e = rw (c.is_some.ensures, checked c.checked_mul.result (c.in_ok-n.n * 8) c.checked_mul.ensures) at c.judged.ensures in
+    let e = rw (c.is_some.ensures, checked c.checked_mul.result (c.in_ok-n.n * 8) c.checked_mul.ensures) at c.refuse_unless.ensures in
     reads_judged (λ (v : ℕ). v * 8 ≤ᵇ largest32) 6 c.in_ok-n.ensures e

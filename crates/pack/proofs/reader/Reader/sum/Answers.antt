@@ -12,5 +12,5 @@ returns-in_err-n c = out _ c.from_residual.ensures.1 (judged_out (λ (v : ℕ). 
 pub returns : goal.returns
 unfolding read_sum
 returns c =
-    let e = rw (c.is_some.ensures, checked c.checked_add.result (c.args.other + c.in_ok-n.n) c.checked_add.ensures) at c.judged.ensures in
+    let e = rw (c.is_some.ensures, checked c.checked_add.result (c.args.other + c.in_ok-n.n) c.checked_add.ensures) at c.refuse_unless.ensures in
     reads_judged (λ (v : ℕ). c.args.other + v ≤ᵇ largest32) 6 c.in_ok-n.ensures e

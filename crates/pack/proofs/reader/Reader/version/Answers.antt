@@ -10,4 +10,4 @@ returns-in_err-n c = out _ c.from_residual.ensures.1 (judged_out (λ (v : ℕ). 
 
 pub returns : goal.returns
 unfolding read_version
-returns c = reads_judged (λ (v : ℕ). v == 1) 2 c.in_ok-n.ensures c.judged.ensures
+returns c = reads_judged (λ (v : ℕ). v == 1) 2 c.in_ok-n.ensures c.refuse_unless.ensures
