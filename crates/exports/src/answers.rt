@@ -53,6 +53,7 @@ impl Values<1> for usize {
     }
 }
 
+// Its number for the C interface.
 fn end_number(e: End) -> u64
     ensures { result ≡ ending_number e }
 {

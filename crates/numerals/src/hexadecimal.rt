@@ -15,7 +15,7 @@ fn hex_digit(c: u8) -> Option<u8>
     }
 }
 
-// The number that digits write; 16 of them have 64 bits.
+// The number that digits write; 16 of them have 64 bits. Apart from `parse_digits`, since 01 limits that one by the value and this by the digits.
 fn number(digits: &[u8]) -> Option<u64>
     requires { length digits.now ≤ 16 }
     ensures { result ≡ then_some (all_hex_digits digits.now) (hexadecimal 0 digits.now) }

@@ -9,7 +9,8 @@ use mathlib.Core.List.{List}
 use lib.ListN.{length}
 use Rattle.pack.specs.Notation.{◌<ᵇ◌, ◌≤ᵇ◌}
 use Rattle.pack.specs.Format.{pack_end, offsets}
-use Rattle.pack.specs.Load.{Answer, refusal_answer, after, in_numbers, load_answer, after_load, most_bytes, verdict, load_index, loaded, load_tells, work_after, Loads}
+use Rattle.pack.specs.Load.{Answer, refusal_answer, after, in_numbers, load_answer, after_load, most_bytes, verdict, load_index}
+use Rattle.pack.specs.Load.{loaded, load_tells, work_after, Loads}
 use Rattle.pack.specs.Load.{refusal_number, fault_number}
 use Rattle.pack.specs.Reads.{fault_of}
 use Rattle.pack.proofs.Bounds.{input_bound}

@@ -1,4 +1,4 @@
-// The kinds that 01 gives by a number.
+// The kinds that 01 gives by a number: two tables of data, which a common trait would not shorten.
 ghost use Rattle.std.specs.Prelude.{◌≡◌};
 ghost use Rattle.pack.specs.Kinds.{kind_of, message_type_of};
 

@@ -99,6 +99,7 @@ pub(crate) struct Offsets<'a> {
 }
 
 impl<'a> Offsets<'a> {
+    // Not by `get_mut`, which promises nothing of the rest of the buffer.
     #[tactic(auto, unfolding(crate::specs::Placing::put_one))]
     fn put(&mut self, at: usize)
         ensures { Put self.old (at ∷ []) self.new }

@@ -65,7 +65,8 @@ pub struct FieldRef<'p, 'a> {
         (pgn_at (pack_of pgn.now.pack.bytes.now) (tree_number pgn.now.protocol) pgn.now.item) index },
 }
 
-// The lookups, and the PGNs of a tree: `item` comes next.
+// The lookups, and the PGNs of a tree: `item` comes next. They are two iterators: one over a trait of records would take a trait with six members
+// for two impls.
 #[derive(Clone, Copy)]
 pub struct Lookups<'a> {
     pub(crate) pack: Pack<'a>,

@@ -6,6 +6,7 @@ ghost use Rattle.pack.specs.Trees.{tree_number, protocol_of, prefix_of, section_
 
 use crate::load::{Index, Section};
 
+// The trees, in the order of the numbers that the C interface and findings give them.
 #[derive(Clone, Copy)]
 pub enum Protocol {
     Nmea2000,
@@ -20,22 +21,13 @@ impl Protocol {
     pub fn of_tree(tree: u32) -> Option<Protocol>
         ensures { result ≡ then_some (tree <ᵇ 3) (protocol_of tree) }
     {
-        match tree {
-            0 => Some(Protocol::Nmea2000),
-            1 => Some(Protocol::J1939),
-            2 => Some(Protocol::Quick),
-            _ => None,
-        }
+        Protocol::ALL.get(tree as usize).copied()
     }
 
     pub fn tree(self) -> u32
         ensures { result ≡ tree_number self }
     {
-        match self {
-            Protocol::Nmea2000 => 0,
-            Protocol::J1939 => 1,
-            Protocol::Quick => 2,
-        }
+        self as u32
     }
 
     // `check_prefix`, before `pgns/`.
@@ -77,7 +69,7 @@ impl FieldIndex {
     }
 }
 
-// Orders are compared by this: whether one comes before another.
+// Orders are compared by this: whether one comes before another. No derive, since 01 allows these comparisons alone.
 pub fn precedes(a: FieldOrder, b: FieldOrder) -> bool
     ensures { result ≡ (a.0 <ᵇ b.0) }
 {

@@ -28,14 +28,14 @@ pub fn part(s: &[u8], t: Text) -> &[u8]
     }
 }
 
-// Whether two texts are the same bytes.
+// Whether two texts are the same bytes: the slices' own `==`, in the definitions' words.
 pub(crate) fn same(a: &[u8], b: &[u8]) -> bool
     ensures { result ≡ a.now ≐ b.now }
 {
     a == b
 }
 
-// Whether a stands before b in byte order, a shorter prefix first.
+// Whether a stands before b in byte order, a shorter prefix first: the slices' own `<`.
 pub(crate) fn precedes(a: &[u8], b: &[u8]) -> bool
     ensures { result ≡ a.now ≺ b.now }
 {

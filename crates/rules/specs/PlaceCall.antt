@@ -19,7 +19,8 @@ abbrev pub named : Option Bytes → ℕ → Result ℕ Refusal
 named None n = Err Absent
 named (Some b) n = fitted b n
 
--- "Input refusals come before these; then 21, 23, .. 24": the text of a finding's place, of the pack s with a work buffer of m numbers and a text buffer of n bytes
+-- "Input refusals come before these; then 21, 23, .. 24": the text of a finding's place, of the pack s with a work buffer of m numbers and a text
+-- buffer of n bytes
 unfoldable pub placed : List ℕ → (m place tree item n : ℕ) → Result ℕ Refusal
 placed s m place t item n = after_load (loaded s m) (named (place_text (pack_of s) place t item) n)
 

@@ -10,7 +10,8 @@ ghost use Rattle.rules.specs.Findings.{report_if, pgn_error};
 ghost use Rattle.rules.specs.Floats.{float_eq, ZERO};
 ghost use Rattle.rules.specs.Texts.{NUMBER};
 ghost use Rattle.rules.specs.Model.{fieldtype_of, root_of, value_bits};
-ghost use Rattle.rules.specs.Continues.{holds_order, set_of, integer, differs_from, not_raw, continued_by, continued_place, continued_at, continues_at, check_continues};
+ghost use Rattle.rules.specs.Continues.{holds_order, set_of, integer, differs_from, not_raw};
+ghost use Rattle.rules.specs.Continues.{continued_by, continued_place, continued_at, continues_at, check_continues};
 
 use crate::Finding;
 use crate::emit::{Findings, field_error};

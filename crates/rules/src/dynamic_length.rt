@@ -49,6 +49,7 @@ fn dynamic_length_at(out: &mut Findings, field: &FieldRef, root: Text, have: boo
 
 // R06: DYNAMIC_FIELD_VALUE needs an earlier length source; overhead only on length fields; dynamicFieldLength only on
 // DYNAMIC_FIELD_LENGTH fields.
+// No `FieldRule`: what a length source is goes from field to field.
 #[tactic(auto, using(crate::proofs::Fields::type_there), unfolding(crate::specs::DynamicLength::check_dynamic_length))]
 pub(crate) fn check_dynamic_length(out: &mut Findings, pgn: &PgnRef)
     ensures { Emitted out.old

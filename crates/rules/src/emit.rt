@@ -10,7 +10,8 @@ use crate::Finding;
 use pack::loaded::{FieldRef, PgnRef};
 use pack::protocol::Protocol;
 
-// What was found so far: as many findings as fit, and how many there are.
+// What was found so far: as many findings as fit, and how many there are. Offsets (pack) and bytes (TextOut) are counted likewise, each with a
+// promise of its own: one over the three would ask a conversion.
 #[derive(Drop)]
 pub struct Findings<'a> {
     pub numbers: &'a mut [u32],
@@ -26,7 +27,7 @@ fn write(out: &mut [u32], at: usize, f: Finding)
     ]);
 }
 
-// The finding behind n others.
+// The finding behind n others. Not by `get_mut`, which promises nothing of the rest of the buffer.
 #[tactic(auto, unfolding(crate::specs::Emit::stored))]
 fn store(out: &mut [u32], n: usize, f: Finding)
     ensures { out.new ≡ stored out.old n f }
@@ -62,7 +63,7 @@ impl<'a> Findings<'a> {
     }
 }
 
-// An error at a place, with neither part nor other.
+// An error at a place, with neither part nor other. Rule, cause and place are a finding's numbers.
 fn error(rule: u32, cause: u32, place: u32, tree: u32, item: u32) -> Finding
     ensures { result ≡ (record { rule = rule; severity = 1; cause = cause; place = place; tree = tree; item = item; part = 0; other = 0 }) }
 {

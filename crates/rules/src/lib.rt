@@ -45,7 +45,7 @@ mod unique_ids;
 mod variants;
 pub mod widths;
 
-// A finding's eight numbers.
+// A finding's eight numbers. They are numbers and no enums, since they are what the C interface hands over.
 #[derive(Clone, Copy)]
 pub struct Finding {
     pub rule: u32,

@@ -16,7 +16,7 @@ use pack::kinds::LookupKind;
 use pack::loaded::{LookupRef, Pack};
 use pack::text::{same_text, text_is};
 
-// One name, of a triplet under one first value.
+// One name, of a triplet under one first value: not all that a derive would compare.
 #[tactic(auto, unfolding(crate::specs::LookupNames::same_name))]
 fn same_name(s: &[u8], kind: LookupKind, a: EntryView, b: EntryView) -> bool
     ensures { result ≡ same_name (kind_number kind) (entry_meaning s.now a) (entry_meaning s.now b) }

@@ -132,7 +132,8 @@ fn next(pgn: &PgnRef, key: MatchKey) -> Option<KeyByte>
     Some(KeyByte { byte, after })
 }
 
-// Whether the two keys are the same bytes, each with its `,` before it.
+// Whether the two keys are the same bytes, each with its `,` before it. The loop goes step by step in both: there is no range of so many turns, and
+// an iterator of bytes would be made for it alone.
 fn same_key(pgn: &PgnRef, other: &PgnRef) -> bool
     ensures { result ≡
         (pieces_from (pgn_value pgn.now) 0 (length (pgn_value pgn.now).fields) ≐ pieces_from (pgn_value other.now) 0 (length (pgn_value other.now).fields)) }

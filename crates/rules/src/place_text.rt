@@ -21,7 +21,7 @@ fn write_loc(loc: Loc, pack: &Pack, text: &mut [u8]) -> usize
     out.count
 }
 
-// Over an empty part of the buffer the text is only measured: after 24 it has not changed.
+// Place and tree are the C interface's numbers. Over an empty part of the buffer the text is only measured: after 24 it has not changed.
 fn write_named(
     pack: &Pack,
     place: u32,
@@ -47,6 +47,7 @@ fn write_named(
     Ok(needed)
 }
 
+// The place text call, by the C interface's numbers.
 pub fn place_text(
     pack: &[u8],
     work: &mut [u32],

@@ -1,4 +1,4 @@
-// The record that a finding's place names, found in the pack.
+// The record that a finding's place names, found in the pack. Place and tree are numbers here: so the C interface gives them.
 ghost use Rattle.std.specs.Bool.{then_some};
 ghost use Rattle.std.specs.Option.{option_map};
 ghost use Rattle.std.specs.Prelude.{◌≡◌, ◌&&◌, length, ◌==◌};

@@ -20,12 +20,7 @@ use pack::text::{part, text_is};
 fn all_digits(digits: &[u8]) -> bool
     ensures { result ≡ all_digits digits.now }
 {
-    for &b in digits {
-        if !b.is_ascii_digit() {
-            return false;
-        }
-    }
-    true
+    digits.iter().all(|b| b.is_ascii_digit())
 }
 
 // Whether the id is the wanted text, followed by ASCII digits or nothing.

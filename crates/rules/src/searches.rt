@@ -19,7 +19,7 @@ pub fn latest(hit: bool, j: u32, earlier: Option<u32>) -> Option<u32>
     hit.then_some(j).or(earlier)
 }
 
-// The larger of two, where there are any.
+// The larger of two, where there are any. Four lines twice: a closure would make the calls longer.
 #[tactic(auto, using(crate::proofs::Extremes::max_is_larger))]
 pub fn larger(found: Option<u32>, one: Option<u32>) -> Option<u32>
     ensures { result ≡ larger found one }

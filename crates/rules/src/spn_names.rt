@@ -129,7 +129,8 @@ fn candidate(pack: &Pack, b: u32, name: Text) -> Option<u32>
     found
 }
 
-// The largest SPN below this one of its name. Another field may name a candidate: then one below it is looked for.
+// The largest SPN below this one of its name. Another field may name a candidate: then one below it is looked for, so that no range
+// says how many turns there are.
 fn earlier_spn(pack: &Pack, spn: u32, name: Text) -> Option<u32>
     requires { bytes_of pack.now.bytes.now name ≡ spn_name (pack_of pack.now.bytes.now).pgns_j1939 spn }
     ensures { result ≡ earlier_spn (pack_of pack.now.bytes.now).pgns_j1939 spn }

@@ -41,7 +41,7 @@ struct Carrier<'a> {
     field: u32,
 }
 
-// One unit, or none for both.
+// One unit, or none for both. By `match`: over mapped options `==` would need a law of its own.
 fn same_unit(s: &[u8], a: Option<Text>, b: Option<Text>) -> bool
     ensures { result ≡ same_unit (optional_bytes s.now a) (optional_bytes s.now b) }
 {
@@ -144,7 +144,7 @@ fn spn_at(out: &mut Findings, field: &FieldRef)
     unlike_first(out, field, spn);
 }
 
-// A PGN of the J1939 tree.
+// A PGN of the J1939 tree. No `FieldRule`, which can't ask for the tree.
 #[tactic(auto, unfolding(crate::specs::Spns::check_scalings))]
 fn check_scalings(out: &mut Findings, pgn: &PgnRef)
     requires { tree_of pgn.now ≡ 1 }

@@ -21,7 +21,7 @@ pub struct FoundPgn<'a> {
     pub ghost sets_are: { SetsAre (layout (pgn_value pgn)) sets },
 }
 
-// The PGN that is named, if it is in the pack: 23.
+// The PGN that is named, its tree by the C interface's number, if it is in the pack: 23.
 pub fn find_pgn<'a>(pack: &Pack<'a>, tree: u32, pgn: u32) -> Result<PgnRef<'a>, Refusal>
     ensures { result_map_both pgn_spot (λ r. r) result ≡ naming (in_pack (pack_of pack.now.bytes.now) tree pgn)
         (record { bytes = pack.now.bytes.now; work = pack.now.work.now; tree = tree; item = pgn }) }

@@ -10,10 +10,11 @@ use Rattle.walk.proofs.stops.judge.Goals as goal
 
 pub returns-in-Some : goal.returns-in-Some
 returns-in-Some c =
+    let f = c.field_ref-field.result in let same = c.field_ref-field.ensures in
     let s = c.args.found.now.pgn.pack.bytes.now in let k = c.args.k in let P = pack_of s in
     let p = pgn_value c.args.found.now.pgn in
     record {
-      stop = by_field P p (placed (layout p) (suc k)) k c.args.reading (field_meaning s c.field_ref-field.result.view) c.field_ref-field.ensures.means
+      stop = by_field P p (placed (layout p) (suc k)) k c.args.reading (field_meaning s f.view) same.means
           c.in-Some.stop c.in-Some.ensures;
       named = tt;
       only = tt;
@@ -21,10 +22,11 @@ returns-in-Some c =
 
 pub returns-then-lookup_names_missing : goal.returns-then-lookup_names_missing
 returns-then-lookup_names_missing c =
+    let f = c.field_ref-field.result in let same = c.field_ref-field.ensures in
     let s = c.args.found.now.pgn.pack.bytes.now in let k = c.args.k in let P = pack_of s in let reading = c.args.reading in
     let p = pgn_value c.args.found.now.pgn in
     record {
-      stop = by_reading P p (placed (layout p) (suc k)) k reading (field_meaning s c.field_ref-field.result.view) c.field_ref-field.ensures.means c.in_default.ensures
+      stop = by_reading P p (placed (layout p) (suc k)) k reading (field_meaning s f.view) same.means c.in_default.ensures
           c.lookup_names_missing.result (named_reading c.fieldtype_lookup-lookup.ensures reading c.lookup_names_missing.result c.lookup_names_missing.ensures)
           c.if-lookup_names_missing.true;
       named = tt;
@@ -33,28 +35,29 @@ returns-then-lookup_names_missing c =
 
 pub returns-in-Some-need_stop : goal.returns-in-Some-need_stop
 returns-in-Some-need_stop c =
+    let f = c.field_ref-field.result in let same = c.field_ref-field.ensures in
     let s = c.args.found.now.pgn.pack.bytes.now in let k = c.args.k in let P = pack_of s in let reading = c.args.reading in
     let p = pgn_value c.args.found.now.pgn in
     record {
-      stop = by_need P p (placed (layout p) (suc k)) k reading (field_meaning s c.field_ref-field.result.view) c.field_ref-field.ensures.means c.in_default.ensures
+      stop = by_need P p (placed (layout p) (suc k)) k reading (field_meaning s f.view) same.means c.in_default.ensures
           c.lookup_names_missing.result (named_reading c.fieldtype_lookup-lookup.ensures reading c.lookup_names_missing.result c.lookup_names_missing.ensures)
-          c.if-lookup_names_missing.false (Some c.in-Some-need_stop.stop)
-          (rw c.field_ref-field.ensures.index at c.in-Some-need_stop.ensures);
+          c.if-lookup_names_missing.false (Some c.in-Some-need_stop.stop) (rw same.index at c.in-Some-need_stop.ensures);
       named = tt;
       only = tt;
     }
 
 pub returns : goal.returns
 returns c =
+    let f = c.field_ref-field.result in let same = c.field_ref-field.ensures in
     let s = c.args.found.now.pgn.pack.bytes.now in let k = c.args.k in let P = pack_of s in let reading = c.args.reading in
     let p = pgn_value c.args.found.now.pgn in
     record {
-      stop = by_need P p (placed (layout p) (suc k)) k reading (field_meaning s c.field_ref-field.result.view) c.field_ref-field.ensures.means c.in_default.ensures
+      stop = by_need P p (placed (layout p) (suc k)) k reading (field_meaning s f.view) same.means c.in_default.ensures
           c.lookup_names_missing.result (named_reading c.fieldtype_lookup-lookup.ensures reading c.lookup_names_missing.result c.lookup_names_missing.ensures)
-          c.if-lookup_names_missing.false None (rw c.field_ref-field.ensures.index at c.in_default-need_stop.ensures);
-      named = named_field (field_meaning s c.field_ref-field.result.view) (field_at p k) c.field_ref-field.ensures.means c.fieldtype_lookup-lookup.ensures;
+          c.if-lookup_names_missing.false None (rw same.index at c.in_default-need_stop.ensures);
+      named = named_field (field_meaning s f.view) (field_at p k) same.means c.fieldtype_lookup-lookup.ensures;
       only = record {
-        only = λ other. by_reading_only P p (placed (layout p) (suc k)) k other (field_meaning s c.field_ref-field.result.view) c.field_ref-field.ensures.means
-            c.in_default.ensures (rw c.field_ref-field.ensures.index at c.in_default-need_stop.ensures);
+        only = λ other. by_reading_only P p (placed (layout p) (suc k)) k other (field_meaning s f.view) same.means
+            c.in_default.ensures (rw same.index at c.in_default-need_stop.ensures);
       };
     }

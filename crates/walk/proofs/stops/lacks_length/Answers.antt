@@ -13,4 +13,5 @@ returns-then-is_value c =
     let P = pack_of c.args.found.now.pgn.pack.bytes.now in let p = pgn_value c.args.found.now.pgn in
     let g = is_some c.length_giver.result in
     let e : c.is_none.result ≡ not g = search rules in
-    e ∙ sym (a_value P p (layout p) c.args.field.now.index c.is_value.result (rw c.requires at c.is_value.ensures) c.if-is_value.true g c.length_giver.ensures.given)
+    let value = rw c.requires at c.is_value.ensures in
+    e ∙ sym (a_value P p (layout p) c.args.field.now.index c.is_value.result value c.if-is_value.true g c.length_giver.ensures.given)
