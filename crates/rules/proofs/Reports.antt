@@ -18,7 +18,7 @@ use Rattle.pack.specs.declared.load.Refusal.TheVariants.{Findings}
 use Rattle.pack.proofs.Stores.{sets_append, sets_over}
 use Rattle.pack.proofs.Told.{told_after}
 use Rattle.rules.specs.declared.Finding.{Finding}
-use Rattle.rules.specs.Checked.{all_numbers, reported, checked, findings_after, check_answer, findings_tell, check_tells, Checks}
+use Rattle.rules.specs.Checked.{all_numbers, report_of, checked, findings_after, check_answer, findings_tell, check_tells, Checks}
 use Rattle.rules.specs.Check.{check}
 use Rattle.rules.specs.declared.check.Reported.{Reported}
 use Rattle.rules.specs.Emit.{numbers, Found, none_in, stored, put_one, put_all}
@@ -108,8 +108,8 @@ errors_read (f ∷ fs) rest =
 -- ---- the two ends of a report
 
 pub record Judges (fs : List Finding) (o : List ℕ) (r : Result Reported Refusal) (o' : List ℕ) : Type 0 where
-  pub answer : r ≡ reported fs (length o)
-  pub out : o' ≡ buffer_left (reported fs (length o)) (all_numbers fs) o
+  pub answer : r ≡ report_of fs (length o)
+  pub out : o' ≡ buffer_left (report_of fs (length o)) (all_numbers fs) o
 
 pub buffer_short : (fs : List Finding) (o : List ℕ) (n : ℕ) → n ≡ length fs → length o < 8 * n → Judges fs o (Err (Findings (8 * n))) o
 buffer_short fs o n e h =
@@ -134,21 +134,21 @@ unfolding checked findings_after
 not_loaded s w o q e = record { answer = rw e; out = rw e }
 
 pub is_loaded : (s w o : List ℕ) (i : Index) {r : Result Reported Refusal} {o' : List ℕ} → loaded s (length w) ≡ Ok i
-    → r ≡ reported (check (pack_of s)) (length o) → o' ≡ buffer_left (reported (check (pack_of s)) (length o)) (all_numbers (check (pack_of s))) o
+    → r ≡ report_of (check (pack_of s)) (length o) → o' ≡ buffer_left (report_of (check (pack_of s)) (length o)) (all_numbers (check (pack_of s))) o
     → Answers s w o r o'
 unfolding checked findings_after
 is_loaded s w o i e x y = record { answer = rw e x; out = rw e y }
 
-reported_told : (fs : List Finding) (n : ℕ) → check_answer (reported fs n) ≡ findings_tell fs n
-reported_told fs n = go (8 * length fs ≤ᵇ n) refl
+report_told : (fs : List Finding) (n : ℕ) → check_answer (report_of fs n) ≡ findings_tell fs n
+report_told fs n = go (8 * length fs ≤ᵇ n) refl
   where
-    go : (b : Bool) → (8 * length fs ≤ᵇ n) ≡ b → check_answer (reported fs n) ≡ findings_tell fs n
+    go : (b : Bool) → (8 * length fs ≤ᵇ n) ≡ b → check_answer (report_of fs n) ≡ findings_tell fs n
     go true e = rw e
     go false e = rw e
 
 check_told : (s : List ℕ) (m n : ℕ) → check_answer (checked s m n) ≡ check_tells s m n
 unfolding checked check_tells
-check_told s m n = told_after _ s m _ _ (reported_told (check (pack_of s)) n)
+check_told s m n = told_after _ s m _ _ (report_told (check (pack_of s)) n)
 
 pub promised : (s w o w' o' : List ℕ) (r : Result Reported Refusal) → Answers s w o r o' → w' ≡ work_after s w → Checks s w o w' o' r
 promised s w o w' o' r a e =

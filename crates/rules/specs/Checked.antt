@@ -12,12 +12,12 @@ use Rattle.rules.specs.Emit.{numbers}
 use Rattle.rules.specs.Findings.{errors}
 
 -- 22: "findings buffer below 8 numbers a finding"; the detail is "the length needed"
-abbrev pub reported : List Finding → ℕ → Result Reported Refusal
-reported fs n = if 8 * length fs ≤ᵇ n then Ok (record { findings = length fs; errors = errors fs }) else Err (Findings (8 * length fs))
+abbrev pub report_of : List Finding → ℕ → Result Reported Refusal
+report_of fs n = if 8 * length fs ≤ᵇ n then Ok (record { findings = length fs; errors = errors fs }) else Err (Findings (8 * length fs))
 
 -- "Input refusals come before these; then 21, .. 22.": `check` of the pack s with a work buffer of m numbers and a findings buffer of n
 unfoldable pub checked : List ℕ → (m n : ℕ) → Result Reported Refusal
-checked s m n = after_load (loaded s m) (reported (check (pack_of s)) n)
+checked s m n = after_load (loaded s m) (report_of (check (pack_of s)) n)
 
 -- "Eight numbers" a finding, in order
 abbrev pub all_numbers : List Finding → List ℕ

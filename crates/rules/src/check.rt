@@ -3,7 +3,7 @@ ghost use Rattle.std.specs.Prelude.{◌≡◌, ◌+◌, ◌*◌, ◌≤◌, leng
 ghost use Rattle.pack.specs.Load.{over, buffer_left};
 ghost use Rattle.pack.specs.Meaning.{pack_of};
 ghost use Rattle.rules.specs.Check.{check};
-ghost use Rattle.rules.specs.Checked.{all_numbers, reported, Checks};
+ghost use Rattle.rules.specs.Checked.{all_numbers, report_of, Checks};
 ghost use Rattle.rules.specs.Emit.{none_in, put_all, Emitted};
 ghost use Rattle.rules.specs.Search.{count_below};
 
@@ -84,8 +84,8 @@ fn deliver(pack: &Pack, findings: &mut [u32], short: &[u32], count: usize)
 // Into a short list first, since after 22 the buffer has not changed.
 fn report(pack: &Pack, findings: &mut [u32]) -> Result<Reported, Refusal>
     ensures { record {
-      answer : result ≡ reported (check (pack_of pack.now.bytes.now)) (length findings.old);
-      findings : findings.new ≡ buffer_left (reported (check (pack_of pack.now.bytes.now)) (length findings.old))
+      answer : result ≡ report_of (check (pack_of pack.now.bytes.now)) (length findings.old);
+      findings : findings.new ≡ buffer_left (report_of (check (pack_of pack.now.bytes.now)) (length findings.old))
           (all_numbers (check (pack_of pack.now.bytes.now))) findings.old;
     } }
 {

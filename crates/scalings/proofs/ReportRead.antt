@@ -17,7 +17,7 @@ use Rattle.pack.proofs.Told.{numbered, after_refused, after_accepted}
 use Rattle.rules.specs.declared.Finding.{Finding}
 use Rattle.rules.specs.declared.check.Reported.{Reported}
 use Rattle.rules.specs.Check.{check}
-use Rattle.rules.specs.Checked.{all_numbers, reported, checked, findings_after, findings_tell, check_tells, Checks}
+use Rattle.rules.specs.Checked.{all_numbers, report_of, checked, findings_after, findings_tell, check_tells, Checks}
 use Rattle.rules.specs.Findings.{errors}
 use Rattle.rules.specs.Search.{any_below}
 use Rattle.scalings.specs.Scalings.{has_cause}
@@ -67,8 +67,8 @@ pub record Whole (P : Pack) (n m : ℕ) : Type 0 where
   pub counted : n ≡ length (check P)
   pub room : 8 * n ≤ m
 
-reported_whole : (P : Pack) (m : ℕ) (r : Reported) → reported (check P) m ≡ Ok r → Whole P r.findings m
-reported_whole P m r h = go (8 * length (check P) ≤ᵇ m) refl
+report_of_whole : (P : Pack) (m : ℕ) (r : Reported) → report_of (check P) m ≡ Ok r → Whole P r.findings m
+report_of_whole P m r h = go (8 * length (check P) ≤ᵇ m) refl
   where
     go : (b : Bool) → (8 * length (check P) ≤ᵇ m) ≡ b → Whole P r.findings m
     go true x =
@@ -82,7 +82,7 @@ report_whole s m k r h = go (loaded s m) refl
   where
     go : (l : Result Index Refusal) → loaded s m ≡ l → Whole (pack_of s) r.findings k
     go (Err q) x = absurd (false≢true (ap is_report (rw x at h)))
-    go (Ok i) x = reported_whole (pack_of s) k r (rw x at h)
+    go (Ok i) x = report_of_whole (pack_of s) k r (rw x at h)
 
 -- the report has a cause exactly if check finds it
 report_read : (rule cause : ℕ) (s : List ℕ) (m : ℕ) (o : List ℕ) (r : Reported) → checked s m (length o) ≡ Ok r
