@@ -19,4 +19,4 @@ returns c =
     let r = c.reader.ensures in
     let e = reads_there (read_entry x.view.kind) r.stands r.bytes r.at c.entry.ensures in
     rw (same_Ok _ _ (ap item_of (sym c.in-Ok.is) ∙ e))
-        (entry_law x.at x.view.kind (ap (λ (L : Lookup). L.kind) x.is.means) c.args.k (omega (arith, x.is.entries, c.requires)))
+    (entry_law x.at x.view.kind (ap (λ (L : Lookup). L.kind) x.is.means) c.args.k (omega (arith, x.is.entries, c.requires)))
