@@ -33,7 +33,11 @@ fn scaling(
     scaling: ScalingView,
     given: FieldFlags,
 ) -> io::Result<()> {
-    let bits = Counted::new(scaling.bits as usize, "bit", "bits");
+    let bits = Counted {
+        count: scaling.bits as usize,
+        one: "bit",
+        many: "bits",
+    };
     write!(
         out,
         ", {bits}, resolution {:016x}, offset {:016x}",

@@ -35,8 +35,16 @@ fn list_lookup(out: &mut impl Write, pack: &Pack<'_>, lookup: LookupRef<'_>) -> 
     text(out, " ", pack.text(view.name))?;
     let at = lookup.byte();
     let kind = kind_name(view.kind);
-    let bits = Counted::new(view.bits as usize, "bit", "bits");
-    let entries = Counted::new(view.entries as usize, "entry", "entries");
+    let bits = Counted {
+        count: view.bits as usize,
+        one: "bit",
+        many: "bits",
+    };
+    let entries = Counted {
+        count: view.entries as usize,
+        one: "entry",
+        many: "entries",
+    };
     writeln!(out, " at byte {at}: {kind}, {bits}, {entries}")?;
     for k in 0..view.entries {
         list_entry(

@@ -18,7 +18,11 @@ use std::io::{BufWriter, Write};
 
 fn list(out: &mut impl Write, pack: &Pack<'_>) -> io::Result<()> {
     let length = pack.bytes.len();
-    let records = Counted::new(pack.index.records, "record", "records");
+    let records = Counted {
+        count: pack.index.records,
+        one: "record",
+        many: "records",
+    };
     writeln!(out, "pack of {length} bytes, version 1, {records}")?;
     types::list(out, pack)?;
     lookups::list(out, pack)?;

@@ -50,11 +50,12 @@ fn list_pgn(out: &mut impl Write, pack: &Pack<'_>, pgn: PgnRef<'_>) -> io::Resul
             (view.flags.incomplete, "MissingCompanyFields"),
         ],
     )?;
-    writeln!(
-        out,
-        ", {}",
-        Counted::new(view.fields as usize, "field", "fields")
-    )?;
+    let fields = Counted {
+        count: view.fields as usize,
+        one: "field",
+        many: "fields",
+    };
+    writeln!(out, ", {fields}")?;
     for (place, set) in (1..=view.places).zip(view.sets) {
         if let Some(set) = set {
             list_set(out, place, set)?;

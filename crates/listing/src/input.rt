@@ -1,5 +1,7 @@
 // The pack on standard input.
-ghost use Rattle.std.specs.Prelude.{◌≤◌, IfOk, IfSome, vec_len};
+ghost use Rattle.std.specs.Prelude.{◌≡◌, ◌≤◌, length, IfOk, IfSome, vec_len};
+ghost use Rattle.std.specs.Result.{result_map_both};
+ghost use Rattle.pack.specs.Load.{loaded, work_after};
 
 use pack::load::{Refusal, load};
 use pack::loaded::Pack;
@@ -25,7 +27,11 @@ pub fn read_pack(rt: &(impl Input + AllocGlobal), longest: u32) -> io::Result<Op
 }
 
 // The pack that the bytes are, with a work buffer for it.
-pub fn load_pack<'a>(bytes: &'a [u8], work: &'a mut [u32]) -> Result<Pack<'a>, Refusal> {
+pub fn load_pack<'a>(bytes: &'a [u8], work: &'a mut [u32]) -> Result<Pack<'a>, Refusal>
+    ensures answer { result_map_both (λ p. p.index) (λ r. r) result ≡ loaded bytes.now (length work.old) }
+    ensures bytes { IfOk result (λ p. p.bytes.now ≡ bytes.now) }
+    ensures work { IfOk result (λ p. p.work.now ≡ work_after bytes.now work.old) }
+{
     let index = load(bytes, work)?;
     Ok(Pack { bytes, work, index })
 }

@@ -1,4 +1,8 @@
 // Words for what a pack holds, and its texts.
+ghost use Rattle.std.specs.Prelude.{◌≡◌, ◌++◌, OnOk};
+ghost use Rattle.std.specs.Io.KnownBytes.{Appends};
+ghost use Rattle.listing.specs.Words.{kind_name, protocol_name, set_flags};
+
 use pack::kinds::LookupKind;
 use pack::load::Refusal;
 use pack::protocol::Protocol;
@@ -13,13 +17,12 @@ pub struct Counted<'a> {
     pub many: &'a str,
 }
 
-impl<'a> Counted<'a> {
-    pub fn new(count: usize, one: &'a str, many: &'a str) -> Counted<'a> {
-        Counted { count, one, many }
-    }
-}
-
 impl<'a> fmt::Display for Counted<'a> {
+    ghost use Rattle.std.specs.Prelude.{Some};
+    ghost use Rattle.listing.specs.Words.{counted};
+
+    ghost output = { λ c. Some (counted c) };
+
     fn fmt<W: fmt::Write>(&self, f: &mut fmt::Formatter<W>) -> fmt::Result {
         let count = self.count;
         let word = if count == 1 { self.one } else { self.many };
@@ -28,13 +31,17 @@ impl<'a> fmt::Display for Counted<'a> {
 }
 
 // A text of the pack behind some words. It may have any bytes, so that it goes out as it is.
-pub fn text(out: &mut impl Write, words: &str, text: &[u8]) -> io::Result<()> {
+pub fn text<W: Write>(out: &mut W, words: &str, text: &[u8]) -> io::Result<()>
+    ensures { OnOk result (Appends (W.contents out.old) (W.contents out.new) (words.now ++ text.now)) }
+{
     out.write_all(words.as_bytes())?;
     out.write_all(text)
 }
 
 // The words of those flags that are set.
-pub fn flags(out: &mut impl Write, flags: &[(bool, &str)]) -> io::Result<()> {
+pub fn flags<W: Write>(out: &mut W, flags: &[(bool, &str)]) -> io::Result<()>
+    ensures { OnOk result (Appends (W.contents out.old) (W.contents out.new) (set_flags flags.now)) }
+{
     for (set, words) in flags {
         if *set {
             write!(out, ", {words}")?;
@@ -44,7 +51,9 @@ pub fn flags(out: &mut impl Write, flags: &[(bool, &str)]) -> io::Result<()> {
 }
 
 // What a tree's protocol is called.
-pub fn protocol_name(protocol: Protocol) -> &'static str {
+pub fn protocol_name(protocol: Protocol) -> &'static str
+    ensures { result.now ≡ protocol_name protocol }
+{
     match protocol {
         Protocol::Nmea2000 => "NMEA 2000",
         Protocol::J1939 => "J1939",
@@ -53,7 +62,9 @@ pub fn protocol_name(protocol: Protocol) -> &'static str {
 }
 
 // What a lookup's kind is called, also a reference's.
-pub fn kind_name(kind: LookupKind) -> &'static str {
+pub fn kind_name(kind: LookupKind) -> &'static str
+    ensures { result.now ≡ kind_name kind }
+{
     match kind {
         LookupKind::Pair => "pair",
         LookupKind::Triplet => "triplet",
@@ -67,6 +78,11 @@ pub fn kind_name(kind: LookupKind) -> &'static str {
 pub struct Refused(pub Refusal);
 
 impl fmt::Display for Refused {
+    ghost use Rattle.std.specs.Prelude.{Some};
+    ghost use Rattle.listing.specs.Words.{refused};
+
+    ghost output = { λ r. Some (refused r) };
+
     fn fmt<W: fmt::Write>(&self, f: &mut fmt::Formatter<W>) -> fmt::Result {
         write!(f, "refused {} {}", self.0.number(), self.0.detail())
     }

@@ -16,7 +16,7 @@ use Rattle.pack.specs.Format.{field_offsets, pgn_records, pgn_offsets, type_list
 use Rattle.pack.specs.Format.{before, offsets}
 use Rattle.pack.specs.Format.{type_start, lookup_start, pgn_start, pack_end}
 use Rattle.pack.specs.Meaning.{type_meaning, entry_meaning, field_meaning, type_of_pack, lookup_of_pack, pgn_of_pack, pack_of}
-use Rattle.pack.specs.Ready.{Ready, place_of_lookup, place_of_pgn, LookupAt, PgnAt, LookupIs, PgnIs}
+use Rattle.pack.specs.Ready.{Ready, place_of_lookup, place_of_pgn, LookupAt, PgnAt, LookupIs, PgnIs, Stands}
 use Rattle.pack.specs.Kinds.{kind_number}
 use Rattle.pack.proofs.KindLaws.{kind_once}
 use Rattle.pack.specs.declared.kinds.LookupKind.{LookupKind}
@@ -100,12 +100,6 @@ module _ (s : List ℕ) where
             ∙ getD_concat_below f 0 (tree_list s t).value i j k l),
         omega (arith, all_of (suc t) (omega arith)),
       )
-
--- A record is at the offset that the work list has at p, and nothing in it is refused.
-pub record Stands (s w : List ℕ) (p : ℕ) (next : Cursor → Cursor) : Type 0 where
-  pub place : p < length w
-  pub inside : get_or w p 0 ≤ length s
-  pub clean : (next (fresh (get_or w p 0))).refused ≡ 0
 
 module _ (s w : List ℕ) (r : Ready s w) where
   clean_end : (pack_end s).refused ≡ 0

@@ -6,7 +6,7 @@ use Rattle.pack.specs.Items.{Item, Form, fresh}
 use Rattle.pack.specs.Reads.{outcome, Reads}
 use Rattle.pack.specs.declared.reader.InputRefusal.{InputRefusal}
 use Rattle.pack.specs.declared.reader.Reader.{Reader}
-use Rattle.pack.proofs.Positions.{Stands}
+use Rattle.pack.specs.Ready.{Stands}
 
 outcome_clean : {A : Type 0} (i : Item A) → i.next.refused ≡ 0 → outcome i ≡ Ok i.value
 outcome_clean i z = rw (eq-eqb _ _ z)

@@ -1,6 +1,7 @@
 -- For the layers above: a pack that `load` accepted with its work list, the work positions of its records, and what a view there is.
 use Rattle.std.specs.Prelude.{ℕ, zero, suc, ◌+◌, ◌≤◌, ◌<◌, ◌≡◌, List, length, get_or, take}
 use Rattle.pack.specs.Value.{Lookup, Pgn, Pack, pgns_of, no_pgn, lookup_at}
+use Rattle.pack.specs.Items.{Cursor, fresh}
 use Rattle.pack.specs.Format.{offsets}
 use Rattle.pack.specs.Load.{accepted, verdict}
 use Rattle.pack.specs.Meaning.{lookup_meaning, pgn_meaning, pack_of}
@@ -14,6 +15,12 @@ use Rattle.pack.specs.declared.pgn.PgnView.{PgnView}
 pub record Ready (s w : List ℕ) : Type 0 where
   pub accepted : verdict s ≡ accepted
   pub begins : take (length (offsets s)) w ≡ offsets s
+
+-- A record is at the offset that the work list has at p, and nothing in it is refused.
+pub record Stands (s w : List ℕ) (p : ℕ) (next : Cursor → Cursor) : Type 0 where
+  pub place : p < length w
+  pub inside : get_or w p 0 ≤ length s
+  pub clean : (next (fresh (get_or w p 0))).refused ≡ 0
 
 -- ---- work positions
 

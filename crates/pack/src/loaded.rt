@@ -4,11 +4,11 @@ ghost use Rattle.std.specs.List.{slice_get};
 ghost use Rattle.std.specs.Bool.{then_some};
 ghost use Rattle.std.specs.Option.{option_map};
 ghost use Rattle.pack.specs.Notation.{◌<ᵇ◌};
-ghost use Rattle.pack.specs.Items.{bytes_of, fresh};
+ghost use Rattle.pack.specs.Items.{bytes_of, fresh, read_text};
 ghost use Rattle.pack.specs.Meaning.{type_meaning, entry_meaning, field_meaning, pack_of};
-ghost use Rattle.pack.specs.Ready.{Ready, IndexIs, LookupAt, LookupIs, PgnAt, PgnIs, place_of_lookup, place_of_pgn};
+ghost use Rattle.pack.specs.Ready.{Ready, IndexIs, LookupAt, LookupIs, PgnAt, PgnIs, Stands, place_of_lookup, place_of_pgn};
 ghost use Rattle.pack.specs.Reads.{outcome};
-ghost use Rattle.pack.specs.Records.{read_second_text};
+ghost use Rattle.pack.specs.Records.{read_entry, read_field, read_second_text, read_type};
 ghost use Rattle.pack.specs.Trees.{tree_number};
 ghost use Rattle.pack.specs.Value.{no_field_type, no_entry, pgns_of, pgn_at, field_at, lookup_at};
 
@@ -104,15 +104,35 @@ impl<'a> Pack<'a> {
         part(self.bytes, text)
     }
 
-    // A reader at the record whose offset the work list has at p.
+    // The offset that the work list has at p.
+    fn offset(&self, p: usize) -> u32
+        requires { p < length self.now.work.now }
+        ensures { result ≡ get_or self.now.work.now p 0 }
+    {
+        self.work[p]
+    }
+
+    // A reader at the record of that offset.
     fn reader(&self, p: usize) -> Reader<'a>
         requires { record { place : p < length self.now.work.now; inside : get_or self.now.work.now p 0 ≤ length self.now.bytes.now } }
         ensures { record { bytes : result.bytes.now ≡ self.now.bytes.now; at : result.at ≡ get_or self.now.work.now p 0 } }
     {
         Reader {
             bytes: self.bytes,
-            at: self.work[p] as usize,
+            at: self.offset(p) as usize,
         }
+    }
+
+    // A reader at field type i.
+    fn type_reader(&self, i: u32) -> Reader<'a>
+        requires { i < length (pack_of self.now.bytes.now).fieldtypes }
+        ensures { record {
+          bytes : result.bytes.now ≡ self.now.bytes.now;
+          at : result.at ≡ get_or self.now.work.now i 0;
+          stands : Stands self.now.bytes.now self.now.work.now i (λ c. (read_type self.now.bytes.now c).next);
+        } }
+    {
+        self.reader(i as usize)
     }
 
     // The lookup of that index, at that work position.
@@ -142,7 +162,7 @@ impl<'a> Pack<'a> {
         requires { i < length (pack_of self.now.bytes.now).fieldtypes }
         ensures { type_meaning self.now.bytes.now result ≡ get_or (pack_of self.now.bytes.now).fieldtypes i no_field_type }
     {
-        let Ok((field_type, _)) = self.reader(i as usize).field_type() else {
+        let Ok((field_type, _)) = self.type_reader(i).field_type() else {
             unreachable!()
         };
         field_type
@@ -153,7 +173,7 @@ impl<'a> Pack<'a> {
         requires { i < length (pack_of self.now.bytes.now).fieldtypes }
         ensures { result ≡ get_or self.now.work.now i 0 }
     {
-        self.work[i as usize]
+        self.offset(i as usize)
     }
 
     // None past the last.
@@ -218,7 +238,16 @@ impl<'a> LookupRef<'a> {
     pub fn byte(&self) -> u32
         ensures { result ≡ get_or self.now.pack.work.now self.now.place 0 }
     {
-        self.pack.work[self.place]
+        let LookupRef { pack, place, .. } = self;
+        pack.offset(*place)
+    }
+
+    // The work position of entry k.
+    fn place_of_entry(&self, k: u32) -> usize
+        requires { k < self.now.view.entries }
+        ensures { result ≡ self.now.place + 1 + k }
+    {
+        self.place + 1 + k as usize
     }
 
     // The byte at which entry k begins.
@@ -226,7 +255,20 @@ impl<'a> LookupRef<'a> {
         requires { k < self.now.view.entries }
         ensures { result ≡ get_or self.now.pack.work.now (self.now.place + 1 + k) 0 }
     {
-        self.pack.work[self.place + 1 + k as usize]
+        self.pack.offset(self.place_of_entry(k))
+    }
+
+    // A reader at entry k.
+    fn reader(&self, k: u32) -> Reader<'a>
+        requires { k < self.now.view.entries }
+        ensures { record {
+          bytes : result.bytes.now ≡ self.now.pack.bytes.now;
+          at : result.at ≡ get_or self.now.pack.work.now (self.now.place + 1 + k) 0;
+          stands : Stands self.now.pack.bytes.now self.now.pack.work.now (self.now.place + 1 + k)
+              (λ c. (read_entry self.now.view.kind self.now.pack.bytes.now c).next);
+        } }
+    {
+        self.pack.reader(self.place_of_entry(k))
     }
 
     // Entry k.
@@ -234,11 +276,7 @@ impl<'a> LookupRef<'a> {
         requires { k < self.now.view.entries }
         ensures { entry_meaning self.now.pack.bytes.now result ≡ get_or (lookup_value self.now).entries k no_entry }
     {
-        let Ok((entry, _)) = self
-            .pack
-            .reader(self.place + 1 + k as usize)
-            .entry(self.view.kind)
-        else {
+        let Ok((entry, _)) = self.reader(k).entry(self.view.kind) else {
             unreachable!()
         };
         entry
@@ -252,7 +290,15 @@ impl<'a> PgnRef<'a> {
     pub fn byte(&self) -> u32
         ensures { result ≡ get_or self.now.pack.work.now self.now.place 0 }
     {
-        self.pack.work[self.place]
+        self.pack.offset(self.place)
+    }
+
+    // The work position of field k.
+    fn place_of_field(&self, k: u32) -> usize
+        requires { k < self.now.view.fields }
+        ensures { result ≡ self.now.place + 1 + k }
+    {
+        self.place + 1 + k as usize
     }
 
     // The byte at which field k begins.
@@ -260,15 +306,23 @@ impl<'a> PgnRef<'a> {
         requires { k < self.now.view.fields }
         ensures { result ≡ get_or self.now.pack.work.now (self.now.place + 1 + k) 0 }
     {
-        self.pack.work[self.place + 1 + k as usize]
+        self.pack.offset(self.place_of_field(k))
     }
 
-    // A reader at field k.
+    // A reader at field k, for the whole of it, its id, or its name.
     fn reader(&self, k: u32) -> Reader<'a>
         requires { k < self.now.view.fields }
-        ensures { record { bytes : result.bytes.now ≡ self.now.pack.bytes.now; at : result.at ≡ get_or self.now.pack.work.now (self.now.place + 1 + k) 0 } }
+        ensures { record {
+          bytes : result.bytes.now ≡ self.now.pack.bytes.now;
+          at : result.at ≡ get_or self.now.pack.work.now (self.now.place + 1 + k) 0;
+          whole : Stands self.now.pack.bytes.now self.now.pack.work.now (self.now.place + 1 + k)
+              (λ c. (read_field 4294967296 0 self.now.pack.bytes.now c).next);
+          id : Stands self.now.pack.bytes.now self.now.pack.work.now (self.now.place + 1 + k) (λ c. (read_text self.now.pack.bytes.now c).next);
+          name : Stands self.now.pack.bytes.now self.now.pack.work.now (self.now.place + 1 + k)
+              (λ c. (read_second_text self.now.pack.bytes.now c).next);
+        } }
     {
-        self.pack.reader(self.place + 1 + k as usize)
+        self.pack.reader(self.place_of_field(k))
     }
 
     // Field k.

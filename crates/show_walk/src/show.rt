@@ -66,8 +66,16 @@ fn show_errors(out: &mut impl Write, pack: &[u8], buffers: &mut Buffers) -> io::
             Ok(false)
         }
         Ok(Reported { findings, errors }) => {
-            let found = Counted::new(findings, "finding", "findings");
-            let wrong = Counted::new(errors, "error", "errors");
+            let found = Counted {
+                count: findings,
+                one: "finding",
+                many: "findings",
+            };
+            let wrong = Counted {
+                count: errors,
+                one: "error",
+                many: "errors",
+            };
             writeln!(out, "its pack has {found}, {wrong}")?;
             Ok(errors == 0)
         }
@@ -116,7 +124,11 @@ fn reason(stop: Stop) -> &'static str {
 }
 
 fn show_end(out: &mut impl Write, end: End, visits: usize) -> io::Result<()> {
-    let visits = Counted::new(visits, "visit", "visits");
+    let visits = Counted {
+        count: visits,
+        one: "visit",
+        many: "visits",
+    };
     match end {
         End::Whole => writeln!(out, "whole after {visits}"),
         End::UsedUp => writeln!(out, "used up after {visits}"),

@@ -1,16 +1,6 @@
-use Rattle.pack.proofs.Few.{entries_few}
 use Rattle.pack.proofs.Positions.{lookup_room}
 use native.Mathlib.Omega.{arith}
 use Rattle.pack.proofs.loaded.LookupRef.byte_of_entry.Goals as goal
 
-pub overflow_add-result : goal.overflow_add-result
-overflow_add-result c = omega (arith, entries_few c.args.self.now.at, c.args.self.now.is.entries, c.requires)
-
-pub overflow_add-result-2 : goal.overflow_add-result-2
-overflow_add-result-2 c = omega (arith, entries_few c.args.self.now.at, c.args.self.now.is.entries, c.requires)
-
-pub offset_bounds-self-self : goal.offset_bounds-self-self
-offset_bounds-self-self c = omega (arith, entries_few c.args.self.now.at, c.args.self.now.is.entries, c.requires)
-
-pub bounds-self-self : goal.bounds-self-self
-bounds-self-self c = omega (arith, lookup_room c.args.self.now.at, c.args.self.now.is.entries, c.requires)
+pub offset-requires : goal.offset-requires
+offset-requires c = let x = c.args.self.now in omega (arith, lookup_room x.at, x.is.entries, c.requires, c.place_of_entry.ensures)

@@ -1,23 +1,20 @@
-use Rattle.pack.proofs.ReaderLaws.{none_there}
-use Rattle.pack.specs.Reads.{item_of}
-use mathlib.Core.Path.{ap}
-use Rattle.pack.proofs.Positions.{field_id_law, field_id_stands}
-use Rattle.pack.proofs.ReaderLaws.{same_Ok}
+use Rattle.pack.proofs.ReaderLaws.{none_there, same_Ok}
+use Rattle.pack.proofs.Positions.{field_id_law}
 use Rattle.pack.proofs.Standing.{reads_there}
 use Rattle.pack.specs.Items.{read_text}
-use mathlib.Core.Path.{◌∙◌, sym}
+use Rattle.pack.specs.Reads.{item_of}
+use mathlib.Core.Path.{ap, ◌∙◌, sym}
 use native.Mathlib.Omega.{arith}
 use Rattle.pack.proofs.loaded.PgnRef.field_id.Goals as goal
 
 pub unreachable-requires : goal.unreachable-requires
 unreachable-requires c =
-    let x = c.args.self.now in
-    let t = field_id_stands x.at c.args.k (omega (arith, x.is.fields, c.requires)) in
-    none_there _ _ (reads_there read_text t c.reader.ensures.bytes c.reader.ensures.at c.text.ensures) c.in_default.not-Ok
+    let r = c.reader.ensures in
+    none_there _ _ (reads_there read_text r.id r.bytes r.at c.text.ensures) c.in_default.not-Ok
 
 pub returns : goal.returns
 returns c =
     let x = c.args.self.now in
-    let t = field_id_stands x.at c.args.k (omega (arith, x.is.fields, c.requires)) in
-    let e = reads_there read_text t c.reader.ensures.bytes c.reader.ensures.at c.text.ensures in
+    let r = c.reader.ensures in
+    let e = reads_there read_text r.id r.bytes r.at c.text.ensures in
     rw (same_Ok _ _ (ap item_of (sym c.in-Ok.is) ∙ e)) (field_id_law x.at c.args.k (omega (arith, x.is.fields, c.requires)))

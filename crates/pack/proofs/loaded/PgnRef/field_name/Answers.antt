@@ -1,4 +1,4 @@
-use Rattle.pack.proofs.Positions.{field_name_law, field_name_stands}
+use Rattle.pack.proofs.Positions.{field_name_law}
 use Rattle.pack.proofs.ReaderLaws.{same_Ok}
 use Rattle.pack.proofs.Standing.{outcome_there}
 use Rattle.pack.specs.Records.{read_second_text}
@@ -8,13 +8,12 @@ use Rattle.pack.proofs.loaded.PgnRef.field_name.Goals as goal
 
 pub unreachable-requires : goal.unreachable-requires
 unreachable-requires c =
-    let x = c.args.self.now in
-    let t = field_name_stands x.at c.args.k (omega (arith, x.is.fields, c.requires)) in
-    c.in_default.not-Ok _ (outcome_there read_second_text c.reader.result t c.reader.ensures.bytes c.reader.ensures.at c.second_text.ensures)
+    let r = c.reader.ensures in
+    c.in_default.not-Ok _ (outcome_there read_second_text c.reader.result r.name r.bytes r.at c.second_text.ensures)
 
 pub returns : goal.returns
 returns c =
     let x = c.args.self.now in
-    let t = field_name_stands x.at c.args.k (omega (arith, x.is.fields, c.requires)) in
-    let e = outcome_there read_second_text c.reader.result t c.reader.ensures.bytes c.reader.ensures.at c.second_text.ensures in
+    let r = c.reader.ensures in
+    let e = outcome_there read_second_text c.reader.result r.name r.bytes r.at c.second_text.ensures in
     rw (same_Ok _ _ (sym c.in-Ok.is ∙ e)) (field_name_law x.at c.args.k (omega (arith, x.is.fields, c.requires)))
