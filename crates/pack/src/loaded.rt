@@ -22,6 +22,8 @@ use crate::protocol::Protocol;
 use crate::reader::{InputRefusal, Reader};
 use crate::text::{Text, part};
 
+// An accepted pack. The calls make it of `load`'s answer: a function that did so would lend the work buffer on, and could not promise what it
+// holds after the call.
 #[derive(Clone, Copy)]
 pub struct Pack<'a> {
     pub bytes: &'a [u8],
