@@ -387,6 +387,19 @@ impl<'a> PgnRef<'a> {
     }
 }
 
+impl<'p, 'a> FieldRef<'p, 'a> {
+    ghost use Rattle.pack.specs.Loaded.{pgn_value};
+
+    // Its field type.
+    pub fn field_type(&self) -> FieldTypeView
+        ensures { type_meaning self.now.pgn.now.pack.bytes.now result ≡ get_or (pack_of self.now.pgn.now.pack.bytes.now).fieldtypes
+            (field_at (pgn_value self.now.pgn.now) self.now.index).ft no_field_type }
+    {
+        let pgn = self.pgn;
+        pgn.pack.field_type(self.view.ft)
+    }
+}
+
 impl<'a> Iterator for Lookups<'a> {
     ghost use Rattle.std.specs.Iterator.{item_count, YieldsFirstBy};
     ghost use Rattle.pack.specs.Loaded.{lookup_spot, lookups_left};
