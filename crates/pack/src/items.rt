@@ -9,6 +9,17 @@ use crate::reader::{Fault, InputRefusal, Reader};
 use crate::text::{Text, text_precedes};
 
 impl<'a> Reader<'a> {
+    // The offending item begins here.
+    #[inline(always)]
+    fn refusal(self, fault: Fault) -> InputRefusal
+        ensures { result ≡ (record { fault = fault; offset = self.entry.at }) }
+    {
+        InputRefusal {
+            fault,
+            offset: self.at,
+        }
+    }
+
     // The item that was read here, where it is good.
     #[inline(always)]
     fn refuse_unless(
@@ -23,10 +34,7 @@ impl<'a> Reader<'a> {
         if good {
             return Ok((value, next));
         }
-        Err(InputRefusal {
-            fault,
-            offset: self.at,
-        })
+        Err(self.refusal(fault))
     }
 
     // A number, most often of one byte.
@@ -58,22 +66,13 @@ impl<'a> Reader<'a> {
     {
         let offset = self.at;
         let Some(end) = last_byte(self.bytes, offset) else {
-            return Err(InputRefusal {
-                fault: Fault::CutShort,
-                offset,
-            });
+            return Err(self.refusal(Fault::CutShort));
         };
         if !is_shortest(self.bytes, offset, end) {
-            return Err(InputRefusal {
-                fault: Fault::Number,
-                offset,
-            });
+            return Err(self.refusal(Fault::Number));
         }
         let Some(value) = decode(self.bytes, end + 1, end + 1 - offset, most) else {
-            return Err(InputRefusal {
-                fault: Fault::Number,
-                offset,
-            });
+            return Err(self.refusal(Fault::Number));
         };
         let next = Reader {
             bytes: self.bytes,
@@ -156,10 +155,7 @@ impl<'a> Reader<'a> {
             };
             return Ok((Text { start, len }, next));
         }
-        Err(InputRefusal {
-            fault: Fault::CutShort,
-            offset: self.at,
-        })
+        Err(self.refusal(Fault::CutShort))
     }
 
     // A lookup's name, which is above the one before it.
@@ -174,10 +170,7 @@ impl<'a> Reader<'a> {
         if text_precedes(self.bytes, earlier, name) {
             return Ok((name, next));
         }
-        Err(InputRefusal {
-            fault: Fault::NameOrder,
-            offset: self.at,
-        })
+        Err(self.refusal(Fault::NameOrder))
     }
 
     // A float, by its 64-bit pattern.
@@ -187,10 +180,7 @@ impl<'a> Reader<'a> {
     {
         let offset = self.at;
         let Some(bytes) = self.bytes[offset..].first_chunk::<8>() else {
-            return Err(InputRefusal {
-                fault: Fault::CutShort,
-                offset,
-            });
+            return Err(self.refusal(Fault::CutShort));
         };
         let next = Reader {
             bytes: self.bytes,
@@ -217,10 +207,7 @@ impl<'a> Reader<'a> {
         ensures { Ends self.entry result }
     {
         if self.at < self.bytes.len() {
-            return Err(InputRefusal {
-                fault: Fault::BytesLeft,
-                offset: self.at,
-            });
+            return Err(self.refusal(Fault::BytesLeft));
         }
         Ok(())
     }

@@ -304,19 +304,12 @@ fn load_by(pack: &[u8], work: &mut [u32], short: &mut [u32]) -> Result<Index, Re
     Ok(place_all(pack, work)?)
 }
 
-fn load_short(pack: &[u8], work: &mut [u32]) -> Result<Index, Refusal>
-    requires { length pack.now ≤ most_bytes }
+// With room for N offsets on the stack.
+fn load_with<const N: usize>(pack: &[u8], work: &mut [u32]) -> Result<Index, Refusal>
+    requires { record { few : N ≤ 4096; bytes : length pack.now ≤ most_bytes } }
     ensures { Loads pack.now work.old work.new result }
 {
-    let mut short = [0u32; 512];
-    load_by(pack, work, &mut short)
-}
-
-fn load_long(pack: &[u8], work: &mut [u32]) -> Result<Index, Refusal>
-    requires { length pack.now ≤ most_bytes }
-    ensures { Loads pack.now work.old work.new result }
-{
-    let mut short = [0u32; 4096];
+    let mut short = [0u32; N];
     load_by(pack, work, &mut short)
 }
 
@@ -327,7 +320,7 @@ pub fn load(pack: &[u8], work: &mut [u32]) -> Result<Index, Refusal>
         return Err(Refusal::TooLong);
     }
     if pack.len() <= SHORT_BYTES {
-        return load_short(pack, work);
+        return load_with::<512>(pack, work);
     }
-    load_long(pack, work)
+    load_with::<4096>(pack, work)
 }

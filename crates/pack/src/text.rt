@@ -3,7 +3,8 @@ ghost use Rattle.std.specs.Prelude.{◌≡◌};
 ghost use Rattle.pack.specs.Notation.{◌≐◌};
 ghost use Rattle.pack.specs.Items.{◌≺◌, bytes_of};
 
-// A text, as the part of the pack that its bytes are.
+// A text, as the part of the pack that its bytes are: by numbers, so that views hold no reference and what is said of two of one pack is said
+// over its bytes.
 #[derive(Clone, Copy)]
 pub struct Text {
     pub start: usize,

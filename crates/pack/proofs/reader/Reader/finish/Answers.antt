@@ -5,7 +5,7 @@ use Rattle.pack.proofs.reader.Reader.finish.Goals as goal
 
 pub returns-then-self : goal.returns-then-self
 unfolding finish
-returns-then-self c = record { answer = rw (lt-ltb _ _ c.if-self.true) refl }
+returns-then-self c = record { answer = rw (lt-ltb _ _ c.if-self.true, c.refusal.ensures) refl }
 
 pub returns : goal.returns
 unfolding finish

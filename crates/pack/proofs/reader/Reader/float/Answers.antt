@@ -10,7 +10,7 @@ pub returns-in_default : goal.returns-in_default
 returns-in_default c =
     let r = c.args.self in
     let l = length-drop r.at r.bytes.now in
-    float_cut r r (omega (arith, c.in_default.ensures.cases, l, r.inside)) refl
+    rw c.refusal.ensures (float_cut r r (omega (arith, c.in_default.ensures.cases, l, r.inside)) refl)
 
 pub returns : goal.returns
 returns c =

@@ -15,4 +15,6 @@ returns-then-text_precedes c =
 
 pub returns : goal.returns
 returns c =
-    name_order c.args.before c.in_ok-name.ensures (rw (c.in-Some.is, c.in_ok-name.ensures.bytes) (sym c.text_precedes.ensures ∙ c.if-text_precedes.false))
+    rw c.refusal.ensures
+    (name_order c.args.before c.in_ok-name.ensures
+    (rw (c.in-Some.is, c.in_ok-name.ensures.bytes) (sym c.text_precedes.ensures ∙ c.if-text_precedes.false)))

@@ -13,4 +13,6 @@ returns-then-len-self c = let l = ap length c.in_ok-n.ensures.bytes in
     reads_text _ c.in_ok-n.ensures (omega (arith, l, c.if-len-self.true)) (sym c.in_ok-n.ensures.bytes) refl
 
 pub returns : goal.returns
-returns c = let l = ap length c.in_ok-n.ensures.bytes in text_cut c.in_ok-n.ensures (omega (arith, l, c.if-len-self.false))
+returns c =
+    let l = ap length c.in_ok-n.ensures.bytes in
+    rw c.refusal.ensures (text_cut c.in_ok-n.ensures (omega (arith, l, c.if-len-self.false)))
