@@ -26,7 +26,7 @@ use Rattle.walk.specs.Layout.{Layout, layout, sets_hold}
 use Rattle.walk.specs.ByPlace.{placed}
 use Rattle.walk.specs.Held.{dynamic_value_held}
 use Rattle.walk.specs.Stops.{is_missing, lookup_missing, unfit, match_unfit, reference_names_missing, is_dynamic_value, lacks_length, stop_at}
-use Rattle.walk.specs.StopParts.{Named, IsSource, field_stop, need_stop, lookup_names_missing, holds_also}
+use Rattle.walk.specs.StopParts.{Named, IsSource, field_stop, need_stop, entry_missing, holds_also}
 use Rattle.walk.specs.declared.stops.Stop.{Stop}
 use Rattle.walk.specs.declared.stops.Stop.TheVariants.{LookupMissing, MatchUnfit, EntryNamesMissing}
 use Rattle.walk.proofs.Tests.{and_i}
@@ -68,7 +68,7 @@ named_field F G e N = rw (← e) N
 
 -- 5, by the fieldtype lookup that the reference names
 pub named_reading : {s : List ℕ} {r : Option Reference} {l : Option LookupRef} → Named s r l → (reading : ℕ) (b : Bool)
-    → b ≡ lookup_names_missing (pack_of s) l reading → b ≡ reference_names_missing (pack_of s) r reading
+    → b ≡ entry_missing (pack_of s) l reading → b ≡ reference_names_missing (pack_of s) r reading
 named_reading N reading b e = e ∙ sym (N.decide reading)
 
 -- ---- 3 and 4

@@ -23,14 +23,15 @@ unfoldable pub field_stop : Pack → Field → Option Stop
 field_stop P f = if lookup_missing P f then Some LookupMissing else (if match_unfit P f then Some MatchUnfit else None)
 
 -- an entry of the lookup, if there is one, is for the reading and names something missing
-abbrev pub lookup_names_missing : Pack → Option LookupRef → (reading : ℕ) → Bool
-lookup_names_missing P None reading = false
-lookup_names_missing P (Some l) reading = entries_name_missing P (lookup_at P.lookups l.item).entries reading
+abbrev pub entry_missing : Pack → Option LookupRef → (reading : ℕ) → Bool
+entry_missing P None reading = false
+entry_missing P (Some l) reading = entries_name_missing P (lookup_at P.lookups l.item).entries reading
 
--- 5: the fieldtype lookup of the pack s that a reference names is r's, if there is one, and its entries decide; where there is none no reading stops
+-- 5: l is the fieldtype lookup of the pack s that the reference r names, if there is one, and its entries decide; where there is none no reading stops
 pub record Named (s : List ℕ) (r : Option Reference) (l : Option LookupRef) : Type 0 where
   pub pack : IfSome l (λ v. v.pack.bytes.now ≡ s)
-  pub decide : (reading : ℕ) → reference_names_missing (pack_of s) r reading ≡ lookup_names_missing (pack_of s) l reading
+  pub kind : IfSome l (λ v. (lookup_at (pack_of s).lookups v.item).kind ≡ 3)
+  pub decide : (reading : ℕ) → reference_names_missing (pack_of s) r reading ≡ entry_missing (pack_of s) l reading
 
 -- 8: the giver, if there is one, is a length source before field k
 pub record IsSource (P : Pack) (p : Pgn) (k : ℕ) (giver : Option FieldIndex) : Type 0 where

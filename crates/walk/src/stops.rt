@@ -9,7 +9,7 @@ ghost use Rattle.rules.specs.DynamicLength.{length_source};
 ghost use Rattle.rules.specs.Model.{lookup_ref};
 ghost use Rattle.walk.specs.ByPlace.{placed};
 ghost use Rattle.walk.specs.Layout.{layout, sets_hold};
-ghost use Rattle.walk.specs.StopParts.{lookup_names_missing, Named, IsSource, OnlyByReading, field_stop, need_stop};
+ghost use Rattle.walk.specs.StopParts.{entry_missing, Named, IsSource, OnlyByReading, field_stop, need_stop};
 ghost use Rattle.walk.specs.Stops.{is_missing, lookup_missing, match_unfit, names_missing, entries_name_missing};
 ghost use Rattle.walk.specs.Stops.{is_dynamic_value, lacks, lacks_length, stop_at};
 
@@ -130,9 +130,9 @@ fn fieldtype_lookup<'a>(pack: &Pack<'a>, r: Option<ReferenceView>) -> Option<Loo
 }
 
 // 5, of a fieldtype lookup of the pack that a field's reference names.
-fn lookup_names_missing(pack: &Pack, lookup: &Option<LookupRef>, reading: u64) -> bool
+fn entry_missing(pack: &Pack, lookup: &Option<LookupRef>, reading: u64) -> bool
     requires { IfSome lookup.now (λ l. l.pack.bytes.now ≡ pack.now.bytes.now) }
-    ensures { result ≡ lookup_names_missing (pack_of pack.now.bytes.now) lookup.now reading }
+    ensures { result ≡ entry_missing (pack_of pack.now.bytes.now) lookup.now reading }
 {
     match lookup {
         Some(lookup) => entries_name_missing(lookup, reading),
@@ -255,7 +255,7 @@ pub fn judge<'a>(found: &FoundPgn<'a>, k: u32, reading: u64) -> Result<Option<Lo
         return Err(stop);
     }
     let lookup = fieldtype_lookup(pack, f.links.reference);
-    if lookup_names_missing(pack, &lookup, reading) {
+    if entry_missing(pack, &lookup, reading) {
         return Err(Stop::EntryNamesMissing);
     }
     if let Some(stop) = need_stop(found, &field) {

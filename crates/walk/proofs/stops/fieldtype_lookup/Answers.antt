@@ -9,6 +9,7 @@ use Rattle.pack.specs.declared.loaded.LookupRef.{LookupRef}
 use Rattle.pack.specs.Value.{lookup_at}
 use mathlib.Core.Bool.{true, false}
 use borrow.Author.Rules.{rules}
+use borrow.Author.Tests.{eqb-true}
 use Prim.Native.Nat.{ℕ}
 use mathlib.Core.Path.{◌≡◌, refl, sym, ◌∙◌}
 use mathlib.Core.List.{List}
@@ -17,7 +18,7 @@ use Rattle.walk.proofs.stops.fieldtype_lookup.Goals as goal
 module _ (s : List ℕ) where
   nobody : (r : Option ReferenceView) {l : Option LookupRef} → l ≡ None
       → ((reading : ℕ) → reference_names_missing (pack_of s) (optional_reference s r) reading ≡ false) → Named s (optional_reference s r) l
-  nobody r n h = rw n (record { pack = tt; decide = h })
+  nobody r n h = rw n (record { pack = tt; kind = tt; decide = h })
 
   no_reference : {r : Option ReferenceView} {l : Option LookupRef} → r ≡ None → l ≡ None → Named s (optional_reference s r) l
   unfolding reference_names_missing
@@ -58,5 +59,6 @@ returns c =
     let kind = rw c.in_ok-lookup.ensures.same.bytes at (sym c.has_fieldtypes.ensures ∙ c.if-not-has_fieldtypes.false) in
     record {
       pack = c.in_ok-lookup.ensures.same.bytes;
+      kind = eqb-true _ _ kind;
       decide = known c.args.pack.now.bytes.now c.in_ok-r.was c.in_ok-lookup.ensures.found kind;
     }

@@ -20,15 +20,15 @@ returns-in-Some c =
       only = tt;
     }
 
-pub returns-then-lookup_names_missing : goal.returns-then-lookup_names_missing
-returns-then-lookup_names_missing c =
+pub returns-then-entry_missing : goal.returns-then-entry_missing
+returns-then-entry_missing c =
     let f = c.field_ref-field.result in let same = c.field_ref-field.ensures in
     let s = c.args.found.now.pgn.pack.bytes.now in let k = c.args.k in let P = pack_of s in let reading = c.args.reading in
     let p = pgn_value c.args.found.now.pgn in
     record {
       stop = by_reading P p (placed (layout p) (suc k)) k reading (field_meaning s f.view) same.means c.in_default.ensures
-          c.lookup_names_missing.result (named_reading c.fieldtype_lookup-lookup.ensures reading c.lookup_names_missing.result c.lookup_names_missing.ensures)
-          c.if-lookup_names_missing.true;
+          c.entry_missing.result (named_reading c.fieldtype_lookup-lookup.ensures reading c.entry_missing.result c.entry_missing.ensures)
+          c.if-entry_missing.true;
       named = tt;
       only = tt;
     }
@@ -40,8 +40,8 @@ returns-in-Some-need_stop c =
     let p = pgn_value c.args.found.now.pgn in
     record {
       stop = by_need P p (placed (layout p) (suc k)) k reading (field_meaning s f.view) same.means c.in_default.ensures
-          c.lookup_names_missing.result (named_reading c.fieldtype_lookup-lookup.ensures reading c.lookup_names_missing.result c.lookup_names_missing.ensures)
-          c.if-lookup_names_missing.false (Some c.in-Some-need_stop.stop) (rw same.index at c.in-Some-need_stop.ensures);
+          c.entry_missing.result (named_reading c.fieldtype_lookup-lookup.ensures reading c.entry_missing.result c.entry_missing.ensures)
+          c.if-entry_missing.false (Some c.in-Some-need_stop.stop) (rw same.index at c.in-Some-need_stop.ensures);
       named = tt;
       only = tt;
     }
@@ -53,8 +53,8 @@ returns c =
     let p = pgn_value c.args.found.now.pgn in
     record {
       stop = by_need P p (placed (layout p) (suc k)) k reading (field_meaning s f.view) same.means c.in_default.ensures
-          c.lookup_names_missing.result (named_reading c.fieldtype_lookup-lookup.ensures reading c.lookup_names_missing.result c.lookup_names_missing.ensures)
-          c.if-lookup_names_missing.false None (rw same.index at c.in_default-need_stop.ensures);
+          c.entry_missing.result (named_reading c.fieldtype_lookup-lookup.ensures reading c.entry_missing.result c.entry_missing.ensures)
+          c.if-entry_missing.false None (rw same.index at c.in_default-need_stop.ensures);
       named = named_field (field_meaning s f.view) (field_at p k) same.means c.fieldtype_lookup-lookup.ensures;
       only = record {
         only = λ other. by_reading_only P p (placed (layout p) (suc k)) k other (field_meaning s f.view) same.means
