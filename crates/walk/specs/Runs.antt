@@ -81,9 +81,11 @@ abbrev pub reached : StretchEnd → FieldOrder
 reached (Ends o) = o
 reached (Begins o) = o
 
--- From the beginning of a stretch a run goes to x: an order of each layout for which the stretch is straight.
-pub record RunsAlong (memory : Memory) (t : Trace) (s : Stretch) (w : List ℕ) (t' : Trace) (x : FieldOrder) (w' : List ℕ) : Type 0 where
+-- From the beginning of a stretch a run goes to its end e: an order of each layout for which the stretch is straight. Where a pass begins there, a visit
+-- was made.
+pub record RunsAlong (memory : Memory) (t : Trace) (s : Stretch) (w : List ℕ) (t' : Trace) (e : StretchEnd) (w' : List ℕ) : Type 0 where
+  pub more : (o : FieldOrder) → e ≡ Begins o → t.made < t'.made
   pub later : Later t t'
-  pub first : 1 ≤ x.0
-  pub within : (v : Sets) → Straight v s → x.0 ≤ v.fields
-  pub runs : (v : Sets) → Straight v s → RunsTo v memory t s.from.0 w t' x.0 w'
+  pub first : 1 ≤ (reached e).0
+  pub within : (v : Sets) → Straight v s → (reached e).0 ≤ v.fields
+  pub runs : (v : Sets) → Straight v s → RunsTo v memory t s.from.0 w t' (reached e).0 w'

@@ -1,10 +1,8 @@
 // Runs: visits one after the other that need no field's record, within stretches and from a set's pass into the next.
 ghost use Rattle.std.specs.Prelude.{◌≡◌, true, false, Some, ℕ, ◌+◌, ◌-◌, ◌≤◌, ◌<◌, get_or};
-ghost use Rattle.walk.specs.Runs.{Sound, PassesOn, RunsTo, RunsAlong, reached};
+ghost use Rattle.walk.specs.Runs.{Sound, PassesOn, RunsTo, RunsAlong};
 ghost use Rattle.walk.specs.StopParts.{lets_pass};
 ghost use Rattle.walk.specs.Traces.{MakesAll, Later};
-ghost use Rattle.pack.specs.declared.protocol.FieldOrder.{FieldOrder};
-ghost use Rattle.walk.specs.declared.runs.StretchEnd.TheVariants.{Begins};
 
 use crate::known::Memory;
 use crate::orders::{index_of, later_order};
@@ -82,10 +80,7 @@ fn run_passes(
     trace: &mut Trace,
 ) -> StretchEnd
     requires { record { sound : Sound memory.now stretch; ends : stretch.ending ≡ Some ending } }
-    ensures { record {
-      more : (o : FieldOrder) → result ≡ Begins o → trace.old.made < trace.new.made;
-      along : RunsAlong memory.now trace.old stretch passes.old.numbers trace.new (reached result) passes.new.numbers;
-    } }
+    ensures { RunsAlong memory.now trace.old stretch passes.old.numbers trace.new result passes.new.numbers }
 {
     let from = stretch.from;
     let to = stretch.to;
@@ -112,10 +107,7 @@ fn run_stretch(
     trace: &mut Trace,
 ) -> StretchEnd
     requires { Sound memory.now stretch }
-    ensures { record {
-      more : (o : FieldOrder) → result ≡ Begins o → trace.old.made < trace.new.made;
-      along : RunsAlong memory.now trace.old stretch passes.old.numbers trace.new (reached result) passes.new.numbers;
-    } }
+    ensures { RunsAlong memory.now trace.old stretch passes.old.numbers trace.new result passes.new.numbers }
 {
     if let Some(ending) = stretch.ending {
         return run_passes(memory, passes, stretch, ending, trace);

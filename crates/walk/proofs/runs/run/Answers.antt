@@ -7,7 +7,7 @@ loop-end-init c = record { first = c.requires.first; within = c.requires.within;
 
 pub returns-in-Ends : goal.returns-in-Ends
 returns-in-Ends c =
-    let made = rw c.in-Ends.is at c.run_stretch.ensures.along in
+    let made = rw c.in-Ends.is at c.run_stretch.ensures in
     record {
       later = later_then c.loop-end.invariant.later made.later;
       runs = runs_then c.loop-end.invariant.runs c.loop-end.invariant.later
@@ -17,7 +17,7 @@ returns-in-Ends c =
 pub loop-end-preserved : goal.loop-end-preserved
 loop-end-preserved c =
     let sets = c.args.sets in
-    let made = rw c.in-Begins.is at c.run_stretch.ensures.along in
+    let made = rw c.in-Begins.is at c.run_stretch.ensures in
     record {
       first = made.first;
       within = made.within sets c.stretch_at-stretch.ensures.straight;

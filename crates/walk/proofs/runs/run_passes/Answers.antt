@@ -23,15 +23,13 @@ returns-then-not-pass_on c =
     let leap = c.leap-here.ensures in
     record {
       more = λ x h. absurd (cc);
-      along = record {
-        later = later_then c.loop-from.invariant.later leap.makes.later;
-        first = omega (arith, leap.onward, c.loop-from.invariant.first);
-        within = λ v x. omega (arith, leap.within, x.within);
-        runs = λ v x. rw (c.pass_on.ensures.kept c.if-not-pass_on.true)
-            (runs_leap o c.loop-from.passes.numbers (c.loop-from.invariant.runs v x) c.loop-from.invariant.first c.loop-from.invariant.later
-            (c.leap-here.result.0 - o) leap.makes (λ j l. x.plain (o + j) (omega (arith, inside.begun)) (omega (arith, l, leap.within)))
-            leap.passing c.leap-here.result.0 (omega (arith, leap.onward)));
-      };
+      later = later_then c.loop-from.invariant.later leap.makes.later;
+      first = omega (arith, leap.onward, c.loop-from.invariant.first);
+      within = λ v x. omega (arith, leap.within, x.within);
+      runs = λ v x. rw (c.pass_on.ensures.kept c.if-not-pass_on.true)
+          (runs_leap o c.loop-from.passes.numbers (c.loop-from.invariant.runs v x) c.loop-from.invariant.first c.loop-from.invariant.later
+          (c.leap-here.result.0 - o) leap.makes (λ j l. x.plain (o + j) (omega (arith, inside.begun)) (omega (arith, l, leap.within)))
+          leap.passing c.leap-here.result.0 (omega (arith, leap.onward)));
     }
 
 pub loop-from-preserved : goal.loop-from-preserved
