@@ -17,6 +17,7 @@ pub mod Rounds
 -- the loop
 pub mod Walks
 -- runs of visits
+pub mod Made
 pub mod Plain
 pub mod WalkCalls
 -- the guarantee against stops

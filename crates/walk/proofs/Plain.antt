@@ -8,7 +8,7 @@ use mathlib.Core.Path.{◌≡◌, refl, sym, ap, subst, ◌∙◌, fun_ext}
 use mathlib.Core.Bool.{Bool, true, false, ◌||◌}
 use Rattle.std.specs.Prelude.{Option, None, Some}
 use mathlib.Core.List.{List}
-use lib.ListN.{length, get_or, set, length-set, get_or-eq_default}
+use lib.ListN.{length, get_or, set, get_or-eq_default}
 use borrow.Author.Tests.{eq-eqb, eqb-true}
 use Rattle.pack.specs.Meaning.{opt_order}
 use Rattle.rules.specs.SearchLaws.{below_suc}
@@ -17,15 +17,17 @@ use Rattle.walk.specs.Layout.{Layout, no_set}
 use Rattle.walk.specs.Passes.{Rest, endless, more, Place, goto, goto_with, ready, again, turn, begins, close, stand}
 use Rattle.walk.specs.Walk.{Stops, Settled, due, settled, onward}
 use Rattle.walk.specs.ByPlace.{placed, by_place, counts}
-use Rattle.walk.specs.Runs.{edge, PlainAt, EndsBehind, written, Turns, RunsTo}
+use Rattle.walk.specs.Runs.{edge, PlainAt, EndsBehind, Turns, RunsTo}
 use Rattle.walk.specs.State.{left_of, left_at, place_of, memory_of}
 use Rattle.walk.specs.Steps.{Run, no_step, then_step}
 use Rattle.walk.specs.StopParts.{lets_pass}
+use Rattle.walk.specs.Traces.{written, Later, Makes, MakesAll}
 use Rattle.walk.specs.declared.known.Memory.{Memory}
 use Rattle.walk.specs.declared.passes.Further.{Further}
 use Rattle.walk.specs.declared.passes.Further.TheVariants.{Endless, More}
 use Rattle.walk.specs.declared.stretches.Ending.{Ending}
 use Rattle.walk.specs.declared.sets.Sets.{Sets}
+use Rattle.walk.specs.declared.trace.Trace.{Trace}
 use Rattle.walk.proofs.PassLaws.{round_ready, round_again, pass_begins, close_four, close_skip, closed_look, look_none, look_four}
 use Rattle.walk.proofs.PassNumbers.{place_more, memory_more, put_there}
 use Rattle.walk.proofs.Tests.{or_l, or_r}
@@ -153,56 +155,62 @@ pub plain_within : (v : Sets) (o k : ℕ) → o ≤ v.fields → ((j : ℕ) → 
 plain_within v o zero low plain = omega (arith, low)
 plain_within v o (suc k) low plain = omega (arith, (plain k (omega arith)).low)
 
--- ---- what is written
-
-pub length_written : (w : List ℕ) (m k n : ℕ) → length (written w m k n) ≡ length w
-length_written w m k zero = refl
-length_written w m k (suc n) = length-set (written w m k n) (m + n) (k + n) ∙ length_written w m k n
-
 -- ---- one after the other
 
-module _ {v : Sets} {memory : Memory} {readings b : List ℕ} {n o : ℕ} {w : List ℕ} where
-  pub runs_none : RunsTo v memory readings b n o w b n o w
+module _ {v : Sets} {memory : Memory} {s : Trace} {o : ℕ} {w : List ℕ} where
+  pub runs_none : RunsTo v memory s o w s o w
   runs_none = record { run = λ L a stops harm. no_step }
 
-  module _ {b' : List ℕ} {m : ℕ} (t : ℕ) (w' : List ℕ) (R : RunsTo v memory readings b n o w b' m t w') (one : 1 ≤ t) where
+  module _ {t : Trace} (x : ℕ) (w' : List ℕ) (R : RunsTo v memory s o w t x w') (one : 1 ≤ x) (later : Later s t) where
     -- so many visits within a stretch
     module _ (L : Layout) (a : SetsAre L v) (stops : Stops)
         (harm : (k reading : ℕ) → lets_pass memory k reading ≡ true → stops (placed L (suc k)) k reading ≡ None) where
-      straight : (k : ℕ) → m + k ≤ length readings → ((j : ℕ) → j < k → PlainAt v (t + j))
-          → ((j : ℕ) → j < k → lets_pass memory (t - 1 + j) (get_or readings (m + j) 0) ≡ true)
-          → Run L stops readings b n (due (place_of o w) (memory_of w)) (written b' m (t - 1) k) (m + k) (due (place_of (t + k) w') (memory_of w'))
+      straight : (k : ℕ) → t.made + k ≤ length s.readings.now → ((j : ℕ) → j < k → PlainAt v (x + j))
+          → ((j : ℕ) → j < k → lets_pass memory (x - 1 + j) (get_or s.readings.now (t.made + j) 0) ≡ true)
+          → Run L stops s.readings.now s.out.now s.made (due (place_of o w) (memory_of w)) (written t.out.now t.made (x - 1) k) (t.made + k)
+          (due (place_of (x + k) w') (memory_of w'))
       straight zero few plain passing =
-          let e₁ : m + 0 ≡ m = omega arith in let e₂ : t + 0 ≡ t = omega arith in rw (e₁, e₂) (R.run L a stops harm)
+          let e₁ : t.made + 0 ≡ t.made = omega arith in let e₂ : x + 0 ≡ x = omega arith in rw (e₁, e₂) (R.run L a stops harm)
       straight (suc k) few plain passing =
-          let e₁ : m + suc k ≡ m + k + 1 = omega arith in let e₂ : t + suc k ≡ suc (t + k) = omega arith in
+          let e₁ : t.made + suc k ≡ t.made + k + 1 = omega arith in let e₂ : x + suc k ≡ suc (x + k) = omega arith in
           let before = straight k (omega (arith, few)) (λ j l. plain j (omega (arith, l))) (λ j l. passing j (omega (arith, l))) in
+          let reading = get_or s.readings.now (t.made + k) 0 in
           rw (e₁, e₂)
-          (then_step before (omega (arith, few)) (t - 1 + k) (due (place_of (suc (t + k)) w') (memory_of w'))
-          (step_visits L stops (place_of (t + k) w') (memory_of w') (get_or readings (m + k) 0) (t - 1 + k) (omega (arith, one)) (omega (arith, one))
-          (sym (harm (t - 1 + k) (get_or readings (m + k) 0) (passing k (omega arith)))) refl
-          (due (place_of (suc (t + k)) w') (memory_of w'))
-          (sym (plain_onward a (place_of (t + k) w') (t + k) (plain k (omega arith)) (memory_of w') (get_or readings (m + k) 0)))))
+          (then_step before (omega (arith, few)) (x - 1 + k) (due (place_of (suc (x + k)) w') (memory_of w'))
+          (step_visits L stops (place_of (x + k) w') (memory_of w') reading (x - 1 + k) (omega (arith, one)) (omega (arith, one))
+          (sym (harm (x - 1 + k) reading (passing k (omega arith)))) refl
+          (due (place_of (suc (x + k)) w') (memory_of w'))
+          (sym (plain_onward a (place_of (x + k) w') (x + k) (plain k (omega arith)) (memory_of w') reading))))
 
-    pub runs_leap : (k : ℕ) → m + k ≤ length readings → ((j : ℕ) → j < k → PlainAt v (t + j))
-        → ((j : ℕ) → j < k → lets_pass memory (t - 1 + j) (get_or readings (m + j) 0) ≡ true)
-        → (u : ℕ) → u ≡ t + k → RunsTo v memory readings b n o w (written b' m (t - 1) k) (m + k) u w'
-    runs_leap k few plain passing u eu = record { run = λ L a stops harm. rw eu (straight L a stops harm k few plain passing) }
+    pub runs_leap : (k : ℕ) {t' : Trace} → MakesAll t (x - 1) k t' → ((j : ℕ) → j < k → PlainAt v (x + j))
+        → ((j : ℕ) → j < k → lets_pass memory (x - 1 + j) (get_or t.readings.now (t.made + j) 0) ≡ true)
+        → (u : ℕ) → u ≡ x + k → RunsTo v memory s o w t' u w'
+    runs_leap k {t'} makes plain passing u eu =
+        let few : t.made + k ≤ length s.readings.now =
+        omega (arith, t'.read, makes.made, ap (λ (l : List ℕ). length l) (makes.later.readings ∙ later.readings)) in
+        let passing' = rw later.readings at passing in
+        record { run = λ L a stops harm. rw (eu, makes.made, makes.out) (straight L a stops harm k few plain passing') }
 
-    pub runs_turn : m < length readings → lets_pass memory (t - 1) (get_or readings m 0) ≡ true → (u : ℕ) (w'' : List ℕ)
-        → ((L : Layout) → SetsAre L v → (r : ℕ) → onward L (by_place L) (place_of t w') (memory_of w') r ≡ due (place_of u w'') (memory_of w''))
-        → RunsTo v memory readings b n o w (set b' m (t - 1)) (m + 1) u w''
-    runs_turn low passing u w'' to = record {
-      run = λ L a stops harm. then_step (R.run L a stops harm) low (t - 1) (due (place_of u w'') (memory_of w''))
-          (step_visits L stops (place_of t w') (memory_of w') (get_or readings m 0) (t - 1) refl one
-          (sym (harm (t - 1) (get_or readings m 0) passing)) refl (due (place_of u w'') (memory_of w'')) (sym (to L a (get_or readings m 0))));
-    }
+    pub runs_turn : {t' : Trace} → Makes t (x - 1) t' → lets_pass memory (x - 1) (get_or t.readings.now t.made 0) ≡ true → (u : ℕ) (w'' : List ℕ)
+        → ((L : Layout) → SetsAre L v → (r : ℕ) → onward L (by_place L) (place_of x w') (memory_of w') r ≡ due (place_of u w'') (memory_of w''))
+        → RunsTo v memory s o w t' u w''
+    runs_turn {t'} makes passing u w'' to =
+        let low : t.made < length s.readings.now =
+        omega (arith, t'.read, makes.made, ap (λ (l : List ℕ). length l) (makes.later.readings ∙ later.readings)) in
+        let passing' = rw later.readings at passing in
+        let reading = get_or s.readings.now t.made 0 in
+        record {
+          run = λ L a stops harm. rw (makes.made, makes.out)
+              (then_step (R.run L a stops harm) low (x - 1) (due (place_of u w'') (memory_of w''))
+              (step_visits L stops (place_of x w') (memory_of w') reading (x - 1) refl one
+              (sym (harm (x - 1) reading passing')) refl (due (place_of u w'') (memory_of w'')) (sym (to L a reading))));
+        }
 
 run_then : {L : Layout} {stops : Stops} {readings b b' : List ℕ} {n m : ℕ} {c d : Settled (ℕ → ℕ)} {b'' : List ℕ} {l : ℕ} {e : Settled (ℕ → ℕ)}
     → Run L stops readings b n c b' m d → Run L stops readings b' m d b'' l e → Run L stops readings b n c b'' l e
 run_then R no_step = R
 run_then R (then_step S low k d e) = then_step (run_then R S) low k d e
 
-pub runs_then : {v : Sets} {memory : Memory} {readings b b' b'' : List ℕ} {n m l o t u : ℕ} {w w' w'' : List ℕ}
-    → RunsTo v memory readings b n o w b' m t w' → RunsTo v memory readings b' m t w' b'' l u w'' → RunsTo v memory readings b n o w b'' l u w''
-runs_then R S = record { run = λ L a stops harm. run_then (R.run L a stops harm) (S.run L a stops harm) }
+pub runs_then : {v : Sets} {memory : Memory} {s t u : Trace} {o x y : ℕ} {w w' w'' : List ℕ}
+    → RunsTo v memory s o w t x w' → Later s t → RunsTo v memory t x w' u y w'' → RunsTo v memory s o w u y w''
+runs_then R later S = record { run = λ L a stops harm. run_then (R.run L a stops harm) (rw later.readings at (S.run L a stops harm)) }

@@ -20,6 +20,7 @@ pub mod Steps
 pub mod Runs
 -- the calls
 pub mod WalkCall
+pub mod Traces
 pub mod Naming
 -- demand 3
 pub mod Demand3

@@ -1,5 +1,5 @@
 -- What a run of visits goes by: orders of which each leads to the next, the passes that are left, and the visits that are written.
-use Rattle.std.specs.Prelude.{ℕ, zero, suc, ◌+◌, ◌-◌, ◌≤◌, ◌<◌, ◌≡◌, Bool, true, false, ◌||◌, List, length, get_or, set, ◌==◌}
+use Rattle.std.specs.Prelude.{ℕ, suc, ◌+◌, ◌-◌, ◌≤◌, ◌<◌, ◌≡◌, Bool, true, false, ◌||◌, List, length, get_or, ◌==◌}
 use Rattle.std.specs.Prelude.{None, Some}
 use Rattle.pack.specs.Meaning.{opt_order}
 use Rattle.walk.specs.ByPlace.{placed, counts}
@@ -9,15 +9,17 @@ use Rattle.walk.specs.SetsOf.{SetsAre, value_at}
 use Rattle.walk.specs.State.{left_of, left_at, place_of, memory_of}
 use Rattle.walk.specs.Steps.{Run}
 use Rattle.walk.specs.StopParts.{lets_pass}
+use Rattle.walk.specs.Traces.{Later}
 use Rattle.walk.specs.Walk.{Stops, due}
 use Rattle.walk.specs.declared.known.Memory.{Memory}
-use Rattle.walk.specs.declared.runs.RunEnd.{RunEnd}
 use Rattle.walk.specs.declared.runs.StretchEnd.{StretchEnd}
 use Rattle.walk.specs.declared.runs.StretchEnd.TheVariants.{Ends, Begins}
 use Rattle.walk.specs.declared.sets.Set.{Set}
 use Rattle.walk.specs.declared.sets.Sets.{Sets}
 use Rattle.walk.specs.declared.stretches.Stretch.{Stretch}
 use Rattle.walk.specs.declared.stretches.Ending.{Ending}
+use Rattle.walk.specs.declared.trace.Trace.{Trace}
+use Rattle.pack.specs.declared.protocol.FieldOrder.{FieldOrder}
 
 -- the set begins at the order n, or ends before it
 abbrev pub edge : Set → ℕ → Bool
@@ -54,11 +56,6 @@ pub record Sound (memory : Memory) (x : Stretch) : Type 0 where
   pub set : (e : Ending) → x.ending ≡ Some e → e.set < 4
   pub start : (e : Ending) → x.ending ≡ Some e → 1 ≤ e.start.0
 
--- n visits, of field k and those that follow it, written from m on
-abbrev pub written : List ℕ → (m k n : ℕ) → List ℕ
-written v m k zero = v
-written v m k (suc n) = set (written v m k n) (m + n) (k + n)
-
 -- a pass of set k ends and another begins, from the numbers w to w'
 pub record Turns (w : List ℕ) (k : ℕ) (w' : List ℕ) : Type 0 where
   pub rest : Rest
@@ -67,27 +64,28 @@ pub record Turns (w : List ℕ) (k : ℕ) (w' : List ℕ) : Type 0 where
   pub memory : memory_of w' ≡ memory_of w
 
 -- The order o is the one behind which set k ends; the visit there with the next reading is let pass, and another pass of the set begins behind it.
-pub record PassesOn (memory : Memory) (readings : List ℕ) (to k m o : ℕ) (w w' : List ℕ) : Type 0 where
-  pub read : m < length readings
+pub record PassesOn (memory : Memory) (t : Trace) (to k o : ℕ) (w w' : List ℕ) : Type 0 where
+  pub read : t.made < length t.readings.now
   pub at : o ≡ to
-  pub passing : lets_pass memory (o - 1) (get_or readings m 0) ≡ true
+  pub passing : lets_pass memory (o - 1) (get_or t.readings.now t.made 0) ≡ true
   pub turns : Turns w k w'
 
 -- What the memory lets pass does not stop, and so these visits are made: from the order o with the numbers w of the passes to o' with w', the
--- visit buffer b being b' then.
-pub record RunsTo (v : Sets) (memory : Memory) (readings b : List ℕ) (n o : ℕ) (w b' : List ℕ) (m o' : ℕ) (w' : List ℕ) : Type 0 where
+-- trace t being t' then.
+pub record RunsTo (v : Sets) (memory : Memory) (t : Trace) (o : ℕ) (w : List ℕ) (t' : Trace) (o' : ℕ) (w' : List ℕ) : Type 0 where
   pub run : (L : Layout) → SetsAre L v → (stops : Stops)
       → ((k reading : ℕ) → lets_pass memory k reading ≡ true → stops (placed L (suc k)) k reading ≡ None)
-      → Run L stops readings b n (due (place_of o w) (memory_of w)) b' m (due (place_of o' w') (memory_of w'))
+      → Run L stops t.readings.now t.out.now t.made (due (place_of o w) (memory_of w)) t'.out.now t'.made (due (place_of o' w') (memory_of w'))
 
-abbrev pub reached : StretchEnd → RunEnd
-reached (Ends x) = x
-reached (Begins x) = x
+abbrev pub reached : StretchEnd → FieldOrder
+reached (Ends o) = o
+reached (Begins o) = o
 
--- From the beginning of a stretch a run goes to x: an order of each layout for which the stretch is straight.
-pub record RunsAlong (memory : Memory) (readings b : List ℕ) (n : ℕ) (s : Stretch) (w b' : List ℕ) (x : RunEnd) (w' : List ℕ) : Type 0 where
-  pub at_least : n ≤ x.visits
-  pub read : x.visits ≤ length readings
-  pub first : 1 ≤ x.order.0
-  pub within : (v : Sets) → Straight v s → x.order.0 ≤ v.fields
-  pub runs : (v : Sets) → Straight v s → RunsTo v memory readings b n s.from.0 w b' x.visits x.order.0 w'
+-- From the beginning of a stretch a run goes to its end e: an order of each layout for which the stretch is straight. Where a pass begins there, a visit
+-- was made.
+pub record RunsAlong (memory : Memory) (t : Trace) (s : Stretch) (w : List ℕ) (t' : Trace) (e : StretchEnd) (w' : List ℕ) : Type 0 where
+  pub more : (o : FieldOrder) → e ≡ Begins o → t.made < t'.made
+  pub later : Later t t'
+  pub first : 1 ≤ (reached e).0
+  pub within : (v : Sets) → Straight v s → (reached e).0 ≤ v.fields
+  pub runs : (v : Sets) → Straight v s → RunsTo v memory t s.from.0 w t' (reached e).0 w'

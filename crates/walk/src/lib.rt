@@ -11,4 +11,5 @@ mod sets;
 mod steps;
 mod stops;
 mod stretches;
+mod trace;
 pub mod walk;

@@ -1,162 +1,86 @@
 // Runs: visits one after the other that need no field's record, within stretches and from a set's pass into the next.
-ghost use Rattle.std.specs.Prelude.{◌≡◌, true, false, Some, None, ℕ, ◌+◌, ◌-◌, ◌≤◌, ◌<◌, length, get_or, set};
-ghost use Rattle.walk.specs.Runs.{Sound, PassesOn, RunsTo, RunsAlong, reached, written};
+ghost use Rattle.std.specs.Prelude.{◌≡◌, true, false, Some, ℕ, ◌+◌, ◌-◌, ◌≤◌, ◌<◌, get_or};
+ghost use Rattle.walk.specs.Runs.{Sound, PassesOn, RunsTo, RunsAlong};
 ghost use Rattle.walk.specs.StopParts.{lets_pass};
-ghost use Rattle.walk.specs.declared.runs.RunEnd.{RunEnd};
-ghost use Rattle.walk.specs.declared.runs.StretchEnd.TheVariants.{Begins};
+ghost use Rattle.walk.specs.Traces.{MakesAll, Later};
 
 use crate::known::Memory;
 use crate::orders::{index_of, later_order};
 use crate::passes::Passes;
 use crate::sets::Sets;
 use crate::stretches::{Ending, Stretch, ahead, is_in, stretch_at};
-use pack::protocol::{FieldIndex, FieldOrder, same_order};
+use crate::trace::Trace;
+use pack::protocol::{FieldOrder, same_order};
 
-// Where a run ends: the order there, and the number of visits by then.
-#[derive(Clone, Copy)]
-pub struct RunEnd {
-    pub order: FieldOrder,
-    pub visits: usize,
-}
-
-// Where a run within one stretch ends: the run itself ends there, or a pass begins there, outside the stretch.
+// At which order a run within one stretch ends: the run itself ends there, or a pass begins there, outside the stretch.
 #[derive(Clone, Copy)]
 pub enum StretchEnd {
-    Ends(RunEnd),
-    Begins(RunEnd),
+    Ends(FieldOrder),
+    Begins(FieldOrder),
 }
 
-// "each visit takes one reading and writes the index": the visit after n others.
-pub fn write_visit(visits: &mut [u32], n: usize, field: FieldIndex)
-    requires { n < length visits.old }
-    ensures { visits.new ≡ set visits.old n field.0 }
-{
-    visits[n] = field.0;
-}
-
-// The visits of n fields from k on, after m others.
-fn write_visits(visits: &mut [u32], m: usize, k: FieldIndex, n: usize)
-    requires { record { room : m + n ≤ length visits.old; fields : k.0 + n < 4294967296 } }
-    ensures { visits.new ≡ written visits.old m k.0 n }
-{
-    for j in 0..n {
-        write_visit(visits, m + j, FieldIndex(k.0 + j as u32));
-    }
-}
-
-// The same of as many of them as are known not to stop at their readings; and how many these are.
-fn write_passing(
-    memory: &Memory,
-    readings: &[u64],
-    visits: &mut [u32],
-    m: usize,
-    k: FieldIndex,
-    n: usize,
-) -> usize
-    requires { record {
-      read : m + n ≤ length readings.now;
-      room : length readings.now ≤ length visits.old;
-      fields : k.0 + n < 4294967296;
-    } }
-    ensures { record {
-      few : result ≤ n;
-      out : visits.new ≡ written visits.old m k.0 result;
-      passing : (j : ℕ) → j < result → lets_pass memory.now (k.0 + j) (get_or readings.now (m + j) 0) ≡ true;
-    } }
-{
-    for j in 0..n {
-        let field = k.0 + j as u32;
-        if !memory.lets_pass(field, readings[m + j]) {
-            return j;
-        }
-        write_visit(visits, m + j, FieldIndex(field));
-    }
-    n
-}
-
-// The visits from the order o to before another, after m others; and how many these are. Of free orders the memory is not asked.
-fn leap(
-    memory: &Memory,
-    free: bool,
-    to: FieldOrder,
-    o: FieldOrder,
-    readings: &[u64],
-    visits: &mut [u32],
-    m: usize,
-) -> usize
+// The visits from the order o to before another; and the order behind them. Of free orders the memory is not asked.
+fn leap(memory: &Memory, free: bool, to: FieldOrder, o: FieldOrder, trace: &mut Trace) -> FieldOrder
     requires { record {
       first : 1 ≤ o.0;
       within : o.0 ≤ to.0;
       marked : free ≡ true → (x : ℕ) → o.0 ≤ x → x < to.0 → get_or memory.now.marks (x - 1) 0 ≡ 1;
-      read : m ≤ length readings.now;
-      room : length readings.now ≤ length visits.old;
     } }
     ensures { record {
-      read : m + result ≤ length readings.now;
-      within : o.0 + result ≤ to.0;
-      out : visits.new ≡ written visits.old m (o.0 - 1) result;
-      passing : (j : ℕ) → j < result
-          → lets_pass memory.now (o.0 - 1 + j) (get_or readings.now (m + j) 0) ≡ true;
+      onward : o.0 ≤ result.0;
+      within : result.0 ≤ to.0;
+      makes : MakesAll trace.old (o.0 - 1) (result.0 - o.0) trace.new;
+      passing : (j : ℕ) → j < result.0 - o.0
+          → lets_pass memory.now (o.0 - 1 + j) (get_or trace.old.readings.now (trace.old.made + j) 0) ≡ true;
     } }
 {
-    let n = ahead(to, o, readings.len() - m);
+    let n = ahead(to, o, trace.left());
     let k = index_of(o);
     if free {
-        write_visits(visits, m, k, n);
-        return n;
+        trace.visit_all(k, n);
+        return later_order(o, n);
     }
-    write_passing(memory, readings, visits, m, k, n)
+    later_order(o, trace.visit_passing(memory, k, n))
 }
 
-// At the order o, after m visits: whether it is the one behind which set k ends, the visit there is known not to stop, and another pass of the
-// set begins, which is counted then.
+// At the order o: whether it is the one behind which set k ends, the visit there is known not to stop, and another pass of the set begins,
+// which is counted then.
 fn pass_on(
     memory: &Memory,
     passes: &mut Passes,
     to: FieldOrder,
     k: usize,
     o: FieldOrder,
-    readings: &[u64],
-    m: usize,
+    trace: &Trace,
 ) -> bool
     requires { record { first : 1 ≤ o.0; set : k < 4 } }
     ensures { record {
       kept : result ≡ false → passes.new.numbers ≡ passes.old.numbers;
-      on : result ≡ true → PassesOn memory.now readings.now to.0 k m o.0 passes.old.numbers passes.new.numbers;
+      on : result ≡ true → PassesOn memory.now trace.now to.0 k o.0 passes.old.numbers passes.new.numbers;
     } }
 {
-    if readings.len() <= m || !same_order(o, to) {
+    if !same_order(o, to) {
         return false;
     }
-    let field = index_of(o);
-    if !memory.lets_pass(field.0, readings[m]) {
+    let Some(reading) = trace.next() else {
+        return false;
+    };
+    if !memory.lets_pass(index_of(o).0, reading) {
         return false;
     }
     passes.begins(k)
 }
 
-// From the beginning of a stretch that a set ends, with n visits made: its orders, and from the set's pass into the next as long as it begins
-// among them.
+// From the beginning of a stretch that a set ends: its orders, and from the set's pass into the next as long as it begins among them.
 fn run_passes(
     memory: &Memory,
     passes: &mut Passes,
     stretch: Stretch,
     ending: Ending,
-    readings: &[u64],
-    visits: &mut [u32],
-    n: usize,
+    trace: &mut Trace,
 ) -> StretchEnd
-    requires { record {
-      sound : Sound memory.now stretch;
-      ends : stretch.ending ≡ Some ending;
-      read : n ≤ length readings.now;
-      room : length readings.now ≤ length visits.old;
-    } }
-    ensures { record {
-      more : (at : RunEnd) → result ≡ Begins at → n < at.visits;
-      along : RunsAlong memory.now readings.now visits.old n stretch passes.old.numbers visits.new (reached result)
-          passes.new.numbers;
-    } }
+    requires { record { sound : Sound memory.now stretch; ends : stretch.ending ≡ Some ending } }
+    ensures { RunsAlong memory.now trace.old stretch passes.old.numbers trace.new result passes.new.numbers }
 {
     let from = stretch.from;
     let to = stretch.to;
@@ -164,99 +88,53 @@ fn run_passes(
     let set = ending.set;
     let start = ending.start;
     let mut here = from;
-    let mut m = n;
     while is_in(from, to, here) {
-        let made = leap(memory, free, to, here, readings, visits, m);
-        here = later_order(here, made);
-        m += made;
-        if !pass_on(memory, passes, to, set, here, readings, m) {
-            return StretchEnd::Ends(RunEnd {
-                order: here,
-                visits: m,
-            });
+        here = leap(memory, free, to, here, trace);
+        if !pass_on(memory, passes, to, set, here, trace) {
+            return StretchEnd::Ends(here);
         }
-        write_visit(visits, m, index_of(here));
+        trace.visit(index_of(here));
         here = start;
-        m += 1;
     }
-    StretchEnd::Begins(RunEnd {
-        order: here,
-        visits: m,
-    })
+    StretchEnd::Begins(here)
 }
 
-// From the beginning of a stretch, with n visits made.
+// From the beginning of a stretch.
 fn run_stretch(
     memory: &Memory,
     passes: &mut Passes,
     stretch: Stretch,
-    readings: &[u64],
-    visits: &mut [u32],
-    n: usize,
+    trace: &mut Trace,
 ) -> StretchEnd
-    requires { record {
-      sound : Sound memory.now stretch;
-      read : n ≤ length readings.now;
-      room : length readings.now ≤ length visits.old;
-    } }
-    ensures { record {
-      more : (at : RunEnd) → result ≡ Begins at → n < at.visits;
-      along : RunsAlong memory.now readings.now visits.old n stretch passes.old.numbers visits.new (reached result)
-          passes.new.numbers;
-    } }
+    requires { Sound memory.now stretch }
+    ensures { RunsAlong memory.now trace.old stretch passes.old.numbers trace.new result passes.new.numbers }
 {
     if let Some(ending) = stretch.ending {
-        return run_passes(memory, passes, stretch, ending, readings, visits, n);
+        return run_passes(memory, passes, stretch, ending, trace);
     }
-    let made = leap(
-        memory,
-        stretch.free,
-        stretch.to,
-        stretch.from,
-        readings,
-        visits,
-        n,
-    );
-    StretchEnd::Ends(RunEnd {
-        order: later_order(stretch.from, made),
-        visits: n + made,
-    })
+    StretchEnd::Ends(leap(memory, stretch.free, stretch.to, stretch.from, trace))
 }
 
-// From the order that is due, with n visits made.
+// From the order that is due.
 pub fn run(
     sets: Sets,
     memory: &Memory,
     passes: &mut Passes,
     order: FieldOrder,
-    readings: &[u64],
-    visits: &mut [u32],
-    n: usize,
-) -> RunEnd
-    requires { record {
-      first : 1 ≤ order.0;
-      within : order.0 ≤ sets.fields;
-      small : sets.fields < 4294967295;
-      read : n ≤ length readings.now;
-      room : length readings.now ≤ length visits.old;
-    } }
+    trace: &mut Trace,
+) -> FieldOrder
+    requires { record { first : 1 ≤ order.0; within : order.0 ≤ sets.fields; small : sets.fields < 4294967295 } }
     ensures { record {
-      at_least : n ≤ result.visits;
-      read : result.visits ≤ length readings.now;
-      runs : RunsTo sets memory.now readings.now visits.old n order.0 passes.old.numbers visits.new result.visits result.order.0
-          passes.new.numbers;
+      later : Later trace.old trace.new;
+      runs : RunsTo sets memory.now trace.old order.0 passes.old.numbers trace.new result.0 passes.new.numbers;
     } }
 {
     let mut here = order;
-    let mut m = n;
     loop {
         let stretch = stretch_at(sets, memory, here);
-        match run_stretch(memory, passes, stretch, readings, visits, m) {
+        match run_stretch(memory, passes, stretch, trace) {
             StretchEnd::Ends(end) => return end,
-            StretchEnd::Begins(next) => {
-                here = next.order;
-                m = next.visits;
-            }
+            StretchEnd::Begins(next) => here = next,
         }
     }
 }

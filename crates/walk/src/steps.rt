@@ -10,6 +10,7 @@ ghost use Rattle.walk.specs.State.{place_of, memory_of, settled_of};
 ghost use Rattle.walk.specs.Steps.{Run, one_step, used, step_of, next_of, Within};
 ghost use Rattle.walk.specs.StopParts.{Remembered, lets_pass};
 ghost use Rattle.walk.specs.Stops.{stop_at};
+ghost use Rattle.walk.specs.Traces.{Later};
 ghost use Rattle.walk.specs.Walk.{Stops, due};
 ghost use Rattle.walk.specs.WalkCall.{ending};
 ghost use Rattle.walk.specs.declared.passes.Settling.TheVariants.{Due};
@@ -22,6 +23,7 @@ use crate::passes::{Passes, Settling};
 use crate::runs::run;
 use crate::sets::Sets;
 use crate::stops::Stop;
+use crate::trace::Trace;
 use crate::walk::End;
 use pack::protocol::{FieldIndex, FieldOrder};
 
@@ -30,13 +32,6 @@ use pack::protocol::{FieldIndex, FieldOrder};
 pub enum Stepping {
     Ended(End),
     Visited { field: FieldIndex, next: FieldOrder },
-}
-
-// The walk after a run, and how many visits are made by then.
-#[derive(Clone, Copy)]
-pub struct Ran {
-    pub settling: Settling,
-    pub visits: usize,
 }
 
 // At a due field, with its reading.
@@ -106,40 +101,28 @@ pub fn used(settling: Settling) -> End
     }
 }
 
-// A run from where the walk is, with n visits made.
+// A run from where the walk is.
 pub fn run_on(
     sets: Sets,
     memory: &Memory,
     passes: &mut Passes,
     settling: Settling,
-    readings: &[u64],
-    visits: &mut [u32],
-    n: usize,
-) -> Ran
+    trace: &mut Trace,
+) -> Settling
     requires { record {
       due : (o : FieldOrder) → settling ≡ Due o → record { first : 1 ≤ o.0; within : o.0 ≤ sets.fields };
       small : sets.fields < 4294967295;
-      read : n ≤ length readings.now;
-      room : length readings.now ≤ length visits.old;
     } }
     ensures { record {
-      at_least : n ≤ result.visits;
-      read : result.visits ≤ length readings.now;
+      later : Later trace.old trace.new;
       ran : (L : Layout) → SetsAre L sets → (stops : Stops)
           → ((k reading : ℕ) → lets_pass memory.now k reading ≡ true → stops (placed L (suc k)) k reading ≡ None)
-          → Run L stops readings.now visits.old n (settled_of settling passes.old.numbers) visits.new result.visits
-          (settled_of result.settling passes.new.numbers);
+          → Run L stops trace.old.readings.now trace.old.out.now trace.old.made (settled_of settling passes.old.numbers)
+          trace.new.out.now trace.new.made (settled_of result passes.new.numbers);
     } }
 {
     let Settling::Due(order) = settling else {
-        return Ran {
-            settling,
-            visits: n,
-        };
+        return settling;
     };
-    let end = run(sets, memory, passes, order, readings, visits, n);
-    Ran {
-        settling: Settling::Due(end.order),
-        visits: end.visits,
-    }
+    Settling::Due(run(sets, memory, passes, order, trace))
 }

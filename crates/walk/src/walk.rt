@@ -1,5 +1,5 @@
 // The calls `walk` and `held`.
-ghost use Rattle.std.specs.Prelude.{◌≡◌, false, ℕ, ◌≤◌, length};
+ghost use Rattle.std.specs.Prelude.{◌≡◌, false, ℕ, length};
 ghost use Rattle.std.specs.Prelude.{None};
 ghost use Rattle.pack.specs.Loaded.{pgn_value};
 ghost use Rattle.pack.specs.Meaning.{pack_of};
@@ -7,18 +7,19 @@ ghost use Rattle.walk.specs.Layout.{layout, stop_1};
 ghost use Rattle.walk.specs.Naming.{Judges};
 ghost use Rattle.walk.specs.State.{left_of, left_at, memory_of};
 ghost use Rattle.walk.specs.StopParts.{Remembered};
+ghost use Rattle.walk.specs.Traces.{Traced};
 ghost use Rattle.walk.specs.Walk.{walk};
-ghost use Rattle.walk.specs.WalkCall.{Told, Walks, TellsHeld};
+ghost use Rattle.walk.specs.WalkCall.{Walks, TellsHeld};
 
 use crate::held::held_at;
 use crate::known::Memory;
 use crate::named::{FoundPgn, find_pgn, found_pgn};
 use crate::orders::first_order;
 use crate::passes::Passes;
-use crate::runs::write_visit;
 use crate::sets::stop_1;
 use crate::steps::{Stepping, run_on, step, used};
 pub use crate::stops::Stop;
+use crate::trace::Trace;
 use pack::load::{Refusal, load};
 use pack::loaded::Pack;
 
@@ -37,56 +38,43 @@ pub struct Ended {
 }
 
 // The walk past stop 1, with a memory of what is known of the fields. `settle` is called here alone, so that the compiler inlines it.
-fn walk_on(
-    found: &FoundPgn,
-    memory: &mut Memory,
-    passes: &mut Passes,
-    readings: &[u64],
-    visits: &mut [u32],
-) -> Ended
+fn walk_on(found: &FoundPgn, memory: &mut Memory, passes: &mut Passes, trace: &mut Trace) -> End
     requires { record {
       remembered : Remembered (pack_of found.now.pgn.pack.bytes.now) (pgn_value found.now.pgn) memory.old;
       left : (k : ℕ) → left_of (left_at passes.old.numbers k) ≡ None;
       latest : (k : ℕ) → memory_of passes.old.numbers k ≡ 0;
       no_stop_1 : stop_1 (layout (pgn_value found.now.pgn)) ≡ false;
-      room : length readings.now ≤ length visits.old;
+      none : trace.old.made ≡ 0;
     } }
-    ensures { Told (walk (pack_of found.now.pgn.pack.bytes.now) (pgn_value found.now.pgn) readings.now) visits.old
-        visits.new result }
+    ensures { Traced (walk (pack_of found.now.pgn.pack.bytes.now) (pgn_value found.now.pgn) trace.old.readings.now) trace.old
+        result trace.new }
 {
     let sets = found.sets;
     let mut here = first_order();
-    let mut n = 0;
     loop {
         let settling = passes.settle(sets, here);
-        let ran = run_on(sets, memory, passes, settling, readings, visits, n);
-        let made = ran.visits;
-        if readings.len() <= made {
-            let end = used(ran.settling);
-            return Ended { end, visits: made };
-        }
-        match step(found, memory, passes, ran.settling, readings[made]) {
-            Stepping::Ended(end) => return Ended { end, visits: made },
+        let ran = run_on(sets, memory, passes, settling, trace);
+        let Some(reading) = trace.next() else {
+            return used(ran);
+        };
+        match step(found, memory, passes, ran, reading) {
+            Stepping::Ended(end) => return end,
             Stepping::Visited { field, next } => {
-                write_visit(visits, made, field);
+                trace.visit(field);
                 here = next;
-                n = made + 1;
             }
         }
     }
 }
 
 // The walk over a PGN that is found, with a memory for as many fields as a pack can have, and for the readings of the first 128 of them.
-fn walk_at(found: &FoundPgn, readings: &[u64], visits: &mut [u32]) -> Ended
-    requires { length readings.now ≤ length visits.old }
-    ensures { Told (walk (pack_of found.now.pgn.pack.bytes.now) (pgn_value found.now.pgn) readings.now) visits.old
-        visits.new result }
+fn walk_at(found: &FoundPgn, trace: &mut Trace) -> End
+    requires { trace.old.made ≡ 0 }
+    ensures { Traced (walk (pack_of found.now.pgn.pack.bytes.now) (pgn_value found.now.pgn) trace.old.readings.now) trace.old
+        result trace.new }
 {
     if stop_1(found.sets) {
-        return Ended {
-            end: End::Stop(Stop::SetMisplaced),
-            visits: 0,
-        };
+        return End::Stop(Stop::SetMisplaced);
     }
     let mut memory = Memory {
         marks: [0u8; 32768],
@@ -95,7 +83,7 @@ fn walk_at(found: &FoundPgn, readings: &[u64], visits: &mut [u32]) -> Ended
     let mut passes = Passes {
         numbers: [0u64; 16],
     };
-    walk_on(found, &mut memory, &mut passes, readings, visits)
+    walk_on(found, &mut memory, &mut passes, trace)
 }
 
 // "then 21, 23, 25": 25, and the walk.
@@ -107,7 +95,16 @@ fn walk_found(found: &FoundPgn, readings: &[u64], visits: &mut [u32]) -> Result<
     if visits.len() < needed {
         return Err(Refusal::Visits(needed));
     }
-    Ok(walk_at(found, readings, visits))
+    let mut trace = Trace {
+        readings,
+        out: visits,
+        made: 0,
+    };
+    let end = walk_at(found, &mut trace);
+    Ok(Ended {
+        end,
+        visits: trace.made,
+    })
 }
 
 pub fn walk(

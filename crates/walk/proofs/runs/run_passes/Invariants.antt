@@ -1,4 +1,5 @@
 use Rattle.walk.specs.Runs.{Straight, RunsTo}
+use Rattle.walk.specs.Traces.{Later}
 use mathlib.Core.Path.{◌≡◌}
 use Prim.Native.Nat.{◌-◌, ◌≤◌}
 use lib.ListN.{length}
@@ -10,13 +11,11 @@ invariant-loop-from l =
     record {
       first : 1 ≤ l.here.0;
       within : (v : Sets) → Straight v l.fn.stretch → l.here.0 ≤ v.fields;
-      begun : l.m ≤ l.n → l.here.0 ≡ l.from.0;
-      at_least : l.n ≤ l.m;
-      read : l.m ≤ length l.readings;
-      same : length l.visits ≡ length l.initial.visits;
-      runs : (v : Sets) → Straight v l.fn.stretch → RunsTo v l.memory l.readings l.initial.visits l.n l.fn.stretch.from.0 l.initial.passes.numbers l.visits l.m
-          l.here.0 l.passes.numbers;
+      begun : l.trace.made ≤ l.initial.trace.made → l.here.0 ≡ l.from.0;
+      later : Later l.initial.trace l.trace;
+      runs : (v : Sets) → Straight v l.fn.stretch → RunsTo v l.memory l.initial.trace l.fn.stretch.from.0 l.initial.passes.numbers l.trace l.here.0
+          l.passes.numbers;
     }
 
 abbrev pub decreases-loop-from : goal.decreases-loop-from
-decreases-loop-from l = length l.readings - l.m
+decreases-loop-from l = length l.trace.readings.now - l.trace.made
