@@ -1,9 +1,9 @@
 // R43
-ghost use Rattle.std.specs.Prelude.{◌≡◌, not, ◌||◌, [], ◌∷◌, ◌<◌, length, ◌==◌, if◌then◌else◌};
+ghost use Rattle.std.specs.Prelude.{◌≡◌, not, ◌||◌, [], ◌∷◌, ◌<◌, ◌==◌, if◌then◌else◌};
 ghost use Rattle.pack.specs.Notation.{◌<ᵇ◌, ◌≐◌};
 ghost use Rattle.pack.specs.Items.{bytes_of};
 ghost use Rattle.pack.specs.Loaded.{tree_of, pgn_value};
-ghost use Rattle.pack.specs.Meaning.{optional_repeating, field_meaning, pack_of};
+ghost use Rattle.pack.specs.Meaning.{optional_repeating, pack_of};
 ghost use Rattle.pack.specs.Value.{field_at};
 ghost use Rattle.rules.specs.Emit.{Emitted};
 ghost use Rattle.rules.specs.Findings.{report_if, pgn_error};
@@ -17,11 +17,10 @@ use crate::Finding;
 use crate::emit::{Findings, field_error};
 use crate::field_rules::{FieldRule, check_fields};
 use crate::floats::{ONE, ZERO, float_eq};
-use crate::model::{is_text, value_bits};
+use crate::model::{is_text, root_of, value_bits};
 use crate::searches::counted;
 use crate::targets::{first_with_id, integer};
-use pack::field::FieldView;
-use pack::loaded::{FieldRef, Pack, PgnRef};
+use pack::loaded::{FieldRef, PgnRef};
 use pack::pgn::{RepeatingView, set_at};
 use pack::protocol::{FieldIndex, FieldOrder, among};
 use pack::text::{Text, text_is};
@@ -57,9 +56,10 @@ fn differs_from(o: Option<u64>, c: u64) -> bool
 
 // What a continuing field has of its own beside its bits.
 #[tactic(auto, unfolding(crate::specs::Continues::not_raw))]
-fn not_raw(s: &[u8], f: FieldView) -> bool
-    ensures { result ≡ not_raw (field_meaning s.now f) }
+fn not_raw(field: &FieldRef) -> bool
+    ensures { result ≡ not_raw (field_at (pgn_value field.now.pgn.now) field.now.index) }
 {
+    let f = field.view;
     differs_from(f.authored.resolution, ONE)
         || differs_from(f.authored.offset, ZERO)
         || f.flags.unit
@@ -68,7 +68,7 @@ fn not_raw(s: &[u8], f: FieldView) -> bool
         || f.authored.spn.is_some()
 }
 
-// How many fields of the PGN do.
+// How many fields of the PGN continue the one of that id.
 #[tactic(auto, using(crate::specs::SearchLaws::count_turn), unfolding(crate::specs::Continues::continued_by))]
 fn continued_by(pgn: &PgnRef, id: Text) -> u32
     ensures { result ≡ continued_by (pgn_value pgn.now) (bytes_of pgn.now.pack.bytes.now id) }
@@ -83,38 +83,32 @@ fn continued_by(pgn: &PgnRef, id: Text) -> u32
     count
 }
 
-// Not integers: the field low and the field f that continues it.
+// Not integers: the field low and the one that continues it.
 #[tactic(auto, using(crate::proofs::Types::integer_is))]
-fn not_integers(pack: &Pack, low: FieldView, f: FieldView) -> bool
-    requires { record {
-      low_type : low.ft < length (pack_of pack.now.bytes.now).fieldtypes;
-      type : f.ft < length (pack_of pack.now.bytes.now).fieldtypes;
-    } }
-    ensures { result ≡
-        (not (integer (pack_of pack.now.bytes.now).fieldtypes (field_meaning pack.now.bytes.now low)) || not
-        (root_of (pack_of pack.now.bytes.now).fieldtypes (field_meaning pack.now.bytes.now f) ≐ NUMBER)) }
+fn not_integers(low: &FieldRef, field: &FieldRef) -> bool
+    ensures { result ≡ (not (integer (pack_of low.now.pgn.now.pack.bytes.now).fieldtypes (field_at (pgn_value low.now.pgn.now) low.now.index))
+        || not (root_of (pack_of field.now.pgn.now.pack.bytes.now).fieldtypes (field_at (pgn_value field.now.pgn.now) field.now.index) ≐ NUMBER)) }
 {
-    let v = pack.field_type(low.ft);
-    let u = pack.field_type(f.ft);
-    !integer(pack.bytes, v) || !text_is(pack.bytes, u.root, b"NUMBER")
+    let low_pgn = low.pgn;
+    let pgn = field.pgn;
+    let v = low.field_type();
+    !integer(low_pgn.pack.bytes, v) || !text_is(pgn.pack.bytes, root_of(field), b"NUMBER")
 }
 
 // A sign or an offset.
-fn not_plain(pack: &Pack, low: FieldView) -> bool
-    requires { low.ft < length (pack_of pack.now.bytes.now).fieldtypes }
-    ensures { result ≡
-        ((fieldtype_of (pack_of pack.now.bytes.now).fieldtypes (field_meaning pack.now.bytes.now low)).signed || not
-        (float_eq low.scaling.offset ZERO)) }
+fn not_plain(low: &FieldRef) -> bool
+    ensures { result ≡ ((fieldtype_of (pack_of low.now.pgn.now.pack.bytes.now).fieldtypes (field_at (pgn_value low.now.pgn.now) low.now.index)).signed
+        || not (float_eq (field_at (pgn_value low.now.pgn.now) low.now.index).res_offset ZERO)) }
 {
-    let v = pack.field_type(low.ft);
-    v.signed || !float_eq(low.scaling.offset, ZERO)
+    let v = low.field_type();
+    v.signed || !float_eq(low.view.scaling.offset, ZERO)
 }
 
 // Wider than 64 bits with its continuation.
-fn too_wide(s: &[u8], low: FieldView) -> bool
-    ensures { result ≡ (64 <ᵇ value_bits (field_meaning s.now low)) }
+fn too_wide(low: &FieldRef) -> bool
+    ensures { result ≡ (64 <ᵇ value_bits (field_at (pgn_value low.now.pgn.now) low.now.index)) }
 {
-    64 < value_bits(s, low)
+    64 < value_bits(low)
 }
 
 // A field that continues an earlier one, by its id.
@@ -152,7 +146,6 @@ fn placed_at(out: &mut Findings, link: &Continuing, continued: bool)
 }
 
 // The field continues the earlier one.
-#[tactic(auto, using(crate::proofs::Fields::type_there))]
 fn continued_at(out: &mut Findings, link: &Continuing)
     ensures { Emitted out.old
         (continued_at (pack_of link.now.field.now.pgn.now.pack.bytes.now).fieldtypes (tree_of link.now.field.now.pgn.now)
@@ -161,18 +154,13 @@ fn continued_at(out: &mut Findings, link: &Continuing)
         link.now.earlier (field_at (pgn_value link.now.field.now.pgn.now) link.now.earlier)) out.new }
 {
     let pgn = link.field.pgn;
-    let f = link.field.view;
-    let low = pgn.field(link.earlier);
-    let words = not_integers(&pgn.pack, low, f);
-    let dressed = not_raw(pgn.pack.bytes, f);
-    let scaled = not_plain(&pgn.pack, low);
-    let wide = too_wide(pgn.pack.bytes, low);
-    placed_at(out, link, low.links.continuation.is_some());
-    out.put_if(low.authored.continues.is_some(), link_error(5, link));
-    out.put_if(words, link_error(6, link));
-    out.put_if(dressed, link_error(7, link));
-    out.put_if(scaled, link_error(8, link));
-    out.put_if(wide, link_error(9, link));
+    let low = pgn.field_ref(link.earlier);
+    placed_at(out, link, low.view.links.continuation.is_some());
+    out.put_if(low.view.authored.continues.is_some(), link_error(5, link));
+    out.put_if(not_integers(&low, link.field), link_error(6, link));
+    out.put_if(not_raw(link.field), link_error(7, link));
+    out.put_if(not_plain(&low), link_error(8, link));
+    out.put_if(too_wide(&low), link_error(9, link));
 }
 
 struct Continues;

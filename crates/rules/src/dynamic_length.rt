@@ -50,7 +50,7 @@ fn dynamic_length_at(out: &mut Findings, field: &FieldRef, root: Text, have: boo
 // R06: DYNAMIC_FIELD_VALUE needs an earlier length source; overhead only on length fields; dynamicFieldLength only on
 // DYNAMIC_FIELD_LENGTH fields.
 // No `FieldRule`: what a length source is goes from field to field.
-#[tactic(auto, using(crate::proofs::Fields::type_there), unfolding(crate::specs::DynamicLength::check_dynamic_length))]
+#[tactic(auto, unfolding(crate::specs::DynamicLength::check_dynamic_length))]
 pub(crate) fn check_dynamic_length(out: &mut Findings, pgn: &PgnRef)
     ensures { Emitted out.old
         (check_dynamic_length (pack_of pgn.now.pack.bytes.now).fieldtypes (tree_of pgn.now) pgn.now.item (pgn_value pgn.now)) out.new }
@@ -58,9 +58,8 @@ pub(crate) fn check_dynamic_length(out: &mut Findings, pgn: &PgnRef)
     let mut have = false;
     for k in 0..pgn.view.fields {
         let field = pgn.field_ref(k);
-        let f = field.view;
-        let root = root_of(&pgn.pack, f.ft);
-        have |= length_source(pgn.pack.bytes, f.flags.dynamic, root);
+        let root = root_of(&field);
+        have |= length_source(pgn.pack.bytes, field.view.flags.dynamic, root);
         dynamic_length_at(out, &field, root, have);
     }
 }

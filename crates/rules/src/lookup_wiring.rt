@@ -47,10 +47,10 @@ fn unreachable(lookup: &LookupRef, width: u64) -> bool
 }
 
 // Whether an unreachable value is reported: bit positions out of the width are let pass in a shared bit lookup.
-fn is_finding(lost: bool, kind: LookupKind, allowed: bool) -> bool
-    ensures { result ≡ (lost && not ((kind_number kind == 2) && allowed)) }
+fn is_finding(unreachable: bool, kind: LookupKind, allowed: bool) -> bool
+    ensures { result ≡ (unreachable && not ((kind_number kind == 2) && allowed)) }
 {
-    lost && !(kind == LookupKind::Bit && allowed)
+    unreachable && !(kind == LookupKind::Bit && allowed)
 }
 
 // Causes 3 to 5, of a field and the lookup of its reference.
@@ -61,10 +61,10 @@ fn lookup_width_at(out: &mut Findings, field: &FieldRef, lookup: &LookupRef)
         lookup.now.item (lookup_value lookup.now)) out.new }
 {
     let pgn = field.pgn;
-    let width = value_bits(pgn.pack.bytes, field.view);
+    let width = value_bits(field);
     let allowed = field.view.flags.mismatch;
-    let lost = unreachable(lookup, width);
-    if is_finding(lost, lookup.view.kind, allowed) {
+    let unreachable = unreachable(lookup, width);
+    if is_finding(unreachable, lookup.view.kind, allowed) {
         out.put(field_error(8, 3, field, lookup.item));
         return;
     }

@@ -23,7 +23,7 @@ impl FieldRule for MatchValues {
         if f.authored.matched.is_none() {
             return;
         }
-        let Some(v) = resolve_match(&field.pgn.pack, f) else {
+        let Some(v) = resolve_match(field) else {
             out.put(field_error(13, 1, field, 0));
             return;
         };

@@ -1,20 +1,20 @@
 // What the rules read of a pack: `model.rs`.
-ghost use Rattle.std.specs.Prelude.{◌≡◌, ◌<◌, length, get_or};
+ghost use Rattle.std.specs.Prelude.{◌≡◌};
 ghost use Rattle.pack.specs.Items.{bytes_of};
-ghost use Rattle.pack.specs.Meaning.{optional_bytes, field_meaning, pack_of};
-ghost use Rattle.pack.specs.Value.{no_field_type};
-ghost use Rattle.rules.specs.Model.{is_text, value_bits};
+ghost use Rattle.pack.specs.Loaded.{pgn_value};
+ghost use Rattle.pack.specs.Meaning.{optional_bytes, pack_of};
+ghost use Rattle.pack.specs.Value.{field_at};
+ghost use Rattle.rules.specs.Model.{is_text, root_of, value_bits};
 
-use pack::field::FieldView;
-use pack::loaded::Pack;
+use pack::loaded::FieldRef;
 use pack::text::{Text, same_text};
 
-// The name of the root of field type ft.
-pub fn root_of(pack: &Pack, ft: u32) -> Text
-    requires { ft < length (pack_of pack.now.bytes.now).fieldtypes }
-    ensures { bytes_of pack.now.bytes.now result ≡ (get_or (pack_of pack.now.bytes.now).fieldtypes ft no_field_type).root_name }
+// The name of its field type's root.
+pub fn root_of(field: &FieldRef) -> Text
+    ensures { bytes_of field.now.pgn.now.pack.bytes.now result ≡ root_of (pack_of field.now.pgn.now.pack.bytes.now).fieldtypes
+        (field_at (pgn_value field.now.pgn.now) field.now.index) }
 {
-    let v = pack.field_type(ft);
+    let v = field.field_type();
     v.root
 }
 
@@ -27,8 +27,9 @@ pub(crate) fn is_text(s: &[u8], o: Option<Text>, t: Text) -> bool
 
 // "its own bits plus any bits a later field continues it with"
 #[tactic(auto, unfolding(crate::specs::Model::value_bits))]
-pub(crate) fn value_bits(s: &[u8], f: FieldView) -> u64
-    ensures { result ≡ value_bits (field_meaning s.now f) }
+pub(crate) fn value_bits(field: &FieldRef) -> u64
+    ensures { result ≡ value_bits (field_at (pgn_value field.now.pgn.now) field.now.index) }
 {
+    let f = field.view;
     f.scaling.bits as u64 + f.links.continuation.unwrap_or(0) as u64
 }

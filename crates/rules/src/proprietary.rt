@@ -1,8 +1,9 @@
 // R07
-ghost use Rattle.std.specs.Prelude.{◌≡◌, not, ◌&&◌, ◌||◌, ◌<◌, length, ◌==◌};
+ghost use Rattle.std.specs.Prelude.{◌≡◌, not, ◌&&◌, ◌||◌, ◌==◌};
 ghost use Rattle.pack.specs.Notation.{◌≐◌};
 ghost use Rattle.pack.specs.Loaded.{tree_of, pgn_value};
-ghost use Rattle.pack.specs.Meaning.{optional_reference, field_meaning, pack_of};
+ghost use Rattle.pack.specs.Meaning.{pack_of};
+ghost use Rattle.pack.specs.Value.{field_at};
 ghost use Rattle.rules.specs.Emit.{Emitted};
 ghost use Rattle.rules.specs.Model.{root_of};
 ghost use Rattle.rules.specs.Proprietary.{is_manufacturer_pgn, pair_is, company_fields, check_proprietary};
@@ -11,48 +12,50 @@ ghost use Rattle.rules.specs.Texts.{RESERVED};
 use crate::emit::{Findings, pgn_error};
 use crate::is_manufacturer_pgn;
 use crate::model::root_of;
-use pack::field::FieldView;
 use pack::kinds::LookupKind;
-use pack::loaded::{Pack, PgnRef};
+use pack::loaded::{FieldRef, PgnRef};
 use pack::text::text_is;
 
 // A field of so many bits with a reference of kind pair to the lookup of that name.
-fn is_pair(s: &[u8], f: FieldView, name: &[u8], bits: u32) -> bool
-    ensures { result ≡ (pair_is (optional_reference s.now f.links.reference) name.now && (f.scaling.bits == bits)) }
+fn is_pair(field: &FieldRef, name: &[u8], bits: u32) -> bool
+    ensures { result ≡
+        (pair_is (field_at (pgn_value field.now.pgn.now) field.now.index).reference name.now
+        && ((field_at (pgn_value field.now.pgn.now) field.now.index).res_bits == bits)) }
 {
+    let pgn = field.pgn;
+    let f = field.view;
     let reference = f.links.reference;
-    reference.is_some_and(|r| r.kind == LookupKind::Pair && text_is(s, r.name, name))
+    reference.is_some_and(|r| r.kind == LookupKind::Pair && text_is(pgn.pack.bytes, r.name, name))
         && f.scaling.bits == bits
 }
 
 // A RESERVED field of so many bits.
-fn is_reserved(pack: &Pack, f: FieldView, bits: u32) -> bool
-    requires { f.ft < length (pack_of pack.now.bytes.now).fieldtypes }
+fn is_reserved(field: &FieldRef, bits: u32) -> bool
     ensures { result ≡
-        ((root_of (pack_of pack.now.bytes.now).fieldtypes (field_meaning pack.now.bytes.now f) ≐ RESERVED) && (f.scaling.bits == bits)) }
+        ((root_of (pack_of field.now.pgn.now.pack.bytes.now).fieldtypes (field_at (pgn_value field.now.pgn.now) field.now.index) ≐ RESERVED)
+        && ((field_at (pgn_value field.now.pgn.now) field.now.index).res_bits == bits)) }
 {
-    let root = root_of(pack, f.ft);
-    text_is(pack.bytes, root, b"RESERVED") && f.scaling.bits == bits
+    let pgn = field.pgn;
+    text_is(pgn.pack.bytes, root_of(field), b"RESERVED") && field.view.scaling.bits == bits
 }
 
 // Whether the PGN opens with Manufacturer Code, Reserved, Industry Code.
-#[tactic(auto, using(crate::proofs::Fields::type_there))]
 fn company_fields(pgn: &PgnRef) -> bool
     ensures { result ≡ company_fields (pack_of pgn.now.pack.bytes.now).fieldtypes (pgn_value pgn.now) }
 {
     if pgn.view.fields < 3 {
         return false;
     }
-    let code = pgn.field(0);
-    if !is_pair(pgn.pack.bytes, code, b"MANUFACTURER_CODE", 11) {
+    let code = pgn.field_ref(0);
+    if !is_pair(&code, b"MANUFACTURER_CODE", 11) {
         return false;
     }
-    let reserved = pgn.field(1);
-    if !is_reserved(&pgn.pack, reserved, 2) {
+    let reserved = pgn.field_ref(1);
+    if !is_reserved(&reserved, 2) {
         return false;
     }
-    let industry = pgn.field(2);
-    is_pair(pgn.pack.bytes, industry, b"INDUSTRY_CODE", 3)
+    let industry = pgn.field_ref(2);
+    is_pair(&industry, b"INDUSTRY_CODE", 3)
 }
 
 // Not manufacturer-proprietary, or a fallback.

@@ -1,7 +1,7 @@
 // R44
 ghost use Rattle.std.specs.Prelude.{◌≡◌, ◌||◌, ◌≤◌, ◌<◌, length, ◌==◌};
 ghost use Rattle.pack.specs.Loaded.{tree_of, pgn_value};
-ghost use Rattle.pack.specs.Meaning.{optional_repeating, field_meaning, pack_of};
+ghost use Rattle.pack.specs.Meaning.{optional_repeating, pack_of};
 ghost use Rattle.pack.specs.Value.{field_at, set_place};
 ghost use Rattle.rules.specs.Emit.{Emitted};
 ghost use Rattle.rules.specs.Search.{any_below, every_below};
@@ -13,7 +13,7 @@ use crate::field_rules::{FieldRule, check_fields};
 use crate::floats::{ONE, ZERO, float_eq};
 use crate::targets::{integer, target};
 use pack::field::FieldView;
-use pack::loaded::{FieldRef, Pack, PgnRef};
+use pack::loaded::{FieldRef, PgnRef};
 use pack::pgn::{RepeatingView, set_at};
 use pack::protocol::{FieldIndex, FieldOrder, precedes};
 use pack::text::text_is;
@@ -77,12 +77,13 @@ fn fixed(pgn: &PgnRef, j: u32) -> bool
 
 // "an unsigned, unscaled NUMBER or LOOKUP without an offset", of 1 to 63 bits
 #[tactic(auto, using(crate::proofs::Types::integer_is), unfolding(crate::specs::TrailingZero::unsigned_integer))]
-fn unsigned_integer(pack: &Pack, f: FieldView) -> bool
-    requires { f.ft < length (pack_of pack.now.bytes.now).fieldtypes }
-    ensures { result ≡ unsigned_integer (pack_of pack.now.bytes.now).fieldtypes (field_meaning pack.now.bytes.now f) }
+fn unsigned_integer(field: &FieldRef) -> bool
+    ensures { result ≡ unsigned_integer (pack_of field.now.pgn.now.pack.bytes.now).fieldtypes (field_at (pgn_value field.now.pgn.now) field.now.index) }
 {
-    let v = pack.field_type(f.ft);
-    integer(pack.bytes, v)
+    let pgn = field.pgn;
+    let f = field.view;
+    let v = field.field_type();
+    integer(pgn.pack.bytes, v)
         && !v.signed
         && float_eq(f.scaling.resolution, ONE)
         && float_eq(f.scaling.offset, ZERO)
@@ -91,7 +92,7 @@ fn unsigned_integer(pack: &Pack, f: FieldView) -> bool
 }
 
 // The target of a field.
-#[tactic(auto, using(crate::proofs::Fields::type_there), unfolding(crate::specs::TrailingZero::trailing_zero_target_at))]
+#[tactic(auto, unfolding(crate::specs::TrailingZero::trailing_zero_target_at))]
 fn trailing_zero_target_at(out: &mut Findings, field: &FieldRef, j: Option<u32>)
     ensures { Emitted out.old
         (trailing_zero_target_at (pack_of field.now.pgn.now.pack.bytes.now).fieldtypes (tree_of field.now.pgn.now) field.now.pgn.now.item
@@ -110,8 +111,8 @@ fn trailing_zero_target_at(out: &mut Findings, field: &FieldRef, j: Option<u32>)
         out.put(field_error(44, 3, field, j));
         return;
     }
-    let f = pgn.field(j);
-    let right = unsigned_integer(&pgn.pack, f);
+    let aim = pgn.field_ref(j);
+    let right = unsigned_integer(&aim);
     out.put_if(!right, field_error(44, 4, field, j));
 }
 

@@ -1,12 +1,13 @@
 use Rattle.rules.proofs.Emits.{reporting_turn}
 use Rattle.rules.specs.Texts.{DYNAMIC_FIELD_KEY}
+use Rattle.rules.specs.Model.{root_of}
 use Rattle.rules.specs.Search.{any_below}
 use Rattle.rules.specs.DynamicLength.{length_source, have_length_source}
 use Rattle.pack.specs.Items.{bytes_of}
 use Rattle.pack.specs.Loaded.{pgn_value}
 use Rattle.pack.specs.Meaning.{field_meaning, pack_of}
 use Rattle.pack.specs.Notation.{◌≐◌}
-use Rattle.pack.specs.Value.{no_field_type, field_at}
+use Rattle.pack.specs.Value.{field_at}
 use Rattle.pack.specs.declared.field.FieldView.{FieldView}
 use Rattle.pack.specs.declared.loaded.PgnRef.{PgnRef}
 use Prim.Native.Nat.{ℕ, suc}
@@ -14,13 +15,12 @@ use native.Mathlib.Numerals.{add-one}
 use mathlib.Core.Path.{◌≡◌}
 use mathlib.Core.Bool.{◌||◌, Bool}
 use mathlib.Core.List.{List}
-use lib.ListN.{get_or}
 use Rattle.rules.proofs.dynamic_length.check_dynamic_length.Invariants.{source}
 use Rattle.rules.proofs.dynamic_length.check_dynamic_length.Goals as goal
 
 -- a turn of the search for a length source
 found : (g : PgnRef) (k : ℕ) (v : FieldView) (root : List ℕ) (old one : Bool) → field_meaning g.pack.bytes.now v ≡ field_at (pgn_value g) k
-    → root ≡ (get_or (pack_of g.pack.bytes.now).fieldtypes v.ft no_field_type).root_name → old ≡ any_below (source g) k
+    → root ≡ root_of (pack_of g.pack.bytes.now).fieldtypes (field_at (pgn_value g) k) → old ≡ any_below (source g) k
     → one ≡ (v.flags.dynamic || (root ≐ DYNAMIC_FIELD_KEY)) → (old || one) ≡ any_below (source g) (suc k)
 unfolding length_source
 found g k v root old one is r o n = rw (n, o, r, ← is)
@@ -33,19 +33,21 @@ by_then g k b h = h
 pub dynamic_length_at-requires : goal.dynamic_length_at-requires
 dynamic_length_at-requires c =
     let g = c.args.pgn.now in let x = c.field_ref-field.result in let same = c.field_ref-field.ensures in
+    let root = rw (same.pgn, same.index) at c.root_of-root.ensures in
     rw (same.pgn, same.index)
     (record {
-      root = (rw (← same.means) c.root_of-root.ensures);
+      root = root;
       have = by_then g c.loop-k.k _
-          (found g c.loop-k.k x.view (bytes_of g.pack.bytes.now c.root_of-root.result) c.loop-k.have _ same.means c.root_of-root.ensures
+          (found g c.loop-k.k x.view (bytes_of g.pack.bytes.now c.root_of-root.result) c.loop-k.have _ same.means root
           c.loop-k.invariant.have c.length_source-have.ensures);
     })
 
 pub loop-k-preserved : goal.loop-k-preserved
 loop-k-preserved c =
     let g = c.args.pgn.now in let x = c.field_ref-field.result in let same = c.field_ref-field.ensures in
+    let root = rw (same.pgn, same.index) at c.root_of-root.ensures in
     record {
       reporting = reporting_turn c.loop-k.invariant.reporting c.loop-k-test.true (rw (same.pgn, same.index) at c.dynamic_length_at.ensures);
       have = (rw (add-one c.loop-k.k) (found g c.loop-k.k x.view (bytes_of g.pack.bytes.now c.root_of-root.result) c.loop-k.have _
-          same.means c.root_of-root.ensures c.loop-k.invariant.have c.length_source-have.ensures));
+          same.means root c.loop-k.invariant.have c.length_source-have.ensures));
     }

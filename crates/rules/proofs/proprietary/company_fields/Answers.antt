@@ -6,8 +6,7 @@ use mathlib.Core.Bool.{◌&&◌, Bool, true, false}
 use Rattle.pack.specs.Loaded.{pgn_value}
 use Rattle.pack.specs.Value.{FieldType, Pgn, field_at}
 use Rattle.pack.specs.Notation.{◌≐◌, ◌≤ᵇ◌}
-use Rattle.pack.specs.Meaning.{field_meaning, optional_reference, pack_of}
-use Rattle.pack.specs.declared.field.FieldView.{FieldView}
+use Rattle.pack.specs.Meaning.{pack_of}
 use Prim.Native.Nat.{ℕ, ◌≤◌, ◌<◌}
 use native.Mathlib.Omega.{arith}
 use mathlib.Core.Path.{◌≡◌, refl, ◌∙◌, sym}
@@ -34,12 +33,6 @@ at_second true true y z e = rw e
 at_second true false y z e = refl
 at_second false x y z e = refl
 
-abbrev pair : List ℕ → FieldView → List ℕ → ℕ → Bool
-pair s v name bits = pair_is (optional_reference s v.links.reference) name && (v.scaling.bits == bits)
-
-abbrev reserved : List ℕ → List FieldType → FieldView → ℕ → Bool
-reserved s fts v bits = (root_of fts (field_meaning s v) ≐ RESERVED) && (v.scaling.bits == bits)
-
 at_third : (a x y z : Bool) → a ≡ true → x ≡ true → y ≡ true → (a && (x && (y && z))) ≡ z
 at_third a x y z e d f = rw (e, d, f)
 
@@ -52,8 +45,8 @@ spared fts P = (root_of fts (field_at P 1) ≐ RESERVED) && ((field_at P 1).res_
 abbrev grouped : Pgn → Bool
 grouped P = pair_is (field_at P 2).reference INDUSTRY_CODE && ((field_at P 2).res_bits == 3)
 
--- the rule's part, said of the views
-module _ (s : List ℕ) (fts : List FieldType) (P : Pgn) where
+-- the rule's part
+module _ (fts : List FieldType) (P : Pgn) where
   few : length P.fields < 3 → company_fields fts P ≡ false
   unfolding company_fields
   few h = rw (lt-leb 3 _ h)
@@ -64,39 +57,36 @@ module _ (s : List ℕ) (fts : List FieldType) (P : Pgn) where
       regroup (3 ≤ᵇ length P.fields) (pair_is (field_at P 0).reference MANUFACTURER_CODE) ((field_at P 0).res_bits == 11)
       (root_of fts (field_at P 1) ≐ RESERVED) ((field_at P 1).res_bits == 2) (pair_is (field_at P 2).reference INDUSTRY_CODE) ((field_at P 2).res_bits == 3)
 
-  first : (u : FieldView) → field_meaning s u ≡ field_at P 0 → pair s u MANUFACTURER_CODE 11 ≡ false → company_fields fts P ≡ false
-  first u e x = parted ∙ at_first (3 ≤ᵇ length P.fields) (coded P) (spared fts P && grouped P) (rw (← e) x)
+  first : coded P ≡ false → company_fields fts P ≡ false
+  first x = parted ∙ at_first (3 ≤ᵇ length P.fields) (coded P) (spared fts P && grouped P) x
 
-  second : (v : FieldView) → field_meaning s v ≡ field_at P 1 → reserved s fts v 2 ≡ false → company_fields fts P ≡ false
-  second v e x = parted ∙ at_second (3 ≤ᵇ length P.fields) (coded P) (spared fts P) (grouped P) (rw (← e) x)
+  second : spared fts P ≡ false → company_fields fts P ≡ false
+  second x = parted ∙ at_second (3 ≤ᵇ length P.fields) (coded P) (spared fts P) (grouped P) x
 
-  third : (u v w : FieldView) → 3 ≤ length P.fields → field_meaning s u ≡ field_at P 0 → field_meaning s v ≡ field_at P 1 → field_meaning s w ≡ field_at P 2
-      → pair s u MANUFACTURER_CODE 11 ≡ true → reserved s fts v 2 ≡ true → company_fields fts P ≡ pair s w INDUSTRY_CODE 3
-  third u v w h a b c x y =
-      parted ∙ at_third (3 ≤ᵇ length P.fields) (coded P) (spared fts P) (grouped P) (le-leb 3 (length P.fields) h) (rw (← a) x) (rw (← b) y) ∙ (rw (← c))
+  third : 3 ≤ length P.fields → coded P ≡ true → spared fts P ≡ true → company_fields fts P ≡ grouped P
+  third h x y = parted ∙ at_third (3 ≤ᵇ length P.fields) (coded P) (spared fts P) (grouped P) (le-leb 3 (length P.fields) h) x y
 
 pub returns-then-pgn-lt3 : goal.returns-then-pgn-lt3
 returns-then-pgn-lt3 c =
     let g = c.args.pgn.now in
-    sym (few g.pack.bytes.now (pack_of g.pack.bytes.now).fieldtypes (pgn_value g) (omega (arith, g.is.fields, c.if-pgn-lt3.true)))
+    sym (few (pack_of g.pack.bytes.now).fieldtypes (pgn_value g) (omega (arith, g.is.fields, c.if-pgn-lt3.true)))
 
 pub returns-then-not-is_pair : goal.returns-then-not-is_pair
 returns-then-not-is_pair c =
-    let g = c.args.pgn.now in
-    sym (first g.pack.bytes.now (pack_of g.pack.bytes.now).fieldtypes (pgn_value g) c.field-code.result c.field-code.ensures
-    (sym c.is_pair.ensures ∙ c.if-not-is_pair.true))
+    let g = c.args.pgn.now in let code = c.field_ref-code.ensures in
+    sym (first (pack_of g.pack.bytes.now).fieldtypes (pgn_value g) (sym (rw (code.pgn, code.index) at c.is_pair.ensures) ∙ c.if-not-is_pair.true))
 
 pub returns-then-not-is_reserved : goal.returns-then-not-is_reserved
 returns-then-not-is_reserved c =
-    let g = c.args.pgn.now in
-    sym (second g.pack.bytes.now (pack_of g.pack.bytes.now).fieldtypes (pgn_value g) c.field-reserved.result c.field-reserved.ensures
-    (sym c.is_reserved.ensures ∙ c.if-not-is_reserved.true))
+    let g = c.args.pgn.now in let reserved = c.field_ref-reserved.ensures in
+    sym (second (pack_of g.pack.bytes.now).fieldtypes (pgn_value g)
+    (sym (rw (reserved.pgn, reserved.index) at c.is_reserved.ensures) ∙ c.if-not-is_reserved.true))
 
 pub returns : goal.returns
 returns c =
     let g = c.args.pgn.now in
-    c.is_pair-2.ensures
-    ∙ sym (third g.pack.bytes.now (pack_of g.pack.bytes.now).fieldtypes (pgn_value g) c.field-code.result c.field-reserved.result
-    c.field-industry.result (omega (arith, g.is.fields, c.if-pgn-lt3.false)) c.field-code.ensures c.field-reserved.ensures
-    c.field-industry.ensures
-    (sym c.is_pair.ensures ∙ c.if-not-is_pair.false) (sym c.is_reserved.ensures ∙ c.if-not-is_reserved.false))
+    let code = c.field_ref-code.ensures in let reserved = c.field_ref-reserved.ensures in let industry = c.field_ref-industry.ensures in
+    (rw (industry.pgn, industry.index) at c.is_pair-2.ensures)
+    ∙ sym (third (pack_of g.pack.bytes.now).fieldtypes (pgn_value g) (omega (arith, g.is.fields, c.if-pgn-lt3.false))
+    (sym (rw (code.pgn, code.index) at c.is_pair.ensures) ∙ c.if-not-is_pair.false)
+    (sym (rw (reserved.pgn, reserved.index) at c.is_reserved.ensures) ∙ c.if-not-is_reserved.false))
