@@ -16,7 +16,7 @@ ghost use Rattle.walk.specs.Stops.{is_dynamic_value, lacks, lacks_length, stop_a
 use crate::named::FoundPgn;
 use crate::sets::{placed, sets_hold};
 use pack::entry::EntryView;
-use pack::field::{FieldView, ReferenceView};
+use pack::field::ReferenceView;
 use pack::loaded::{FieldRef, LookupRef, Pack, PgnRef};
 use pack::protocol::{FieldIndex, FieldOrder};
 use pack::text::{Text, text_is};
@@ -55,21 +55,23 @@ fn is_missing(pack: &Pack, name: Option<Text>) -> bool
 
 // "3 lookup missing"
 #[tactic(auto, unfolding(crate::specs::Stops::lookup_missing))]
-fn lookup_missing(pack: &Pack, f: FieldView) -> bool
-    ensures { result ≡ lookup_missing (pack_of pack.now.bytes.now) (field_meaning pack.now.bytes.now f) }
+fn lookup_missing(field: &FieldRef) -> bool
+    ensures { result ≡ lookup_missing (pack_of field.now.pgn.now.pack.bytes.now) (field_at (pgn_value field.now.pgn.now) field.now.index) }
 {
-    is_missing(pack, f.links.reference.map(|r| r.name))
+    let pgn = field.pgn;
+    is_missing(&pgn.pack, field.view.links.reference.map(|r| r.name))
 }
 
 // "4 match unresolved or, below 64 bits, above 2^bits − 1"
 #[tactic(auto, using(crate::proofs::Parts::unfit_is), unfolding(crate::specs::Stops::match_unfit, crate::specs::Stops::unfit))]
-fn match_unfit(pack: &Pack, f: FieldView) -> bool
-    ensures { result ≡ match_unfit (pack_of pack.now.bytes.now) (field_meaning pack.now.bytes.now f) }
+fn match_unfit(field: &FieldRef) -> bool
+    ensures { result ≡ match_unfit (pack_of field.now.pgn.now.pack.bytes.now) (field_at (pgn_value field.now.pgn.now) field.now.index) }
 {
+    let f = field.view;
     if f.authored.matched.is_none() {
         return false;
     }
-    match resolve_match(pack, f) {
+    match resolve_match(field) {
         Some(v) => exceeds(f.scaling.bits, v),
         None => true,
     }
@@ -77,13 +79,13 @@ fn match_unfit(pack: &Pack, f: FieldView) -> bool
 
 // The stops that go by the field alone: 3 and 4.
 #[tactic(auto, unfolding(crate::specs::StopParts::field_stop))]
-fn field_stop(pack: &Pack, f: FieldView) -> Option<Stop>
-    ensures { result ≡ field_stop (pack_of pack.now.bytes.now) (field_meaning pack.now.bytes.now f) }
+fn field_stop(field: &FieldRef) -> Option<Stop>
+    ensures { result ≡ field_stop (pack_of field.now.pgn.now.pack.bytes.now) (field_at (pgn_value field.now.pgn.now) field.now.index) }
 {
-    if lookup_missing(pack, f) {
+    if lookup_missing(field) {
         return Some(Stop::LookupMissing);
     }
-    if match_unfit(pack, f) {
+    if match_unfit(field) {
         return Some(Stop::MatchUnfit);
     }
     None
@@ -161,9 +163,9 @@ fn length_source_at(pgn: &PgnRef, j: u32) -> bool
     requires { j < pgn.now.view.fields }
     ensures { result ≡ length_source (pack_of pgn.now.pack.bytes.now).fieldtypes (field_at (pgn_value pgn.now) j) }
 {
-    let f = pgn.field(j);
-    let root = root_of(&pgn.pack, f.ft);
-    length_source(pgn.pack.bytes, f.flags.dynamic, root)
+    let field = pgn.field_ref(j);
+    let root = root_of(&field);
+    length_source(pgn.pack.bytes, field.view.flags.dynamic, root)
 }
 
 // Whether field j is a length source whose sets hold the order o.
@@ -200,7 +202,7 @@ pub fn is_value(field: &FieldRef) -> bool
     ensures { result ≡ is_dynamic_value (pack_of field.now.pgn.now.pack.bytes.now) (field_at (pgn_value field.now.pgn.now) field.now.index) }
 {
     let pgn = field.pgn;
-    let root = root_of(&pgn.pack, field.view.ft);
+    let root = root_of(field);
     text_is(pgn.pack.bytes, root, b"DYNAMIC_FIELD_VALUE")
 }
 
@@ -250,11 +252,10 @@ pub fn judge<'a>(found: &FoundPgn<'a>, k: u32, reading: u64) -> Result<Option<Lo
 {
     let pack = &found.pgn.pack;
     let field = found.pgn.field_ref(k);
-    let f = field.view;
-    if let Some(stop) = field_stop(pack, f) {
+    if let Some(stop) = field_stop(&field) {
         return Err(stop);
     }
-    let lookup = fieldtype_lookup(pack, f.links.reference);
+    let lookup = fieldtype_lookup(pack, field.view.links.reference);
     if entry_missing(pack, &lookup, reading) {
         return Err(Stop::EntryNamesMissing);
     }

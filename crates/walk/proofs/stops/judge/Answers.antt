@@ -6,16 +6,17 @@ use Prim.Native.Nat.{suc}
 use Rattle.pack.specs.Meaning.{pack_of, field_meaning}
 use Rattle.pack.specs.Loaded.{pgn_value}
 use Rattle.pack.specs.Value.{field_at}
+use mathlib.Core.Path.{refl}
 use Rattle.walk.proofs.stops.judge.Goals as goal
 
 pub returns-in-Some : goal.returns-in-Some
 returns-in-Some c =
-    let f = c.field_ref-field.result in let same = c.field_ref-field.ensures in
+    let same = c.field_ref-field.ensures in
     let s = c.args.found.now.pgn.pack.bytes.now in let k = c.args.k in let P = pack_of s in
     let p = pgn_value c.args.found.now.pgn in
     record {
-      stop = by_field P p (placed (layout p) (suc k)) k c.args.reading (field_meaning s f.view) same.means
-          c.in-Some.stop c.in-Some.ensures;
+      stop = by_field P p (placed (layout p) (suc k)) k c.args.reading (field_at p k) refl c.in-Some.stop
+          (rw (same.pgn, same.index) at c.in-Some.ensures);
       named = tt;
       only = tt;
     }
@@ -25,9 +26,11 @@ returns-then-entry_missing c =
     let f = c.field_ref-field.result in let same = c.field_ref-field.ensures in
     let s = c.args.found.now.pgn.pack.bytes.now in let k = c.args.k in let P = pack_of s in let reading = c.args.reading in
     let p = pgn_value c.args.found.now.pgn in
+    let free = rw (same.pgn, same.index) at c.in_default.ensures in
+    let named = named_field (field_meaning s f.view) (field_at p k) same.means c.fieldtype_lookup-lookup.ensures in
     record {
-      stop = by_reading P p (placed (layout p) (suc k)) k reading (field_meaning s f.view) same.means c.in_default.ensures
-          c.entry_missing.result (named_reading c.fieldtype_lookup-lookup.ensures reading c.entry_missing.result c.entry_missing.ensures)
+      stop = by_reading P p (placed (layout p) (suc k)) k reading (field_at p k) refl free
+          c.entry_missing.result (named_reading named reading c.entry_missing.result c.entry_missing.ensures)
           c.if-entry_missing.true;
       named = tt;
       only = tt;
@@ -38,9 +41,11 @@ returns-in-Some-need_stop c =
     let f = c.field_ref-field.result in let same = c.field_ref-field.ensures in
     let s = c.args.found.now.pgn.pack.bytes.now in let k = c.args.k in let P = pack_of s in let reading = c.args.reading in
     let p = pgn_value c.args.found.now.pgn in
+    let free = rw (same.pgn, same.index) at c.in_default.ensures in
+    let named = named_field (field_meaning s f.view) (field_at p k) same.means c.fieldtype_lookup-lookup.ensures in
     record {
-      stop = by_need P p (placed (layout p) (suc k)) k reading (field_meaning s f.view) same.means c.in_default.ensures
-          c.entry_missing.result (named_reading c.fieldtype_lookup-lookup.ensures reading c.entry_missing.result c.entry_missing.ensures)
+      stop = by_need P p (placed (layout p) (suc k)) k reading (field_at p k) refl free
+          c.entry_missing.result (named_reading named reading c.entry_missing.result c.entry_missing.ensures)
           c.if-entry_missing.false (Some c.in-Some-need_stop.stop) (rw same.index at c.in-Some-need_stop.ensures);
       named = tt;
       only = tt;
@@ -51,13 +56,15 @@ returns c =
     let f = c.field_ref-field.result in let same = c.field_ref-field.ensures in
     let s = c.args.found.now.pgn.pack.bytes.now in let k = c.args.k in let P = pack_of s in let reading = c.args.reading in
     let p = pgn_value c.args.found.now.pgn in
+    let free = rw (same.pgn, same.index) at c.in_default.ensures in
+    let named = named_field (field_meaning s f.view) (field_at p k) same.means c.fieldtype_lookup-lookup.ensures in
     record {
-      stop = by_need P p (placed (layout p) (suc k)) k reading (field_meaning s f.view) same.means c.in_default.ensures
-          c.entry_missing.result (named_reading c.fieldtype_lookup-lookup.ensures reading c.entry_missing.result c.entry_missing.ensures)
+      stop = by_need P p (placed (layout p) (suc k)) k reading (field_at p k) refl free
+          c.entry_missing.result (named_reading named reading c.entry_missing.result c.entry_missing.ensures)
           c.if-entry_missing.false None (rw same.index at c.in_default-need_stop.ensures);
-      named = named_field (field_meaning s f.view) (field_at p k) same.means c.fieldtype_lookup-lookup.ensures;
+      named = named;
       only = record {
-        only = λ other. by_reading_only P p (placed (layout p) (suc k)) k other (field_meaning s f.view) same.means
-            c.in_default.ensures (rw same.index at c.in_default-need_stop.ensures);
+        only = λ other. by_reading_only P p (placed (layout p) (suc k)) k other (field_at p k) refl free
+            (rw same.index at c.in_default-need_stop.ensures);
       };
     }
