@@ -25,7 +25,8 @@ pub struct PgnFlags {
     pub incomplete: bool,
 }
 
-// A PGN without its fields, which follow it. Room for four sets, of which the first `places` are the PGN's; in version 1 two.
+// A PGN without its fields, which follow it. Room for four sets, of which the first `places` are the PGN's; in version 1 two. A count
+// beside an array, since a view holds no reference and the libraries no heap.
 #[derive(Clone, Copy)]
 pub struct PgnView {
     pub pgn: u32,

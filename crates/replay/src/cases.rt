@@ -31,9 +31,9 @@ pub fn spaced(n: u64) {
     io::print_decimal(1, n);
 }
 
-pub fn print_numbers(numbers: &[u32]) {
+pub fn print_numbers<T: Copy + Into<u64>>(numbers: &[T]) {
     for n in numbers {
-        spaced(u64::from(*n));
+        spaced((*n).into());
     }
 }
 

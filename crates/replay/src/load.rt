@@ -1,18 +1,12 @@
 // A case: length of the work buffer, pack. The work buffer holds 165 everywhere before the call.
-use crate::cases::{count, print_numbers, print_refused, read_pack, spaced, words};
-
-fn print_all(numbers: &[u64]) {
-    for n in numbers {
-        spaced(*n);
-    }
-}
+use crate::cases::{count, print_numbers, print_refused, read_pack, words};
 
 fn print_answer(refused: u32, answer: &[u64; 11]) {
     if refused != 0 {
         print_refused(refused, answer[0]);
     } else {
         words(b"records");
-        print_all(answer);
+        print_numbers(answer);
         words(b"\n");
     }
 }

@@ -35,12 +35,8 @@ fn bytes(argument: &String) -> &[u8] {
 }
 
 fn protocol(argument: &String) -> Option<Protocol> {
-    match parse_u64(bytes(argument))? {
-        0 => Some(Protocol::Nmea2000),
-        1 => Some(Protocol::J1939),
-        2 => Some(Protocol::Quick),
-        _ => None,
-    }
+    let tree = u32::try_from(parse_u64(bytes(argument))?).ok()?;
+    Protocol::of_tree(tree)
 }
 
 // The first of them is the program's name.

@@ -13,10 +13,7 @@ pub struct Passes {
 }
 
 fn begins(set: Option<RepeatingView>, order: FieldOrder) -> bool {
-    match set {
-        Some(repeating) => holds_order(set, order) && same_order(order, repeating.start),
-        None => false,
-    }
+    set.is_some_and(|given| holds_order(set, order) && same_order(order, given.start))
 }
 
 // Once for each of the first n places whose set holds the order.

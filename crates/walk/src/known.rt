@@ -17,6 +17,8 @@ use crate::stops::{Stop, judge, names_missing};
 use pack::loaded::LookupRef;
 
 // The marks: of a field that stops at no reading; of one whose readings are not kept; of one that names a fieldtype lookup and was visited once.
+// Between the first two lie those of fields of which one to four readings are kept. Numbers of one byte and no enum: one that holds the count
+// takes two, and the stack has no 32 KiB more.
 const FREE: u8 = 1;
 
 const TOO_MANY: u8 = 6;
@@ -74,7 +76,7 @@ impl Memory {
         m == FREE || (0 < m && m < TOO_MANY && !self.is_bad(k, m as usize - 1, reading))
     }
 
-    // The mark m at field k, if there is room.
+    // The mark m at field k, if there is room. Not by `get_mut`, which promises nothing of the rest of the array.
     fn mark(&mut self, k: u32, m: u8)
         ensures { self.new ≡ record { marks = set self.old.marks k m; bad = self.old.bad } }
     {

@@ -1,4 +1,5 @@
-// The repeating sets of a PGN as values: "sets and countField use orders".
+// The repeating sets of a PGN as values: "sets and countField use orders". Loops over them go by an index up to four, which the compiler unrolls
+// (docs/DECISIONS.md 68).
 ghost use Rattle.std.specs.Prelude.{◌≡◌, IfSome, ◌&&◌, ◌||◌, suc, ◌+◌, ◌<◌, ◌==◌};
 ghost use Rattle.pack.specs.Loaded.{pgn_value};
 ghost use Rattle.pack.specs.Meaning.{optional_repeating};
