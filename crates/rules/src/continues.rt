@@ -1,12 +1,12 @@
 // R43
-ghost use Rattle.std.specs.Prelude.{◌≡◌, not, ◌||◌, [], ◌∷◌, ◌<◌, ◌==◌, if◌then◌else◌};
+ghost use Rattle.std.specs.Prelude.{◌≡◌, not, ◌||◌, ◌<◌};
 ghost use Rattle.pack.specs.Notation.{◌<ᵇ◌, ◌≐◌};
 ghost use Rattle.pack.specs.Items.{bytes_of};
 ghost use Rattle.pack.specs.Loaded.{tree_of, pgn_value};
 ghost use Rattle.pack.specs.Meaning.{optional_repeating, pack_of};
 ghost use Rattle.pack.specs.Value.{field_at};
 ghost use Rattle.rules.specs.Emit.{Emitted};
-ghost use Rattle.rules.specs.Findings.{report_if, pgn_error};
+ghost use Rattle.rules.specs.Findings.{pgn_error};
 ghost use Rattle.rules.specs.Floats.{float_eq, ZERO};
 ghost use Rattle.rules.specs.Texts.{NUMBER};
 ghost use Rattle.rules.specs.Model.{fieldtype_of, root_of, value_bits};

@@ -20,9 +20,9 @@ use pack::loaded::{Pack, PgnRef};
 use pack::protocol::Protocol;
 use pack::text::{Text, same_text, text_is};
 
-// The field that names an SPN, of its PGN.
+// A field that carries an SPN, by its PGN and its index there. No `FieldRef`: the search lets the PGN go on its way.
 #[derive(Clone, Copy)]
-pub struct Namer<'a> {
+pub(crate) struct Carrier<'a> {
     pub pgn: PgnRef<'a>,
     pub field: u32,
 }
@@ -49,14 +49,14 @@ pub fn spn_field(pgn: &PgnRef, spn: u32) -> Option<u32>
 }
 
 // Whether a PGN of that number comes after the best so far.
-fn comes_after(best: &Option<Namer>, number: u32) -> bool
+fn comes_after(best: &Option<Carrier>, number: u32) -> bool
     ensures { result ≡ comes_after best.now number }
 {
     best.is_some_and(|namer| namer.pgn.view.pgn <= number)
 }
 
 // The best so far, when a PGN of the J1939 tree is tried.
-fn better<'a>(best: &Option<Namer<'a>>, pgn: &PgnRef<'a>, spn: u32) -> Option<Namer<'a>>
+fn better<'a>(best: &Option<Carrier<'a>>, pgn: &PgnRef<'a>, spn: u32) -> Option<Carrier<'a>>
     requires { record { tree : tree_of pgn.now ≡ 1; names : NamesAmong pgn.now.pack.bytes.now spn pgn.now.item best.now } }
     ensures { NamesAmong pgn.now.pack.bytes.now spn (pgn.now.item + 1) result }
 {
@@ -66,11 +66,11 @@ fn better<'a>(best: &Option<Namer<'a>>, pgn: &PgnRef<'a>, spn: u32) -> Option<Na
     let Some(field) = spn_field(pgn, spn) else {
         return *best;
     };
-    Some(Namer { pgn: *pgn, field })
+    Some(Carrier { pgn: *pgn, field })
 }
 
 // The PGN that names the SPN: of those that carry it the one of the least number, the first of equals.
-fn spn_pgn<'a>(pack: &Pack<'a>, spn: u32) -> Option<Namer<'a>>
+fn spn_pgn<'a>(pack: &Pack<'a>, spn: u32) -> Option<Carrier<'a>>
     ensures { NamesAmong pack.now.bytes.now spn (length (pack_of pack.now.bytes.now).pgns_j1939) result }
 {
     let mut best = None;
