@@ -32,10 +32,9 @@ fn numbered(want: &[u8], id: &[u8]) -> bool
 
 // Whether a Reserved or Spare field has another id.
 fn misnamed(field: &FieldRef) -> bool
-    ensures { result ≡
-        (if (field_at (pgn_value field.now.pgn.now) field.now.index).name ≐ bytes "Reserved" then not (numbered (bytes "reserved") (field_at (pgn_value field.now.pgn.now) field.now.index).id)
-        else (if (field_at (pgn_value field.now.pgn.now) field.now.index).name ≐ bytes "Spare" then not (numbered (bytes "spare") (field_at (pgn_value field.now.pgn.now) field.now.index).id)
-        else false)) }
+    ensures { let f = field_at (pgn_value field.now.pgn.now) field.now.index in
+        result ≡ (if f.name ≐ bytes "Reserved" then not (numbered (bytes "reserved") f.id)
+        else (if f.name ≐ bytes "Spare" then not (numbered (bytes "spare") f.id) else false)) }
 {
     let pgn = field.pgn;
     let s = pgn.pack.bytes;
