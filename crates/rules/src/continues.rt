@@ -86,8 +86,9 @@ fn continued_by(pgn: &PgnRef, id: Text) -> u32
 // Not integers: the field low and the one that continues it.
 #[tactic(auto, using(crate::proofs::Types::integer_is))]
 fn not_integers(low: &FieldRef, field: &FieldRef) -> bool
-    ensures { result ≡ (not (integer (pack_of low.now.pgn.now.pack.bytes.now).fieldtypes (field_at (pgn_value low.now.pgn.now) low.now.index))
-        || not (root_of (pack_of field.now.pgn.now.pack.bytes.now).fieldtypes (field_at (pgn_value field.now.pgn.now) field.now.index) ≐ NUMBER)) }
+    ensures { let g = low.now.pgn.now in let h = field.now.pgn.now in
+        result ≡ (not (integer (pack_of g.pack.bytes.now).fieldtypes (field_at (pgn_value g) low.now.index))
+        || not (root_of (pack_of h.pack.bytes.now).fieldtypes (field_at (pgn_value h) field.now.index) ≐ NUMBER)) }
 {
     let low_pgn = low.pgn;
     let pgn = field.pgn;
@@ -97,8 +98,8 @@ fn not_integers(low: &FieldRef, field: &FieldRef) -> bool
 
 // A sign or an offset.
 fn not_plain(low: &FieldRef) -> bool
-    ensures { result ≡ ((fieldtype_of (pack_of low.now.pgn.now.pack.bytes.now).fieldtypes (field_at (pgn_value low.now.pgn.now) low.now.index)).signed
-        || not (float_eq (field_at (pgn_value low.now.pgn.now) low.now.index).res_offset ZERO)) }
+    ensures { let g = low.now.pgn.now in let f = field_at (pgn_value g) low.now.index in
+        result ≡ ((fieldtype_of (pack_of g.pack.bytes.now).fieldtypes f).signed || not (float_eq f.res_offset ZERO)) }
 {
     let v = low.field_type();
     v.signed || !float_eq(low.view.scaling.offset, ZERO)
