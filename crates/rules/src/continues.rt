@@ -10,7 +10,7 @@ ghost use Rattle.rules.specs.Findings.{pgn_error};
 ghost use Rattle.rules.specs.Floats.{float_eq, ZERO};
 ghost use Rattle.rules.specs.Texts.{NUMBER};
 ghost use Rattle.rules.specs.Model.{fieldtype_of, root_of, value_bits};
-ghost use Rattle.rules.specs.Continues.{holds_order, set_of, integer, differs_from, not_raw};
+ghost use Rattle.rules.specs.Continues.{holds_order, place_number, set_of, integer, differs_from, not_raw};
 ghost use Rattle.rules.specs.Continues.{continued_by, continued_place, continued_at, continues_at, check_continues};
 
 use crate::Finding;
@@ -32,19 +32,19 @@ pub fn holds_order(set: Option<RepeatingView>, order: FieldOrder) -> bool
     set.is_some_and(|given| among(order, given.start, given.count))
 }
 
-// The highest place whose set holds field k, from 1; 0 for none.
+// The highest place whose set holds field k.
 #[tactic(auto, unfolding(crate::specs::Continues::set_of))]
-fn set_of(pgn: &PgnRef, k: u32) -> u32
+fn set_of(pgn: &PgnRef, k: u32) -> Option<u32>
     requires { k < pgn.now.view.fields }
-    ensures { result ≡ set_of (pgn_value pgn.now) k }
+    ensures { place_number result ≡ set_of (pgn_value pgn.now) k }
 {
     let order = FieldIndex(k).order();
     for j in (0..pgn.view.places).rev() {
         if holds_order(set_at(pgn.view, j), order) {
-            return j + 1;
+            return Some(j);
         }
     }
-    0
+    None
 }
 
 // Given, and not the float.
