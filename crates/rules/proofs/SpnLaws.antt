@@ -15,7 +15,7 @@ use Rattle.pack.specs.Items.{bytes_of}
 use Rattle.pack.specs.Loaded.{pgn_value}
 use Rattle.pack.specs.Meaning.{pack_of}
 use Rattle.pack.specs.declared.text.Text.{Text}
-use Rattle.rules.specs.declared.spn_names.Namer.{Namer}
+use Rattle.rules.specs.declared.spn_names.Carrier.{Carrier}
 use Rattle.rules.specs.SpnNames.{is_number, spn_field, spn_pgn, name_in, name_by, spn_name, names_spn, earlier_if, earlier_in, earlier_spn, spn_from}
 use Rattle.rules.specs.SpnNames.{least_spn_in, least_spn}
 use Rattle.rules.specs.Namers.{NamesAmong}
@@ -68,7 +68,7 @@ earlier_named pgns s e h =
 
 -- ---- the field that names an SPN
 
-module _ (s : List ℕ) (spn : ℕ) (m : Namer) (a : NamesAmong s spn (length (pack_of s).pgns_j1939) (Some m)) where
+module _ (s : List ℕ) (spn : ℕ) (m : Carrier) (a : NamesAmong s spn (length (pack_of s).pgns_j1939) (Some m)) where
   pub pgn_is : spn_pgn (pack_of s).pgns_j1939 spn ≡ Some m.pgn.item
   unfolding spn_pgn
   pgn_is = sym a.least

@@ -1,36 +1,37 @@
 // R15
-ghost use Rattle.std.specs.Prelude.{◌≡◌, not, ◌||◌, ◌<◌, ◌==◌, is_some};
+ghost use Rattle.std.specs.Prelude.{◌≡◌};
 ghost use Rattle.pack.specs.Loaded.{tree_of, pgn_value};
-ghost use Rattle.pack.specs.Meaning.{field_meaning};
 ghost use Rattle.pack.specs.Value.{field_at};
 ghost use Rattle.rules.specs.Emit.{Emitted};
-ghost use Rattle.rules.specs.Floats.{float_eq, ONE};
-ghost use Rattle.rules.specs.BitLengthField.{variable_binary, bit_length_target_at, bit_length_field_at, check_bit_length_field};
+ghost use Rattle.rules.specs.BitLengthField.{variable_binary, not_bit_count, bit_length_target_at, bit_length_field_at, check_bit_length_field};
 
 use crate::emit::{Findings, field_error};
 use crate::field_rules::{FieldRule, check_fields};
 use crate::floats::{ONE, float_eq};
 use crate::targets::target;
-use pack::field::FieldView;
 use pack::loaded::{FieldRef, PgnRef};
 use pack::text::text_is;
 
 #[tactic(auto, unfolding(crate::specs::BitLengthField::variable_binary))]
-fn variable_binary(s: &[u8], f: FieldView) -> bool
-    ensures { result ≡ variable_binary (field_meaning s.now f) }
+fn variable_binary(field: &FieldRef) -> bool
+    ensures { result ≡ variable_binary (field_at (pgn_value field.now.pgn.now) field.now.index) }
 {
-    f.scaling.bits == 0 && text_is(s, f.names.kind, b"BINARY")
+    let pgn = field.pgn;
+    let f = field.view;
+    f.scaling.bits == 0 && text_is(pgn.pack.bytes, f.names.kind, b"BINARY")
 }
 
 // "not an integer bit-count field"
-fn not_bit_count(f: FieldView) -> bool
-    ensures { result ≡ (is_some f.links.reference || not (float_eq f.scaling.resolution ONE) || (f.scaling.bits == 0)) }
+#[tactic(auto, unfolding(crate::specs::BitLengthField::not_bit_count))]
+fn not_bit_count(field: &FieldRef) -> bool
+    ensures { result ≡ not_bit_count (field_at (pgn_value field.now.pgn.now) field.now.index) }
 {
+    let f = field.view;
     f.links.reference.is_some() || !float_eq(f.scaling.resolution, ONE) || f.scaling.bits == 0
 }
 
 // The target of a field.
-#[tactic(auto, unfolding(crate::specs::BitLengthField::bit_length_target_at, crate::specs::BitLengthField::not_bit_count))]
+#[tactic(auto, unfolding(crate::specs::BitLengthField::bit_length_target_at))]
 fn bit_length_target_at(out: &mut Findings, field: &FieldRef, j: Option<u32>)
     ensures { Emitted out.old
         (bit_length_target_at (tree_of field.now.pgn.now) field.now.pgn.now.item (pgn_value field.now.pgn.now) field.now.index j) out.new }
@@ -44,8 +45,8 @@ fn bit_length_target_at(out: &mut Findings, field: &FieldRef, j: Option<u32>)
         return;
     }
     let pgn = field.pgn;
-    let f = pgn.field(j);
-    let wrong = not_bit_count(f);
+    let aim = pgn.field_ref(j);
+    let wrong = not_bit_count(&aim);
     out.put_if(wrong, field_error(15, 5, field, j));
 }
 
@@ -56,8 +57,7 @@ impl FieldRule for BitLengthField {
 
     #[tactic(auto, unfolding(crate::specs::BitLengthField::bit_length_field_at))]
     fn at(out: &mut Findings, field: &FieldRef) {
-        let pgn = field.pgn;
-        let binary = variable_binary(pgn.pack.bytes, field.view);
+        let binary = variable_binary(field);
         let Some(id) = field.view.links.length else {
             out.put_if(binary, field_error(15, 1, field, 0));
             return;
@@ -66,7 +66,7 @@ impl FieldRule for BitLengthField {
             out.put(field_error(15, 2, field, 0));
             return;
         }
-        let j = target(pgn, id);
+        let j = target(field.pgn, id);
         bit_length_target_at(out, field, j);
     }
 }

@@ -1,16 +1,16 @@
 // R43
-ghost use Rattle.std.specs.Prelude.{◌≡◌, not, ◌||◌, [], ◌∷◌, ◌<◌, ◌==◌, if◌then◌else◌};
+ghost use Rattle.std.specs.Prelude.{◌≡◌, not, ◌||◌, ◌<◌};
 ghost use Rattle.pack.specs.Notation.{◌<ᵇ◌, ◌≐◌};
 ghost use Rattle.pack.specs.Items.{bytes_of};
 ghost use Rattle.pack.specs.Loaded.{tree_of, pgn_value};
 ghost use Rattle.pack.specs.Meaning.{optional_repeating, pack_of};
 ghost use Rattle.pack.specs.Value.{field_at};
 ghost use Rattle.rules.specs.Emit.{Emitted};
-ghost use Rattle.rules.specs.Findings.{report_if, pgn_error};
+ghost use Rattle.rules.specs.Findings.{pgn_error};
 ghost use Rattle.rules.specs.Floats.{float_eq, ZERO};
 ghost use Rattle.rules.specs.Texts.{NUMBER};
 ghost use Rattle.rules.specs.Model.{fieldtype_of, root_of, value_bits};
-ghost use Rattle.rules.specs.Continues.{holds_order, set_of, integer, differs_from, not_raw};
+ghost use Rattle.rules.specs.Continues.{holds_order, place_number, set_of, integer, differs_from, not_raw};
 ghost use Rattle.rules.specs.Continues.{continued_by, continued_place, continued_at, continues_at, check_continues};
 
 use crate::Finding;
@@ -32,19 +32,19 @@ pub fn holds_order(set: Option<RepeatingView>, order: FieldOrder) -> bool
     set.is_some_and(|given| among(order, given.start, given.count))
 }
 
-// The highest place whose set holds field k, from 1; 0 for none.
+// The highest place whose set holds field k.
 #[tactic(auto, unfolding(crate::specs::Continues::set_of))]
-fn set_of(pgn: &PgnRef, k: u32) -> u32
+fn set_of(pgn: &PgnRef, k: u32) -> Option<u32>
     requires { k < pgn.now.view.fields }
-    ensures { result ≡ set_of (pgn_value pgn.now) k }
+    ensures { place_number result ≡ set_of (pgn_value pgn.now) k }
 {
     let order = FieldIndex(k).order();
     for j in (0..pgn.view.places).rev() {
         if holds_order(set_at(pgn.view, j), order) {
-            return j + 1;
+            return Some(j);
         }
     }
-    0
+    None
 }
 
 // Given, and not the float.
@@ -86,8 +86,9 @@ fn continued_by(pgn: &PgnRef, id: Text) -> u32
 // Not integers: the field low and the one that continues it.
 #[tactic(auto, using(crate::proofs::Types::integer_is))]
 fn not_integers(low: &FieldRef, field: &FieldRef) -> bool
-    ensures { result ≡ (not (integer (pack_of low.now.pgn.now.pack.bytes.now).fieldtypes (field_at (pgn_value low.now.pgn.now) low.now.index))
-        || not (root_of (pack_of field.now.pgn.now.pack.bytes.now).fieldtypes (field_at (pgn_value field.now.pgn.now) field.now.index) ≐ NUMBER)) }
+    ensures { let g = low.now.pgn.now in let h = field.now.pgn.now in
+        result ≡ (not (integer (pack_of g.pack.bytes.now).fieldtypes (field_at (pgn_value g) low.now.index))
+        || not (root_of (pack_of h.pack.bytes.now).fieldtypes (field_at (pgn_value h) field.now.index) ≐ NUMBER)) }
 {
     let low_pgn = low.pgn;
     let pgn = field.pgn;
@@ -97,8 +98,8 @@ fn not_integers(low: &FieldRef, field: &FieldRef) -> bool
 
 // A sign or an offset.
 fn not_plain(low: &FieldRef) -> bool
-    ensures { result ≡ ((fieldtype_of (pack_of low.now.pgn.now.pack.bytes.now).fieldtypes (field_at (pgn_value low.now.pgn.now) low.now.index)).signed
-        || not (float_eq (field_at (pgn_value low.now.pgn.now) low.now.index).res_offset ZERO)) }
+    ensures { let g = low.now.pgn.now in let f = field_at (pgn_value g) low.now.index in
+        result ≡ ((fieldtype_of (pack_of g.pack.bytes.now).fieldtypes f).signed || not (float_eq f.res_offset ZERO)) }
 {
     let v = low.field_type();
     v.signed || !float_eq(low.view.scaling.offset, ZERO)

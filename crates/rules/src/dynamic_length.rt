@@ -3,7 +3,7 @@ ghost use Rattle.std.specs.Prelude.{◌≡◌, ◌||◌};
 ghost use Rattle.pack.specs.Notation.{◌≐◌};
 ghost use Rattle.pack.specs.Items.{bytes_of};
 ghost use Rattle.pack.specs.Loaded.{tree_of, pgn_value};
-ghost use Rattle.pack.specs.Meaning.{field_meaning, pack_of};
+ghost use Rattle.pack.specs.Meaning.{pack_of};
 ghost use Rattle.pack.specs.Value.{field_at};
 ghost use Rattle.rules.specs.DynamicLength.{have_length_source, dynamic_length_at, check_dynamic_length};
 ghost use Rattle.rules.specs.Emit.{Emitted};

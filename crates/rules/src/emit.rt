@@ -7,7 +7,7 @@ ghost use Rattle.rules.specs.Findings.{report_if, fieldtype_error, pgn_error, pg
 ghost use Rattle.rules.specs.Emit.{numbers, stored, none_in, found_in, Emitted};
 
 use crate::Finding;
-use pack::loaded::{FieldRef, PgnRef};
+use pack::loaded::{FieldRef, LookupRef, PgnRef};
 use pack::protocol::Protocol;
 
 // What was found so far: as many findings as fit, and how many there are. Offsets (pack) and bytes (TextOut) are counted likewise, each with a
@@ -115,23 +115,23 @@ pub fn pgn_warning(rule: u32, cause: u32, pgn: &PgnRef, part: u32, other: u32) -
 }
 
 // An error at a lookup.
-pub fn lookup_error(rule: u32, cause: u32, item: u32, part: u32, other: u32) -> Finding
-    ensures { result ≡ lookup_error rule cause item part other }
+pub fn lookup_error(rule: u32, cause: u32, lookup: &LookupRef, part: u32, other: u32) -> Finding
+    ensures { result ≡ lookup_error rule cause lookup.now.item part other }
 {
     Finding {
         part,
         other,
-        ..error(rule, cause, 2, 0, item)
+        ..error(rule, cause, 2, 0, lookup.item)
     }
 }
 
-// A warning at a lookup.
-pub fn lookup_warning(rule: u32, cause: u32, item: u32, part: u32, other: u32) -> Finding
-    ensures { result ≡ lookup_warning rule cause item part other }
+// A warning at a lookup, by its number: who goes by marks has no more of it.
+pub fn lookup_warning(rule: u32, cause: u32, item: u32) -> Finding
+    ensures { result ≡ lookup_warning rule cause item 0 0 }
 {
     Finding {
         severity: 0,
-        ..lookup_error(rule, cause, item, part, other)
+        ..error(rule, cause, 2, 0, item)
     }
 }
 

@@ -1,7 +1,6 @@
 // R14
-ghost use Rattle.std.specs.Prelude.{◌≡◌, ◌<◌};
 ghost use Rattle.pack.specs.Loaded.{tree_of, pgn_value};
-ghost use Rattle.pack.specs.Meaning.{field_meaning, pack_of};
+ghost use Rattle.pack.specs.Meaning.{pack_of};
 ghost use Rattle.pack.specs.Value.{field_at};
 ghost use Rattle.rules.specs.Emit.{Emitted};
 ghost use Rattle.rules.specs.FieldTypeOverrides.{overrides_at, check_field_type_overrides};
@@ -18,10 +17,10 @@ impl FieldRule for Overrides {
     ghost findings = { λ g k. overrides_at (tree_of g) g.item k (field_at (pgn_value g) k)
         (fieldtype_of (pack_of g.pack.bytes.now).fieldtypes (field_at (pgn_value g) k)) };
 
-    #[tactic(auto, using(crate::proofs::Fields::type_there), unfolding(crate::specs::FieldTypeOverrides::overrides_at))]
+    #[tactic(auto, unfolding(crate::specs::FieldTypeOverrides::overrides_at))]
     fn at(out: &mut Findings, field: &FieldRef) {
         let f = field.view;
-        let ft = field.pgn.pack.field_type(f.ft);
+        let ft = field.field_type();
         let width = f.flags.bits && ft.size != 0;
         out.put_if(width, field_error(14, 1, field, 0));
         let resolution = f.authored.resolution.is_some() && !float_eq(ft.resolution, ZERO);

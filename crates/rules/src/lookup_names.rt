@@ -52,7 +52,7 @@ fn same_name_at(out: &mut Findings, lookup: &LookupRef, e: u32)
         (entry_at (lookup_value lookup.now).entries e)) e)) out.new }
 {
     if let Some(d) = latest_same_name(lookup, e) {
-        out.put(lookup_error(24, 1, lookup.item, e, d));
+        out.put(lookup_error(24, 1, lookup, e, d));
     }
 }
 

@@ -114,7 +114,7 @@ fn check_by_search(out: &mut Findings, pack: &Pack)
 {
     for lookup in pack.lookups() {
         let used = referenced(pack, lookup.view.name);
-        out.put_if(!used, lookup_warning(22, 1, lookup.item, 0, 0));
+        out.put_if(!used, lookup_warning(22, 1, lookup.item));
     }
 }
 
@@ -126,7 +126,7 @@ fn report_unmarked(out: &mut Findings, marks: &[bool], count: u32)
 {
     for l in 0..count {
         let used = marks[l as usize];
-        out.put_if(!used, lookup_warning(22, 1, l, 0, 0));
+        out.put_if(!used, lookup_warning(22, 1, l));
     }
 }
 

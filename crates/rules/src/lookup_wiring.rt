@@ -4,7 +4,7 @@ ghost use Rattle.pack.specs.Kinds.{kind_number};
 ghost use Rattle.pack.specs.Notation.{concat_below};
 ghost use Rattle.pack.specs.Value.{pgns_of, pgn_at, field_at};
 ghost use Rattle.pack.specs.Loaded.{lookup_value, pgn_value, tree_of};
-ghost use Rattle.pack.specs.Meaning.{optional_reference, field_meaning, pack_of};
+ghost use Rattle.pack.specs.Meaning.{pack_of};
 ghost use Rattle.pack.specs.Trees.{tree_number};
 ghost use Rattle.rules.specs.Emit.{Emitted};
 ghost use Rattle.rules.specs.LookupWiring.{beyond_width, unreachable, lookup_width_at, lookup_ref_at, check_lookup_refs};

@@ -1,8 +1,6 @@
 // R13
-ghost use Rattle.std.specs.Prelude.{◌≡◌};
 ghost use Rattle.pack.specs.Loaded.{tree_of, pgn_value};
-ghost use Rattle.pack.specs.Meaning.{field_meaning, pack_of};
-ghost use Rattle.pack.specs.Value.{field_at};
+ghost use Rattle.pack.specs.Meaning.{pack_of};
 ghost use Rattle.rules.specs.Emit.{Emitted};
 ghost use Rattle.rules.specs.MatchValues.{match_value_at, check_match_values};
 

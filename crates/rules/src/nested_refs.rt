@@ -1,16 +1,15 @@
 // R08, causes 6 and 7: what the entries of fieldtype lookups name.
-ghost use Rattle.std.specs.Prelude.{◌≡◌, length};
+ghost use Rattle.std.specs.Prelude.{◌≡◌, ◌<◌, length};
 ghost use Rattle.pack.specs.Notation.{concat_below};
 ghost use Rattle.pack.specs.Items.{bytes_of};
 ghost use Rattle.pack.specs.Loaded.{lookup_value};
-ghost use Rattle.pack.specs.Meaning.{optional_bytes, entry_meaning, pack_of};
-ghost use Rattle.pack.specs.Value.{lookup_at};
+ghost use Rattle.pack.specs.Meaning.{optional_bytes, pack_of};
+ghost use Rattle.pack.specs.Value.{entry_at, lookup_at};
 ghost use Rattle.rules.specs.Emit.{Emitted};
 ghost use Rattle.rules.specs.LookupWiring.{is_fieldtype, nested_lookup_at, fieldtype_entry_at, check_nested_refs};
 
 use crate::emit::{Findings, lookup_error};
 use crate::lookups::{find_lookup, has_fieldtypes};
-use pack::entry::EntryView;
 use pack::loaded::{LookupRef, Pack};
 use pack::text::{Text, same_text};
 
@@ -28,27 +27,30 @@ pub fn is_fieldtype(pack: &Pack, name: Text) -> bool
     false
 }
 
-// Cause 7: the nested lookup of entry e of lookup l.
+// Cause 7: the nested lookup of entry e.
 #[tactic(auto, unfolding(crate::specs::LookupWiring::nested_lookup_at))]
-fn nested_lookup_at(out: &mut Findings, pack: &Pack, l: u32, e: u32, nested: Option<Text>)
+fn nested_lookup_at(out: &mut Findings, lookup: &LookupRef, e: u32, nested: Option<Text>)
     ensures { Emitted out.old
-        (nested_lookup_at (pack_of pack.now.bytes.now).lookups l e (optional_bytes pack.now.bytes.now nested)) out.new }
+        (nested_lookup_at (pack_of lookup.now.pack.bytes.now).lookups lookup.now.item e (optional_bytes lookup.now.pack.bytes.now nested)) out.new }
 {
     let Some(name) = nested else {
         return;
     };
-    let missing = find_lookup(pack, name).is_none();
-    out.put_if(missing, lookup_error(8, 7, l, e, 0));
+    let missing = find_lookup(&lookup.pack, name).is_none();
+    out.put_if(missing, lookup_error(8, 7, lookup, e, 0));
 }
 
-// Entry e of lookup l.
+// Entry e.
 #[tactic(auto, unfolding(crate::specs::LookupWiring::fieldtype_entry_at))]
-fn fieldtype_entry_at(out: &mut Findings, pack: &Pack, l: u32, e: u32, entry: EntryView)
-    ensures { Emitted out.old (fieldtype_entry_at (pack_of pack.now.bytes.now) l e (entry_meaning pack.now.bytes.now entry)) out.new }
+fn fieldtype_entry_at(out: &mut Findings, lookup: &LookupRef, e: u32)
+    requires { e < lookup.now.view.entries }
+    ensures { Emitted out.old
+        (fieldtype_entry_at (pack_of lookup.now.pack.bytes.now) lookup.now.item e (entry_at (lookup_value lookup.now).entries e)) out.new }
 {
-    let known = is_fieldtype(pack, entry.fieldtype);
-    out.put_if(!known, lookup_error(8, 6, l, e, 0));
-    nested_lookup_at(out, pack, l, e, entry.nested);
+    let entry = lookup.entry(e);
+    let known = is_fieldtype(&lookup.pack, entry.fieldtype);
+    out.put_if(!known, lookup_error(8, 6, lookup, e, 0));
+    nested_lookup_at(out, lookup, e, entry.nested);
 }
 
 // One lookup.
@@ -60,8 +62,7 @@ fn check_nested_refs(out: &mut Findings, lookup: &LookupRef)
         return;
     }
     for e in 0..lookup.view.entries {
-        let entry = lookup.entry(e);
-        fieldtype_entry_at(out, &lookup.pack, lookup.item, e, entry);
+        fieldtype_entry_at(out, lookup, e);
     }
 }
 

@@ -205,7 +205,7 @@ pub fn check_pgn_range(out: &mut Findings, pgn: &PgnRef)
     if ACTISENSE_BEM <= pgn.view.pgn {
         return;
     }
-    if let Protocol::Quick = pgn.protocol {
+    if matches!(pgn.protocol, Protocol::Quick) {
         quick_range(out, pgn);
         return;
     }

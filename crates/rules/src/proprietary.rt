@@ -18,9 +18,8 @@ use pack::text::text_is;
 
 // A field of so many bits with a reference of kind pair to the lookup of that name.
 fn is_pair(field: &FieldRef, name: &[u8], bits: u32) -> bool
-    ensures { result ≡
-        (pair_is (field_at (pgn_value field.now.pgn.now) field.now.index).reference name.now
-        && ((field_at (pgn_value field.now.pgn.now) field.now.index).res_bits == bits)) }
+    ensures { let f = field_at (pgn_value field.now.pgn.now) field.now.index in
+        result ≡ (pair_is f.reference name.now && (f.res_bits == bits)) }
 {
     let pgn = field.pgn;
     let f = field.view;
@@ -31,9 +30,8 @@ fn is_pair(field: &FieldRef, name: &[u8], bits: u32) -> bool
 
 // A RESERVED field of so many bits.
 fn is_reserved(field: &FieldRef, bits: u32) -> bool
-    ensures { result ≡
-        ((root_of (pack_of field.now.pgn.now.pack.bytes.now).fieldtypes (field_at (pgn_value field.now.pgn.now) field.now.index) ≐ RESERVED)
-        && ((field_at (pgn_value field.now.pgn.now) field.now.index).res_bits == bits)) }
+    ensures { let g = field.now.pgn.now in let f = field_at (pgn_value g) field.now.index in
+        result ≡ ((root_of (pack_of g.pack.bytes.now).fieldtypes f ≐ RESERVED) && (f.res_bits == bits)) }
 {
     let pgn = field.pgn;
     text_is(pgn.pack.bytes, root_of(field), b"RESERVED") && field.view.scaling.bits == bits

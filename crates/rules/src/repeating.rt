@@ -15,10 +15,7 @@ use pack::protocol::{FieldOrder, precedes};
 fn none_or_below(counter: Option<FieldOrder>, order: FieldOrder) -> bool
     ensures { result ≡ none_or_below (opt_order counter) order.0 }
 {
-    match counter {
-        Some(own) => precedes(own, order),
-        None => true,
-    }
+    counter.is_none_or(|own| precedes(own, order))
 }
 
 // The number behind a set's last order.

@@ -1,9 +1,7 @@
 // R12
 ghost use Rattle.std.specs.Prelude.{◌≡◌, false, not, if◌then◌else◌};
 ghost use Rattle.pack.specs.Notation.{◌≐◌};
-ghost use Rattle.pack.specs.Items.{bytes_of};
 ghost use Rattle.pack.specs.Loaded.{tree_of, pgn_value};
-ghost use Rattle.pack.specs.Meaning.{field_meaning};
 ghost use Rattle.pack.specs.Value.{field_at};
 ghost use Rattle.rules.specs.Emit.{Emitted};
 ghost use Rattle.numerals.specs.Numerals.{all_digits};
@@ -12,7 +10,6 @@ ghost use Rattle.rules.specs.Texts.{bytes};
 
 use crate::emit::{Findings, field_error};
 use crate::field_rules::{FieldRule, check_fields};
-use pack::field::FieldView;
 use pack::loaded::{FieldRef, PgnRef};
 use pack::text::{part, text_is};
 
@@ -34,14 +31,15 @@ fn numbered(want: &[u8], id: &[u8]) -> bool
 }
 
 // Whether a Reserved or Spare field has another id.
-fn misnamed(s: &[u8], f: FieldView) -> bool
-    ensures { result ≡
-        (if bytes_of s.now f.names.name ≐ bytes "Reserved" then not
-        (numbered (bytes "reserved") (bytes_of s.now f.names.id)) else (if bytes_of s.now f.names.name ≐ bytes
-        "Spare" then not (numbered (bytes "spare") (bytes_of s.now f.names.id)) else false)) }
+fn misnamed(field: &FieldRef) -> bool
+    ensures { let f = field_at (pgn_value field.now.pgn.now) field.now.index in
+        result ≡ (if f.name ≐ bytes "Reserved" then not (numbered (bytes "reserved") f.id)
+        else (if f.name ≐ bytes "Spare" then not (numbered (bytes "spare") f.id) else false)) }
 {
-    let name = f.names.name;
-    let id = f.names.id;
+    let pgn = field.pgn;
+    let s = pgn.pack.bytes;
+    let name = field.view.names.name;
+    let id = field.view.names.id;
     if text_is(s, name, b"Reserved") {
         return !numbered(b"reserved", part(s, id));
     }
@@ -58,8 +56,7 @@ impl FieldRule for ReservedIds {
 
     #[tactic(auto, unfolding(crate::specs::ReservedIds::reserved_id_at))]
     fn at(out: &mut Findings, field: &FieldRef) {
-        let pgn = field.pgn;
-        let report = misnamed(pgn.pack.bytes, field.view);
+        let report = misnamed(field);
         out.put_if(report, field_error(12, 1, field, 0));
     }
 }

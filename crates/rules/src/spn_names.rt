@@ -1,7 +1,7 @@
 // R24 cause 2
 ghost use Rattle.std.specs.Prelude.{is_some, ◌≡◌, true, ◌+◌, length, get_or, Some};
 ghost use Rattle.pack.specs.Notation.{◌≐◌};
-ghost use Rattle.pack.specs.Value.{no_pgn, pgns_of};
+ghost use Rattle.pack.specs.Value.{field_at, no_pgn, pgns_of};
 ghost use Rattle.pack.specs.Items.{bytes_of};
 ghost use Rattle.pack.specs.Loaded.{tree_of, pgn_value};
 ghost use Rattle.pack.specs.Meaning.{pack_of};
@@ -15,14 +15,13 @@ ghost use Rattle.rules.specs.Namers.{NamesAmong, comes_after, candidate_at, cand
 use crate::emit::{Findings, pgn_error};
 use crate::searches::{larger, smaller};
 use crate::spn_clashes::may_clash;
-use pack::field::FieldView;
-use pack::loaded::{Pack, PgnRef};
+use pack::loaded::{FieldRef, Pack, PgnRef};
 use pack::protocol::Protocol;
 use pack::text::{Text, same_text, text_is};
 
-// The field that names an SPN, of its PGN.
+// A field that carries an SPN, by its PGN and its index there. No `FieldRef`: the search lets the PGN go on its way.
 #[derive(Clone, Copy)]
-pub struct Namer<'a> {
+pub(crate) struct Carrier<'a> {
     pub pgn: PgnRef<'a>,
     pub field: u32,
 }
@@ -49,14 +48,14 @@ pub fn spn_field(pgn: &PgnRef, spn: u32) -> Option<u32>
 }
 
 // Whether a PGN of that number comes after the best so far.
-fn comes_after(best: &Option<Namer>, number: u32) -> bool
+fn comes_after(best: &Option<Carrier>, number: u32) -> bool
     ensures { result ≡ comes_after best.now number }
 {
     best.is_some_and(|namer| namer.pgn.view.pgn <= number)
 }
 
 // The best so far, when a PGN of the J1939 tree is tried.
-fn better<'a>(best: &Option<Namer<'a>>, pgn: &PgnRef<'a>, spn: u32) -> Option<Namer<'a>>
+fn better<'a>(best: &Option<Carrier<'a>>, pgn: &PgnRef<'a>, spn: u32) -> Option<Carrier<'a>>
     requires { record { tree : tree_of pgn.now ≡ 1; names : NamesAmong pgn.now.pack.bytes.now spn pgn.now.item best.now } }
     ensures { NamesAmong pgn.now.pack.bytes.now spn (pgn.now.item + 1) result }
 {
@@ -66,11 +65,11 @@ fn better<'a>(best: &Option<Namer<'a>>, pgn: &PgnRef<'a>, spn: u32) -> Option<Na
     let Some(field) = spn_field(pgn, spn) else {
         return *best;
     };
-    Some(Namer { pgn: *pgn, field })
+    Some(Carrier { pgn: *pgn, field })
 }
 
 // The PGN that names the SPN: of those that carry it the one of the least number, the first of equals.
-fn spn_pgn<'a>(pack: &Pack<'a>, spn: u32) -> Option<Namer<'a>>
+fn spn_pgn<'a>(pack: &Pack<'a>, spn: u32) -> Option<Carrier<'a>>
     ensures { NamesAmong pack.now.bytes.now spn (length (pack_of pack.now.bytes.now).pgns_j1939) result }
 {
     let mut best = None;
@@ -92,13 +91,15 @@ fn has_name(pack: &Pack, spn: u32, name: Text) -> bool
     same_text(pack.bytes, own, name)
 }
 
-// The SPN that f carries, if it is below b and under that name.
-fn candidate_at(s: &[u8], b: u32, name: Text, f: FieldView) -> Option<u32>
-    ensures { result ≡ candidate_at (bytes_of s.now name) b (bytes_of s.now f.names.name) f.authored.spn }
+// The SPN that a field carries, if it is below b and under that name.
+fn candidate_at(field: &FieldRef, b: u32, name: Text) -> Option<u32>
+    ensures { let g = field.now.pgn.now in let f = field_at (pgn_value g) field.now.index in
+        result ≡ candidate_at (bytes_of g.pack.bytes.now name) b f.name f.spn }
 {
-    f.authored
-        .spn
-        .filter(|spn| *spn < b && same_text(s, f.names.name, name))
+    let pgn = field.pgn;
+    let own = field.view.names.name;
+    let spn = field.view.authored.spn;
+    spn.filter(|spn| *spn < b && same_text(pgn.pack.bytes, own, name))
 }
 
 // The largest SPN below b that a field of a PGN carries under that name.
@@ -109,8 +110,7 @@ fn candidate_in(pgn: &PgnRef, b: u32, name: Text) -> Option<u32>
 {
     let mut found = None;
     for k in 0..pgn.view.fields {
-        let f = pgn.field(k);
-        let one = candidate_at(pgn.pack.bytes, b, name, f);
+        let one = candidate_at(&pgn.field_ref(k), b, name);
         found = larger(found, one);
     }
     found

@@ -1,9 +1,9 @@
 // R42
-ghost use Rattle.std.specs.Prelude.{is_some, ◌≡◌, true, ◌&&◌, ◌<◌, length, ◌==◌, Some};
+ghost use Rattle.std.specs.Prelude.{is_some, ◌≡◌, true, ◌&&◌, length, ◌==◌, Some};
 ghost use Rattle.std.specs.Float.Ieee.{of_bits};
 ghost use Rattle.std.specs.Float.{binary64};
 ghost use Rattle.pack.specs.Loaded.{tree_of, pgn_value};
-ghost use Rattle.pack.specs.Meaning.{optional_bytes, field_meaning, pack_of};
+ghost use Rattle.pack.specs.Meaning.{optional_bytes, pack_of};
 ghost use Rattle.pack.specs.Notation.{concat_below};
 ghost use Rattle.pack.specs.Trees.{tree_number};
 ghost use Rattle.pack.specs.Value.{pgns_of, pgn_at, field_at};
@@ -15,7 +15,7 @@ ghost use Rattle.rules.specs.Spns.{spns_elsewhere, same_unit, first_seen, unlike
 
 use crate::emit::{Findings, field_error, pgn_error};
 use crate::field_rules::{FieldRule, check_fields};
-use crate::spn_names::is_number;
+use crate::spn_names::{Carrier, is_number};
 use pack::field::{FieldView, ScalingView};
 use pack::float::float;
 use pack::loaded::{FieldRef, Pack, PgnRef};
@@ -32,13 +32,6 @@ struct Scaling {
     resolution: f64,
     offset: f64,
     unit: Option<Text>,
-}
-
-// A field by its PGN and its index there.
-#[derive(Clone, Copy)]
-struct Carrier<'a> {
-    pgn: PgnRef<'a>,
-    field: u32,
 }
 
 // One unit, or none for both. By `match`: over mapped options `==` would need a law of its own.

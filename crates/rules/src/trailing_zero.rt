@@ -18,7 +18,7 @@ use pack::pgn::{RepeatingView, set_at};
 use pack::protocol::{FieldIndex, FieldOrder, precedes};
 use pack::text::text_is;
 
-// The set, if any, starts behind the order.
+// The set, if any, starts behind the order. By `match`: an arm's answer is a fact at which a wrong one is refused (empty_set_ignored).
 fn starts_behind(set: Option<RepeatingView>, order: FieldOrder) -> bool
     ensures { result ≡ starts_behind (optional_repeating set) order.0 }
 {

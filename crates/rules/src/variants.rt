@@ -1,6 +1,6 @@
 // R20
 ghost use Rattle.std.specs.Bool.{then_some};
-ghost use Rattle.std.specs.Prelude.{◌≡◌, not, ◌&&◌, ◌==◌, length, Some};
+ghost use Rattle.std.specs.Prelude.{◌≡◌, not, ◌&&◌, length, Some};
 ghost use Rattle.pack.specs.Loaded.{tree_of, pgn_value};
 ghost use Rattle.pack.specs.Meaning.{pack_of};
 ghost use Rattle.pack.specs.Notation.{◌≤ᵇ◌};

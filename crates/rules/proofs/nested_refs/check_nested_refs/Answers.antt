@@ -1,15 +1,10 @@
 use Rattle.std.specs.Prelude.{◌==◌}
 use Rattle.pack.specs.Loaded.{lookup_value}
-use Rattle.pack.specs.Meaning.{entry_meaning, pack_of}
+use Rattle.pack.specs.Meaning.{pack_of}
 use Rattle.pack.specs.Notation.{concat_below}
-use Rattle.pack.specs.Value.{entry_at}
-use Rattle.pack.specs.declared.entry.EntryView.{EntryView}
 use Rattle.pack.specs.declared.loaded.LookupRef.{LookupRef}
-use Rattle.rules.specs.Emit.{Emitted}
-use Rattle.rules.specs.LookupWiring.{fieldtype_entry_at, check_nested_refs}
+use Rattle.rules.specs.LookupWiring.{check_nested_refs}
 use Rattle.rules.specs.Model.{fieldtypes}
-use Rattle.rules.specs.declared.emit.Findings.{Findings}
-use Prim.Native.Nat.{ℕ}
 use native.Mathlib.Omega.{arith}
 use mathlib.Core.Bool.{true, false}
 use mathlib.Core.List.{[]}
@@ -29,17 +24,11 @@ module _ (x : LookupRef) where
   unfolding check_nested_refs fieldtypes
   nesting e = rw e
 
-  told : {o o' : Findings} (e : ℕ) (v : EntryView) → entry_meaning x.pack.bytes.now v ≡ entry_at (lookup_value x).entries e
-      → Emitted o (fieldtype_entry_at (pack_of x.pack.bytes.now) x.item e (entry_meaning x.pack.bytes.now v)) o' → Emitted o (of_entry x e) o'
-  told e v is h = rw is at h
-
 pub returns-then-not-has_fieldtypes : goal.returns-then-not-has_fieldtypes
 returns-then-not-has_fieldtypes c = rw (others c.args.lookup.now (sym c.has_fieldtypes.ensures ∙ c.if-not-has_fieldtypes.true)) (emitted_none c.args.out.now)
 
 pub loop-e-preserved : goal.loop-e-preserved
-loop-e-preserved c =
-    reporting_turn c.loop-e.invariant c.loop-e-test.true
-    (told c.args.lookup.now c.loop-e.e c.entry-entry.result c.entry-entry.ensures c.fieldtype_entry_at.ensures)
+loop-e-preserved c = reporting_turn c.loop-e.invariant c.loop-e-test.true c.fieldtype_entry_at.ensures
 
 pub returns : goal.returns
 returns c =

@@ -7,7 +7,7 @@ use Rattle.pack.specs.Loaded.{pgn_value}
 use Rattle.pack.specs.Value.{FieldType, Pgn, field_at}
 use Rattle.pack.specs.Notation.{◌≐◌, ◌≤ᵇ◌}
 use Rattle.pack.specs.Meaning.{pack_of}
-use Prim.Native.Nat.{ℕ, ◌≤◌, ◌<◌}
+use Prim.Native.Nat.{◌≤◌, ◌<◌}
 use native.Mathlib.Omega.{arith}
 use mathlib.Core.Path.{◌≡◌, refl, ◌∙◌, sym}
 use mathlib.Core.List.{List}

@@ -4,7 +4,7 @@ use borrow.Author.Tests.{lt-ltb, le-ltb, leb-true, leb-false}
 use Rattle.pack.specs.Loaded.{tree_of, pgn_value}
 use Rattle.pack.specs.Value.{Pgn, no_pgn}
 use Rattle.pack.specs.declared.loaded.PgnRef.{PgnRef}
-use Rattle.rules.specs.declared.spn_names.Namer.{Namer}
+use Rattle.rules.specs.declared.spn_names.Carrier.{Carrier}
 use Rattle.rules.specs.Namers.{NamesAmong, comes_after}
 use Rattle.rules.specs.SpnNames.{spn_field}
 use Rattle.rules.specs.SearchLaws.{least_turn}
@@ -41,7 +41,7 @@ has s spn i = is_some (spn_field (get_or (pack_of s).pgns_j1939 i no_pgn) spn)
 number_is : (s : List ℕ) (x : PgnRef) → x.pack.bytes.now ≡ s → tree_of x ≡ 1 → x.view.pgn ≡ number_of s x.item
 number_is s x b t = rw (b, t) at (ap (λ (G : Pgn). G.pgn) x.is.means)
 
-module _ (g : PgnRef) (tree : tree_of g ≡ 1) (spn : ℕ) (best : Option Namer) (a : NamesAmong g.pack.bytes.now spn g.item best) where
+module _ (g : PgnRef) (tree : tree_of g ≡ 1) (spn : ℕ) (best : Option Carrier) (a : NamesAmong g.pack.bytes.now spn g.item best) where
   as_before : least_below (number_of g.pack.bytes.now) (has g.pack.bytes.now spn) (g.item + 1)
       ≡ least_below (number_of g.pack.bytes.now) (has g.pack.bytes.now spn) g.item → NamesAmong g.pack.bytes.now spn (g.item + 1) best
   as_before e = record { least = a.least ∙ sym e; is = a.is }
@@ -65,7 +65,7 @@ module _ (g : PgnRef) (tree : tree_of g ≡ 1) (spn : ℕ) (best : Option Namer)
       }
 
 module _ (g : PgnRef) (tree : tree_of g ≡ 1) (spn : ℕ) where
-  first_stays : (best : Option Namer) → NamesAmong g.pack.bytes.now spn g.item best → comes_after best g.view.pgn ≡ true
+  first_stays : (best : Option Carrier) → NamesAmong g.pack.bytes.now spn g.item best → comes_after best g.view.pgn ≡ true
       → NamesAmong g.pack.bytes.now spn (g.item + 1) best
   first_stays None a e = absurd (false≢true e)
   first_stays (Some m) a e =
@@ -76,7 +76,7 @@ module _ (g : PgnRef) (tree : tree_of g ≡ 1) (spn : ℕ) where
       (least_turn (number_of s) (has s spn) j
       ∙ stays (number_of s) j m.pgn.item (least_below (number_of s) (has s spn) j) (has s spn j) (sym a.least) l)
 
-  lower : (best : Option Namer) → NamesAmong g.pack.bytes.now spn g.item best → comes_after best g.view.pgn ≡ false
+  lower : (best : Option Carrier) → NamesAmong g.pack.bytes.now spn g.item best → comes_after best g.view.pgn ≡ false
       → IfSome (option_map (λ m. m.pgn.item) best) (λ i. number_of g.pack.bytes.now g.item < number_of g.pack.bytes.now i)
   lower None a e = tt
   lower (Some m) a e =
