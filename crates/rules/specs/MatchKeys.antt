@@ -31,14 +31,12 @@ first_and s p (Some b) = b.byte ∷ to_come s p b.after
 -- a key of a PGN with so many fields
 pub record KeyHolds (key : MatchKey) (fields : ℕ) : Type 0 where
   pub field : key.field ≤ fields
-  pub head : length key.head ≡ 11
 
 -- nothing to come before the pieces of the fields from k on
 pub record Before (k : ℕ) (key : MatchKey) : Type 0 where
   pub written : drop key.at key.head ≡ []
   pub text : key.text.len ≡ 0
   pub field : key.field ≡ k
-  pub head : length key.head ≡ 11
 
 -- the `,` of field k's piece, with that match text to come
 pub record Begun (k : ℕ) (match : Text) (r : KeyByte) : Type 0 where
@@ -46,4 +44,3 @@ pub record Begun (k : ℕ) (match : Text) (r : KeyByte) : Type 0 where
   pub written : drop r.after.at r.after.head ≡ digits k ++ bytes "="
   pub text : r.after.text ≡ match
   pub field : r.after.field ≡ k + 1
-  pub head : length r.after.head ≡ 11

@@ -17,7 +17,7 @@ use pack::loaded::{LookupRef, Pack, PgnRef};
 use pack::protocol::Protocol;
 use pack::text::{Text, same_text};
 
-// A mark at lookup i, where there is room for one.
+// A mark at lookup i, where there is room for one. Not by `get_mut`, which promises nothing of the rest.
 #[tactic(auto, unfolding(crate::specs::Marks::marked_at))]
 fn mark_at(marks: &mut [bool], i: usize, mark: bool)
     ensures { marks.new ≡ marked_at marks.old i mark }

@@ -91,7 +91,6 @@ fn next_piece(pgn: &PgnRef, from: u32) -> Option<KeyByte>
 fn next_of_text(pgn: &PgnRef, key: MatchKey) -> Option<KeyByte>
     requires { record {
       field : key.field ≤ pgn.now.view.fields;
-      head : length key.head ≡ 11;
       written : 11 ≤ key.at;
     } }
     ensures { record {
@@ -116,7 +115,6 @@ fn next_of_text(pgn: &PgnRef, key: MatchKey) -> Option<KeyByte>
 fn next(pgn: &PgnRef, key: MatchKey) -> Option<KeyByte>
     requires { record {
       field : key.field ≤ pgn.now.view.fields;
-      head : length key.head ≡ 11;
     } }
     ensures { record {
       came : to_come pgn.now.pack.bytes.now (pgn_value pgn.now) key ≡ first_and pgn.now.pack.bytes.now (pgn_value pgn.now) result;

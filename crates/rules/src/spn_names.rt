@@ -192,7 +192,8 @@ fn spn_from(b: u64, spn: Option<u32>) -> Option<u32>
     spn.filter(|own| b <= *own as u64)
 }
 
-// The least SPN from b on that a field of a PGN carries.
+// The least SPN from b on that a field of a PGN carries. The loops are those of `candidate_in` and `candidate` with `smaller`: one over a closure
+// would be told by the closure's contract what these say by `max_turn` and `min_turn`.
 #[tactic(auto, using(crate::specs::SearchLaws::min_turn), unfolding(crate::specs::SpnNames::least_spn_in))]
 fn least_spn_in(pgn: &PgnRef, b: u64) -> Option<u32>
     ensures { result ≡ least_spn_in (pgns_of (pack_of pgn.now.pack.bytes.now) (tree_of pgn.now)) b pgn.now.item }

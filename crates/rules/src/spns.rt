@@ -72,7 +72,7 @@ fn same_scaling(s: &[u8], v: ScalingView, w: ScalingView) -> bool
         && same_unit(s, a.unit, b.unit)
 }
 
-// The field of the J1939 tree that carries the SPN first, where one does.
+// The field of the J1939 tree that carries the SPN first, where one does. Both loops stand here, with 01's labelled break, and not `spn_field`'s.
 fn first_seen<'a>(pack: &Pack<'a>, spn: u32) -> Carrier<'a>
     requires { is_some (first_seen (pack_of pack.now.bytes.now).pgns_j1939 spn) ≡ true }
     ensures { record {
@@ -103,7 +103,8 @@ fn is_at(seen: &Carrier, item: u32, field: u32) -> bool
     seen.pgn.item == item && seen.field == field
 }
 
-// A field of the J1939 tree that carries an SPN against the first that does.
+// A field of the J1939 tree that carries an SPN against the first that does. That its tree is this one is asked here and in five places more: a
+// type for PGNs of one tree would be taken apart at each use.
 fn unlike_first(out: &mut Findings, field: &FieldRef, spn: u32)
     requires { record { tree : tree_of field.now.pgn.now ≡ 1; spn : field.now.view.authored.spn ≡ Some spn } }
     ensures { Emitted out.old

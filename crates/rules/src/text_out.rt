@@ -19,6 +19,7 @@ impl<'a> TextOut<'a> {
         TextOut { bytes, count: 0 }
     }
 
+    // Not by `get_mut`, which promises nothing of the rest of the buffer.
     #[tactic(auto, unfolding(crate::specs::TextOut::put_byte))]
     fn put_byte(&mut self, b: u8)
         ensures { Puts self.old (b ∷ []) self.new }

@@ -56,7 +56,8 @@ fn duplicate_at(earlier: &PgnRef, pgn: &PgnRef, number: u32) -> bool
     in_group(earlier, number) && duplicates(earlier, pgn)
 }
 
-// The latest variant before a PGN with its matches.
+// The latest variant before a PGN with its matches. The loop is that of `latest_holder` (R21): over a closure its contract would be that of this one's
+// test, and the edits of both would be one.
 fn latest_duplicate(pgn: &PgnRef, number: u32) -> Option<u32>
     ensures { result ≡ latest_below
         (λ j. in_group (tree_of pgn.now) (pgns_of (pack_of pgn.now.pack.bytes.now) (tree_of pgn.now)) number j && duplicates

@@ -13,5 +13,4 @@ returns c =
       written = rw (decimal_is c.args.k (search rules)) at c.write_digits-at.ensures.written;
       text = search rules;
       field = search rules;
-      head = search rules;
     }

@@ -7,6 +7,6 @@ pub returns : goal.returns
 returns c =
     let g = c.args.pgn.now in
     record {
-      came = head_byte g.pack.bytes.now (pgn_value g) c.args.key (omega (arith, c.requires.head, c.if-at-ge11.false));
-      next = record { field = c.requires.field; head = c.requires.head };
+      came = head_byte g.pack.bytes.now (pgn_value g) c.args.key (omega (arith, c));
+      next = record { field = c.requires.field };
     }

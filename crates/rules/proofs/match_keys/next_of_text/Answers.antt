@@ -9,7 +9,7 @@ pub returns-then-b-eq0 : goal.returns-then-b-eq0
 returns-then-b-eq0 c =
     let g = c.args.pgn.now in
     record {
-      came = text_ended g.pack.bytes.now (pgn_value g) c.args.key (omega (arith, c.requires.head, c.requires.written)) c.text-b.result.now
+      came = text_ended g.pack.bytes.now (pgn_value g) c.args.key (omega (arith, c)) c.text-b.result.now
           c.text-b.ensures c.if-b-eq0.true
           ∙ (rw (← g.is.fields) c.next_piece.ensures.came);
       next = c.next_piece.ensures.next;
@@ -21,7 +21,7 @@ overflow_add-text c =
     omega (
       arith,
       records_bound g.pack.bytes.now g.pack.work.now g.pack.ready,
-      text_there g.pack.bytes.now (pgn_value g) c.args.key (omega (arith, c.requires.head, c.requires.written)) c.text-b.result.now
+      text_there g.pack.bytes.now (pgn_value g) c.args.key (omega (arith, c)) c.text-b.result.now
           c.text-b.ensures c.if-b-eq0.false,
     )
 
@@ -29,7 +29,7 @@ pub returns : goal.returns
 returns c =
     let g = c.args.pgn.now in
     record {
-      came = text_byte g.pack.bytes.now (pgn_value g) c.args.key (omega (arith, c.requires.head, c.requires.written)) c.text-b.result.now
+      came = text_byte g.pack.bytes.now (pgn_value g) c.args.key (omega (arith, c)) c.text-b.result.now
           c.text-b.ensures c.if-b-eq0.false;
-      next = record { field = c.requires.field; head = c.requires.head };
+      next = record { field = c.requires.field };
     }

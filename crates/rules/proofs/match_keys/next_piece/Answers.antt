@@ -27,7 +27,7 @@ returns-in-Some c =
       came = c.loop-k.invariant
           ∙ piece_begun s (pgn_value g) c.loop-k.k g.view.fields c.in-Some.text c.begun.result c.loop-k-test.true g.is.fields
           (matched s (pgn_value g) c.loop-k.k c.field-f.result (Some c.in-Some.text) c.field-f.ensures c.in-Some.is) c.begun.ensures;
-      next = record { field = omega (arith, c.begun.ensures.field, c.loop-k-test.true); head = c.begun.ensures.head };
+      next = record { field = omega (arith, c.begun.ensures.field, c.loop-k-test.true) };
     }
 
 pub loop-k-preserved : goal.loop-k-preserved

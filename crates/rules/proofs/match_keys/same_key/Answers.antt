@@ -20,8 +20,8 @@ pub loop-x-init : goal.loop-x-init
 loop-x-init c =
     let g = c.args.pgn.now in let h = c.args.other.now in
     record {
-      left = record { field = omega (arith, c.before-a.ensures.field); head = c.before-a.ensures.head };
-      right = record { field = omega (arith, c.before-b.ensures.field); head = c.before-b.ensures.head };
+      left = record { field = omega (arith, c.before-a.ensures.field) };
+      right = record { field = omega (arith, c.before-b.ensures.field) };
       rest = none_yet g.pack.bytes.now h.pack.bytes.now (pgn_value g) (pgn_value h) c.before-a.result c.before-b.result
           c.before-a.ensures c.before-b.ensures;
     }
