@@ -71,7 +71,8 @@ fn pass_on(
     passes.begins(k)
 }
 
-// From the beginning of a stretch that a set ends: its orders, and from the set's pass into the next as long as it begins among them.
+// From the beginning of a stretch that a set ends: its orders, and from the set's pass into the next as long as it begins among them. The order
+// goes forth and back, so that no range gives it.
 fn run_passes(
     memory: &Memory,
     passes: &mut Passes,
@@ -115,7 +116,7 @@ fn run_stretch(
     StretchEnd::Ends(leap(memory, stretch.free, stretch.to, stretch.from, trace))
 }
 
-// From the order that is due.
+// From the order that is due, stretch by stretch: which comes next is known where one ends, and no range gives it.
 pub fn run(
     sets: Sets,
     memory: &Memory,

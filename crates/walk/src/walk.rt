@@ -37,7 +37,8 @@ pub struct Ended {
     pub visits: usize,
 }
 
-// The walk past stop 1, with a memory of what is known of the fields. `settle` is called here alone, so that the compiler inlines it.
+// The walk past stop 1, with a memory of what is known of the fields. `settle` is called here alone, so that the compiler inlines it. The loop ends
+// with the readings or the walk: no range says how many turns there are.
 fn walk_on(found: &FoundPgn, memory: &mut Memory, passes: &mut Passes, trace: &mut Trace) -> End
     requires { record {
       remembered : Remembered (pack_of found.now.pgn.pack.bytes.now) (pgn_value found.now.pgn) memory.old;
