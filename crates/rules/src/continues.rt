@@ -17,7 +17,7 @@ use crate::Finding;
 use crate::emit::{Findings, field_error};
 use crate::field_rules::{FieldRule, check_fields};
 use crate::floats::{ONE, ZERO, float_eq};
-use crate::model::{is_text, root_of, value_bits};
+use crate::model::{is_text, value_bits};
 use crate::searches::counted;
 use crate::targets::{first_with_id, integer};
 use pack::loaded::{FieldRef, PgnRef};
@@ -93,7 +93,8 @@ fn not_integers(low: &FieldRef, field: &FieldRef) -> bool
     let low_pgn = low.pgn;
     let pgn = field.pgn;
     let v = low.field_type();
-    !integer(low_pgn.pack.bytes, v) || !text_is(pgn.pack.bytes, root_of(field), b"NUMBER")
+    let root = field.field_type().root;
+    !integer(low_pgn.pack.bytes, v) || !text_is(pgn.pack.bytes, root, b"NUMBER")
 }
 
 // A sign or an offset.

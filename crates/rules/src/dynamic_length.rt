@@ -11,7 +11,6 @@ ghost use Rattle.rules.specs.Model.{root_of};
 ghost use Rattle.rules.specs.Texts.{DYNAMIC_FIELD_KEY};
 
 use crate::emit::{Findings, field_error};
-use crate::model::root_of;
 use pack::loaded::{FieldRef, PgnRef};
 use pack::text::{Text, text_is};
 
@@ -58,7 +57,7 @@ pub(crate) fn check_dynamic_length(out: &mut Findings, pgn: &PgnRef)
     let mut have = false;
     for k in 0..pgn.view.fields {
         let field = pgn.field_ref(k);
-        let root = root_of(&field);
+        let root = field.field_type().root;
         have |= length_source(pgn.pack.bytes, field.view.flags.dynamic, root);
         dynamic_length_at(out, &field, root, have);
     }

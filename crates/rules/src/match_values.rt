@@ -21,7 +21,7 @@ impl FieldRule for MatchValues {
         if f.authored.matched.is_none() {
             return;
         }
-        let Some(v) = resolve_match(field) else {
+        let Some(v) = resolve_match(&field.pgn.pack, f) else {
             out.put(field_error(13, 1, field, 0));
             return;
         };

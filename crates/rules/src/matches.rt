@@ -2,17 +2,16 @@
 ghost use Rattle.std.specs.Prelude.{◌≡◌, ◌||◌, ◌==◌, if◌then◌else◌};
 ghost use Rattle.pack.specs.Items.{bytes_of};
 ghost use Rattle.pack.specs.Kinds.{kind_number};
-ghost use Rattle.pack.specs.Loaded.{lookup_value, pgn_value};
-ghost use Rattle.pack.specs.Meaning.{optional_reference, pack_of};
-ghost use Rattle.pack.specs.Value.{field_at};
+ghost use Rattle.pack.specs.Loaded.{lookup_value};
+ghost use Rattle.pack.specs.Meaning.{optional_reference, field_meaning, pack_of};
 ghost use Rattle.rules.specs.Model.{value_named, resolve_name, resolve_match};
 
 use crate::lookups::find_lookup;
 use numerals::decimal::parse_u64;
 use numerals::hexadecimal::parse_hex;
-use pack::field::ReferenceView;
+use pack::field::{FieldView, ReferenceView};
 use pack::kinds::LookupKind;
-use pack::loaded::{FieldRef, LookupRef, Pack};
+use pack::loaded::{LookupRef, Pack};
 use pack::text::{Text, same_text};
 
 // The value of the first entry with that name.
@@ -52,15 +51,14 @@ fn resolve_name(pack: &Pack, m: Text, r: Option<ReferenceView>) -> Option<u64>
 }
 
 #[tactic(auto, unfolding(crate::specs::Model::resolve_match, crate::specs::Model::resolve_text))]
-pub fn resolve_match(field: &FieldRef) -> Option<u64>
-    ensures { result ≡ resolve_match (pack_of field.now.pgn.now.pack.bytes.now).lookups (field_at (pgn_value field.now.pgn.now) field.now.index) }
+pub fn resolve_match(pack: &Pack, f: FieldView) -> Option<u64>
+    ensures { result ≡ resolve_match (pack_of pack.now.bytes.now).lookups (field_meaning pack.now.bytes.now f) }
 {
-    let pgn = field.pgn;
-    let m = field.view.authored.matched?;
-    let text = pgn.pack.text(m);
+    let m = f.authored.matched?;
+    let text = pack.text(m);
     let number = parse_u64(text).or_else(|| parse_hex(text));
     if number.is_some() {
         return number;
     }
-    resolve_name(&pgn.pack, m, field.view.links.reference)
+    resolve_name(pack, m, f.links.reference)
 }

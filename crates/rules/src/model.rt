@@ -4,19 +4,10 @@ ghost use Rattle.pack.specs.Items.{bytes_of};
 ghost use Rattle.pack.specs.Loaded.{pgn_value};
 ghost use Rattle.pack.specs.Meaning.{optional_bytes, pack_of};
 ghost use Rattle.pack.specs.Value.{field_at};
-ghost use Rattle.rules.specs.Model.{is_text, root_of, value_bits};
+ghost use Rattle.rules.specs.Model.{is_text, value_bits};
 
 use pack::loaded::FieldRef;
 use pack::text::{Text, same_text};
-
-// The name of its field type's root.
-pub fn root_of(field: &FieldRef) -> Text
-    ensures { bytes_of field.now.pgn.now.pack.bytes.now result ≡ root_of (pack_of field.now.pgn.now.pack.bytes.now).fieldtypes
-        (field_at (pgn_value field.now.pgn.now) field.now.index) }
-{
-    let v = field.field_type();
-    v.root
-}
 
 // Whether a text is given and is that one.
 pub(crate) fn is_text(s: &[u8], o: Option<Text>, t: Text) -> bool

@@ -11,7 +11,6 @@ ghost use Rattle.rules.specs.Texts.{RESERVED};
 
 use crate::emit::{Findings, pgn_error};
 use crate::is_manufacturer_pgn;
-use crate::model::root_of;
 use pack::kinds::LookupKind;
 use pack::loaded::{FieldRef, PgnRef};
 use pack::text::text_is;
@@ -34,7 +33,8 @@ fn is_reserved(field: &FieldRef, bits: u32) -> bool
         result ≡ ((root_of (pack_of g.pack.bytes.now).fieldtypes f ≐ RESERVED) && (f.res_bits == bits)) }
 {
     let pgn = field.pgn;
-    text_is(pgn.pack.bytes, root_of(field), b"RESERVED") && field.view.scaling.bits == bits
+    let root = field.field_type().root;
+    text_is(pgn.pack.bytes, root, b"RESERVED") && field.view.scaling.bits == bits
 }
 
 // Whether the PGN opens with Manufacturer Code, Reserved, Industry Code.

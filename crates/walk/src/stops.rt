@@ -23,7 +23,6 @@ use pack::text::{Text, text_is};
 use rules::dynamic_length::length_source;
 use rules::lookups::{find_lookup, has_fieldtypes};
 use rules::matches::resolve_match;
-use rules::model::root_of;
 use rules::nested_refs::is_fieldtype;
 use rules::targets::target;
 use rules::widths::exceeds;
@@ -67,11 +66,12 @@ fn lookup_missing(field: &FieldRef) -> bool
 fn match_unfit(field: &FieldRef) -> bool
     ensures { result ≡ match_unfit (pack_of field.now.pgn.now.pack.bytes.now) (field_at (pgn_value field.now.pgn.now) field.now.index) }
 {
+    let pgn = field.pgn;
     let f = field.view;
     if f.authored.matched.is_none() {
         return false;
     }
-    match resolve_match(field) {
+    match resolve_match(&pgn.pack, f) {
         Some(v) => exceeds(f.scaling.bits, v),
         None => true,
     }
@@ -164,7 +164,7 @@ fn length_source_at(pgn: &PgnRef, j: u32) -> bool
     ensures { result ≡ length_source (pack_of pgn.now.pack.bytes.now).fieldtypes (field_at (pgn_value pgn.now) j) }
 {
     let field = pgn.field_ref(j);
-    let root = root_of(&field);
+    let root = field.field_type().root;
     length_source(pgn.pack.bytes, field.view.flags.dynamic, root)
 }
 
@@ -202,7 +202,7 @@ pub fn is_value(field: &FieldRef) -> bool
     ensures { result ≡ is_dynamic_value (pack_of field.now.pgn.now.pack.bytes.now) (field_at (pgn_value field.now.pgn.now) field.now.index) }
 {
     let pgn = field.pgn;
-    let root = root_of(field);
+    let root = field.field_type().root;
     text_is(pgn.pack.bytes, root, b"DYNAMIC_FIELD_VALUE")
 }
 
