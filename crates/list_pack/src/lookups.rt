@@ -1,4 +1,4 @@
-// The lookups, each with its entries.
+// The lookups, each with its entries. Other records are listed alike in the other modules: what is written of each differs.
 use listing::words::{Counted, kind_name, text};
 use pack::entry::EntryView;
 use pack::kinds::LookupKind;

@@ -213,7 +213,7 @@ impl<'a> Reader<'a> {
     }
 }
 
-// What may be left out: how it is read where it is there.
+// What may be left out: how it is read where it is there. Each item of the format that may be has an impl, as it has a method above.
 pub(crate) trait Item: Drop {
     type Value;
 

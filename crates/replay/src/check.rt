@@ -1,4 +1,5 @@
 // A case: pack, length of the work buffer, length of the findings buffer. For each finding its eight numbers and its place text.
+// What the call takes and answers is numbers: the C interface.
 ghost use Rattle.std.specs.Prelude.{◌≤◌, length};
 
 use crate::cases::{count, print_numbers, print_refused, read_pack, spaced, words};

@@ -1,4 +1,5 @@
 // A case: length of the work buffer, pack. The work buffer holds 165 everywhere before the call.
+// What the call takes and answers is numbers: the C interface.
 use crate::cases::{count, print_numbers, print_refused, read_pack, words};
 
 fn print_answer(refused: u32, answer: &[u64; 11]) {

@@ -1,4 +1,5 @@
 // A case: pack, length of the work buffer, place, tree, item, length of the text buffer, which holds dots before the call.
+// What the call takes and answers is numbers: the C interface.
 use crate::cases::{count, number, print_refused, read_pack, words};
 
 fn replay(pack: &[u8], work: &mut [u32], place: u32, tree: u32, item: u32, text: &mut [u8]) {

@@ -1,5 +1,6 @@
 // A case: pack, length of the work buffer, tree, index of the PGN, length of the visit buffer, number of readings, the readings. Before the
 // call the work buffer holds 165 everywhere, the visit buffer 170. A call of `held` on the same PGN follows.
+// What the call takes and answers is numbers: the C interface.
 use crate::cases::{count, number, print_numbers, print_refused, read_pack, spaced, words};
 
 // 8 bytes, lowest first.

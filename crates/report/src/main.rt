@@ -17,7 +17,7 @@ const ROOM: usize = 16_384;
 
 const TEXT: usize = 65_536;
 
-// Why a report ends before its last line.
+// Why a report ends before its last line: an error enum, one variant of which holds a refusal.
 #[derive(Drop)]
 enum Ended {
     Refused(Refusal),

@@ -1,4 +1,4 @@
--- How many findings a rule can have: so many for each record that it looks at.
+-- How many findings a rule can have: so many for each record that it looks at. A law for each rule and each of its parts.
 use Rattle.std.specs.Prelude.{ℕ, zero, suc, ◌+◌, ◌*◌, ◌≤◌, Bool, true, false, not, List, [], ◌∷◌, ◌++◌, ◌≡◌, length, get_or, ◌==◌, if◌then◌else◌}
 use Rattle.std.proofs.Common.{arith, length-append}
 use Rattle.std.specs.Prelude.{Option, None, Some}

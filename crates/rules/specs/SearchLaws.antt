@@ -1,4 +1,5 @@
--- Searches among the indexes below n: a loop's turn at k + 1, what leaving early says, and what an answer says.
+-- Searches among the indexes below n: a loop's turn at k + 1, what leaving early says, and what an answer says; a law
+-- for each kind of search.
 use Rattle.std.specs.Bool.{then_some}
 use Rattle.std.specs.Prelude.{ℕ, zero, suc, ◌+◌, ◌<◌, Bool, true, false, ◌&&◌, ◌||◌, List, [], ◌++◌, ◌≡◌, refl, if◌then◌else◌}
 use Rattle.std.proofs.Math.Decide.{ℕ_discrete}

@@ -103,6 +103,7 @@ fn report(pack: &Pack, findings: &mut [u32]) -> Result<Reported, Refusal>
     })
 }
 
+// The call `check`. It makes its `Pack` itself (see there).
 pub fn check(pack: &[u8], work: &mut [u32], findings: &mut [u32]) -> Result<Reported, Refusal>
     ensures { Checks pack.now work.old findings.old work.new findings.new result }
 {

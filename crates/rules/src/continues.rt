@@ -122,6 +122,7 @@ struct Continuing<'f, 'p, 'a> {
     ghost before: { earlier < field.now.index },
 }
 
+// The cause is a finding's number.
 fn link_error(cause: u32, link: &Continuing) -> Finding
     ensures { result ≡ pgn_error 43 cause (tree_of link.now.field.now.pgn.now) link.now.field.now.pgn.now.item link.now.field.now.index link.now.earlier }
 {

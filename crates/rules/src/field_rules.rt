@@ -6,7 +6,7 @@ ghost use Rattle.rules.specs.FieldRules.{OfField};
 use crate::emit::Findings;
 use pack::loaded::{FieldRef, PgnRef};
 
-// What a rule looks for at one field.
+// What a rule looks for at one field. Its causes are its own, so that each rule has an impl.
 pub trait FieldRule {
     // What is found at a field of the PGN.
     ghost findings: { OfField };

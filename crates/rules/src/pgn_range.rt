@@ -21,7 +21,7 @@ pub struct Range {
     pub kind: MessageType,
 }
 
-// pgn.h pgnRange[]
+// pgn.h pgnRange[]: data, a row each, as the rows behind it.
 const PGN_RANGES: [Range; 8] = [
     Range {
         start: 0xe800,

@@ -47,7 +47,7 @@ fn write_named(
     Ok(needed)
 }
 
-// The place text call, by the C interface's numbers.
+// The place text call, by the C interface's numbers. It makes its `Pack` itself (see there).
 pub fn place_text(
     pack: &[u8],
     work: &mut [u32],

@@ -145,7 +145,8 @@ fn earlier_spn(pack: &Pack, spn: u32, name: Text) -> Option<u32>
     }
 }
 
-// Whether two PGNs of the J1939 tree have one place text: exactly if they have one number and one id.
+// Whether two PGNs of the J1939 tree have one place text: exactly if they have one number and one id, whatever
+// else a derive would compare.
 fn same_place(a: &PgnRef, b: &PgnRef) -> bool
     ensures { result ≡ (pgn_loc 1 (pgn_value a.now) ≐ pgn_loc 1 (pgn_value b.now)) }
 {

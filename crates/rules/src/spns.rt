@@ -57,7 +57,7 @@ fn scaling_of(v: ScalingView) -> Scaling
     }
 }
 
-// `==` of the Rust's tuple: a NaN differs from itself.
+// `==` of the Rust's tuple: a NaN differs from itself. No derive, since the unit is a text, compared by its bytes.
 #[tactic(auto, unfolding(crate::specs::Floats::float_eq))]
 fn same_scaling(s: &[u8], v: ScalingView, w: ScalingView) -> bool
     ensures { result ≡

@@ -1,4 +1,4 @@
-// The fields that other fields name by their ids.
+// The fields that other fields name by their ids. Where a caller has a field type's view at hand, that is taken, so that it is not read twice.
 ghost use Rattle.std.specs.Prelude.{◌≡◌, ◌||◌, ◌≤◌};
 ghost use Rattle.pack.specs.Notation.{◌≐◌};
 ghost use Rattle.pack.specs.Items.{bytes_of};

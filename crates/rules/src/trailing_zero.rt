@@ -18,7 +18,8 @@ use pack::pgn::{RepeatingView, set_at};
 use pack::protocol::{FieldIndex, FieldOrder, precedes};
 use pack::text::text_is;
 
-// The set, if any, starts behind the order. By `match`: an arm's answer is a fact at which a wrong one is refused (empty_set_ignored).
+// The set, if any, starts behind the order. By `match`: with `is_none_or` the must-fail edit
+// empty_set_ignored is refused only since the search gives up.
 fn starts_behind(set: Option<RepeatingView>, order: FieldOrder) -> bool
     ensures { result ≡ starts_behind (optional_repeating set) order.0 }
 {
@@ -28,7 +29,7 @@ fn starts_behind(set: Option<RepeatingView>, order: FieldOrder) -> bool
     }
 }
 
-// A variable-width field, or a proprietary one that may be absent.
+// A variable-width field, or a proprietary one that may be absent. The view alone is read, no text of it.
 fn moves(f: FieldView) -> bool
     ensures { result ≡ ((f.scaling.bits == 0) || f.flags.proprietary) }
 {

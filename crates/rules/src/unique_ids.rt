@@ -44,6 +44,7 @@ fn same_id(out: &mut Findings, pgn: &PgnRef)
     }
 }
 
+// No `FieldRule`, which would read the whole field: the id alone is read.
 #[tactic(auto, unfolding(crate::specs::UniqueIds::unique_field_ids))]
 fn unique_field_ids(out: &mut Findings, pgn: &PgnRef)
     ensures { Emitted out.old (unique_field_ids (tree_of pgn.now) pgn.now.item (pgn_value pgn.now)) out.new }

@@ -18,7 +18,7 @@ use Rattle.walk.specs.declared.walk.Ended.{Ended}
 abbrev pub in_pack : Pack → (tree pgn : ℕ) → Bool
 in_pack P t i = (t <ᵇ 3) && (i <ᵇ length (pgns_of P t))
 
--- "the end": whole, used up, or a stop by its number
+-- "the end": whole, used up, or a stop
 abbrev pub ending : End → Ending
 ending whole = Whole
 ending used_up = UsedUp

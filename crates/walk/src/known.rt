@@ -17,8 +17,8 @@ use crate::stops::{Stop, judge, names_missing};
 use pack::loaded::LookupRef;
 
 // The marks: of a field that stops at no reading; of one whose readings are not kept; of one that names a fieldtype lookup and was visited once.
-// Between the first two lie those of fields of which one to four readings are kept. Numbers of one byte and no enum: one that holds the count
-// takes two, and the stack has no 32 KiB more.
+// Between the first two lie those of fields of which one to four readings are kept. Numbers and no enum: eight names would be turned into the count
+// of kept readings and back at each use; an enum that holds the count takes two bytes, and the stack has no 32 KiB more.
 const FREE: u8 = 1;
 
 const TOO_MANY: u8 = 6;
@@ -86,7 +86,7 @@ impl Memory {
         }
     }
 
-    // The reading v at place i, if there is room.
+    // The reading v at place i, if there is room. Not by `get_mut`, as at `mark`.
     fn put_value(&mut self, i: usize, v: u64)
         ensures { self.new ≡ record { marks = self.old.marks; bad = set self.old.bad i v } }
     {

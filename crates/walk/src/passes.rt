@@ -16,9 +16,9 @@ use crate::orders::index_of;
 use crate::sets::{Set, Sets, is_nonempty, placed};
 use pack::protocol::{FieldOrder, same_order};
 
-// What is left of each set, and the latest reading of its countField: four numbers a set (specs/State), since options in an array
-// of four were measured, and slower (docs/DECISIONS.md 66, 68). Made once a walk, and lent: a value as large, copied at each step, would cost more
-// than the step.
+// What is left of each set, and the latest reading of its countField: four numbers a set (specs/State), since values with flags or arrays of four
+// were measured, and slower (docs/DECISIONS.md 66, 68). Made once a walk, and lent: a value as large, copied at each step, would cost more than the
+// step.
 #[derive(Drop)]
 pub struct Passes {
     pub numbers: [u64; 16],

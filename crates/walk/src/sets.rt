@@ -1,5 +1,6 @@
 // The repeating sets of a PGN as values: "sets and countField use orders". Loops over them go by an index up to four, which the compiler unrolls
-// (docs/DECISIONS.md 68).
+// (docs/DECISIONS.md 68). Which set it is is asked to be below 4, and an order to be one, as the bound of an index: types of their own would be taken
+// apart at each `[k]` and at each comparison with a set that begins at 0.
 ghost use Rattle.std.specs.Prelude.{◌≡◌, IfSome, ◌&&◌, ◌||◌, suc, ◌+◌, ◌<◌, ◌==◌};
 ghost use Rattle.pack.specs.Loaded.{pgn_value};
 ghost use Rattle.pack.specs.Meaning.{optional_repeating};

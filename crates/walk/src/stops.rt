@@ -91,7 +91,7 @@ fn field_stop(field: &FieldRef) -> Option<Stop>
     None
 }
 
-// Whether an entry of a fieldtype lookup names a missing field type or nested lookup.
+// Whether an entry of a fieldtype lookup names a missing field type or nested lookup. Its view is enough, since it is read already.
 #[tactic(auto, unfolding(crate::specs::Stops::names_missing))]
 pub fn names_missing(pack: &Pack, e: EntryView) -> bool
     ensures { result ≡ names_missing (pack_of pack.now.bytes.now) (entry_meaning pack.now.bytes.now e) }

@@ -108,6 +108,7 @@ fn walk_found(found: &FoundPgn, readings: &[u64], visits: &mut [u32]) -> Result<
     })
 }
 
+// The call `walk`, by the C interface's numbers. It makes its `Pack` itself (see there).
 pub fn walk(
     pack: &[u8],
     work: &mut [u32],
@@ -129,6 +130,7 @@ pub fn walk(
     walk_found(&found_pgn(&pgn), readings, visits)
 }
 
+// The call `held`, likewise.
 pub fn held(pack: &[u8], work: &mut [u32], tree: u32, pgn: u32) -> Result<bool, Refusal>
     ensures { TellsHeld pack.now tree pgn work.old work.new result }
 {
