@@ -49,7 +49,7 @@ fn find_all(numbers: &mut [u32], pack: &Pack) -> usize
     found.count
 }
 
-// How many of the first n findings of the buffer are errors.
+// How many of the first n findings of the buffer are errors. By the number's index, as the definitions count them.
 #[tactic(auto, using(crate::specs::SearchLaws::count_turn))]
 fn count_errors(findings: &[u32], n: usize) -> usize
     requires { 8 * n ≤ length findings.now }

@@ -46,14 +46,17 @@ fn same_unit(s: &[u8], a: Option<Text>, b: Option<Text>) -> bool
 }
 
 // What a view says of a field's scaling, its patterns as floats.
-fn scaling_of(v: ScalingView) -> Scaling
-    ensures { result ≡ (record { width = v.bits; resolution = of_bits binary64 v.resolution; offset = of_bits binary64 v.offset; unit = v.unit }) }
-{
-    Scaling {
-        width: v.bits,
-        resolution: float(v.resolution),
-        offset: float(v.offset),
-        unit: v.unit,
+impl From<ScalingView> for Scaling {
+    ghost from_gives = { λ v s.
+        s ≡ record { width = v.bits; resolution = of_bits binary64 v.resolution; offset = of_bits binary64 v.offset; unit = v.unit } };
+
+    fn from(v: ScalingView) -> Scaling {
+        Scaling {
+            width: v.bits,
+            resolution: float(v.resolution),
+            offset: float(v.offset),
+            unit: v.unit,
+        }
     }
 }
 
@@ -64,8 +67,8 @@ fn same_scaling(s: &[u8], v: ScalingView, w: ScalingView) -> bool
         ((v.bits == w.bits) && float_eq v.resolution w.resolution && float_eq v.offset w.offset && same_unit
         (optional_bytes s.now v.unit) (optional_bytes s.now w.unit)) }
 {
-    let a = scaling_of(v);
-    let b = scaling_of(w);
+    let a = Scaling::from(v);
+    let b = Scaling::from(w);
     a.width == b.width
         && a.resolution == b.resolution
         && a.offset == b.offset

@@ -16,7 +16,7 @@ pub struct CheckedAlike {
     pub alike: bool,
 }
 
-// Finding i has the rule and the cause, numbers as the report has them.
+// Finding i has the rule and the cause, numbers as the report has them, by their indexes.
 fn finding_is(findings: &[u32], i: usize, rule: u32, cause: u32) -> bool
     requires { 8 * i + 8 ≤ length findings.now }
     ensures { result ≡ finding_is rule cause findings.now i }
