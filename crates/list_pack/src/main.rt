@@ -7,14 +7,14 @@ mod pgns;
 mod refusal;
 mod types;
 
-use listing::input::{LONGEST, load_pack, read_pack};
+use listing::input::{load_pack, read_pack};
+use listing::output::Stdout;
 use listing::words::Counted;
 use pack::loaded::Pack;
 use pack::protocol::Protocol;
 use refusal::InWords;
-use std::alloc::Global;
 use std::io;
-use std::io::{BufWriter, Write};
+use std::io::Write;
 
 fn list(out: &mut impl Write, pack: &Pack<'_>) -> io::Result<()> {
     let length = pack.bytes.len();
@@ -32,20 +32,29 @@ fn list(out: &mut impl Write, pack: &Pack<'_>) -> io::Result<()> {
     Ok(())
 }
 
-// No record has less than two bytes.
-fn load_and_list(out: &mut impl Write, alloc: Global, bytes: &[u8]) -> io::Result<()> {
-    let mut work = vec![in alloc; 0u32; bytes.len() / 2]?;
-    match load_pack(bytes, &mut work) {
+fn load_and_list(out: &mut impl Write, bytes: &[u8], work: &mut [u32]) -> io::Result<()> {
+    match load_pack(bytes, work) {
         Ok(pack) => list(out, &pack),
         Err(refusal) => writeln!(out, "{}", InWords(refusal)),
     }
 }
 
-fn main(rt: HostRuntime) -> io::Result<()> {
-    let mut out = BufWriter::new(rt.alloc(), io::writer(&rt))?;
-    match read_pack(&rt, LONGEST)? {
-        Some(bytes) => load_and_list(&mut out, rt.alloc(), &bytes)?,
-        None => writeln!(out, "too long")?,
+fn read_and_list(out: &mut impl Write, buf: &mut [u8], work: &mut [u32]) -> io::Result<()> {
+    match read_pack(buf) {
+        Some(bytes) => load_and_list(out, bytes, work),
+        None => writeln!(out, "too long"),
     }
-    out.flush()
+}
+
+// Not called with the arrays themselves: the check runs out of stack over the bounds of a million bytes.
+fn lend(buf: &mut [u8; 1_048_576], work: &mut [u32; 524_288]) -> io::Result<()> {
+    read_and_list(&mut Stdout, buf, work)
+}
+
+// Room for a pack that `load` takes, and for the offsets of its records: none has less than two bytes.
+fn main() {
+    let mut buf = [0u8; 1_048_576];
+    let mut work = [0u32; 524_288];
+    // A write that fails is passed over, so that there is nothing to tell.
+    let _ = lend(&mut buf, &mut work);
 }

@@ -1,29 +1,24 @@
 // The pack on standard input.
-ghost use Rattle.std.specs.Prelude.{◌≡◌, ◌≤◌, length, IfOk, IfSome, vec_len};
+ghost use Rattle.std.specs.Prelude.{◌≡◌, ◌≤◌, length, IfOk, IfSome};
 ghost use Rattle.std.specs.Result.{result_map_both};
 ghost use Rattle.pack.specs.Load.{loaded, work_after};
 
 use pack::load::{Refusal, load};
 use pack::loaded::Pack;
-use std::io;
-use std::io::Read;
 
-// As long as a pack may be that `load` takes.
-pub const LONGEST: u32 = 1_048_576;
+// Standard input, as the system numbers it.
+const STDIN: i32 = 0;
 
-// The whole input, if it has at most so many bytes.
-pub fn read_pack(rt: &(impl Input + AllocGlobal), longest: u32) -> io::Result<Option<Vec<u8>>>
-    ensures { IfOk result (λ input. IfSome input (λ pack. vec_len pack ≤ longest)) }
+// The whole input, if the buffer has room for it.
+pub fn read_pack(buf: &mut [u8]) -> Option<&[u8]>
+    ensures { IfSome result (λ pack. length pack.now ≤ length buf.old) }
 {
-    let mut pack = Vec::new(rt.alloc());
-    rt.reader()
-        .take(u64::from(longest) + 1)
-        .read_to_end(&mut pack)?;
-    if pack.len() <= longest as usize {
-        Ok(Some(pack))
-    } else {
-        Ok(None)
+    let n = io::read_full(STDIN, buf);
+    let mut more = [0u8; 1];
+    if n == buf.len() && io::read_full(STDIN, &mut more) == 1 {
+        return None;
     }
+    Some(&buf[..n])
 }
 
 // The pack that the bytes are, with a work buffer for it.

@@ -21,7 +21,7 @@ pub fn read_pack(pack: &mut [u8]) {
     }
 }
 
-// Written by crate io, which rests on two assumed contracts where std's writers rest on eight.
+// Written by crate io: a writer would be handed through all that print, and each would answer a `Result`.
 pub fn words(w: &[u8]) {
     io::write_all(1, w);
 }

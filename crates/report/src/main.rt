@@ -2,16 +2,16 @@
 #![tactic(auto)]
 
 use listing::input::read_pack;
+use listing::output::Stdout;
 use listing::words::Refused;
 use pack::load::Refusal;
-use rules::check::{Reported, check};
+use rules::check::check;
 use rules::place_text::place_text;
-use std::alloc::{AllocError, Global};
 use std::io;
-use std::io::{BufWriter, Write};
+use std::io::Write;
 
 // As long as a pack may be here, and the room for its records, its findings and a place text.
-const LONGEST: u32 = 65_536;
+const LONGEST: usize = 65_536;
 
 const ROOM: usize = 16_384;
 
@@ -36,24 +36,6 @@ impl From<io::Error> for Ended {
     }
 }
 
-// The buffers of the calls.
-#[derive(Drop)]
-struct Buffers {
-    work: Vec<u32>,
-    findings: Vec<u32>,
-    text: Vec<u8>,
-}
-
-impl Buffers {
-    fn new(alloc: Global) -> Result<Buffers, AllocError> {
-        Ok(Buffers {
-            work: vec![in alloc; 0; ROOM]?,
-            findings: vec![in alloc; 0; ROOM]?,
-            text: vec![in alloc; 0; TEXT]?,
-        })
-    }
-}
-
 // Rule, severity, place text, cause, part, other.
 fn write_finding(
     out: &mut impl Write,
@@ -72,26 +54,44 @@ fn write_finding(
 }
 
 // Every finding, and how many there are.
-fn report(out: &mut impl Write, alloc: Global, pack: &[u8]) -> Result<(), Ended> {
-    let mut buffers = Buffers::new(alloc).map_err(io::Error::from)?;
-    let Reported { findings, errors } = check(pack, &mut buffers.work, &mut buffers.findings)?;
-    let (numbers, _) = buffers.findings.as_chunks::<8>();
-    for finding in numbers.iter().take(findings) {
-        write_finding(out, pack, &mut buffers.work, &mut buffers.text, finding)?;
+fn report(
+    out: &mut impl Write,
+    pack: &[u8],
+    work: &mut [u32],
+    findings: &mut [u32],
+    text: &mut [u8],
+) -> Result<(), Ended> {
+    let found = check(pack, work, findings)?;
+    let (numbers, _) = findings.as_chunks::<8>();
+    for finding in numbers.iter().take(found.findings) {
+        write_finding(out, pack, work, text, finding)?;
     }
-    writeln!(out, "findings {findings} errors {errors}")?;
+    writeln!(out, "findings {} errors {}", found.findings, found.errors)?;
     Ok(())
 }
 
-fn main(rt: HostRuntime) -> io::Result<()> {
-    let mut out = BufWriter::new(rt.alloc(), io::writer(&rt))?;
-    match read_pack(&rt, LONGEST)? {
-        None => writeln!(out, "too long")?,
-        Some(pack) => match report(&mut out, rt.alloc(), &pack) {
-            Ok(()) => {}
-            Err(Ended::Refused(refusal)) => writeln!(out, "{}", Refused(refusal))?,
-            Err(Ended::Io(error)) => return Err(error),
-        },
+fn read_and_report(
+    out: &mut impl Write,
+    buf: &mut [u8],
+    work: &mut [u32],
+    findings: &mut [u32],
+    text: &mut [u8],
+) -> io::Result<()> {
+    let Some(pack) = read_pack(buf) else {
+        return writeln!(out, "too long");
+    };
+    match report(out, pack, work, findings, text) {
+        Ok(()) => Ok(()),
+        Err(Ended::Refused(refusal)) => writeln!(out, "{}", Refused(refusal)),
+        Err(Ended::Io(error)) => Err(error),
     }
-    out.flush()
+}
+
+fn main() {
+    let mut buf = [0u8; LONGEST];
+    let mut work = [0u32; ROOM];
+    let mut findings = [0u32; ROOM];
+    let mut text = [0u8; TEXT];
+    // A write that fails is passed over, so that there is nothing to tell.
+    let _ = read_and_report(&mut Stdout, &mut buf, &mut work, &mut findings, &mut text);
 }

@@ -7,8 +7,10 @@ mod passes;
 mod show;
 
 use arguments::{Arguments, ArgumentsError, read_arguments};
-use listing::input::{LONGEST, read_pack};
-use std::io::{BufWriter, Write};
+use listing::input::read_pack;
+use listing::output::Stdout;
+use std::alloc::Global;
+use std::io::Write;
 use std::{env, io};
 
 fn usage(out: &mut impl Write) -> io::Result<()> {
@@ -24,24 +26,34 @@ fn usage(out: &mut impl Write) -> io::Result<()> {
 
 // The name is empty where the argument is, or is too long.
 fn read_and_show(
-    rt: &HostRuntime,
     out: &mut impl Write,
+    buf: &mut [u8],
+    alloc: Global,
     arguments: &Arguments<'_>,
 ) -> io::Result<()> {
-    match read_pack(rt, LONGEST)? {
+    match read_pack(buf) {
         None => writeln!(out, "too long"),
         Some(_) if arguments.name.is_empty() => usage(out),
-        Some(pack) => show::show(out, rt.alloc(), &pack, arguments),
+        Some(pack) => show::show(out, alloc, pack, arguments),
     }
 }
 
+// Not called with the array itself: the check runs out of stack over the bounds of a million bytes.
+fn lend(buf: &mut [u8; 1_048_576], alloc: Global, arguments: &Arguments<'_>) -> io::Result<()> {
+    read_and_show(&mut Stdout, buf, alloc, arguments)
+}
+
+// Room for a pack that `load` takes.
+fn run(alloc: Global, arguments: &Arguments<'_>) -> io::Result<()> {
+    let mut buf = [0u8; 1_048_576];
+    lend(&mut buf, alloc, arguments)
+}
+
 fn main(rt: HostRuntime) -> io::Result<()> {
-    let mut out = BufWriter::new(rt.alloc(), io::writer(&rt))?;
     let args: Vec<String> = env::args(&rt)?.collect(rt.alloc())?;
     match read_arguments(rt.alloc(), &args) {
-        Ok(arguments) => read_and_show(&rt, &mut out, &arguments)?,
-        Err(ArgumentsError::Usage) => usage(&mut out)?,
-        Err(ArgumentsError::Io(error)) => return Err(error),
+        Ok(arguments) => run(rt.alloc(), &arguments),
+        Err(ArgumentsError::Usage) => usage(&mut Stdout),
+        Err(ArgumentsError::Io(error)) => Err(error),
     }
-    out.flush()
 }
