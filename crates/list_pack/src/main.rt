@@ -48,7 +48,9 @@ fn read_and_list(out: &mut impl Write, buf: &mut [u8], work: &mut [u32]) -> io::
 
 // Not called with the arrays themselves: the check runs out of stack over the bounds of a million bytes.
 fn lend(buf: &mut [u8; 1_048_576], work: &mut [u32; 524_288]) -> io::Result<()> {
-    read_and_list(&mut Stdout, buf, work)
+    let mut out = Stdout::new();
+    read_and_list(&mut out, buf, work)?;
+    out.flush()
 }
 
 // Room for a pack that `load` takes, and for the offsets of its records: none has less than two bytes.

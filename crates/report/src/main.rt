@@ -92,6 +92,8 @@ fn main() {
     let mut work = [0u32; ROOM];
     let mut findings = [0u32; ROOM];
     let mut text = [0u8; TEXT];
+    let mut out = Stdout::new();
     // A write that fails is passed over, so that there is nothing to tell.
-    let _ = read_and_report(&mut Stdout, &mut buf, &mut work, &mut findings, &mut text);
+    let _ = read_and_report(&mut out, &mut buf, &mut work, &mut findings, &mut text);
+    let _ = out.flush();
 }

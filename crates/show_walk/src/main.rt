@@ -39,21 +39,28 @@ fn read_and_show(
 }
 
 // Not called with the array itself: the check runs out of stack over the bounds of a million bytes.
-fn lend(buf: &mut [u8; 1_048_576], alloc: Global, arguments: &Arguments<'_>) -> io::Result<()> {
-    read_and_show(&mut Stdout, buf, alloc, arguments)
+fn lend(
+    out: &mut impl Write,
+    buf: &mut [u8; 1_048_576],
+    alloc: Global,
+    arguments: &Arguments<'_>,
+) -> io::Result<()> {
+    read_and_show(out, buf, alloc, arguments)
 }
 
 // Room for a pack that `load` takes.
-fn run(alloc: Global, arguments: &Arguments<'_>) -> io::Result<()> {
+fn run(out: &mut impl Write, alloc: Global, arguments: &Arguments<'_>) -> io::Result<()> {
     let mut buf = [0u8; 1_048_576];
-    lend(&mut buf, alloc, arguments)
+    lend(out, &mut buf, alloc, arguments)
 }
 
 fn main(rt: HostRuntime) -> io::Result<()> {
+    let mut out = Stdout::new();
     let args: Vec<String> = env::args(&rt)?.collect(rt.alloc())?;
     match read_arguments(rt.alloc(), &args) {
-        Ok(arguments) => run(rt.alloc(), &arguments),
-        Err(ArgumentsError::Usage) => usage(&mut Stdout),
-        Err(ArgumentsError::Io(error)) => Err(error),
+        Ok(arguments) => run(&mut out, rt.alloc(), &arguments)?,
+        Err(ArgumentsError::Usage) => usage(&mut out)?,
+        Err(ArgumentsError::Io(error)) => return Err(error),
     }
+    out.flush()
 }
