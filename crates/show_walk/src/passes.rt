@@ -16,6 +16,21 @@ fn begins(set: Option<RepeatingView>, order: FieldOrder) -> bool {
     set.is_some_and(|given| holds_order(set, order) && same_order(order, given.start))
 }
 
+fn counted_by(set: Option<RepeatingView>, order: FieldOrder) -> bool {
+    let Some(given) = set else {
+        return false;
+    };
+    given.count != 0
+        && given
+            .counter
+            .is_some_and(|counter| same_order(counter, order))
+}
+
+// Whether a nonempty set takes its passes from the field of that order.
+pub fn counts_passes(view: &PgnView, order: FieldOrder) -> bool {
+    view.sets.iter().any(|set| counted_by(*set, order))
+}
+
 // Once for each of the first n places whose set holds the order.
 pub fn indent(out: &mut impl Write, view: &PgnView, order: FieldOrder, n: usize) -> io::Result<()> {
     for set in view.sets.iter().take(n) {

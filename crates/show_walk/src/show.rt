@@ -1,7 +1,7 @@
 // The walk over a PGN, visit by visit.
 use crate::arguments::Arguments;
 use crate::find::find;
-use crate::passes::{Passes, indent};
+use crate::passes::{Passes, counts_passes, indent};
 use listing::input::load_pack;
 use listing::words::{Counted, Refused, protocol_name, text};
 use pack::loaded::{Pack, PgnRef};
@@ -10,6 +10,7 @@ use rules::check::{Reported, check};
 use std::alloc::{AllocError, Global};
 use std::io::Write;
 use std::{fmt, io};
+use walk::counts::unavailable;
 use walk::walk::{End, Ended, Stop, held, walk};
 
 const FINDINGS: usize = 16_384;
@@ -102,7 +103,11 @@ fn show_visit(
     indent(out, &view, order, view.places as usize)?;
     write!(out, "order {}", order.0)?;
     text(out, " ", pgn.pack.text(field.names.id))?;
-    writeln!(out, " reading {reading}")
+    write!(out, " reading {reading}")?;
+    if counts_passes(&view, order) && unavailable(field.scaling.bits, reading) {
+        write!(out, ", count not available")?;
+    }
+    writeln!(out)
 }
 
 // "At a field, in this order", and before.

@@ -1,11 +1,12 @@
 -- Small walks, by computation: each end and each stop.
-use Prim.Native.Nat.{ℕ}
+use Prim.Native.Nat.{ℕ, ◌-◌, ◌^◌}
 use native.Mathlib.Omega.{arith}
 use mathlib.Core.Path.{◌≡◌, refl}
 use mathlib.Core.Bool.{Bool, true, false}
-use mathlib.Core.List.{List, [], ◌∷◌}
+use mathlib.Core.List.{List, [], ◌∷◌, ◌++◌}
 use Rattle.std.specs.Prelude.{Option, None, Some}
-use lib.ListN.{length}
+use lib.ListN.{length, replicate}
+use Rattle.pack.specs.Notation.{tab}
 use Rattle.pack.specs.Value.{Bytes, FieldType, Entry, Reference, Repeating, Field, Pgn, Pack}
 use Rattle.rules.specs.Model.{target}
 use Rattle.rules.specs.DynamicLength.{length_source}
@@ -18,7 +19,7 @@ use Rattle.rules.specs.Search.{every_below}
 use Rattle.walk.specs.Layout.{Layout, sets_hold, share, nested_in, inside_previous, misplaced, clash, stop_1, layout}
 use Rattle.walk.specs.Stops.{is_missing, lookup_missing, unfit, match_unfit, names_missing, entries_name_missing, lookup_names_missing}
 use Rattle.walk.specs.Stops.{reference_names_missing, lacks, lacks_length, stop_at}
-use Rattle.walk.specs.Passes.{put, arrives, look, close, stand}
+use Rattle.walk.specs.Passes.{unavailable, put, arrives, look, close, stand}
 use Rattle.walk.specs.Visits.{visited, latest, is_current}
 use Rattle.walk.specs.Walk.{End, whole, used_up, stop, Answer, arrive, settle, settled, onward, walk_on, walk_with, by_visits, walk}
 use Rattle.walk.specs.Held.{shares_held, count_field_held, count_fields_held, bit_length_held, dynamic_value_held, held}
@@ -197,6 +198,97 @@ nested = pgn (set 3 3 (Some 2) false) (set 4 2 (Some 3) true) (a ∷ b ∷ c ∷
 twice_and_not_at_all : run nested (9 ∷ 2 ∷ 2 ∷ 1 ∷ 1 ∷ 1 ∷ 1 ∷ 0 ∷ 5 ∷ 8 ∷ []) ≡ answer whole (0 ∷ 1 ∷ 2 ∷ 3 ∷ 4 ∷ 3 ∷ 4 ∷ 2 ∷ 5 ∷ [])
 unfolding run
 twice_and_not_at_all = refl
+
+-- COUNTS THAT ARE NOT AVAILABLE: all ones of 2 to 64 bits
+all_ones : tab (λ bits. unavailable bits (2 ^ bits - 1)) 70 ≡ false ∷ false ∷ replicate 63 true ++ replicate 5 false
+all_ones = refl
+
+-- z, of so many bits, counts the passes of b
+abbrev z_bits : ℕ → Field
+z_bits bits = field (bytes "z") NUMBER bits 0 None None None None None
+
+abbrev counted_by : ℕ → Pgn
+counted_by bits = pgn (set 2 1 (Some 1) false) None (z_bits bits ∷ b ∷ c ∷ [])
+
+count_255 : run (counted_by 8) (255 ∷ 7 ∷ []) ≡ answer whole (0 ∷ 2 ∷ [])
+unfolding run
+count_255 = refl
+
+count_254 : run (counted_by 8) (254 ∷ replicate 255 7) ≡ answer whole (0 ∷ replicate 254 1 ++ (2 ∷ []))
+unfolding run
+count_254 = refl
+
+count_254_cut : run (counted_by 8) (254 ∷ 7 ∷ 7 ∷ []) ≡ answer used_up (0 ∷ 1 ∷ 1 ∷ [])
+unfolding run
+count_254_cut = refl
+
+-- more than the bits can hold
+count_256 : run (counted_by 8) (256 ∷ replicate 257 7) ≡ answer whole (0 ∷ replicate 256 1 ++ (2 ∷ []))
+unfolding run
+count_256 = refl
+
+count_255_of_16_bits : run (counted_by 16) (255 ∷ replicate 256 7) ≡ answer whole (0 ∷ replicate 255 1 ++ (2 ∷ []))
+unfolding run
+count_255_of_16_bits = refl
+
+-- one bit counts
+count_1_bit : run (counted_by 1) (1 ∷ 7 ∷ 7 ∷ []) ≡ answer whole (0 ∷ 1 ∷ 2 ∷ [])
+unfolding run
+count_1_bit = refl
+
+count_2_bits : run (counted_by 2) (3 ∷ 7 ∷ []) ≡ answer whole (0 ∷ 2 ∷ [])
+unfolding run
+count_2_bits = refl
+
+count_2_of_2_bits : run (counted_by 2) (2 ∷ 7 ∷ 7 ∷ 7 ∷ []) ≡ answer whole (0 ∷ 1 ∷ 1 ∷ 2 ∷ [])
+unfolding run
+count_2_of_2_bits = refl
+
+count_63_bits : run (counted_by 63) ((2 ^ 63 - 1) ∷ 7 ∷ []) ≡ answer whole (0 ∷ 2 ∷ [])
+unfolding run
+count_63_bits = refl
+
+count_64_bits : run (counted_by 64) ((2 ^ 64 - 1) ∷ 7 ∷ []) ≡ answer whole (0 ∷ 2 ∷ [])
+unfolding run
+count_64_bits = refl
+
+-- plain: all ones of other bits
+count_63_of_64_bits : run (counted_by 64) ((2 ^ 63 - 1) ∷ 7 ∷ 7 ∷ []) ≡ answer used_up (0 ∷ 1 ∷ 1 ∷ [])
+unfolding run
+count_63_of_64_bits = refl
+
+count_64_of_63_bits : run (counted_by 63) ((2 ^ 64 - 1) ∷ 7 ∷ 7 ∷ []) ≡ answer used_up (0 ∷ 1 ∷ 1 ∷ [])
+unfolding run
+count_64_of_63_bits = refl
+
+count_65_bits : run (counted_by 65) ((2 ^ 64 - 1) ∷ 7 ∷ 7 ∷ []) ≡ answer used_up (0 ∷ 1 ∷ 1 ∷ [])
+unfolding run
+count_65_bits = refl
+
+-- the last set: nothing of it is visited, and nothing is read
+count_255_at_the_end : run (pgn (set 2 1 (Some 1) false) None (a ∷ b ∷ [])) (255 ∷ []) ≡ answer whole (0 ∷ [])
+unfolding run
+count_255_at_the_end = refl
+
+-- one countField of two sets
+count_255_twice : run (pgn (set 2 1 (Some 1) false) (set 4 1 (Some 1) false) (a ∷ b ∷ c ∷ d ∷ e ∷ [])) (255 ∷ 7 ∷ 7 ∷ []) ≡ answer whole (0 ∷ 2 ∷ 4 ∷ [])
+unfolding run
+count_255_twice = refl
+
+-- a nested set, in each pass of the outer one anew; an outer set with what is nested in it
+count_255_nested : run nested (9 ∷ 3 ∷ 255 ∷ 2 ∷ 7 ∷ 7 ∷ 7 ∷ 7 ∷ 255 ∷ 8 ∷ []) ≡ answer whole (0 ∷ 1 ∷ 2 ∷ 2 ∷ 3 ∷ 4 ∷ 3 ∷ 4 ∷ 2 ∷ 5 ∷ [])
+unfolding run
+count_255_nested = refl
+
+count_255_outer : run nested (9 ∷ 255 ∷ 8 ∷ []) ≡ answer whole (0 ∷ 1 ∷ 5 ∷ [])
+unfolding run
+count_255_outer = refl
+
+-- stop 2 comes first: the countField was read, but lies in a set that has been left
+count_255_left : run (pgn (set 2 1 (Some 1) false) (set 3 1 (Some 2) false) (a ∷ b ∷ c ∷ [])) (1 ∷ 255 ∷ 7 ∷ [])
+    ≡ answer (stop CounterNotCurrent) (0 ∷ 1 ∷ [])
+unfolding run
+count_255_left = refl
 
 -- STOP 1: start 0; past the fields; a nested set 1; a nested set 2 that is not inside
 start_0 : run (pgn (set 0 1 None false) None (a ∷ b ∷ [])) (1 ∷ []) ≡ answer (stop SetMisplaced) []

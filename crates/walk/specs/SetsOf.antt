@@ -1,22 +1,30 @@
 -- What the values of the repeating sets are: a set's, and those of a layout.
-use Rattle.std.specs.Prelude.{None, ℕ, suc, ◌+◌, ◌≤◌, ◌≡◌, Bool, false, not, ◌&&◌, ◌||◌, length, get_or, ◌==◌}
+use Rattle.std.specs.Prelude.{Option, None, Some, ℕ, zero, suc, ◌+◌, ◌≤◌, ◌≡◌, Bool, false, not, ◌&&◌, ◌||◌, List, length, get_or, ◌==◌}
 use Rattle.pack.specs.Meaning.{opt_order}
 use Rattle.pack.specs.Notation.{◌<ᵇ◌, ◌≤ᵇ◌}
-use Rattle.pack.specs.Value.{Repeating}
+use Rattle.pack.specs.Value.{Field, no_field, Repeating}
 use Rattle.walk.specs.Layout.{Layout, set_at}
 use Rattle.walk.specs.declared.sets.Set.{Set}
 use Rattle.walk.specs.declared.sets.Sets.{Sets}
 
-pub record SetIs (R : Repeating) (v : Set) : Type 0 where
+-- `res_bits` of the countField; 0 without one, or where no field has its order
+abbrev pub count_bits : List Field → Option ℕ → ℕ
+count_bits fields None = 0
+count_bits fields (Some zero) = 0
+count_bits fields (Some (suc t)) = (get_or fields t no_field).res_bits
+
+-- of a PGN with these fields
+pub record SetIs (fields : List Field) (R : Repeating) (v : Set) : Type 0 where
   pub start : v.start.0 ≡ R.start
   pub end : v.end.0 ≡ R.start + R.count
   pub counter : opt_order v.counter ≡ R.count_field
+  pub bits : v.count_bits ≡ count_bits fields R.count_field
   pub nested : v.nested ≡ R.nested
 
 -- what stands beyond the last set: it is empty
 abbrev pub empty_set : Set
 empty_set =
-    record { start = record { 0 = 0 }; end = record { 0 = 0 }; counter = None; nested = false }
+    record { start = record { 0 = 0 }; end = record { 0 = 0 }; counter = None; count_bits = 0; nested = false }
 
 -- set k
 abbrev pub value_at : Sets → ℕ → Set
@@ -26,7 +34,7 @@ value_at v k = get_or v.sets k empty_set
 pub record SetsAre (L : Layout) (v : Sets) : Type 0 where
   pub fields : v.fields ≡ length L.fields
   pub few : length L.sets ≤ 4
-  pub set : (k : ℕ) → SetIs (set_at L k) (value_at v k)
+  pub set : (k : ℕ) → SetIs L.fields (set_at L k) (value_at v k)
 
 -- ---- a set's value: its nonempty, holds, misplaced, as `Layout` says them of set k
 

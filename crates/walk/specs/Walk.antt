@@ -57,7 +57,7 @@ abbrev pub Stops : Type 0
 Stops = (ℕ → Bool) → ℕ → ℕ → Option Stop
 
 module _ (L : Layout) {M : Type 0} (m : Memory M) where
-  -- "On arriving at a nonempty set, a countField gives the passes: its reading as it is; stop 2 if not current."
+  -- "On arriving at a nonempty set, a countField gives the passes" (`passes`); "stop 2 if not current."
   unfoldable pub arrive : Place → M → ℕ → Option ℕ → Arrival
   arrive p h k None = enter endless
   arrive p h k (Some zero) = not_current

@@ -1,5 +1,6 @@
 #![tactic(auto)]
 
+pub mod counts;
 pub mod guaranteed;
 mod held;
 mod known;

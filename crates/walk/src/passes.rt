@@ -3,15 +3,17 @@ ghost use Rattle.std.specs.Prelude.{◌≡◌, true, false, not, ◌&&◌, ℕ, 
 ghost use Rattle.std.specs.Prelude.{None, Some};
 ghost use Rattle.rules.specs.Search.{any_below};
 ghost use Rattle.pack.specs.Meaning.{opt_order};
+ghost use Rattle.pack.specs.Value.{Field};
 ghost use Rattle.walk.specs.ByPlace.{by_place, counts};
 ghost use Rattle.walk.specs.Layout.{Layout, set_at};
-ghost use Rattle.walk.specs.Passes.{Place, present, turn, again, arrived, look, close, stand};
+ghost use Rattle.walk.specs.Passes.{passes, Place, present, turn, again, arrived, look, close, stand};
 ghost use Rattle.walk.specs.Runs.{Turns};
 ghost use Rattle.walk.specs.SetsOf.{SetIs, SetsAre, value_at, has_orders};
 ghost use Rattle.walk.specs.State.{rest_of, left_of, left_at, with_numbers, with_left, place_of, memory_of, turn_of, stand_of, arrived_set};
 ghost use Rattle.walk.specs.State.{arrival_of, settled_of, round_of, over_order};
 ghost use Rattle.walk.specs.Walk.{arrive, counted, past, halted, due, settle, settled};
 
+use crate::counts::unavailable;
 use crate::orders::index_of;
 use crate::sets::{Set, Sets, is_nonempty, placed};
 use pack::protocol::{FieldOrder, same_order};
@@ -103,29 +105,29 @@ fn arrives(set: Set, o: FieldOrder, left: Option<Further>) -> bool
     is_nonempty(set) && same_order(set.start, o) && left.is_none()
 }
 
-// "a countField gives the passes: its reading as it is"
-fn counted_passes(count: u64) -> Arriving
-    ensures { arrival_of result ≡ counted true count }
+// The passes that the reading of a countField of so many bits gives: none where the count is not available.
+fn counted_passes(bits: u32, count: u64) -> Arriving
+    ensures { (f : Field) → f.res_bits ≡ bits → arrival_of result ≡ counted true (passes f count) }
 {
-    if count == 0 {
+    if unavailable(bits, count) || count == 0 {
         return Arriving::Over;
     }
     Arriving::Enter(Further::More(count - 1))
 }
 
 // "stop 2 if not current"; "Without countField its passes never end."
-fn arrive(sets: Sets, o: FieldOrder, counter: Option<FieldOrder>, count: u64) -> Arriving
-    ensures { (L : Layout) → SetsAre L sets → (p : Place) → p.order ≡ o.0 → (g : ℕ → ℕ) (k : ℕ) → g k ≡ count
-        → arrival_of result ≡ arrive L (by_place L) p g k (opt_order counter) }
+fn arrive(sets: Sets, o: FieldOrder, set: Set, count: u64) -> Arriving
+    ensures { (L : Layout) → SetsAre L sets → (k : ℕ) → SetIs L.fields (set_at L k) set → (p : Place) → p.order ≡ o.0 → (g : ℕ → ℕ) → g k ≡ count
+        → arrival_of result ≡ arrive L (by_place L) p g k (set_at L k).count_field }
 {
-    let Some(counter) = counter else {
+    let Some(counter) = set.counter else {
         return Arriving::Enter(Further::Endless);
     };
     if counter.0 == 0 {
         return Arriving::NotCurrent;
     }
     if placed(sets, o, index_of(counter)) {
-        return counted_passes(count);
+        return counted_passes(set.count_bits, count);
     }
     Arriving::NotCurrent
 }
@@ -226,7 +228,7 @@ impl Passes {
     fn close(&mut self, set: Set, o: FieldOrder, k: usize) -> bool
         requires { k < 4 }
         ensures { record {
-          closes : (L : Layout) → SetIs (set_at L k) set → close L (suc k) (place_of o.0 self.old.numbers)
+          closes : (L : Layout) → SetIs L.fields (set_at L k) set → close L (suc k) (place_of o.0 self.old.numbers)
               ≡ (if result then again k (place_of set.start.0 self.new.numbers) else close L k (place_of o.0 self.new.numbers));
           memory : memory_of self.new.numbers ≡ memory_of self.old.numbers;
         } }
@@ -288,7 +290,7 @@ impl Passes {
         } }
     {
         let set = sets.sets[k];
-        match arrive(sets, o, set.counter, self.numbers[4 * k + 3]) {
+        match arrive(sets, o, set, self.numbers[4 * k + 3]) {
             Arriving::NotCurrent => Round::Settled(Settling::Halted),
             Arriving::Over => Round::Over(set.end),
             Arriving::Enter(further) => {

@@ -1,26 +1,28 @@
 // The repeating sets of a PGN as values: "sets and countField use orders". Loops over them go by an index up to four, which the compiler unrolls
 // (docs/DECISIONS.md 68). Which set it is is asked to be below 4, and an order to be one, as the bound of an index: types of their own would be taken
 // apart at each `[k]` and at each comparison with a set that begins at 0.
-ghost use Rattle.std.specs.Prelude.{◌≡◌, IfSome, ◌&&◌, ◌||◌, suc, ◌+◌, ◌<◌, ◌==◌};
+ghost use Rattle.std.specs.Prelude.{◌≡◌, IfSome, ◌&&◌, ◌||◌, suc, ◌+◌, ◌<◌, ◌==◌, List};
 ghost use Rattle.pack.specs.Loaded.{pgn_value};
-ghost use Rattle.pack.specs.Meaning.{optional_repeating};
+ghost use Rattle.pack.specs.Meaning.{opt_order, optional_repeating};
 ghost use Rattle.pack.specs.Notation.{◌<ᵇ◌};
-ghost use Rattle.pack.specs.Value.{set_place};
+ghost use Rattle.pack.specs.Value.{Field, set_place};
 ghost use Rattle.walk.specs.ByPlace.{placed};
 ghost use Rattle.rules.specs.Search.{any_below};
 ghost use Rattle.walk.specs.Layout.{Layout, layout, no_set, set_or_empty, sets_hold, nested_in, inside_previous, misplaced, clash, stop_1};
-ghost use Rattle.walk.specs.SetsOf.{SetIs, SetsAre, has_orders, in_set, holds_both, sets_share, set_misplaced, set_inside};
+ghost use Rattle.walk.specs.SetsOf.{count_bits, SetIs, SetsAre, has_orders, in_set, holds_both, sets_share, set_misplaced, set_inside};
 
+use crate::orders::index_of;
 use pack::loaded::PgnRef;
 use pack::pgn::{RepeatingView, set_at};
 use pack::protocol::{FieldIndex, FieldOrder, precedes};
 
-// The orders from `start` to before `end`, none in an empty set; and the order of its countField.
+// The orders from `start` to before `end`, none in an empty set; and the order and width of its countField.
 #[derive(Clone, Copy)]
 pub struct Set {
     pub start: FieldOrder,
     pub end: FieldOrder,
     pub counter: Option<FieldOrder>,
+    pub count_bits: u32,
     pub nested: bool,
 }
 
@@ -33,21 +35,38 @@ pub struct Sets {
 
 // An empty set.
 fn no_set() -> Set
-    ensures { SetIs no_set result }
+    ensures { (fields : List Field) → SetIs fields no_set result }
 {
     let order = FieldOrder(0);
     Set {
         start: order,
         end: order,
         counter: None,
+        count_bits: 0,
         nested: false,
     }
 }
 
+// The width of a countField; 0 without one, or where no field has its order.
+fn count_bits(pgn: &PgnRef, counter: Option<FieldOrder>) -> u32
+    ensures { result ≡ count_bits (pgn_value pgn.now).fields (opt_order counter) }
+{
+    let Some(order) = counter else {
+        return 0;
+    };
+    if order.0 == 0 {
+        return 0;
+    }
+    let Some(field) = pgn.get_field(index_of(order).0) else {
+        return 0;
+    };
+    field.scaling.bits
+}
+
 // An absent set is empty.
-fn set_of(o: Option<RepeatingView>) -> Set
+fn set_of(pgn: &PgnRef, o: Option<RepeatingView>) -> Set
     requires { IfSome o (λ set. set.start.0 + set.count < 4294967296) }
-    ensures { SetIs (set_or_empty (optional_repeating o)) result }
+    ensures { SetIs (pgn_value pgn.now).fields (set_or_empty (optional_repeating o)) result }
 {
     let Some(set) = o else {
         return no_set();
@@ -56,6 +75,7 @@ fn set_of(o: Option<RepeatingView>) -> Set
         start: set.start,
         end: FieldOrder(set.start.0 + set.count),
         counter: set.counter,
+        count_bits: count_bits(pgn, set.counter),
         nested: set.nested,
     }
 }
@@ -63,10 +83,10 @@ fn set_of(o: Option<RepeatingView>) -> Set
 // The set at place k; an empty one where the PGN has no such place.
 fn set_in(pgn: &PgnRef, k: u32) -> Set
     requires { k < 4 }
-    ensures { SetIs (set_or_empty (set_place (pgn_value pgn.now) k)) result }
+    ensures { SetIs (pgn_value pgn.now).fields (set_or_empty (set_place (pgn_value pgn.now) k)) result }
 {
     if k < pgn.view.places {
-        return set_of(set_at(pgn.view, k));
+        return set_of(pgn, set_at(pgn.view, k));
     }
     no_set()
 }
