@@ -2,6 +2,7 @@
 //! `slip` says, one thing of it is changed to something out of a small pool. With no slips the pack is without error.
 
 mod change;
+mod counts;
 mod fields;
 mod hexadecimal;
 mod pools;

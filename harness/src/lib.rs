@@ -6,6 +6,7 @@ pub mod value;
 pub mod encode;
 pub mod reader;
 
+pub mod counts;
 pub mod finding;
 pub mod matches;
 pub mod rules;

@@ -57,7 +57,10 @@ impl Row {
 #[derive(Clone, Copy)]
 enum Passes {
     Endless,
-    Counted,
+    /// by the countField's latest reading; none by that of all ones, where it has one
+    Counted {
+        all_ones: Option<u64>,
+    },
     /// stop 2
     NotCurrent,
 }
@@ -93,7 +96,7 @@ impl Plan {
             let counter = order.checked_sub(1).map(|index| index as usize);
             passes[which] = Passes::NotCurrent;
             if let Some(counter) = counter.filter(|counter| current(&ranges, *counter, ranges[which].start)) {
-                passes[which] = Passes::Counted;
+                passes[which] = Passes::Counted { all_ones: all_ones(pgn.fields[counter].res_bits) };
                 rows[counter].counts[which] = true;
                 rows[counter].plain = false;
             }
@@ -164,7 +167,8 @@ impl Plan {
         let passes = match self.passes[which] {
             // more than there can be readings
             Passes::Endless => u64::MAX,
-            Passes::Counted => state.latest[which],
+            Passes::Counted { all_ones } if all_ones == Some(state.latest[which]) => 0,
+            Passes::Counted { .. } => state.latest[which],
             Passes::NotCurrent => return true,
         };
         if passes == 0 {
@@ -175,6 +179,11 @@ impl Plan {
         }
         false
     }
+}
+
+/// The count that is not available: every bit is set of a countField of 2 to 64 bits.
+fn all_ones(bits: u32) -> Option<u64> {
+    (2..=u64::BITS).contains(&bits).then(|| u64::MAX >> (u64::BITS - bits))
 }
 
 /// Whether a field is current where another is due.

@@ -50,7 +50,8 @@ walk    a case: pack, length of the work buffer, tree, index of the PGN, length 
                 held or not held, or refused NUMBER DETAIL
                 visits NUMBER .. (the whole visit buffer after the call of walk, refused or not)
         At most 32768 bytes of pack, 1024 numbers of work, 64 readings and a visit buffer of 80. Every end, several passes
-        of nested sets, PGNs held and not held, every form of match, refusals 1 to 8, 21, 23 and 25.
+        of nested sets, PGNs held and not held, every form of match, refusals 1 to 8, 21, 23 and 25. The last cases are
+        counts of all ones, which are not available in 2 to 64 bits, and the numbers next to them.
 ";
 /// A longer pack is recorded by its length alone.
 const SPELT: usize = 65_536;

@@ -210,6 +210,11 @@ fn parse_u64(text: &[u8]) -> Option<u64> {
     })
 }
 
+/// The largest number of so many bits, or of 64 where there are more.
+pub fn largest(bits: u32) -> u64 {
+    1u64.checked_shl(bits).map_or(u64::MAX, |above| above - 1)
+}
+
 /// What stands behind 0x or 0X.
 pub fn after_0x(text: &[u8]) -> Option<&[u8]> {
     text.strip_prefix(b"0x").or_else(|| text.strip_prefix(b"0X"))

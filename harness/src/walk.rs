@@ -1,5 +1,5 @@
-//! An independent field walk and `held` (document 01, "The walk"). The whole history of visits is kept, and "current" is
-//! asked of it as the paper words it.
+//! An independent field walk and `held` (document 01, "The walk", with document 02's count that is not available). The whole
+//! history of visits is kept, and "current" is asked of it as the paper words it.
 
 use crate::value::*;
 use std::fmt;
@@ -55,22 +55,52 @@ struct Stay {
     more: Option<u64>,
 }
 
+/// How many passes a countField's reading means.
+pub type Passes = fn(&Field, u64) -> u64;
+
+/// "A countField reading equal to 2^bits - 1, for `res_bits` of 2 to 64, now means no passes. All other widths keep their
+/// plain reading" (document 02).
+pub fn passes(count_field: &Field, reading: u64) -> u64 {
+    let bits = count_field.res_bits;
+    let not_available = (2..=64).contains(&bits) && u128::from(reading) == (1 << bits) - 1;
+    if not_available { 0 } else { reading }
+}
+
+/// The reading as it is, whatever it is (document 01).
+pub fn plain_passes(_: &Field, reading: u64) -> u64 {
+    reading
+}
+
+/// An arrival at a nonempty set with a countField.
+pub struct Arrival {
+    pub set: usize,
+    /// the visit that took the countField's latest reading; none where it is not current
+    pub taken: Option<usize>,
+}
+
 struct Walk<'a> {
     pack: &'a Pack,
     pgn: &'a Pgn,
     readings: &'a [u64],
+    passes: Passes,
     visits: Vec<u32>,
+    arrivals: Vec<Arrival>,
     /// set 1 and set 2: their present passes, none for a set that has been left
     stays: [Option<Stay>; 2],
 }
 
 pub fn walk(pack: &Pack, pgn: &Pgn, readings: &[u64]) -> Walked {
-    let mut walk = Walk { pack, pgn, readings, visits: Vec::new(), stays: [None, None] };
-    let end = if sets_are_walkable(pgn) { walk.run() } else { End::Stop(1) };
-    Walked { end, visits: walk.visits }
+    walk_by(passes, pack, pgn, readings).0
 }
 
-fn nonempty(pgn: &Pgn, set: usize) -> Option<&Repeating> {
+/// The walk that counts passes so, and its arrivals.
+pub fn walk_by(passes: Passes, pack: &Pack, pgn: &Pgn, readings: &[u64]) -> (Walked, Vec<Arrival>) {
+    let mut walk = Walk { pack, pgn, readings, passes, visits: Vec::new(), arrivals: Vec::new(), stays: [None, None] };
+    let end = if sets_are_walkable(pgn) { walk.run() } else { End::Stop(1) };
+    (Walked { end, visits: walk.visits }, walk.arrivals)
+}
+
+pub fn nonempty(pgn: &Pgn, set: usize) -> Option<&Repeating> {
     pgn.sets[set].as_ref().filter(|set| set.count > 0)
 }
 
@@ -167,7 +197,12 @@ impl Walk<'_> {
         }
         let passes = match this.count_field {
             None => None,
-            Some(count_field) => Some(self.current_reading(count_field).ok_or(End::Stop(2))?),
+            Some(order) => {
+                let taken = self.current_visit(order);
+                self.arrivals.push(Arrival { set, taken });
+                let reading = self.readings[taken.ok_or(End::Stop(2))?];
+                Some((self.passes)(&self.pgn.fields[order as usize - 1], reading))
+            }
         };
         if passes == Some(0) {
             return Ok(this.start + this.count);
@@ -176,19 +211,19 @@ impl Walk<'_> {
         Ok(order)
     }
 
-    /// The latest reading of a field that is current.
-    fn current_reading(&self, order: u32) -> Option<u64> {
+    /// The latest visit of a field that is current.
+    fn current_visit(&self, order: u32) -> Option<usize> {
         let index = order.checked_sub(1)?;
         let latest = self.visits.iter().rposition(|visit| *visit == index)?;
         let current = (0..2).all(|set| match nonempty(self.pgn, set) {
             Some(this) if this.holds(order) => self.stays[set].as_ref().is_some_and(|stay| stay.since <= latest),
             _ => true,
         });
-        current.then(|| self.readings[latest])
+        current.then_some(latest)
     }
 
     fn is_current(&self, index: usize) -> bool {
-        self.current_reading(index as u32 + 1).is_some()
+        self.current_visit(index as u32 + 1).is_some()
     }
 
     /// A target is the first field with that id; without one it is not current.

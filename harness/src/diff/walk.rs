@@ -1,8 +1,9 @@
 //! The walk and held calls over triples of pack, PGN and readings, with buffers of many lengths: what the model answers and
-//! leaves in the buffers, the walk without history beside it, and the library.
+//! leaves in the buffers, the walk without history beside it, the walk that reads counts plainly, and the library.
 
 use super::case::{Answers, Case, Lengths};
 use super::{Lent, PACKS_OF_MATCHES, Run, finish, keep};
+use crate::counts::{self, Counts, STOP_2, counters};
 use crate::damage::damage;
 use crate::encode::encode;
 use crate::finding::Finding;
@@ -22,6 +23,9 @@ const LONG: usize = 1000;
 /// Fields about as many as a walk can remember in a table of 256, and more: so many, each in so many packs.
 const MANY_FIELDS: [usize; 5] = [64, 255, 256, 257, 600];
 const MANY: usize = 40;
+
+/// So many packs with little else than counted sets.
+const PACKS_OF_COUNTS: usize = 500;
 
 /// `calls::walk_pgn` and `calls::held_pgn` against what 01 says of the buffers, and against the library where it is linked.
 /// No list brings a stop on a held PGN of a pack without error.
@@ -43,6 +47,10 @@ pub fn walk(seed: u64, count: usize) -> Run {
         let pack = run.generator.pack_of_matches();
         run.pack_and_damaged(&pack).map_err(|failure| format!("matches, pack {}: {failure}", run.packs))?;
     }
+    for _ in 0..PACKS_OF_COUNTS {
+        let pack = run.generator.pack_of_counts();
+        run.pack_and_damaged(&pack).map_err(|failure| format!("counts, pack {}: {failure}", run.packs))?;
+    }
     while run.triples < count {
         let pack = run.some_pack();
         run.pack_and_damaged(&pack).map_err(|failure| format!("pack {}: {failure}", run.packs))?;
@@ -52,9 +60,12 @@ pub fn walk(seed: u64, count: usize) -> Run {
          and no stop on a held PGN of a pack without error",
         run.triples, run.packs, run.refused
     );
-    let tables = [&run.ends, &run.pgns, &run.lists, &run.matches.table, &run.walks.table, &run.helds.table];
-    finish(&[&tables[..], &[&run.lengths.table]].concat())
+    let tables = [&run.ends, &run.pgns, &run.lists, &run.counts, &run.safe_counts, &run.matches.table];
+    finish(&[&tables[..], &[&run.walks.table, &run.helds.table, &run.lengths.table]].concat())
 }
+
+/// A walk with counts that are not available, which goes as the plain walk over 0 in their place.
+const AS_ZEROS: &str = "as over zeros";
 
 /// The buffers whose lengths are varied.
 const BUFFERS: [&str; 2] = ["work", "visits"];
@@ -68,6 +79,9 @@ struct WalkRun {
     ends: Table,
     pgns: Table,
     lists: Table,
+    /// of all walks, and of those that no list may stop
+    counts: Table,
+    safe_counts: Table,
     matches: Matches,
     walks: Answers,
     helds: Answers,
@@ -89,6 +103,7 @@ impl WalkRun {
         let lists = ["empty", "short", "long", "long, safe", "again", "nested again"];
         let stops = ["stop at 0", "stop later", "stop again", "past 256", "stop past 256"];
         let harmful = HARMFUL.map(|kind| format!("{kind}, safe"));
+        let counts = || counts::rows().chain([AS_ZEROS]);
         WalkRun {
             generator: Generator::new(seed),
             packs: 0,
@@ -97,6 +112,8 @@ impl WalkRun {
             ends: Table::new("ends of walks", End::all().map(|end| end.to_string())),
             pgns: Table::new("PGNs", kinds.map(String::from)),
             lists: Table::new("lists walked", lists.into_iter().chain(stops).map(String::from).chain(harmful)),
+            counts: Table::new("counts taken", counts().map(String::from)),
+            safe_counts: Table::new("counts taken, safe", counts().filter(|row| *row != STOP_2).map(String::from)),
             matches: Matches::new(),
             walks: Answers::new("answers of walk", "walked", &[21, 23, 25]),
             helds: Answers::new("answers of held", "told", &[21, 23]),
@@ -106,7 +123,7 @@ impl WalkRun {
 
     fn some_pack(&mut self) -> Pack {
         let rng = &mut self.generator.rng;
-        match rng.below(512) {
+        let mut pack = match rng.below(512) {
             0 => {
                 let fields = rng.between(200, 600);
                 self.generator.pack_of_fields(fields)
@@ -116,7 +133,11 @@ impl WalkRun {
                 let bytes = rng.chance(1, 4);
                 self.generator.pack(bytes)
             }
+        };
+        if self.generator.rng.chance(1, 2) {
+            self.generator.change_counters(&mut pack);
         }
+        pack
     }
 
     /// A long pack: some of its PGNs, one list each.
@@ -145,7 +166,10 @@ impl WalkRun {
                 self.note(pgn, clean, held);
                 let named = Named { tree: tree as u32, item: item as u32, safe: clean && held };
                 for _ in 0..LISTS {
-                    let readings = self.readings(pgn, named.safe);
+                    let mut readings = self.readings(pgn, named.safe);
+                    if self.generator.rng.chance(1, 2) {
+                        self.generator.put_counts(pack, pgn, &mut readings);
+                    }
                     self.both(&case, named, &readings)?;
                 }
             }
@@ -237,7 +261,7 @@ impl WalkRun {
             }
             _ => {
                 self.note_matches(call, &model);
-                Ok(())
+                self.note_counts(call, &model)
             }
         }
     }
@@ -250,6 +274,26 @@ impl WalkRun {
                 self.matches.judged(&loaded.pack, field);
             }
         }
+    }
+
+    /// The counts that a walk took; that one which is not available is more than a 0 is a failure.
+    fn note_counts(&mut self, call: &Call, walked: &Walked) -> Run {
+        let (0, Ok(loaded), Some(pgn)) = (walked.numbers.0, &call.case.read, call.pgn()) else { return Ok(()) };
+        if counters(pgn).is_empty() {
+            return Ok(());
+        }
+        let counts = Counts::new(&loaded.pack, pgn, call.readings);
+        let as_zeros = counts.as_zeros();
+        if let Some((false, _)) = as_zeros {
+            return Err("the plain walk goes otherwise over 0 in place of each count that is not available".into());
+        }
+        for row in counts.reached().chain(as_zeros.filter(|(_, any)| *any).map(|_| AS_ZEROS)) {
+            self.counts.reached(row);
+            if call.named.safe {
+                self.safe_counts.reached(row);
+            }
+        }
+        Ok(())
     }
 
     /// How it ended; a stop that may not be is a failure.

@@ -30,7 +30,7 @@ const NEARLY: [&[&str]; 6] = [
 impl Generator {
     /// A number of at most so many bits: the largest, the one with the highest bit alone, a small or any one.
     fn number_within(&mut self, bits: u32) -> u64 {
-        let largest = 1u64.checked_shl(bits).map_or(u64::MAX, |above| above - 1);
+        let largest = largest(bits);
         match self.rng.below(4) {
             0 => largest,
             1 => largest - largest / 2,

@@ -24,7 +24,7 @@ impl Generator {
     }
 
     /// A pack without error and with a single PGN of so many fields.
-    fn pack_of_one(&mut self, fields: usize, hexadecimal: bool) -> Pack {
+    pub(super) fn pack_of_one(&mut self, fields: usize, hexadecimal: bool) -> Pack {
         self.bytes = false;
         self.slip = 0;
         self.hexadecimal = hexadecimal;

@@ -2,14 +2,16 @@
 
 use super::{LONGEST, Recording, SEED, UNTOUCHED, UNVISITED, first_packs, match_key, spaced};
 use crate::calls;
+use crate::counts::{self, Counts};
 use crate::damage::damage;
 use crate::encode::encode;
 use crate::generate::Generator;
 use crate::matches::{self, judged_in_walk};
 use crate::reader::{Loaded, Refusal, read};
-use crate::text::to_bytes;
+use crate::text::{to_bytes, to_pack};
 use crate::value::Pgn;
 use crate::walk::{End, Walked, held, passes_of_nested, walk};
+use std::ops::RangeInclusive;
 
 /// The buffers of the program that replays: no case has more.
 const BYTES: usize = 32_768;
@@ -20,7 +22,12 @@ const VISITS: usize = 80;
 /// What must be reached beside the refusals.
 pub fn all() -> impl Iterator<Item = String> {
     let more = ["held", "not held", NESTED_PASSES, WITHIN_A_SET, LONGER, NO_VISIT_BUFFER, OTHER_REFUSALS];
-    End::all().map(|end| end.to_string()).chain(more.map(String::from)).chain(matches::rows().map(match_key))
+    let rows = matches::rows().map(match_key).chain(counts::rows().map(count_key));
+    End::all().map(|end| end.to_string()).chain(more.map(String::from)).chain(rows)
+}
+
+fn count_key(row: &str) -> String {
+    format!("count {row}")
 }
 
 const NESTED_PASSES: &str = "several passes of a nested set in several of the outer";
@@ -81,7 +88,78 @@ pub fn walks() -> Recording {
             }
         }
     }
+    counts_at_edges(&mut out);
     out
+}
+
+/// Bits, and the readings of a countField: all ones and what stands next to it.
+const COUNTS: [(u32, &[u64]); 11] = [
+    (0, &[u64::MAX]),
+    (1, &[1]),
+    (2, &[2, 3, 4]),
+    (3, &[6, 7, 8]),
+    (8, &[254, 255, 256, 511, (1 << 32) + 255]),
+    (16, &[255, u16::MAX as u64]),
+    (63, &[u64::MAX / 2, u64::MAX / 2 + 1, u64::MAX]),
+    (64, &[u64::MAX / 2, u64::MAX - 1, u64::MAX]),
+    (65, &[u64::MAX]),
+    (66, &[u64::MAX]),
+    (u32::MAX - 16, &[u64::MAX]),
+];
+
+/// Sets, the fields of 8 bits behind them, by their orders, and lists of readings.
+type Counted = (&'static str, RangeInclusive<u32>, &'static [&'static [u64]]);
+
+/// One set or both passed over, each by its own countField or both by one; stop 2; a nested set passed over in some passes, an
+/// outer one with what is in it; a countField that another field continues.
+const COUNTS_OF_SETS: [Counted; 5] = [
+    (
+        "set 1 start 3 count 1 countField 1\nset 2 start 4 count 1 countField 2",
+        1..=4,
+        &[&[255, 2, 7, 7], &[1, 255, 7], &[255, 255], &[254, 254, 7]],
+    ),
+    (
+        "set 1 start 2 count 1 countField 1\nset 2 start 3 count 1 countField 1",
+        1..=4,
+        &[&[255, 7], &[2, 7, 7, 7, 7, 7]],
+    ),
+    ("set 1 start 2 count 1 countField 1\nset 2 start 3 count 1 countField 2", 1..=4, &[&[1, 255, 7], &[255, 255, 7]]),
+    (
+        "set 1 start 2 count 3 countField 1\nset 2 start 3 count 1 countField 2 nested",
+        1..=5,
+        &[&[3, 255, 7, 2, 7, 7, 7, 255, 7, 7], &[2, 2, 7, 7, 7, 255, 7, 7], &[255, 7]],
+    ),
+    (
+        "set 1 start 3 count 1 countField 1\nfield c C NUMBER bits 8\nfield d D NUMBER bits 8 continues c",
+        3..=4,
+        &[&[255, 7, 7], &[65_535, 7, 7]],
+    ),
+];
+
+/// Counts that are not available, and those next to them, in packs of their own.
+fn counts_at_edges(out: &mut Recording) {
+    for (bits, counts) in COUNTS {
+        let lines = format!("set 1 start 2 count 1 countField 1\nfield c C NUMBER bits {bits}");
+        for count in counts {
+            one_count(out, &lines, 2..=3, &[*count, 7, 7, 7]);
+        }
+    }
+    for (lines, fields, lists) in COUNTS_OF_SETS {
+        for readings in lists {
+            one_count(out, lines, fields.clone(), readings);
+        }
+    }
+}
+
+/// The walk over a PGN of these lines and these fields of 8 bits, kept whatever it shows.
+fn one_count(out: &mut Recording, lines: &str, fields: RangeInclusive<u32>, readings: &[u64]) {
+    let fields: String = fields.map(|order| format!("field f{order} F{order} NUMBER bits 8\n")).collect();
+    let text = format!("type NUMBER prints\ntree nmea2000\npgn 126208 a Fast\n{lines}\n{fields}");
+    let pack = to_pack(&text).expect("a countField and its set");
+    one_walk(out, &encode(&pack).bytes, [0, 0], readings, [0, 0], usize::MAX);
+    for row in Counts::new(&pack, &pack.trees[0][0], readings).reached() {
+        *out.reached.entry(count_key(row)).or_default() += 1;
+    }
 }
 
 /// Short packs for each form of match, before longer ones have it by chance.
