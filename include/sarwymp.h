@@ -118,8 +118,9 @@ uint32_t sarwymp_place_text(const uint8_t *pack, size_t pack_len, uint32_t *work
  * visited. `pgn` is the index of the PGN in its tree. Refused by 1 to 9, 21, 23 and 25; then no walk was made, and the
  * answer's numbers are no end and no visits.
  *
- * The latest reading of a set's countField is the number of its passes; but where the countField has 2 to 64 bits, all of
- * them ones (2^bits - 1) are a count that is not available, and no passes.
+ * The latest reading of a set's countField is the number of the set's passes, with one exception: where the res_bits of the
+ * countField are 2 to 64, a reading of 2^res_bits - 1, all ones, is a count that is not available, and means no passes. Every
+ * other reading is taken as it is, also one that so many bits cannot hold.
  *
  * On a held PGN of a pack without error (sarwymp_check was not refused and counts no error), the end is SARWYMP_END_WHOLE or
  * SARWYMP_END_USED_UP whatever the readings. */

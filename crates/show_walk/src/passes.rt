@@ -17,13 +17,12 @@ fn begins(set: Option<RepeatingView>, order: FieldOrder) -> bool {
 }
 
 fn counted_by(set: Option<RepeatingView>, order: FieldOrder) -> bool {
-    let Some(given) = set else {
-        return false;
-    };
-    given.count != 0
-        && given
-            .counter
-            .is_some_and(|counter| same_order(counter, order))
+    set.is_some_and(|given| {
+        given.count != 0
+            && given
+                .counter
+                .is_some_and(|counter| same_order(counter, order))
+    })
 }
 
 // Whether a nonempty set takes its passes from the field of that order.

@@ -74,7 +74,7 @@ module _ (L : Layout) (stops : Stops) (S : Sound L stops) where
   unfolding arrive
   answers p g k None e f = let z : ◌≡◌ {A = ℕ} 0 1 = cc in omega arith
   answers p g k (Some zero) e f = e
-  answers p g k (Some (suc t)) e f = go (passes (get_or L.fields t no_field) (g k)) (rw e at f)
+  answers p g k (Some (suc t)) e f = go (passes (get_or L.fields t no_field).res_bits (g k)) (rw e at f)
     where
       go : (n : ℕ) → counted true n ≡ not_current → ⊥
       go zero f = let z : ◌≡◌ {A = ℕ} 0 1 = cc in omega arith

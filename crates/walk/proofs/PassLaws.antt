@@ -10,13 +10,13 @@ use Rattle.std.specs.Prelude.{Option, None, Some}
 use lib.ListN.{length, get_or, get_or-eq_default}
 use borrow.Author.Tests.{ne_eqb, lt-ltb, le-ltb}
 use Rattle.pack.specs.Meaning.{opt_order}
-use Rattle.pack.specs.Value.{Field, no_field}
+use Rattle.pack.specs.Value.{no_field}
 use Rattle.walk.specs.Layout.{Layout, no_set, set_at, end}
 use Rattle.walk.specs.Passes.{passes, Rest, endless, Place, present, goto, goto_with, arrives, Stand, again, arrived, ready, beyond, look, Turn}
 use Rattle.walk.specs.Passes.{goes_on, leaves, begins, turn, close, stand}
 use Rattle.walk.specs.Walk.{Arrival, not_current, over, enter, counted, arrive, Settled, past, halted, due, settle, settled}
 use Rattle.walk.specs.ByPlace.{placed, by_place}
-use Rattle.walk.specs.SetsOf.{count_bits, SetIs, SetsAre, value_at, has_orders}
+use Rattle.walk.specs.SetsOf.{count_bits, IsSet, SetsAre, value_at, has_orders}
 use Rattle.walk.specs.State.{left_of, left_at, with_left, place_of, memory_of, stand_of, settled_of, round_of}
 use Rattle.pack.specs.declared.protocol.FieldOrder.{FieldOrder}
 use Rattle.walk.specs.declared.sets.Set.{Set}
@@ -32,7 +32,7 @@ use Rattle.walk.specs.declared.passes.Standing.TheVariants as standing
 use Rattle.walk.proofs.Rounds.{ends_ahead}
 
 -- On arriving at set k, by its value: p is the place, at the order o, and g has the countFields' latest readings.
-module _ (L : Layout) (k : ℕ) (set : Set) (is : SetIs L.fields (set_at L k) set) (p : Place) (g : ℕ → ℕ) where
+module _ (L : Layout) (k : ℕ) (set : Set) (is : IsSet L k set) (p : Place) (g : ℕ → ℕ) where
   counter : (m : Option FieldOrder) → set.counter ≡ m → opt_order m ≡ (set_at L k).count_field
   counter m e = ap opt_order (sym e) ∙ is.counter
 
@@ -46,7 +46,7 @@ module _ (L : Layout) (k : ℕ) (set : Set) (is : SetIs L.fields (set_at L k) se
 
   -- with a countField that is current or not: x is what comes of its passes
   pub arrive_at : (c : FieldOrder) → set.counter ≡ Some c → (c.0 ≡ 0 → ⊥) → (o : ℕ) → p.order ≡ o → (count : ℕ) → g k ≡ count
-      → (b : Bool) → b ≡ placed L o (c.0 - 1) → (x : Arrival) → ((f : Field) → f.res_bits ≡ set.count_bits → x ≡ counted b (passes f count))
+      → (b : Bool) → b ≡ placed L o (c.0 - 1) → (x : Arrival) → x ≡ counted b (passes set.count_bits count)
       → x ≡ arrive L (by_place L) p g k (set_at L k).count_field
   unfolding arrive
   arrive_at c e z o po count gc b h x ex = go c.0 z (counter (Some c) e) h
@@ -55,9 +55,8 @@ module _ (L : Layout) (k : ℕ) (set : Set) (is : SetIs L.fields (set_at L k) se
       go zero z q h = absurd (z refl)
       go (suc t) z q h =
           let d : suc t - 1 ≡ t = omega arith in
-          let f = get_or L.fields t no_field in
-          let same : counted b (passes f count) ≡ arrive L (by_place L) p g k (Some (suc t)) = rw (po, gc, h, d, arrive) in
-          rw (← q) (ex f (ap (count_bits L.fields) q ∙ sym is.bits) ∙ same)
+          let bits : set.count_bits ≡ (get_or L.fields t no_field).res_bits = is.bits ∙ ap (count_bits L.fields) (sym q) in
+          rw (← q) (ex ∙ rw (po, gc, h, d, bits, arrive))
 
 -- one round, on arriving at set k
 module _ (L : Layout) (p : Place) (g : ℕ → ℕ) (k : ℕ) (x : Arrival) (ex : x ≡ arrive L (by_place L) p g k (set_at L k).count_field) (n : ℕ) where
@@ -109,7 +108,7 @@ module _ (L : Layout) (g : ℕ → ℕ) where
     rounds_over (suc n) l h o e = let d : suc n - 1 ≡ n = omega arith in rw d (ap (λ (q : Round). round_of L n q w) (sym e) ∙ er n ∙ h)
 
 -- a pass of set k
-module _ (L : Layout) (k : ℕ) {set : Set} (is : SetIs L.fields (set_at L k) set) (p : Place) (x : Turn) (ex : x ≡ turn (p.order == set.end.0) (p.left k)) where
+module _ (L : Layout) (k : ℕ) {set : Set} (is : IsSet L k set) (p : Place) (x : Turn) (ex : x ≡ turn (p.order == set.end.0) (p.left k)) where
   turns : x ≡ turn (p.order == end L k) (p.left k)
   turns = rw is.end at ex
 
@@ -205,7 +204,7 @@ module _ {L : Layout} {v : Sets} (a : SetsAre L v) where
       not_there false x = refl
 
 -- what comes of set k's pass, in numbers: l is what is left of it, x its turn
-module _ (L : Layout) (k : ℕ) (set : Set) (is : SetIs L.fields (set_at L k) set) (o : ℕ) (w : List ℕ) (l : Option Further) (el : l ≡ left_at w k) (x : Turn)
+module _ (L : Layout) (k : ℕ) (set : Set) (is : IsSet L k set) (o : ℕ) (w : List ℕ) (l : Option Further) (el : l ≡ left_at w k) (x : Turn)
     (ex : x ≡ turn (o == set.end.0) (left_of l)) where
   turned : x ≡ turn (o == set.end.0) (left_of (left_at w k))
   turned = rw el at ex

@@ -195,18 +195,18 @@ module _ {L : Layout} {v : Sets} (a : SetsAre L v) where
 -- ---- four values are the sets of a PGN
 
 module _ (p : Pgn) (few : length p.sets ≤ 4) (a b c d : Set) (n : ℕ) (fields : n ≡ length p.fields) where
-  abbrev pub Placed : ℕ → Set → Type 0
-  Placed k v = SetIs p.fields (set_or_empty (set_place p k)) v
+  abbrev pub ValueAt : ℕ → Set → Type 0
+  ValueAt k v = SetIs p.fields (set_or_empty (set_place p k)) v
 
-  beyond : (k : ℕ) → Placed (suc (suc (suc (suc k)))) empty_set
+  beyond : (k : ℕ) → ValueAt (suc (suc (suc (suc k)))) empty_set
   beyond k =
       rw (get_or-eq_default p.sets None {n = suc (suc (suc (suc k)))} (omega arith))
       (record { start = refl; end = refl; counter = refl; bits = refl; nested = refl })
 
-  pub four_sets : Placed 0 a → Placed 1 b → Placed 2 c → Placed 3 d → SetsAre (layout p) (record { fields = n; sets = a ∷ b ∷ c ∷ d ∷ [] })
+  pub four_sets : ValueAt 0 a → ValueAt 1 b → ValueAt 2 c → ValueAt 3 d → SetsAre (layout p) (record { fields = n; sets = a ∷ b ∷ c ∷ d ∷ [] })
   four_sets is-a is_b is_c is-d = record { fields = fields; few = omega (arith, layout_length p); set = λ k. rw (layout_at p k) (go k) }
     where
-      go : (k : ℕ) → Placed k (value_at (record { fields = n; sets = a ∷ b ∷ c ∷ d ∷ [] }) k)
+      go : (k : ℕ) → ValueAt k (value_at (record { fields = n; sets = a ∷ b ∷ c ∷ d ∷ [] }) k)
       go zero = is-a
       go (suc zero) = is_b
       go (suc (suc zero)) = is_c

@@ -1,17 +1,17 @@
--- Where a walk stands between two visits, by the passes of the sets (document 01, "The walk"): which pass ends, which set is arrived at.
+-- Where a walk stands between two visits, by the passes of the sets (document 01, "The walk", and document 02, ticket 3): which pass ends, which set is
+-- arrived at.
 use Rattle.std.specs.Prelude.{ℕ, zero, suc, ◌-◌, ◌^◌, Bool, true, false, not, ◌&&◌, length, ◌==◌, if◌then◌else◌}
 use Rattle.std.specs.Prelude.{Option, None, Some}
 use Rattle.pack.specs.Notation.{◌<ᵇ◌, ◌≤ᵇ◌}
-use Rattle.pack.specs.Value.{Field}
 use Rattle.walk.specs.Layout.{Layout, start, end, nonempty}
 
--- A count that is not available: "a countField reading equal to 2^bits − 1, for `res_bits` of 2 to 64" (document 02, ticket 3)
+-- A count that is not available: "A countField reading equal to 2^bits − 1, for `res_bits` of 2 to 64"
 abbrev pub unavailable : ℕ → ℕ → Bool
 unavailable bits reading = (2 ≤ᵇ bits) && (bits ≤ᵇ 64) && (reading == 2 ^ bits - 1)
 
 -- The passes that the reading of a countField gives: such a one "now means no passes. All other widths keep their plain reading."
-abbrev pub passes : Field → ℕ → ℕ
-passes f reading = if unavailable f.res_bits reading then 0 else reading
+abbrev pub passes : ℕ → ℕ → ℕ
+passes bits reading = if unavailable bits reading then 0 else reading
 
 -- What is left of a set's passes after the present one: "Without countField its passes never end."
 pub data Rest : Type 0 where

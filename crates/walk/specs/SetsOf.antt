@@ -13,13 +13,17 @@ count_bits fields None = 0
 count_bits fields (Some zero) = 0
 count_bits fields (Some (suc t)) = (get_or fields t no_field).res_bits
 
--- of a PGN with these fields
+-- v is the value of the set R of a PGN with these fields
 pub record SetIs (fields : List Field) (R : Repeating) (v : Set) : Type 0 where
   pub start : v.start.0 ≡ R.start
   pub end : v.end.0 ≡ R.start + R.count
   pub counter : opt_order v.counter ≡ R.count_field
   pub bits : v.count_bits ≡ count_bits fields R.count_field
   pub nested : v.nested ≡ R.nested
+
+-- v is the value of set k
+abbrev pub IsSet : Layout → ℕ → Set → Type 0
+IsSet L k v = SetIs L.fields (set_at L k) v
 
 -- what stands beyond the last set: it is empty
 abbrev pub empty_set : Set
@@ -34,7 +38,7 @@ value_at v k = get_or v.sets k empty_set
 pub record SetsAre (L : Layout) (v : Sets) : Type 0 where
   pub fields : v.fields ≡ length L.fields
   pub few : length L.sets ≤ 4
-  pub set : (k : ℕ) → SetIs L.fields (set_at L k) (value_at v k)
+  pub set : (k : ℕ) → IsSet L k (value_at v k)
 
 -- ---- a set's value: its nonempty, holds, misplaced, as `Layout` says them of set k
 

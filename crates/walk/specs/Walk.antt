@@ -1,4 +1,4 @@
--- The walk over a PGN's fields and repeating sets (document 01, "The walk").
+-- The walk over a PGN's fields and repeating sets (document 01, "The walk", with ticket 3 of document 02 in `passes`).
 use Rattle.std.specs.Prelude.{ℕ, zero, suc, pred, Bool, true, false, List, [], ◌∷◌, length, get_or}
 use Rattle.std.specs.Prelude.{Option, None, Some}
 use Rattle.pack.specs.Value.{no_field, Pgn, Pack}
@@ -61,7 +61,7 @@ module _ (L : Layout) {M : Type 0} (m : Memory M) where
   unfoldable pub arrive : Place → M → ℕ → Option ℕ → Arrival
   arrive p h k None = enter endless
   arrive p h k (Some zero) = not_current
-  arrive p h k (Some (suc t)) = counted (m.current p h t) (passes (get_or L.fields t no_field) (m.reading h k t))
+  arrive p h k (Some (suc t)) = counted (m.current p h t) (passes (get_or L.fields t no_field).res_bits (m.reading h k t))
 
   -- Until a field is due. Each set that is passed over takes the order up, so that 1 + fields rounds are enough (`enough`).
   unfoldable pub settle : ℕ → Stand → M → Settled M

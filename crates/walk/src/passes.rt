@@ -3,12 +3,11 @@ ghost use Rattle.std.specs.Prelude.{◌≡◌, true, false, not, ◌&&◌, ℕ, 
 ghost use Rattle.std.specs.Prelude.{None, Some};
 ghost use Rattle.rules.specs.Search.{any_below};
 ghost use Rattle.pack.specs.Meaning.{opt_order};
-ghost use Rattle.pack.specs.Value.{Field};
 ghost use Rattle.walk.specs.ByPlace.{by_place, counts};
 ghost use Rattle.walk.specs.Layout.{Layout, set_at};
 ghost use Rattle.walk.specs.Passes.{passes, Place, present, turn, again, arrived, look, close, stand};
 ghost use Rattle.walk.specs.Runs.{Turns};
-ghost use Rattle.walk.specs.SetsOf.{SetIs, SetsAre, value_at, has_orders};
+ghost use Rattle.walk.specs.SetsOf.{IsSet, SetsAre, value_at, has_orders};
 ghost use Rattle.walk.specs.State.{rest_of, left_of, left_at, with_numbers, with_left, place_of, memory_of, turn_of, stand_of, arrived_set};
 ghost use Rattle.walk.specs.State.{arrival_of, settled_of, round_of, over_order};
 ghost use Rattle.walk.specs.Walk.{arrive, counted, past, halted, due, settle, settled};
@@ -107,7 +106,7 @@ fn arrives(set: Set, o: FieldOrder, left: Option<Further>) -> bool
 
 // The passes that the reading of a countField of so many bits gives: none where the count is not available.
 fn counted_passes(bits: u32, count: u64) -> Arriving
-    ensures { (f : Field) → f.res_bits ≡ bits → arrival_of result ≡ counted true (passes f count) }
+    ensures { arrival_of result ≡ counted true (passes bits count) }
 {
     if unavailable(bits, count) || count == 0 {
         return Arriving::Over;
@@ -117,7 +116,7 @@ fn counted_passes(bits: u32, count: u64) -> Arriving
 
 // "stop 2 if not current"; "Without countField its passes never end."
 fn arrive(sets: Sets, o: FieldOrder, set: Set, count: u64) -> Arriving
-    ensures { (L : Layout) → SetsAre L sets → (k : ℕ) → SetIs L.fields (set_at L k) set → (p : Place) → p.order ≡ o.0 → (g : ℕ → ℕ) → g k ≡ count
+    ensures { (L : Layout) → SetsAre L sets → (k : ℕ) → IsSet L k set → (p : Place) → p.order ≡ o.0 → (g : ℕ → ℕ) → g k ≡ count
         → arrival_of result ≡ arrive L (by_place L) p g k (set_at L k).count_field }
 {
     let Some(counter) = set.counter else {
@@ -228,7 +227,7 @@ impl Passes {
     fn close(&mut self, set: Set, o: FieldOrder, k: usize) -> bool
         requires { k < 4 }
         ensures { record {
-          closes : (L : Layout) → SetIs L.fields (set_at L k) set → close L (suc k) (place_of o.0 self.old.numbers)
+          closes : (L : Layout) → IsSet L k set → close L (suc k) (place_of o.0 self.old.numbers)
               ≡ (if result then again k (place_of set.start.0 self.new.numbers) else close L k (place_of o.0 self.new.numbers));
           memory : memory_of self.new.numbers ≡ memory_of self.old.numbers;
         } }

@@ -15,4 +15,4 @@ returns-then-placed c =
 pub returns : goal.returns
 returns c =
     λ L a k is p po g gk. arrive_at L k c.args.set is p g c.in-Some.counter c.in-Some.is c.if-counter-eq0.false c.args.o.0 po c.args.count gk
-    c.placed.result (rw c.index_of.ensures at (c.placed.ensures L a)) _ (λ f e. rw c.if-placed.false)
+    c.placed.result (rw c.index_of.ensures at (c.placed.ensures L a)) _ (rw c.if-placed.false)

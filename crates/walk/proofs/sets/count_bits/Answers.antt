@@ -1,11 +1,12 @@
 use Prim.Native.Nat.{ℕ, zero, suc, ◌-◌}
 use native.Mathlib.Omega.{arith}
 use mathlib.Core.Path.{◌≡◌, refl, sym, ap, ◌∙◌}
-use mathlib.Core.List.{List, [], ◌∷◌}
+use mathlib.Core.List.{List}
 use lib.ListN.{get_or}
 use Rattle.std.specs.Prelude.{Option, None, Some}
 use Rattle.std.specs.List.{slice_get}
-use Rattle.std.specs.Option.{option_map}
+use Rattle.std.specs.Option.{option_map, unwrap_or}
+use Rattle.std.proofs.lemmas.Option.{unwrap_or-slice_get}
 use Rattle.pack.specs.Loaded.{pgn_value}
 use Rattle.pack.specs.Meaning.{opt_order, field_meaning}
 use Rattle.pack.specs.Value.{Field, no_field}
@@ -13,20 +14,12 @@ use Rattle.pack.specs.declared.protocol.FieldOrder.{FieldOrder}
 use Rattle.walk.specs.SetsOf.{count_bits}
 use Rattle.walk.proofs.sets.count_bits.Goals as goal
 
-abbrev bits_of : Option Field → ℕ
-bits_of None = 0
-bits_of (Some f) = f.res_bits
-
-bits_at : (fields : List Field) (t : ℕ) → bits_of (slice_get fields t) ≡ (get_or fields t no_field).res_bits
-bits_at [] t = refl
-bits_at (f ∷ fs) zero = refl
-bits_at (f ∷ fs) (suc t) = bits_at fs t
-
 -- x is what stands at the countField's index
 counted_by : (fields : List Field) (counter : Option FieldOrder) (order : FieldOrder) → counter ≡ Some order → (order.0 ≡ 0 → ⊥) → (t : ℕ)
-    → t ≡ order.0 - 1 → (x : Option Field) → x ≡ slice_get fields t → bits_of x ≡ count_bits fields (opt_order counter)
+    → t ≡ order.0 - 1 → (x : Option Field) → x ≡ slice_get fields t → (unwrap_or x no_field).res_bits ≡ count_bits fields (opt_order counter)
 counted_by fields counter order e z t te x at =
-    ap bits_of at ∙ bits_at fields t ∙ go order.0 z te ∙ ap (λ (c : Option FieldOrder). count_bits fields (opt_order c)) (sym e)
+    ap (λ (y : Option Field). (unwrap_or y no_field).res_bits) at ∙ ap (λ (f : Field). f.res_bits) (unwrap_or-slice_get fields t no_field)
+    ∙ go order.0 z te ∙ ap (λ (c : Option FieldOrder). count_bits fields (opt_order c)) (sym e)
   where
     go : (n : ℕ) → (n ≡ 0 → ⊥) → t ≡ n - 1 → (get_or fields t no_field).res_bits ≡ count_bits fields (Some n)
     go zero z te = absurd (z refl)
