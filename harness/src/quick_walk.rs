@@ -57,10 +57,7 @@ impl Row {
 #[derive(Clone, Copy)]
 enum Passes {
     Endless,
-    /// by the countField's latest reading; none by that of all ones, where it has one
-    Counted {
-        all_ones: Option<u64>,
-    },
+    Counted,
     /// stop 2
     NotCurrent,
 }
@@ -71,6 +68,8 @@ struct Plan {
     edges: Vec<bool>,
     ranges: Ranges,
     passes: [Passes; 2],
+    /// the readings of their countFields that mean no passes, beside 0
+    all_ones: [u64; 2],
 }
 
 #[derive(Default)]
@@ -91,17 +90,19 @@ impl Plan {
         }
         let mut rows: Vec<Row> = (0..pgn.fields.len()).map(|due| row(pack, pgn, &ranges, due)).collect();
         let mut passes = [Passes::Endless; 2];
+        let mut all_ones = [0; 2];
         for which in [0, 1] {
             let Some(order) = pgn.sets[which].as_ref().and_then(|set| set.count_field) else { continue };
             let counter = order.checked_sub(1).map(|index| index as usize);
             passes[which] = Passes::NotCurrent;
             if let Some(counter) = counter.filter(|counter| current(&ranges, *counter, ranges[which].start)) {
-                passes[which] = Passes::Counted { all_ones: all_ones(pgn.fields[counter].res_bits) };
+                passes[which] = Passes::Counted;
+                all_ones[which] = not_available(pgn.fields[counter].res_bits);
                 rows[counter].counts[which] = true;
                 rows[counter].plain = false;
             }
         }
-        Plan { rows, edges, ranges, passes }
+        Plan { rows, edges, ranges, passes, all_ones }
     }
 
     fn run(&self, readings: &[u64], visits: &mut [u32]) -> (End, usize) {
@@ -167,11 +168,10 @@ impl Plan {
         let passes = match self.passes[which] {
             // more than there can be readings
             Passes::Endless => u64::MAX,
-            Passes::Counted { all_ones } if all_ones == Some(state.latest[which]) => 0,
-            Passes::Counted { .. } => state.latest[which],
+            Passes::Counted => state.latest[which],
             Passes::NotCurrent => return true,
         };
-        if passes == 0 {
+        if passes == 0 || passes == self.all_ones[which] {
             state.index = range.end;
         } else {
             state.within[which] = true;
@@ -181,9 +181,9 @@ impl Plan {
     }
 }
 
-/// The count that is not available: every bit is set of a countField of 2 to 64 bits.
-fn all_ones(bits: u32) -> Option<u64> {
-    (2..=u64::BITS).contains(&bits).then(|| u64::MAX >> (u64::BITS - bits))
+/// The count that is not available: every bit is set of a countField of 2 to 64 bits. 0 where there is no such count.
+fn not_available(bits: u32) -> u64 {
+    if (2..=u64::BITS).contains(&bits) { u64::MAX >> (u64::BITS - bits) } else { 0 }
 }
 
 /// Whether a field is current where another is due.
