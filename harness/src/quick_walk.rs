@@ -57,7 +57,10 @@ impl Row {
 #[derive(Clone, Copy)]
 enum Passes {
     Endless,
-    Counted,
+    /// by the countField's latest reading; none by this one, as by 0
+    Counted {
+        all_ones: u64,
+    },
     /// stop 2
     NotCurrent,
 }
@@ -68,8 +71,6 @@ struct Plan {
     edges: Vec<bool>,
     ranges: Ranges,
     passes: [Passes; 2],
-    /// the readings of their countFields that mean no passes, beside 0
-    all_ones: [u64; 2],
 }
 
 #[derive(Default)]
@@ -90,19 +91,17 @@ impl Plan {
         }
         let mut rows: Vec<Row> = (0..pgn.fields.len()).map(|due| row(pack, pgn, &ranges, due)).collect();
         let mut passes = [Passes::Endless; 2];
-        let mut all_ones = [0; 2];
         for which in [0, 1] {
             let Some(order) = pgn.sets[which].as_ref().and_then(|set| set.count_field) else { continue };
             let counter = order.checked_sub(1).map(|index| index as usize);
             passes[which] = Passes::NotCurrent;
             if let Some(counter) = counter.filter(|counter| current(&ranges, *counter, ranges[which].start)) {
-                passes[which] = Passes::Counted;
-                all_ones[which] = not_available(pgn.fields[counter].res_bits);
+                passes[which] = Passes::Counted { all_ones: not_available(pgn.fields[counter].res_bits) };
                 rows[counter].counts[which] = true;
                 rows[counter].plain = false;
             }
         }
-        Plan { rows, edges, ranges, passes, all_ones }
+        Plan { rows, edges, ranges, passes }
     }
 
     fn run(&self, readings: &[u64], visits: &mut [u32]) -> (End, usize) {
@@ -168,10 +167,11 @@ impl Plan {
         let passes = match self.passes[which] {
             // more than there can be readings
             Passes::Endless => u64::MAX,
-            Passes::Counted => state.latest[which],
+            Passes::Counted { all_ones } if state.latest[which] == all_ones => 0,
+            Passes::Counted { .. } => state.latest[which],
             Passes::NotCurrent => return true,
         };
-        if passes == 0 || passes == self.all_ones[which] {
+        if passes == 0 {
             state.index = range.end;
         } else {
             state.within[which] = true;

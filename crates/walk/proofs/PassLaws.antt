@@ -11,7 +11,7 @@ use lib.ListN.{length, get_or, get_or-eq_default}
 use borrow.Author.Tests.{ne_eqb, lt-ltb, le-ltb}
 use Rattle.pack.specs.Meaning.{opt_order}
 use Rattle.pack.specs.Value.{no_field}
-use Rattle.walk.specs.Layout.{Layout, no_set, set_at, end}
+use Rattle.walk.specs.Layout.{Layout, no_set, set_at, start, end}
 use Rattle.walk.specs.Passes.{passes, Rest, endless, Place, present, goto, goto_with, arrives, Stand, again, arrived, ready, beyond, look, Turn}
 use Rattle.walk.specs.Passes.{goes_on, leaves, begins, turn, close, stand}
 use Rattle.walk.specs.Walk.{Arrival, not_current, over, enter, counted, arrive, Settled, past, halted, due, settle, settled}
@@ -107,10 +107,10 @@ module _ (L : Layout) (g : ℕ → ℕ) where
     rounds_over zero l h o e = absurd (omega arith)
     rounds_over (suc n) l h o e = let d : suc n - 1 ≡ n = omega arith in rw d (ap (λ (q : Round). round_of L n q w) (sym e) ∙ er n ∙ h)
 
--- a pass of set k
-module _ (L : Layout) (k : ℕ) {set : Set} (is : IsSet L k set) (p : Place) (x : Turn) (ex : x ≡ turn (p.order == set.end.0) (p.left k)) where
+-- a pass of set k, by the value's end
+module _ (L : Layout) (k : ℕ) (set : Set) (is_end : set.end.0 ≡ end L k) (p : Place) (x : Turn) (ex : x ≡ turn (p.order == set.end.0) (p.left k)) where
   turns : x ≡ turn (p.order == end L k) (p.left k)
-  turns = rw is.end at ex
+  turns = rw is_end at ex
 
   pass_goes_on : x ≡ goes_on → close L (suc k) p ≡ close L k p
   unfolding close
@@ -120,9 +120,9 @@ module _ (L : Layout) (k : ℕ) {set : Set} (is : IsSet L k set) (p : Place) (x 
   unfolding close
   pass_leaves e = rw (← turns, e, close)
 
-  pub pass_begins : (y : Rest) → x ≡ begins y → close L (suc k) p ≡ again k (goto_with p set.start.0 k (Some y))
+  pub pass_begins : (y : Rest) → x ≡ begins y → set.start.0 ≡ start L k → close L (suc k) p ≡ again k (goto_with p set.start.0 k (Some y))
   unfolding close
-  pass_begins y e = rw (← turns, e, is.start, close)
+  pass_begins y e is_start = rw (← turns, e, is_start, close)
 
 pub look_all : (L : Layout) (p : Place) (k : ℕ) → k ≤ 0 → ready p ≡ look L k p
 unfolding look
@@ -187,7 +187,7 @@ module _ {L : Layout} {v : Sets} (a : SetsAre L v) where
   close_skip p k (suc n) elsewhere =
       let ended : (p.order == (value_at v (n + k)).end.0) ≡ false = elsewhere (n + k) (omega arith) (omega arith) in
       ap (λ (i : ℕ). close L i p) (suc-add n k)
-      ∙ pass_goes_on L (n + k) (a.set (n + k)) p (turn (p.order == (value_at v (n + k)).end.0) (p.left (n + k))) refl
+      ∙ pass_goes_on L (n + k) (value_at v (n + k)) (a.set (n + k)).end p (turn (p.order == (value_at v (n + k)).end.0) (p.left (n + k))) refl
       (ap (λ (b : Bool). turn b (p.left (n + k))) ended)
       ∙ close_skip p k n (λ j l m. elsewhere j l (omega (arith, m)))
 
@@ -204,25 +204,26 @@ module _ {L : Layout} {v : Sets} (a : SetsAre L v) where
       not_there false x = refl
 
 -- what comes of set k's pass, in numbers: l is what is left of it, x its turn
-module _ (L : Layout) (k : ℕ) (set : Set) (is : IsSet L k set) (o : ℕ) (w : List ℕ) (l : Option Further) (el : l ≡ left_at w k) (x : Turn)
+module _ (L : Layout) (k : ℕ) (set : Set) (is_end : set.end.0 ≡ end L k) (o : ℕ) (w : List ℕ) (l : Option Further) (el : l ≡ left_at w k) (x : Turn)
     (ex : x ≡ turn (o == set.end.0) (left_of l)) where
   turned : x ≡ turn (o == set.end.0) (left_of (left_at w k))
   turned = rw el at ex
 
   pub closes_on : x ≡ goes_on → close L (suc k) (place_of o w) ≡ close L k (place_of o w)
-  closes_on e = pass_goes_on L k is (place_of o w) x turned e
+  closes_on e = pass_goes_on L k set is_end (place_of o w) x turned e
 
   module _ (room : length w ≡ 16) (low : k < 4) (v : Option Further) (w' : List ℕ) (ew : w' ≡ with_left w k v) where
     pub closes_left : x ≡ leaves → left_of v ≡ None → close L (suc k) (place_of o w) ≡ close L k (place_of o w')
     closes_left e n =
-        pass_leaves L k is (place_of o w) x turned e
+        pass_leaves L k set is_end (place_of o w) x turned e
         ∙ ap (close L k) (sym (ap (place_of o) ew ∙ place_put w room k low v o o ∙ ap (goto_with (place_of o w) o k) n))
 
-    pub closes_again : (y : Rest) → x ≡ begins y → left_of v ≡ Some y → close L (suc k) (place_of o w) ≡ again k (place_of set.start.0 w')
-    closes_again y e n =
-        let start = set.start.0 in
-        pass_begins L k is (place_of o w) x turned y e
-        ∙ ap (again k) (sym (ap (place_of start) ew ∙ place_put w room k low v start o ∙ ap (goto_with (place_of o w) start k) n))
+    pub closes_again : (y : Rest) → x ≡ begins y → left_of v ≡ Some y → set.start.0 ≡ start L k
+        → close L (suc k) (place_of o w) ≡ again k (place_of set.start.0 w')
+    closes_again y e n is_start =
+        let s = set.start.0 in
+        pass_begins L k set is_end (place_of o w) x turned y e is_start
+        ∙ ap (again k) (sym (ap (place_of s) ew ∙ place_put w room k low v s o ∙ ap (goto_with (place_of o w) s k) n))
 
 -- a pass is put for set k
 pub entered : (w w' : List ℕ) → length w ≡ 16 → (k : ℕ) → k < 4 → (v : Option Further) → w' ≡ with_left w k v → (y : Rest) → left_of v ≡ Some y → (o : ℕ)

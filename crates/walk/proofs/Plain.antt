@@ -95,7 +95,8 @@ module _ {L : Layout} {v : Sets} (a : SetsAre L v) where
       sym (close_four a behind (omega arith))
       ∙ ap (λ (i : ℕ). close L i behind) (sym n)
       ∙ close_skip a behind (suc k) (3 - k) (λ j l m. elsewhere j (omega (arith, l)) (omega (arith, m, low)))
-      ∙ pass_begins L k (a.set k) behind (turn (suc o == (value_at v k).end.0) left) refl t.rest (ap (λ (b : Bool). turn b left) at_end ∙ t.begins) in
+      ∙ pass_begins L k (value_at v k) (a.set k).end behind (turn (suc o == (value_at v k).end.0) left) refl t.rest
+      (ap (λ (b : Bool). turn b left) at_end ∙ t.begins) (a.set k).start in
       sym (round_again L (memory_of w) (length L.fields) (stand L behind) k (goto_with behind start k (Some t.rest)) (sym stands))
       ∙ ap (λ (q : Place). due q (memory_of w)) (sym (t.place start))
       ∙ ap (due (place_of start w')) (sym t.memory)

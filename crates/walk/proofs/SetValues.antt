@@ -13,17 +13,17 @@ use lib.Dec.{ltb}
 use borrow.Author.Tests.{ltb-true, ltb-false, lt-ltb, le-ltb, ne_eqb}
 use Rattle.pack.specs.Meaning.{opt_order}
 use Rattle.pack.specs.Notation.{◌<ᵇ◌, ◌≤ᵇ◌}
-use Rattle.pack.specs.Value.{Repeating, Pgn, set_place}
+use Rattle.pack.specs.Value.{Repeating, Pgn}
 use Rattle.rules.specs.Search.{any_below, every_below}
 use Rattle.rules.specs.SearchLaws.{any_hit, every_missed}
-use Rattle.walk.specs.Layout.{Layout, layout, no_set, set_or_empty, set_at, start, end, nonempty, holds, sets_hold, share, nested_in, inside_previous}
+use Rattle.walk.specs.Layout.{Layout, layout, no_set, set_at, start, end, nonempty, holds, sets_hold, share, nested_in, inside_previous}
 use Rattle.walk.specs.Layout.{misplaced, clash, stop_1}
 use Rattle.walk.specs.Held.{shares_held, count_field_held, count_fields_held}
 use Rattle.walk.specs.ByPlace.{placed}
-use Rattle.walk.specs.SetsOf.{SetIs, SetsAre, empty_set, value_at, has_orders, in_set, holds_both, sets_share, set_misplaced, set_inside}
+use Rattle.walk.specs.SetsOf.{IsSet, SetsAre, empty_set, value_at, has_orders, in_set, holds_both, sets_share, set_misplaced, set_inside}
 use Rattle.walk.specs.declared.sets.Set.{Set}
 use Rattle.walk.specs.declared.sets.Sets.{Sets}
-use Rattle.walk.proofs.SetFacts.{layout_at, layout_length}
+use Rattle.walk.proofs.SetFacts.{layout_length}
 use Rattle.walk.proofs.Tests.{or_i, and_none, every_i, none_below}
 
 -- a set has orders if its count is not 0
@@ -195,18 +195,16 @@ module _ {L : Layout} {v : Sets} (a : SetsAre L v) where
 -- ---- four values are the sets of a PGN
 
 module _ (p : Pgn) (few : length p.sets ≤ 4) (a b c d : Set) (n : ℕ) (fields : n ≡ length p.fields) where
-  abbrev pub ValueAt : ℕ → Set → Type 0
-  ValueAt k v = SetIs p.fields (set_or_empty (set_place p k)) v
-
-  beyond : (k : ℕ) → ValueAt (suc (suc (suc (suc k)))) empty_set
+  beyond : (k : ℕ) → IsSet (layout p) (suc (suc (suc (suc k)))) empty_set
   beyond k =
-      rw (get_or-eq_default p.sets None {n = suc (suc (suc (suc k)))} (omega arith))
+      rw (none_at (layout p) (suc (suc (suc (suc k)))) (omega (arith, layout_length p)))
       (record { start = refl; end = refl; counter = refl; bits = refl; nested = refl })
 
-  pub four_sets : ValueAt 0 a → ValueAt 1 b → ValueAt 2 c → ValueAt 3 d → SetsAre (layout p) (record { fields = n; sets = a ∷ b ∷ c ∷ d ∷ [] })
-  four_sets is-a is_b is_c is-d = record { fields = fields; few = omega (arith, layout_length p); set = λ k. rw (layout_at p k) (go k) }
+  pub four_sets : IsSet (layout p) 0 a → IsSet (layout p) 1 b → IsSet (layout p) 2 c → IsSet (layout p) 3 d
+      → SetsAre (layout p) (record { fields = n; sets = a ∷ b ∷ c ∷ d ∷ [] })
+  four_sets is-a is_b is_c is-d = record { fields = fields; few = omega (arith, layout_length p); set = go }
     where
-      go : (k : ℕ) → ValueAt k (value_at (record { fields = n; sets = a ∷ b ∷ c ∷ d ∷ [] }) k)
+      go : (k : ℕ) → IsSet (layout p) k (value_at (record { fields = n; sets = a ∷ b ∷ c ∷ d ∷ [] }) k)
       go zero = is-a
       go (suc zero) = is_b
       go (suc (suc zero)) = is_c

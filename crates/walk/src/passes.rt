@@ -4,7 +4,7 @@ ghost use Rattle.std.specs.Prelude.{None, Some};
 ghost use Rattle.rules.specs.Search.{any_below};
 ghost use Rattle.pack.specs.Meaning.{opt_order};
 ghost use Rattle.walk.specs.ByPlace.{by_place, counts};
-ghost use Rattle.walk.specs.Layout.{Layout, set_at};
+ghost use Rattle.walk.specs.Layout.{Layout, set_at, start, end};
 ghost use Rattle.walk.specs.Passes.{passes, Place, present, turn, again, arrived, look, close, stand};
 ghost use Rattle.walk.specs.Runs.{Turns};
 ghost use Rattle.walk.specs.SetsOf.{IsSet, SetsAre, value_at, has_orders};
@@ -227,7 +227,7 @@ impl Passes {
     fn close(&mut self, set: Set, o: FieldOrder, k: usize) -> bool
         requires { k < 4 }
         ensures { record {
-          closes : (L : Layout) → IsSet L k set → close L (suc k) (place_of o.0 self.old.numbers)
+          closes : (L : Layout) → set.start.0 ≡ start L k → set.end.0 ≡ end L k → close L (suc k) (place_of o.0 self.old.numbers)
               ≡ (if result then again k (place_of set.start.0 self.new.numbers) else close L k (place_of o.0 self.new.numbers));
           memory : memory_of self.new.numbers ≡ memory_of self.old.numbers;
         } }

@@ -5,11 +5,11 @@ ghost use Rattle.std.specs.Prelude.{◌≡◌, IfSome, ◌&&◌, ◌||◌, suc, 
 ghost use Rattle.pack.specs.Loaded.{pgn_value};
 ghost use Rattle.pack.specs.Meaning.{opt_order, optional_repeating};
 ghost use Rattle.pack.specs.Notation.{◌<ᵇ◌};
-ghost use Rattle.pack.specs.Value.{Field, set_place};
+ghost use Rattle.pack.specs.Value.{Field};
 ghost use Rattle.walk.specs.ByPlace.{placed};
 ghost use Rattle.rules.specs.Search.{any_below};
 ghost use Rattle.walk.specs.Layout.{Layout, layout, no_set, set_or_empty, sets_hold, nested_in, inside_previous, misplaced, clash, stop_1};
-ghost use Rattle.walk.specs.SetsOf.{count_bits, SetIs, SetsAre, has_orders, in_set, holds_both, sets_share, set_misplaced, set_inside};
+ghost use Rattle.walk.specs.SetsOf.{count_bits, SetIs, IsSet, SetsAre, has_orders, in_set, holds_both, sets_share, set_misplaced, set_inside};
 
 use crate::orders::index_of;
 use pack::loaded::PgnRef;
@@ -83,7 +83,7 @@ fn set_of(pgn: &PgnRef, o: Option<RepeatingView>) -> Set
 // The set at place k; an empty one where the PGN has no such place.
 fn set_in(pgn: &PgnRef, k: u32) -> Set
     requires { k < 4 }
-    ensures { SetIs (pgn_value pgn.now).fields (set_or_empty (set_place (pgn_value pgn.now) k)) result }
+    ensures { IsSet (layout (pgn_value pgn.now)) k result }
 {
     if k < pgn.view.places {
         return set_of(pgn, set_at(pgn.view, k));

@@ -1,14 +1,14 @@
-use mathlib.Core.List.{List}
 use lib.ListN.{length, get_or-eq_default}
 use Rattle.std.specs.Prelude.{Option, None, Some, IfSome}
 use mathlib.Core.Path.{◌≡◌, sym, ◌∙◌, ap}
 use Prim.Native.Nat.{ℕ, ◌+◌, ◌≤◌, ◌<◌}
 use native.Mathlib.Omega.{arith}
-use Rattle.walk.specs.SetsOf.{SetIs}
-use Rattle.walk.specs.Layout.{no_set, set_or_empty}
+use Rattle.walk.specs.SetsOf.{SetIs, IsSet}
+use Rattle.walk.specs.Layout.{layout, no_set, set_or_empty}
+use Rattle.walk.proofs.SetFacts.{layout_at}
 use Rattle.walk.specs.declared.sets.Set.{Set}
 use Rattle.pack.specs.Loaded.{pgn_value}
-use Rattle.pack.specs.Value.{Field, Repeating, Pgn, set_place}
+use Rattle.pack.specs.Value.{Repeating, Pgn, set_place}
 use Rattle.pack.specs.Meaning.{repeating_meaning, optional_repeating}
 use Rattle.pack.specs.declared.pgn.RepeatingView.{RepeatingView}
 use Rattle.pack.proofs.SetSums.{SetFits, pgn_sets_law}
@@ -20,12 +20,12 @@ fits : (o : Option RepeatingView) (G : Option Repeating) → optional_repeating 
 fits None G e f = tt
 fits (Some x) G e f = omega (arith, f (repeating_meaning x) (sym e))
 
-told : (fields : List Field) (o : Option RepeatingView) (G : Option Repeating) → optional_repeating o ≡ G → (v : Set)
-    → SetIs fields (set_or_empty (optional_repeating o)) v → SetIs fields (set_or_empty G) v
-told fields o G e v is = rw (← e) is
+told : (p : Pgn) (k : ℕ) (o : Option RepeatingView) → optional_repeating o ≡ set_place p k → (v : Set)
+    → SetIs p.fields (set_or_empty (optional_repeating o)) v → IsSet (layout p) k v
+told p k o e v is = rw (layout_at p k, ← e) is
 
-absent : (p : Pgn) (k : ℕ) → length p.sets ≤ k → (v : Set) → SetIs p.fields no_set v → SetIs p.fields (set_or_empty (set_place p k)) v
-absent p k h v is = rw (get_or-eq_default p.sets None h) is
+absent : (p : Pgn) (k : ℕ) → length p.sets ≤ k → (v : Set) → SetIs p.fields no_set v → IsSet (layout p) k v
+absent p k h v is = rw (layout_at p k, get_or-eq_default p.sets None h) is
 
 pub set_of-requires : goal.set_of-requires
 set_of-requires c =
@@ -35,7 +35,7 @@ set_of-requires c =
 
 pub returns-then-k-pgn : goal.returns-then-k-pgn
 returns-then-k-pgn c =
-    told (pgn_value c.args.pgn.now).fields c.set_at.result _
+    told (pgn_value c.args.pgn.now) c.args.k c.set_at.result
     (ap optional_repeating c.set_at.ensures ∙ set_is c.args.pgn.now.is c.args.k c.if-k-pgn.true) c.set_of.result
     c.set_of.ensures
 

@@ -8,7 +8,7 @@ use Rattle.walk.proofs.passes.Passes.close.Goals as goal
 pub returns-in-GoesOn : goal.returns-in-GoesOn
 returns-in-GoesOn c =
     record {
-      closes = λ L is. closes_on L c.args.k c.args.set is c.args.o.0 c.args.self.now.numbers c.left_at.result c.left_at.ensures
+      closes = λ L is_start is_end. closes_on L c.args.k c.args.set is_end c.args.o.0 c.args.self.now.numbers c.left_at.result c.left_at.ensures
           (turn_of c.turn.result) c.turn.ensures (ap turn_of c.in-GoesOn.is);
       memory = refl;
     }
@@ -17,7 +17,7 @@ pub returns-in-Leaves : goal.returns-in-Leaves
 returns-in-Leaves c =
     let k = c.args.k in let passes = c.args.self.now.numbers in
     record {
-      closes = λ L is. closes_left L k c.args.set is c.args.o.0 passes c.left_at.result c.left_at.ensures (turn_of c.turn.result)
+      closes = λ L is_start is_end. closes_left L k c.args.set is_end c.args.o.0 passes c.left_at.result c.left_at.ensures (turn_of c.turn.result)
           c.turn.ensures (omega (arith, c)) c.requires None _ c.put_left.ensures (ap turn_of c.in-Leaves.is) refl;
       memory = kept_memory passes _ (omega (arith, c)) k c.requires None c.put_left.ensures;
     }
@@ -26,8 +26,8 @@ pub returns-in-Begins : goal.returns-in-Begins
 returns-in-Begins c =
     let k = c.args.k in let passes = c.args.self.now.numbers in
     record {
-      closes = λ L is. closes_again L k c.args.set is c.args.o.0 passes c.left_at.result c.left_at.ensures (turn_of c.turn.result)
+      closes = λ L is_start is_end. closes_again L k c.args.set is_end c.args.o.0 passes c.left_at.result c.left_at.ensures (turn_of c.turn.result)
           c.turn.ensures (omega (arith, c)) c.requires (Some c.in-Begins.further) _ c.put_left-in-Begins.ensures (rest_of c.in-Begins.further)
-          (ap turn_of c.in-Begins.is) refl;
+          (ap turn_of c.in-Begins.is) refl is_start;
       memory = kept_memory passes _ (omega (arith, c)) k c.requires (Some c.in-Begins.further) c.put_left-in-Begins.ensures;
     }
