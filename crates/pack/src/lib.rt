@@ -1,6 +1,8 @@
 // The pack layer: document 01's byte format, its five kinds of record, and `load`.
 #![tactic(auto)]
 
+pub mod at;
+pub mod cursor;
 pub mod entry;
 pub mod field;
 pub mod field_type;
