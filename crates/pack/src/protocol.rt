@@ -17,7 +17,11 @@ pub enum Protocol {
 impl Protocol {
     pub const COUNT: usize = 3;
 
-    pub const ALL: [Protocol; Protocol::COUNT] = [Protocol::Nmea2000, Protocol::J1939, Protocol::Quick];
+    pub const ALL: [Protocol; Protocol::COUNT] = [
+        Protocol::Nmea2000,
+        Protocol::J1939,
+        Protocol::Quick,
+    ];
 
     // The tree of that number.
     pub fn from_number(tree: u32) -> Option<Protocol>

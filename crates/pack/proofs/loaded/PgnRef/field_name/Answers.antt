@@ -1,19 +1,10 @@
-use Rattle.pack.proofs.Positions.{field_name_law}
-use Rattle.pack.proofs.ReaderLaws.{same_Ok}
-use Rattle.pack.proofs.Standing.{outcome_there}
-use Rattle.pack.specs.Records.{read_second_text}
-use mathlib.Core.Path.{◌∙◌, sym}
 use native.Mathlib.Omega.{arith}
 use Rattle.pack.proofs.loaded.PgnRef.field_name.Goals as goal
 
-pub unreachable-requires : goal.unreachable-requires
-unreachable-requires c =
-    let r = c.reader.ensures in
-    c.in_default.not-Ok _ (outcome_there read_second_text c.reader.result r.name r.bytes r.at c.second_text.ensures)
+pub field_name_of-requires : goal.field_name_of-requires
+field_name_of-requires c =
+    let x = c.args.self.now in
+    rw c.tree.ensures (record { at = x.at; field = omega (arith, x.is.fields, c.requires) })
 
 pub returns : goal.returns
-returns c =
-    let x = c.args.self.now in
-    let r = c.reader.ensures in
-    let e = outcome_there read_second_text c.reader.result r.name r.bytes r.at c.second_text.ensures in
-    rw (same_Ok _ _ (sym c.in-Ok.is ∙ e)) (field_name_law x.at c.args.k (omega (arith, x.is.fields, c.requires)))
+returns c = rw c.tree.ensures at c.field_name_of.ensures

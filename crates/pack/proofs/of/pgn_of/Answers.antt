@@ -1,15 +1,14 @@
-use Rattle.pack.proofs.ReaderLaws.{none_there}
-use Rattle.pack.specs.Reads.{item_of}
-use mathlib.Core.Path.{ap}
-use Rattle.pack.proofs.Positions.{pgn_law, pgn_stands}
-use Rattle.pack.proofs.ReaderLaws.{same_Ok}
+use Rattle.pack.proofs.Positions.{pgn_law, pgn_stands, up_to_pgn, inside_pgn}
+use Rattle.pack.proofs.ReaderLaws.{none_there, same_Ok}
 use Rattle.pack.proofs.Standing.{reads_there}
+use Rattle.pack.specs.Reads.{item_of}
 use Rattle.pack.specs.Records.{read_pgn}
-use mathlib.Core.Path.{◌∙◌, sym}
-use Rattle.pack.proofs.loaded.Pack.pgn_view.Goals as goal
+use mathlib.Core.Path.{ap, ◌∙◌, sym}
+use native.Mathlib.Omega.{arith}
+use Rattle.pack.proofs.of.pgn_of.Goals as goal
 
 pub reader-requires : goal.reader-requires
-reader-requires c = let t = pgn_stands c.requires in record { place = t.place; inside = t.inside }
+reader-requires c = record { place = up_to_pgn c.requires _ (omega arith); inside = inside_pgn c.requires _ (omega arith) }
 
 pub unreachable-requires : goal.unreachable-requires
 unreachable-requires c =
