@@ -113,16 +113,16 @@ module _ (s w : List ℕ) (r : Ready s w) where
   records_fit = let t : length (take (length (offsets s)) w) ≡ length (offsets s) = ap length r.begins in omega (arith, length-take (length (offsets s)) w)
 
   -- a record's offset is in the work list, and in the pack
-  listed_record : (k : ℕ) → k < length (offsets s) → k < length w
-  listed_record k h = omega (arith, records_fit, h)
+  pub record_listed : (k : ℕ) → k < length (offsets s) → k < length w
+  record_listed k h = omega (arith, records_fit, h)
 
-  record_inside : (k : ℕ) → k < length (offsets s) → get_or w k 0 ≤ length s
+  pub record_inside : (k : ℕ) → k < length (offsets s) → get_or w k 0 ≤ length s
   record_inside k h = omega (arith, at_work k h, offsets_bound s k)
 
   -- at the cursor c, which the offset k stands for
   stands : (k : ℕ) (c : Cursor) (next : Cursor → Cursor) → k < length (offsets s) → fresh (get_or w k 0) ≡ c → (next c).refused ≡ 0 → Stands s w k next
   stands k c next h e z =
-      record { place = listed_record k h; inside = record_inside k h; clean = rw e z }
+      record { place = record_listed k h; inside = record_inside k h; clean = rw e z }
 
   type_cursor : (i : ℕ) → i < (type_list s).value → fresh (get_or w i 0) ≡ type_start s i
   type_cursor i l =
@@ -167,18 +167,11 @@ module _ {s w : List ℕ} {i p : ℕ} (a : LookupAt s w i p) where
   lookup_view : read_lookup None s (fresh (get_or w p 0)) ≡ lookup_head s i
   lookup_view = rw lookup_cursor (sym (lookup_free s (lookup_start s i).next (lookup_start s i).before lookup_head_clean))
 
-  lookup_listed : p < length (offsets s)
+  pub lookup_listed : p < length (offsets s)
   lookup_listed =
       let o = (lookup_offset s i 0 listed (omega (arith, length_lookup s (lookup_start s i)))).1 in
       let l = length_lookup s (lookup_start s i) in
       omega (arith, a.place)
-
-  -- so are the records up to it
-  pub up_to_lookup : (k : ℕ) → k ≤ p → k < length w
-  up_to_lookup k h = listed_record s w a.ready k (omega (arith, lookup_listed))
-
-  pub inside_lookup : (k : ℕ) → k ≤ p → get_or w k 0 ≤ length s
-  inside_lookup k h = record_inside s w a.ready k (omega (arith, lookup_listed))
 
   pub lookup_stands : Stands s w p (λ c. (read_lookup None s c).next)
   lookup_stands = stands s w a.ready p (fresh (get_or w p 0)) _ lookup_listed refl (rw lookup_view lookup_head_clean)
@@ -267,18 +260,11 @@ module _ {s w : List ℕ} {t i p : ℕ} (a : PgnAt s w t i p) where
       (fresh_at (pgn_start s t i) (pgn_clean s (clean_end s w a.ready) t i a.tree (omega (arith, counted_pgn)))) in
       rw y
 
-  pgn_listed : p < length (offsets s)
+  pub pgn_listed : p < length (offsets s)
   pgn_listed =
       let l = length_pgn s (type_list s).value (pgn_start s t i) in
       let o = (pgn_offset s t i 0 a.tree counted_pgn (omega arith)).1 in
       omega (arith, a.place)
-
-  -- so are the records up to it
-  pub up_to_pgn : (k : ℕ) → k ≤ p → k < length w
-  up_to_pgn k h = listed_record s w a.ready k (omega (arith, pgn_listed))
-
-  pub inside_pgn : (k : ℕ) → k ≤ p → get_or w k 0 ≤ length s
-  inside_pgn k h = record_inside s w a.ready k (omega (arith, pgn_listed))
 
   pub pgn_stands : Stands s w p (λ c. (read_pgn s c).next)
   unfolding fields

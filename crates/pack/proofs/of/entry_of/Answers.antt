@@ -4,11 +4,7 @@ use Rattle.pack.proofs.Standing.{reads_there}
 use Rattle.pack.specs.Reads.{item_of}
 use Rattle.pack.specs.Records.{read_entry}
 use mathlib.Core.Path.{ap, ◌∙◌, sym}
-use native.Mathlib.Omega.{arith}
 use Rattle.pack.proofs.of.entry_of.Goals as goal
-
-pub entry_reader-requires : goal.entry_reader-requires
-entry_reader-requires c = record { at = c.requires.at; kind = c.requires.kind; entry = omega (arith, c.requires.entry) }
 
 pub unreachable-requires : goal.unreachable-requires
 unreachable-requires c =

@@ -4,11 +4,7 @@ use Rattle.pack.proofs.Standing.{reads_there}
 use Rattle.pack.specs.Items.{read_text}
 use Rattle.pack.specs.Reads.{item_of}
 use mathlib.Core.Path.{ap, ◌∙◌, sym}
-use native.Mathlib.Omega.{arith}
 use Rattle.pack.proofs.of.field_id_of.Goals as goal
-
-pub field_reader-requires : goal.field_reader-requires
-field_reader-requires c = record { at = c.requires.at; field = omega (arith, c.requires.field) }
 
 pub unreachable-requires : goal.unreachable-requires
 unreachable-requires c =

@@ -3,11 +3,7 @@ use Rattle.pack.proofs.ReaderLaws.{same_Ok}
 use Rattle.pack.proofs.Standing.{outcome_there}
 use Rattle.pack.specs.Records.{read_second_text}
 use mathlib.Core.Path.{◌∙◌, sym}
-use native.Mathlib.Omega.{arith}
 use Rattle.pack.proofs.of.field_name_of.Goals as goal
-
-pub field_reader-requires : goal.field_reader-requires
-field_reader-requires c = record { at = c.requires.at; field = omega (arith, c.requires.field) }
 
 pub unreachable-requires : goal.unreachable-requires
 unreachable-requires c =

@@ -1,4 +1,4 @@
-use Rattle.pack.proofs.Positions.{lookup_name_law, lookup_name_stands, up_to_lookup, inside_lookup}
+use Rattle.pack.proofs.Positions.{lookup_name_law, lookup_name_stands, lookup_listed, record_inside, record_listed}
 use Rattle.pack.proofs.ReaderLaws.{none_there, same_Ok}
 use Rattle.pack.proofs.Standing.{reads_there}
 use Rattle.pack.specs.Items.{read_text}
@@ -8,7 +8,9 @@ use native.Mathlib.Omega.{arith}
 use Rattle.pack.proofs.of.lookup_name_of.Goals as goal
 
 pub reader-requires : goal.reader-requires
-reader-requires c = record { place = up_to_lookup c.requires _ (omega arith); inside = inside_lookup c.requires _ (omega arith) }
+reader-requires c =
+    let l = lookup_listed c.requires in
+    record { place = record_listed _ _ c.requires.ready _ (omega (arith, l)); inside = record_inside _ _ c.requires.ready _ (omega (arith, l)) }
 
 pub unreachable-requires : goal.unreachable-requires
 unreachable-requires c =

@@ -1,5 +1,5 @@
 use Rattle.std.specs.Prelude.{None}
-use Rattle.pack.proofs.Positions.{lookup_law, lookup_stands, up_to_lookup, inside_lookup}
+use Rattle.pack.proofs.Positions.{lookup_law, lookup_stands, lookup_listed, record_inside, record_listed}
 use Rattle.pack.proofs.ReaderLaws.{none_there, same_Ok}
 use Rattle.pack.proofs.Standing.{reads_there}
 use Rattle.pack.specs.Reads.{item_of}
@@ -9,7 +9,9 @@ use native.Mathlib.Omega.{arith}
 use Rattle.pack.proofs.of.lookup_of.Goals as goal
 
 pub reader-requires : goal.reader-requires
-reader-requires c = record { place = up_to_lookup c.requires _ (omega arith); inside = inside_lookup c.requires _ (omega arith) }
+reader-requires c =
+    let l = lookup_listed c.requires in
+    record { place = record_listed _ _ c.requires.ready _ (omega (arith, l)); inside = record_inside _ _ c.requires.ready _ (omega (arith, l)) }
 
 pub unreachable-requires : goal.unreachable-requires
 unreachable-requires c =

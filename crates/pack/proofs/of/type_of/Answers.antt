@@ -4,11 +4,7 @@ use Rattle.pack.proofs.Standing.{reads_there}
 use Rattle.pack.specs.Reads.{item_of}
 use Rattle.pack.specs.Records.{read_type}
 use mathlib.Core.Path.{ap, ◌∙◌, sym}
-use native.Mathlib.Omega.{arith}
 use Rattle.pack.proofs.of.type_of.Goals as goal
-
-pub type_reader-requires : goal.type_reader-requires
-type_reader-requires c = record { ready = c.requires.ready; type = omega (arith, c.requires.type) }
 
 pub unreachable-requires : goal.unreachable-requires
 unreachable-requires c =
