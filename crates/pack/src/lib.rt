@@ -2,6 +2,7 @@
 #![tactic(auto)]
 
 pub mod at;
+pub mod buffers;
 pub mod cursor;
 pub mod entry;
 pub mod field;
@@ -13,6 +14,7 @@ pub mod load;
 pub mod loaded;
 pub mod lookup;
 mod number;
+pub mod of;
 pub mod pgn;
 pub mod protocol;
 mod reader;

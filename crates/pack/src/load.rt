@@ -7,6 +7,7 @@ ghost use Rattle.pack.specs.Load.{refusal_number, refusal_detail, most_bytes, Lo
 ghost use Rattle.pack.specs.Placing.{Put, PlacesRecords, Stays, alone, PlacesList, PlacesLookup, PlacesTree, PlacesAll};
 ghost use Rattle.pack.specs.declared.load.Refusal.TheVariants.{Input};
 
+use crate::buffers::copy;
 use crate::kinds::LookupKind;
 use crate::reader::Reader;
 pub use crate::reader::{Fault, InputRefusal};
@@ -298,7 +299,7 @@ fn load_by(pack: &[u8], work: &mut [u32], short: &mut [u32]) -> Result<Index, Re
         return Err(Refusal::Work(n));
     }
     if n <= short.len() {
-        work[..n].copy_from_slice(&short[..n]);
+        copy(short, work, n);
         return Ok(index);
     }
     Ok(place_all(pack, work)?)

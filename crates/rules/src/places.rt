@@ -39,7 +39,7 @@ fn pgn_loc(pack: &Pack, tree: u32, item: u32) -> Option<Loc>
         ((tree <ᵇ 3) && (item <ᵇ length (pgns_of (pack_of pack.now.bytes.now) tree)))
         (pgn_loc tree (pgn_at (pack_of pack.now.bytes.now) tree item)) }
 {
-    let protocol = Protocol::of_tree(tree)?;
+    let protocol = Protocol::from_number(tree)?;
     let pgn = pack.pgn(protocol, item)?;
     Some(Loc::Pgn {
         protocol,
@@ -66,7 +66,7 @@ fn group_loc(pack: &Pack, tree: u32, item: u32) -> Option<Loc>
     ensures { option_map (loc_text pack.now.bytes.now) result ≡ then_some
         ((tree <ᵇ 3) && has_number (pack_of pack.now.bytes.now) tree item) (group_loc tree item) }
 {
-    let protocol = Protocol::of_tree(tree)?;
+    let protocol = Protocol::from_number(tree)?;
     has_number(pack, protocol, item).then_some(Loc::Group {
         protocol,
         number: item,

@@ -66,7 +66,7 @@ returns-then-n-short c =
     let n = counted p in
     let t = take_stored c.args.short.now (offsets s) (omega (arith, c.if-n-short.true, n, c.place_all.auto.work)) in
     let front : take c.in_ok-index.index.records c.place_all.new.work ≡ offsets s = rw (n, p.work (accepted p)) t in
-    all p c.requires c.if-work-n.false (rw (c.copy_from_slice.ensures.after ∙ front, n))
+    all p c.requires c.if-work-n.false (rw front at c.copy.ensures)
 
 pub returns-in_err-place_all : goal.returns-in_err-place_all
 returns-in_err-place_all c = absurd (not_accepted c.in_err-place_all.ensures (accepted c.in_ok-index.ensures))

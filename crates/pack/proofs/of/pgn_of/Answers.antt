@@ -1,15 +1,16 @@
-use Rattle.pack.proofs.ReaderLaws.{none_there}
-use Rattle.pack.specs.Reads.{item_of}
-use mathlib.Core.Path.{ap}
-use Rattle.pack.proofs.Positions.{pgn_law, pgn_stands}
-use Rattle.pack.proofs.ReaderLaws.{same_Ok}
+use Rattle.pack.proofs.Positions.{pgn_law, pgn_stands, pgn_listed, record_inside, record_listed}
+use Rattle.pack.proofs.ReaderLaws.{none_there, same_Ok}
 use Rattle.pack.proofs.Standing.{reads_there}
+use Rattle.pack.specs.Reads.{item_of}
 use Rattle.pack.specs.Records.{read_pgn}
-use mathlib.Core.Path.{◌∙◌, sym}
-use Rattle.pack.proofs.loaded.Pack.pgn_view.Goals as goal
+use mathlib.Core.Path.{ap, ◌∙◌, sym}
+use native.Mathlib.Omega.{arith}
+use Rattle.pack.proofs.of.pgn_of.Goals as goal
 
 pub reader-requires : goal.reader-requires
-reader-requires c = let t = pgn_stands c.requires in record { place = t.place; inside = t.inside }
+reader-requires c =
+    let l = pgn_listed c.requires in
+    record { place = record_listed _ _ c.requires.ready _ (omega (arith, l)); inside = record_inside _ _ c.requires.ready _ (omega (arith, l)) }
 
 pub unreachable-requires : goal.unreachable-requires
 unreachable-requires c =

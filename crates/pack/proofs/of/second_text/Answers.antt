@@ -8,7 +8,7 @@ use Rattle.std.proofs.lemmas.Result.{err_from_is_err_and}
 use Rattle.std.specs.Prelude.{Result, Err, ◌≡◌}
 use Rattle.std.specs.Result.{IsErrAnd}
 use mathlib.Core.Path.{◌∙◌}
-use Rattle.pack.proofs.loaded.second_text.Goals as goal
+use Rattle.pack.proofs.of.second_text.Goals as goal
 
 -- where a `?` returns
 refused : {A : Type 0} (r : Result A InputRefusal) (f : InputRefusal) (i : Item A) → IsErrAnd r (λ y. y ≡ f) → Err f ≡ outcome i → r ≡ outcome i
