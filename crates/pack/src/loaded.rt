@@ -138,6 +138,7 @@ impl<'a> Pack<'a> {
     }
 
     // The lookup of that index, at that work position.
+    #[inline(always)]
     fn lookup_view(&self, item: u32, place: usize) -> LookupView
         requires { LookupAt self.now.bytes.now self.now.work.now item place }
         ensures { LookupIs self.now.bytes.now (lookup_at (pack_of self.now.bytes.now).lookups item) result }
@@ -221,6 +222,9 @@ impl<'a> Pack<'a> {
         ensures { option_map lookup_spot result ≡ then_some (item <ᵇ length (pack_of self.now.bytes.now).lookups)
             (record { bytes = self.now.bytes.now; work = self.now.work.now; item = item }) }
     {
+        if self.index.lookups.count <= item {
+            return None;
+        }
         self.lookups().nth(item as usize)
     }
 
@@ -229,6 +233,9 @@ impl<'a> Pack<'a> {
         ensures { option_map pgn_spot result ≡ then_some (item <ᵇ length (pgns_of (pack_of self.now.bytes.now) (tree_number protocol)))
             (record { bytes = self.now.bytes.now; work = self.now.work.now; tree = tree_number protocol; item = item }) }
     {
+        if protocol.section(self.index).count <= item {
+            return None;
+        }
         self.pgns(protocol).nth(item as usize)
     }
 }
@@ -274,6 +281,7 @@ impl<'a> LookupRef<'a> {
     }
 
     // Entry k.
+    #[inline(always)]
     pub fn entry(&self, k: u32) -> EntryView
         requires { k < self.now.view.entries }
         ensures { entry_meaning self.now.pack.bytes.now result ≡ get_or (lookup_value self.now).entries k no_entry }
@@ -410,6 +418,7 @@ impl<'a> Iterator for Lookups<'a> {
 
     ghost remaining = { item_count lookups_left };
 
+    #[inline(always)]
     fn next(&mut self) -> Option<LookupRef<'a>> {
         let Lookups { pack, item, place } = *self;
         let count = pack.index.lookups.count;
