@@ -28,6 +28,7 @@ pub struct KindPart {
 
 impl<'a> Reader<'a> {
     // A triplet's first value, which stands before its second.
+    #[inline(always)]
     fn first(self, kind: LookupKind) -> Result<(u64, Self), InputRefusal>
         ensures { Gives self.entry (read_first kind) result }
     {
@@ -37,6 +38,7 @@ impl<'a> Reader<'a> {
         }
     }
 
+    #[inline(always)]
     fn kind_part(self, kind: LookupKind) -> Result<(KindPart, Self), InputRefusal>
         ensures { Gives self.entry (read_kind_part kind) result }
     {
@@ -57,6 +59,7 @@ impl<'a> Reader<'a> {
     }
 
     // An entry of a lookup of that kind.
+    #[inline(always)]
     pub(crate) fn entry(self, kind: LookupKind) -> Result<(EntryView, Self), InputRefusal>
         ensures { Gives self.entry (read_entry kind) result }
     {

@@ -19,6 +19,7 @@ pub struct FieldTypeView {
 }
 
 impl<'a> Reader<'a> {
+    #[inline(always)]
     pub(crate) fn field_type(self) -> Result<(FieldTypeView, Self), InputRefusal>
         ensures { Gives self.entry read_type result }
     {

@@ -162,6 +162,9 @@ impl<'a> Pack<'a> {
         ensures { option_map lookup_spot result ≡ then_some (item <ᵇ length (pack_of self.now.bytes.now).lookups)
             (record { bytes = self.now.bytes.now; work = self.now.work.now; item = item }) }
     {
+        if self.index.lookups.count <= item {
+            return None;
+        }
         self.lookups().nth(item as usize)
     }
 
@@ -170,6 +173,9 @@ impl<'a> Pack<'a> {
         ensures { option_map pgn_spot result ≡ then_some (item <ᵇ length (pgns_of (pack_of self.now.bytes.now) (tree_number protocol)))
             (record { bytes = self.now.bytes.now; work = self.now.work.now; tree = tree_number protocol; item = item }) }
     {
+        if protocol.section(self.index).count <= item {
+            return None;
+        }
         self.pgns(protocol).nth(item as usize)
     }
 }
@@ -202,6 +208,7 @@ impl<'a> LookupRef<'a> {
     }
 
     // Entry k.
+    #[inline(always)]
     pub fn entry(&self, k: u32) -> EntryView
         requires { k < self.now.view.entries }
         ensures { entry_meaning self.now.pack.bytes.now result ≡ get_or (lookup_value self.now).entries k no_entry }
@@ -338,6 +345,7 @@ impl<'a> Iterator for Lookups<'a> {
 
     ghost remaining = { item_count lookups_left };
 
+    #[inline(always)]
     fn next(&mut self) -> Option<LookupRef<'a>> {
         let Lookups { pack, item, place } = *self;
         let count = pack.index.lookups.count;

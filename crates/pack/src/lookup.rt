@@ -19,6 +19,7 @@ pub struct LookupView {
 
 impl<'a> Reader<'a> {
     // A lookup up to its entries, its name above the one before it.
+    #[inline(always)]
     pub(crate) fn lookup(self, before: Option<Text>) -> Result<(LookupView, Self), InputRefusal>
         ensures { Gives self.entry (read_lookup before) result }
     {

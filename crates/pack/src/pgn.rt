@@ -83,6 +83,7 @@ impl<'a> Reader<'a> {
     }
 
     // A PGN up to its fields.
+    #[inline(always)]
     pub(crate) fn pgn(self) -> Result<(PgnView, Self), InputRefusal>
         ensures { Gives self.entry read_pgn result }
     {

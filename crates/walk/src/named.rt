@@ -33,6 +33,7 @@ pub fn find_pgn<'a>(pack: &Pack<'a>, tree: u32, pgn: u32) -> Result<PgnRef<'a>, 
 }
 
 // The PGN that is there, with its sets.
+#[inline(always)]
 pub fn found_pgn<'a>(pgn: &PgnRef<'a>) -> FoundPgn<'a>
     ensures { result.pgn ≡ pgn.now }
 {
