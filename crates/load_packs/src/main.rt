@@ -4,10 +4,11 @@
 
 ghost use Rattle.std.specs.Prelude.{◌≡◌, IfOk, vec_len};
 
+use listing::output::Stdout;
 use pack::load::{Index, Refusal, Section, load};
 use std::alloc::Global;
 use std::fs::File;
-use std::io::{BufWriter, Read, Write};
+use std::io::{Read, Write};
 use std::{env, fmt, fs, io};
 
 // The most numbers that a work buffer has here, and what each of them is before a load.
@@ -129,7 +130,8 @@ fn report_argument(rt: &HostRuntime, out: &mut impl Write, name: &str) -> io::Re
 fn largest_pack(alloc: Global, version: u8) -> io::Result<Vec<u8>>
     ensures { IfOk result (λ pack. vec_len pack ≡ 1048576) }
 {
-    let mut pack = vec![in alloc; version, 1, 0xec, 0xff, 0x3f]?;
+    let mut pack = Vec::with_capacity(alloc, LONGEST + 1)?;
+    pack.extend_from_slice(&[version, 1, 0xec, 0xff, 0x3f])?;
     pack.resize(LONGEST, 0)?;
     Ok(pack)
 }
@@ -148,18 +150,24 @@ fn report_large(
     report(out, larger, &pack)
 }
 
-fn main(rt: HostRuntime) -> io::Result<()> {
-    let mut out = BufWriter::new(rt.alloc(), io::writer(&rt))?;
-    for name in env::args(&rt)?.skip(1) {
-        report_argument(&rt, &mut out, name.as_str())?;
+fn report_all(rt: &HostRuntime, out: &mut impl Write) -> io::Result<()> {
+    for name in env::args(rt)?.skip(1) {
+        report_argument(rt, out, name.as_str())?;
     }
-    report_large(&mut out, rt.alloc(), 1, "largest", "larger_by_one_byte")?;
+    report_large(out, rt.alloc(), 1, "largest", "larger_by_one_byte")?;
     report_large(
-        &mut out,
+        out,
         rt.alloc(),
         2,
         "largest_of_version_2",
         "larger_by_one_byte_of_version_2",
-    )?;
-    out.flush()
+    )
+}
+
+// What is held goes out before an error is told. A write that fails is passed over.
+fn main(rt: HostRuntime) -> io::Result<()> {
+    let mut out = Stdout::new();
+    let done = report_all(&rt, &mut out);
+    out.flush()?;
+    done
 }
