@@ -143,8 +143,7 @@ pub fn entry_of(s: &[u8], work: &[u32], i: u32, p: usize, kind: LookupKind, j: u
     entry
 }
 
-// PGN i of tree t, at p.
-#[inline(always)]
+// PGN i of tree t, at p. Not inlined: it is read in many loops, and its answer has no parts to copy.
 pub fn pgn_of(s: &[u8], work: &[u32], t: u32, i: u32, p: usize) -> PgnView
     requires { PgnAt s.now work.now t i p }
     ensures { PgnIs s.now (pgn_at (pack_of s.now) t i) result }
