@@ -300,9 +300,10 @@ fn load_by(pack: &[u8], work: &mut [u32], short: &mut [u32]) -> Result<Index, Re
     }
     if n <= short.len() {
         copy(short, work, n);
-        return Ok(index);
+    } else {
+        place_all(pack, work)?;
     }
-    Ok(place_all(pack, work)?)
+    Ok(index)
 }
 
 // With room for N offsets on the stack.
