@@ -1,13 +1,13 @@
 // Readers at an offset, total: what stands there, read as a record of that kind.
 ghost use Rattle.std.specs.Prelude.{◌≡◌, None};
 ghost use Rattle.pack.specs.Items.{fresh, read_number, read_text};
+ghost use Rattle.pack.specs.Kinds.{entries_of};
 ghost use Rattle.pack.specs.Records.{read_type, read_entry, read_lookup, read_pgn, read_field};
 
 use crate::cursor::fresh;
 use crate::entry::EntryView;
 use crate::field::FieldView;
 use crate::field_type::FieldTypeView;
-use crate::kinds::LookupKind;
 use crate::lookup::LookupView;
 use crate::pgn::PgnView;
 use crate::text::Text;
@@ -39,9 +39,9 @@ pub fn lookup_at(s: &[u8], at: usize) -> LookupView
     fresh(at).lookup(s, None).value
 }
 
-// An entry of a lookup of that kind.
-pub fn entry_at(s: &[u8], at: usize, kind: LookupKind) -> EntryView
-    ensures { result ≡ (read_entry kind s.now (fresh at)).value }
+// An entry of a lookup whose kind has that number.
+pub fn entry_at(s: &[u8], at: usize, kind: u32) -> EntryView
+    ensures { result ≡ (read_entry (entries_of kind) s.now (fresh at)).value }
 {
     fresh(at).entry(s, kind).value
 }

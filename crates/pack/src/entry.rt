@@ -1,6 +1,7 @@
 // An entry of a lookup, read item by item in 01's order.
 ghost use Rattle.std.specs.Prelude.{◌≡◌};
 ghost use Rattle.pack.specs.Reads.{Gives};
+ghost use Rattle.pack.specs.Kinds.{entries_of};
 ghost use Rattle.pack.specs.Records.{read_first, read_kind_part, read_entry};
 
 use crate::cursor::{Cursor, Item, NO_TEXT};
@@ -117,8 +118,14 @@ impl Cursor {
         }
     }
 
-    // An entry of a lookup of that kind.
-    pub fn entry(self, s: &[u8], kind: LookupKind) -> Item<EntryView>
+    // An entry of a lookup whose kind has that number. Any number goes: what no kind has is read as a pair.
+    pub fn entry(self, s: &[u8], kind: u32) -> Item<EntryView>
+        ensures { result ≡ read_entry (entries_of kind) s.now self }
+    {
+        self.entry_of(s, LookupKind::of_entries(kind))
+    }
+
+    fn entry_of(self, s: &[u8], kind: LookupKind) -> Item<EntryView>
         ensures { result ≡ read_entry kind s.now self }
     {
         let first = self.first(s, kind);

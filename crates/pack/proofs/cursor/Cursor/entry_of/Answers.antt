@@ -1,6 +1,6 @@
 use Rattle.pack.specs.Records.{read_entry}
 use Rattle.pack.proofs.CursorLaws.{item_then, item_done}
-use Rattle.pack.proofs.cursor.Cursor.entry.Goals as goal
+use Rattle.pack.proofs.cursor.Cursor.entry_of.Goals as goal
 
 pub returns : goal.returns
 unfolding read_entry
