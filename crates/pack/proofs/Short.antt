@@ -9,7 +9,7 @@ use mathlib.Core.List.{List}
 use borrow.Author.Tests.{eq-eqb, lt-ltb, le-ltb, le-leb}
 use lib.ListN.{length, get_or, drop}
 use lib.Seq.{drop-cons}
-use Rattle.pack.specs.Items.{give, ◌▷◌, fresh, run, last_byte_at, groups, shortest, capped, largest32, read_wide, read_number, judged, read_code, read_mark}
+use Rattle.pack.specs.Items.{fresh, run, last_byte_at, groups, shortest, capped, largest32, give, ◌▷◌, read_wide, read_number, judged, read_code, read_mark}
 
 -- a byte without the top bit is a number's last
 pub run_ends : (s : List ℕ) (i : ℕ) → i < length s → get_or s i 0 < 128 → run (drop i s) ≡ 0

@@ -1,6 +1,6 @@
 // The pack cursor: a value whose methods answer an item with the next cursor, of any bytes at any offset. A refused cursor stands at the
 // offending item and stays there, so the first offending item decides; each item that is read from it is empty.
-ghost use Rattle.std.specs.Prelude.{◌≡◌, ◌≤◌, ◌+◌, Some, Ok, Err, None};
+ghost use Rattle.std.specs.Prelude.{◌≡◌, ◌≤◌, ◌<◌, ◌+◌, true, false, length};
 ghost use Rattle.pack.specs.Items.{fresh, refuse, optional, finish, read_wide, read_number, read_code, read_version, read_index, read_sum};
 ghost use Rattle.pack.specs.Items.{read_bytes, read_mark, read_text, read_name, read_float};
 ghost use Rattle.pack.specs.Cursors.{StandsAt, item_read};
@@ -196,8 +196,34 @@ impl Cursor {
         }
     }
 
-    // A mark, 0 or 1, then the item if 1.
+    // Whether the mark that stands here says that nothing follows.
+    fn absent(self, s: &[u8]) -> bool
+        ensures { record {
+          inside : result ≡ true → self.at < length s.now;
+          mark : result ≡ true → read_mark s.now self ≡ record { value = false; next = fresh (self.at + 1) };
+        } }
+    {
+        let at = self.at;
+        if self.refused == 0 {
+            if at < s.len() {
+                return s[at] == 0;
+            }
+        }
+        false
+    }
+
+    // A mark, 0 or 1, then the item if 1. An absent one is answered at its mark.
     pub(crate) fn optional<I: items::Item>(self, s: &[u8], item: I) -> Item<Option<I::Value>>
+        ensures { result ≡ optional (I.form item) s.now self }
+    {
+        if self.absent(s) {
+            let next = fresh(self.at + 1);
+            return Item { value: None, next };
+        }
+        self.optional_long(s, item)
+    }
+
+    fn optional_long<I: items::Item>(self, s: &[u8], item: I) -> Item<Option<I::Value>>
         ensures { result ≡ optional (I.form item) s.now self }
     {
         let there = self.mark(s);

@@ -1,11 +1,12 @@
+use mathlib.Core.Path.{sym}
+use native.Mathlib.Omega.{arith}
 use Rattle.pack.specs.Items.{optional}
 use Rattle.pack.proofs.CursorLaws.{item_then, item_done}
 use Rattle.pack.proofs.cursor.Cursor.optional.Goals as goal
 
-pub returns-then-there : goal.returns-then-there
-unfolding optional
-returns-then-there g c = item_then _ _ c.mark-there.ensures (rw c.if-there.true (item_then _ _ c.read_at-given.ensures (item_done _ _ _)))
+pub overflow_add-self : goal.overflow_add-self
+overflow_add-self g c = omega (arith, c.absent.ensures.inside c.if-absent.true)
 
-pub returns : goal.returns
+pub returns-then-absent : goal.returns-then-absent
 unfolding optional
-returns g c = item_then _ _ c.mark-there.ensures (rw c.if-there.false (item_done _ _ _))
+returns-then-absent g c = item_then _ _ (sym (c.absent.ensures.mark c.if-absent.true)) (rw c.fresh-next.ensures (item_done _ _ _))
