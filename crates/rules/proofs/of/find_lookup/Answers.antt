@@ -11,7 +11,7 @@ use native.Mathlib.Numerals.{add-one}
 use native.Mathlib.Omega.{arith}
 use mathlib.Core.Bool.{true, false}
 use mathlib.Core.List.{List}
-use mathlib.Core.Path.{◌≡◌, refl, ap, ◌∙◌, sym}
+use mathlib.Core.Path.{◌≡◌, ap, ◌∙◌, sym}
 use lib.ListN.{length}
 use Rattle.rules.proofs.of.find_lookup.Invariants.{named}
 use Rattle.rules.proofs.of.find_lookup.Goals as goal
@@ -19,12 +19,6 @@ use Rattle.rules.proofs.of.find_lookup.Goals as goal
 at_place : {s w : List ℕ} {lookups : Section} {l p : ℕ} → Ready s w → LookupsAre (pack_of s) lookups → l < lookups.count
     → p ≡ place_of_lookup (pack_of s) l → LookupAt s w l p
 at_place r is h e = record { ready = r; lookup = omega (arith, is.count, h); place = e }
-
-pub loop-item-init : goal.loop-item-init
-loop-item-init c = record { place = c.requires.lookups.place; none_yet = refl }
-
-pub lookup_of-view-requires : goal.lookup_of-view-requires
-lookup_of-view-requires c = at_place c.requires.ready c.requires.lookups c.loop-item-test.true c.loop-item.invariant.place
 
 pub returns-then-same_text-clause-found : goal.returns-then-same_text-clause-found
 unfolding find_lookup
@@ -36,13 +30,6 @@ returns-then-same_text-clause-found c =
     sym
     (rw c.requires.lookups.count at (first_hit (named s name) c.args.lookups.count c.loop-item.item c.loop-item-test.true
     c.loop-item.invariant.none_yet h))
-
-pub returns-then-same_text-clause-there : goal.returns-then-same_text-clause-there
-returns-then-same_text-clause-there c =
-    record {
-      at = at_place c.requires.ready c.requires.lookups c.loop-item-test.true c.loop-item.invariant.place;
-      is = c.lookup_of-view.ensures;
-    }
 
 pub overflow_add-place : goal.overflow_add-place
 overflow_add-place c =

@@ -1,6 +1,6 @@
 use Rattle.pack.specs.Items.{bytes_of}
 use Rattle.pack.specs.Meaning.{pack_of}
-use Rattle.pack.specs.Value.{Entry, Lookup, lookup_at}
+use Rattle.pack.specs.Value.{Entry, lookup_at}
 use Rattle.rules.specs.Model.{value_named}
 use Rattle.rules.specs.SearchLaws.{first_hit}
 use native.Mathlib.Omega.{arith}
@@ -9,14 +9,6 @@ use mathlib.Core.Path.{◌≡◌, ap}
 use lib.ListN.{length}
 use Rattle.rules.proofs.of.value_named.Invariants.{named}
 use Rattle.rules.proofs.of.value_named.Goals as goal
-
-pub entry_of-entry-requires : goal.entry_of-entry-requires
-entry_of-entry-requires c =
-    record {
-      at = c.requires.at;
-      kind = ap (λ (L : Lookup). L.kind) c.requires.is.means;
-      entry = omega (arith, c.requires.is.entries, c.loop-e-test.true);
-    }
 
 pub returns-then-same_text : goal.returns-then-same_text
 unfolding value_named

@@ -11,32 +11,21 @@ use lib.ListN.{length}
 use Rattle.rules.proofs.places.pgn_position.Goals as goal
 
 -- a PGN before the one that is looked for
-before : {s w : List ℕ} {t item i p : ℕ} → Ready s w → t < 3 → item < length (pgns_of (pack_of s) t) → i < item → p ≡ place_of_pgn (pack_of s) t i
+earlier : {s w : List ℕ} {t item i p : ℕ} → Ready s w → t < 3 → item < length (pgns_of (pack_of s) t) → i < item → p ≡ place_of_pgn (pack_of s) t i
     → PgnAt s w t i p
-before r t n h e = record { ready = r; tree = t; pgn = omega (arith, n, h); place = e }
-
-pub loop-i-init : goal.loop-i-init
-loop-i-init c = omega (arith, c.requires.first)
-
-pub pgn_of-g-requires : goal.pgn_of-g-requires
-pgn_of-g-requires c = before c.requires.ready c.requires.trees c.requires.item c.loop-i-test.true c.loop-i.invariant
+earlier r t n h e = record { ready = r; tree = t; pgn = omega (arith, n, h); place = e }
 
 pub overflow_add-p : goal.overflow_add-p
 overflow_add-p c =
-    omega (arith, fields_few (before c.requires.ready c.requires.trees c.requires.item c.loop-i-test.true c.loop-i.invariant))
+    omega (arith, fields_few (earlier c.requires.ready c.requires.trees c.requires.item c.loop-i-test.true c.loop-i.invariant))
 
 pub overflow_add-p-in-loop-i : goal.overflow_add-p-in-loop-i
 overflow_add-p-in-loop-i c =
     omega (
       arith,
       c.pgn_of-g.ensures.fields,
-      fields_few (before c.requires.ready c.requires.trees c.requires.item c.loop-i-test.true c.loop-i.invariant),
+      fields_few (earlier c.requires.ready c.requires.trees c.requires.item c.loop-i-test.true c.loop-i.invariant),
     )
 
 pub loop-i-preserved : goal.loop-i-preserved
 loop-i-preserved c = rw (add-one c.loop-i.i) (omega (arith, c.pgn_of-g.ensures.fields, c.loop-i.invariant))
-
-pub returns : goal.returns
-returns c =
-    let e : c.loop-i.i ≡ c.args.item = omega (arith, c) in
-    record { ready = c.requires.ready; tree = c.requires.trees; pgn = c.requires.item; place = rw (← e) c.loop-i.invariant }
