@@ -1,4 +1,4 @@
-// The same of a pack by its bytes and work list: who has no index asks these, as `pack::of` stands beside `pack::loaded`.
+// Lookups, matches, field types and targets of a pack by its bytes and work list: who has no index asks these, as `pack::of` stands beside `pack::loaded`.
 ghost use Rattle.std.specs.Prelude.{◌≡◌, ◌≤◌, ◌||◌, IfSome, length, ◌==◌, if◌then◌else◌};
 ghost use Rattle.std.specs.Option.{option_map};
 ghost use Rattle.pack.specs.Items.{bytes_of};

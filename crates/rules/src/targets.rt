@@ -18,22 +18,30 @@ pub(crate) fn first_with_id(pgn: &PgnRef, n: u32, id: Text) -> Option<u32>
     requires { n ≤ pgn.now.view.fields }
     ensures { result ≡ first_below (λ j. (field_at (pgn_value pgn.now) j).id ≐ bytes_of pgn.now.pack.bytes.now id) n }
 {
-    let PgnRef {
-        pack,
-        protocol,
-        item,
-        place,
-        ..
-    } = *pgn;
-    of::first_with_id(pack.bytes, pack.work, protocol.tree(), item, place, n, id)
+    of::first_with_id(
+        pgn.pack.bytes,
+        pgn.pack.work,
+        pgn.protocol.tree(),
+        pgn.item,
+        pgn.place,
+        n,
+        id,
+    )
 }
 
 // "A target is the first field with that id", of a PGN's fields.
-#[tactic(auto, unfolding(crate::specs::Model::target))]
 pub fn target(pgn: &PgnRef, id: Text) -> Option<u32>
     ensures { result ≡ target (pgn_value pgn.now) (bytes_of pgn.now.pack.bytes.now id) }
 {
-    first_with_id(pgn, pgn.view.fields, id)
+    of::target(
+        pgn.pack.bytes,
+        pgn.pack.work,
+        pgn.protocol.tree(),
+        pgn.item,
+        pgn.place,
+        pgn.view.fields,
+        id,
+    )
 }
 
 // `integer`: NUMBER or LOOKUP, by the root's name of a field type.
