@@ -1,9 +1,10 @@
 // The record that a finding's place names, found in the pack. Place and tree are numbers here: so the C interface gives them.
 ghost use Rattle.std.specs.Bool.{then_some};
 ghost use Rattle.std.specs.Option.{option_map};
-ghost use Rattle.std.specs.Prelude.{◌≡◌, ◌&&◌, length, ◌==◌};
+ghost use Rattle.std.specs.Prelude.{◌≡◌, ◌&&◌, ◌<◌, length, ◌==◌};
 ghost use Rattle.pack.specs.Meaning.{pack_of};
 ghost use Rattle.pack.specs.Notation.{◌<ᵇ◌};
+ghost use Rattle.pack.specs.Ready.{Ready, PgnAt, place_of_tree};
 ghost use Rattle.pack.specs.Trees.{tree_number};
 ghost use Rattle.pack.specs.Value.{pgns_of, pgn_at, lookup_at};
 ghost use Rattle.rules.specs.Locs.{loc_text};
@@ -11,7 +12,26 @@ ghost use Rattle.rules.specs.PlaceText.{pgn_loc, group_loc, lookup_loc, has_numb
 
 use crate::locs::Loc;
 use pack::loaded::Pack;
+use pack::of::pgn_of;
 use pack::protocol::Protocol;
+
+// The work position of a PGN of tree t, which begins at `first`.
+pub fn pgn_position(s: &[u8], work: &[u32], t: u32, first: usize, item: u32) -> usize
+    requires { record {
+      ready : Ready s.now work.now;
+      trees : t < 3;
+      first : first ≡ place_of_tree (pack_of s.now) t;
+      item : item < length (pgns_of (pack_of s.now) t);
+    } }
+    ensures { PgnAt s.now work.now t item result }
+{
+    let mut p = first;
+    for i in 0..item {
+        let g = pgn_of(s, work, t, i, p);
+        p = p + 1 + g.fields as usize;
+    }
+    p
+}
 
 // "for place 3 a PGN of that number in the tree"
 fn has_number(pack: &Pack, protocol: Protocol, number: u32) -> bool

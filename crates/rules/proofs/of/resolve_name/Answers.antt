@@ -1,16 +1,14 @@
 use Rattle.std.specs.Prelude.{◌==◌, if◌then◌else◌, None, Some}
 use Rattle.rules.specs.Model.{find_lookup, fieldtypes, pairs, value_named, resolve_in, resolve_name}
 use Rattle.pack.specs.Kinds.{kind_number}
-use Rattle.pack.specs.Loaded.{lookup_value}
 use Rattle.pack.specs.Meaning.{reference_meaning, pack_of}
 use Rattle.pack.specs.Items.{bytes_of}
 use Rattle.pack.specs.Value.{Bytes, Entry, Lookup, Reference, lookup_at}
-use Rattle.pack.specs.declared.loaded.LookupRef.{LookupRef}
 use mathlib.Core.Bool.{◌||◌, Bool, true, false}
 use Prim.Native.Nat.{ℕ}
-use mathlib.Core.Path.{◌≡◌, refl, ap, ◌∙◌}
+use mathlib.Core.Path.{◌≡◌, refl, ap}
 use mathlib.Core.List.{List, []}
-use Rattle.rules.proofs.matches.resolve_name.Goals as goal
+use Rattle.rules.proofs.of.resolve_name.Goals as goal
 
 module _ (ls : List Lookup) (m : Bytes) (r : Reference) where
   unknown : None ≡ find_lookup ls r.name → None ≡ resolve_name ls m (Some r)
@@ -35,34 +33,28 @@ module _ (ls : List Lookup) (m : Bytes) (r : Reference) where
       go true = cut ((lookup_at ls l).kind == 3) (lookup_at ls l).entries
       go false = cut (((lookup_at ls l).kind == 0) || ((lookup_at ls l).kind == 2)) (lookup_at ls l).entries
 
--- of a lookup of the pack
-found : (s : List ℕ) (m : Bytes) (r : Reference) (x : LookupRef) (b : Bool) → x.pack.bytes.now ≡ s → Some x.item ≡ find_lookup (pack_of s).lookups r.name
-    → b ≡ (if r.kind == 3 then kind_number x.view.kind == 3 else ((kind_number x.view.kind == 0) || (kind_number x.view.kind == 2)))
-    → resolve_name (pack_of s).lookups m (Some r) ≡ (if b then value_named (lookup_value x).entries m else None)
-found s m r x b e f h =
-    let q : lookup_value x ≡ lookup_at (pack_of s).lookups x.item = rw e in
-    rw q (known (pack_of s).lookups m r x.item (kind_number x.view.kind) b f (ap (λ (L : Lookup). L.kind) (x.is.means ∙ q)) h)
-
 pub returns-in_err-r : goal.returns-in_err-r
 unfolding resolve_name
 returns-in_err-r c = rw (c.from_residual.ensures, c.in_err-r.was)
 
 pub returns-in_err-lookup : goal.returns-in_err-lookup
 returns-in_err-lookup c =
-    let s = c.args.pack.now.bytes.now in
+    let s = c.args.s.now in
     rw (c.from_residual-in_err-lookup.ensures, c.in_ok-r.was)
     (unknown (pack_of s).lookups (bytes_of s c.args.m) (reference_meaning s c.in_ok-r.r) c.in_err-lookup.ensures.found)
 
 pub returns-then-not-has_entries : goal.returns-then-not-has_entries
 returns-then-not-has_entries c =
-    let s = c.args.pack.now.bytes.now in
-    let e = found s (bytes_of s c.args.m) (reference_meaning s c.in_ok-r.r) c.in_ok-lookup.lookup c.has_entries.result
-    c.in_ok-lookup.ensures.same.bytes c.in_ok-lookup.ensures.found c.has_entries.ensures in
+    let s = c.args.s.now in
+    let l = c.in_ok-lookup.lookup in
+    let e = known (pack_of s).lookups (bytes_of s c.args.m) (reference_meaning s c.in_ok-r.r) l.item (kind_number l.view.kind) c.has_entries.result
+    c.in_ok-lookup.ensures.found (ap (λ (L : Lookup). L.kind) c.in_ok-lookup.ensures.there.is.means) c.has_entries.ensures in
     rw (c.in_ok-r.was, e, c.if-not-has_entries.true)
 
 pub returns : goal.returns
 returns c =
-    let s = c.args.pack.now.bytes.now in
-    let e = found s (bytes_of s c.args.m) (reference_meaning s c.in_ok-r.r) c.in_ok-lookup.lookup c.has_entries.result
-    c.in_ok-lookup.ensures.same.bytes c.in_ok-lookup.ensures.found c.has_entries.ensures in
-    rw (c.in_ok-r.was, e, c.if-not-has_entries.false, ← c.in_ok-lookup.ensures.same.bytes) c.value_named.ensures
+    let s = c.args.s.now in
+    let l = c.in_ok-lookup.lookup in
+    let e = known (pack_of s).lookups (bytes_of s c.args.m) (reference_meaning s c.in_ok-r.r) l.item (kind_number l.view.kind) c.has_entries.result
+    c.in_ok-lookup.ensures.found (ap (λ (L : Lookup). L.kind) c.in_ok-lookup.ensures.there.is.means) c.has_entries.ensures in
+    rw (c.in_ok-r.was, e, c.if-not-has_entries.false) c.value_named.ensures
