@@ -42,6 +42,10 @@ module _ {r : Reader} {o : Offsets} {end : Cursor} {xs : List ℕ} {d : Reader} 
   pub here : {B : Type 0} (f : List ℕ → Cursor → B) → f d.bytes.now (fresh d.at) ≡ f r.bytes.now end
   here f = ap (λ s. f s (fresh d.at)) a.bytes ∙ ap (f r.bytes.now) a.at
 
+  -- a reader of the same bytes at the same offset
+  pub along_same : {e : Reader} → e.bytes.now ≡ d.bytes.now → e.at ≡ d.at → Along r o end xs e v
+  along_same b z = record { bytes = b ∙ a.bytes; at = ap fresh z ∙ a.at; put = a.put }
+
   -- the offset of the next record
   pub along_put : {u : Offsets} → Put v (d.at ∷ []) u → Along r o end (xs ++ end.at ∷ []) d u
   along_put b =

@@ -10,6 +10,18 @@ use crate::reader::{Fault, InputRefusal, Reader};
 use crate::text::{Text, text_precedes};
 
 impl<'a> Reader<'a> {
+    // The next reader of the same bytes, of which only the offset is taken: its own bytes come out of an answer, whose parts were just stored.
+    #[inline(always)]
+    pub(crate) fn go_on(self, next: Reader<'a>) -> Reader<'a>
+        requires { next.bytes.now ≡ self.bytes.now }
+        ensures { record { bytes : result.bytes.now ≡ next.entry.bytes.now; at : result.at ≡ next.entry.at } }
+    {
+        Reader {
+            bytes: self.bytes,
+            at: next.at,
+        }
+    }
+
     // The offending item begins here.
     #[inline(always)]
     fn refusal(self, fault: Fault) -> InputRefusal

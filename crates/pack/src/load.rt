@@ -234,7 +234,7 @@ fn place_fields<'a>(
     for _i in 0..n {
         offsets.put(next.at);
         let (field, after) = next.field(types as u64, total)?;
-        next = after;
+        next = reader.go_on(after);
         total += field.scaling.bits;
     }
     Ok(next)
