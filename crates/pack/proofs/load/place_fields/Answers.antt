@@ -33,7 +33,8 @@ loop-i-preserved c =
     let a = along_put c.loop-i.invariant.along c.put.ensures in
     let t = c.loop-i.invariant.total in
     record {
-      along = rw (fields_turn s k types i, field_offsets_turn s k types i, ← t) (along_same (along_read a c.in_ok-field.ensures) c.go_on-next.ensures.bytes c.go_on-next.ensures.at);
+      along = rw (fields_turn s k types i, field_offsets_turn s k types i, ← t)
+          (along_same (along_read a c.in_ok-field.ensures) c.go_on-next.ensures.bytes c.go_on-next.ensures.at);
       total = rw (fields_turn s k types i, ← t) (ap (λ r. c.loop-i.total + r.scaling.bits) (along_value a c.in_ok-field.ensures));
     }
 
