@@ -2,12 +2,11 @@
 // buffers of several lengths.
 #![tactic(auto)]
 
-ghost use Rattle.std.specs.Prelude.{◌≡◌, IfOk, vec_len};
-
+use listing::output::Stdout;
 use pack::load::{Index, Refusal, Section, load};
 use std::alloc::Global;
 use std::fs::File;
-use std::io::{BufWriter, Read, Write};
+use std::io::{Read, Write};
 use std::{env, fmt, fs, io};
 
 // The most numbers that a work buffer has here, and what each of them is before a load.
@@ -91,12 +90,13 @@ fn load_with(out: &mut impl Write, pack: &[u8], n: usize) -> io::Result<Option<u
     write_loaded(out, loaded, &work)
 }
 
-// A refused pack is loaded once more without any work buffer, an accepted one with a number too few, just enough, and one more.
+// A refused pack is loaded once more without any work buffer, an accepted one with a number too few, just enough, and one more. What is held goes
+// out, since the next file may keep the program waiting.
 fn report(out: &mut impl Write, name: &str, pack: &[u8]) -> io::Result<()> {
     writeln!(out, "{name}")?;
     let Some(n) = load_with(out, pack, ROOM)? else {
         load_with(out, pack, 0)?;
-        return Ok(());
+        return out.flush();
     };
     if 0 < n {
         load_with(out, pack, n - 1)?;
@@ -105,7 +105,7 @@ fn report(out: &mut impl Write, name: &str, pack: &[u8]) -> io::Result<()> {
     if n < ROOM {
         load_with(out, pack, n + 1)?;
     }
-    Ok(())
+    out.flush()
 }
 
 fn report_file(out: &mut impl Write, alloc: Global, name: &str, file: File) -> io::Result<()> {
@@ -125,41 +125,42 @@ fn report_argument(rt: &HostRuntime, out: &mut impl Write, name: &str) -> io::Re
     }
 }
 
-// A pack of the largest size: one field type whose name takes up all the room, all else 0.
-fn largest_pack(alloc: Global, version: u8) -> io::Result<Vec<u8>>
-    ensures { IfOk result (λ pack. vec_len pack ≡ 1048576) }
-{
-    let mut pack = vec![in alloc; version, 1, 0xec, 0xff, 0x3f]?;
-    pack.resize(LONGEST, 0)?;
-    Ok(pack)
-}
-
-// Such a pack, and one of a byte more.
+// A pack of the largest size, of that version, and one of a byte more: one field type whose name takes up all the room, all else 0.
 fn report_large(
     out: &mut impl Write,
-    alloc: Global,
+    pack: &mut [u8],
     version: u8,
     largest: &str,
     larger: &str,
 ) -> io::Result<()> {
-    let mut pack = largest_pack(alloc, version)?;
-    report(out, largest, &pack)?;
-    pack.push(0)?;
-    report(out, larger, &pack)
+    if let Some(first) = pack.first_mut() {
+        *first = version;
+    }
+    report(out, largest, &pack[..pack.len().min(LONGEST)])?;
+    report(out, larger, pack)
 }
 
-fn main(rt: HostRuntime) -> io::Result<()> {
-    let mut out = BufWriter::new(rt.alloc(), io::writer(&rt))?;
-    for name in env::args(&rt)?.skip(1) {
-        report_argument(&rt, &mut out, name.as_str())?;
+fn report_all(rt: &HostRuntime, out: &mut impl Write) -> io::Result<()> {
+    for name in env::args(rt)?.skip(1) {
+        report_argument(rt, out, name.as_str())?;
     }
-    report_large(&mut out, rt.alloc(), 1, "largest", "larger_by_one_byte")?;
+    let mut pack = Vec::with_capacity(rt.alloc(), LONGEST + 1)?;
+    pack.extend_from_slice(&[1, 1, 0xec, 0xff, 0x3f])?;
+    pack.resize(LONGEST + 1, 0)?;
+    report_large(out, &mut pack, 1, "largest", "larger_by_one_byte")?;
     report_large(
-        &mut out,
-        rt.alloc(),
+        out,
+        &mut pack,
         2,
         "largest_of_version_2",
         "larger_by_one_byte_of_version_2",
-    )?;
-    out.flush()
+    )
+}
+
+// What is held goes out before an error is told. A write that fails is passed over.
+fn main(rt: HostRuntime) -> io::Result<()> {
+    let mut out = Stdout::new();
+    let done = report_all(&rt, &mut out);
+    out.flush()?;
+    done
 }

@@ -18,6 +18,7 @@ pub mod Sections
 pub mod ReaderLaws
 pub mod Standing
 pub mod ReaderItems
+pub mod CursorLaws
 pub mod Few
 pub mod Turns
 pub mod KindLaws

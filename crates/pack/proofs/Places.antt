@@ -3,7 +3,7 @@ use Rattle.pack.specs.Items.{Cursor, Item, Form, fresh}
 use Rattle.std.specs.Prelude.{None, Result, Ok, Err}
 use Rattle.std.specs.Result.{IsErrAnd}
 use Rattle.std.proofs.lemmas.Result.{err_from_is_err_and}
-use Prim.Native.Nat.{ℕ, zero, suc, ◌+◌, ◌-◌, ◌<◌}
+use Prim.Native.Nat.{ℕ, zero, suc, ◌+◌, ◌-◌, ◌≤◌, ◌<◌}
 use native.Mathlib.Omega.{arith}
 use native.Mathlib.Numerals.{add-one}
 use mathlib.Core.Path.{◌≡◌, refl, ap, ◌∙◌, sym}
@@ -19,7 +19,7 @@ use Rattle.pack.specs.declared.kinds.LookupKind.{LookupKind}
 use Rattle.pack.specs.declared.load.Offsets.{Offsets}
 use Rattle.pack.specs.declared.reader.Reader.{Reader}
 use Rattle.pack.specs.declared.reader.InputRefusal.{InputRefusal}
-use Rattle.pack.proofs.Reading.{iter_add, stays, lookup_steps, field_steps}
+use Rattle.pack.proofs.Reading.{iter_add, stays, entry_reader, lookup_steps, field_steps}
 use Rattle.pack.proofs.ReaderLaws.{outcome_ok, outcome_err, cursor_is}
 use Rattle.pack.proofs.Stores.{put_none, put_append}
 
@@ -29,12 +29,22 @@ pub record Along (r : Reader) (o : Offsets) (end : Cursor) (xs : List ℕ) (r' :
   pub at : fresh r'.at ≡ end
   pub put : Put o xs o'
 
+-- a record that is refused: what was put does not count
+pub placed_refused : {A : Type 0} {form : Form A} {xs : List ℕ → Cursor → List ℕ} {r d : Reader} {o u : Offsets} {f : InputRefusal}
+    → Reads r form (Err f) d → Placing form xs r o (Err f) d u
+placed_refused {form = form} {r = r} {f = f} b =
+    record { reads = b; put = λ m. absurd (eqb-false _ _ (outcome_err (form r.bytes.now (fresh r.at)) f b.answer).0 m) }
+
 pub along_none : (r : Reader) (o : Offsets) → Along r o (fresh r.at) [] r o
 along_none r o = record { bytes = refl; at = refl; put = put_none o }
 
 module _ {r : Reader} {o : Offsets} {end : Cursor} {xs : List ℕ} {d : Reader} {v : Offsets} (a : Along r o end xs d v) where
   pub here : {B : Type 0} (f : List ℕ → Cursor → B) → f d.bytes.now (fresh d.at) ≡ f r.bytes.now end
   here f = ap (λ s. f s (fresh d.at)) a.bytes ∙ ap (f r.bytes.now) a.at
+
+  -- a reader of the same bytes at the same offset
+  pub along_same : {e : Reader} → e.bytes.now ≡ d.bytes.now → e.at ≡ d.at → Along r o end xs e v
+  along_same b z = record { bytes = b ∙ a.bytes; at = ap fresh z ∙ a.at; put = a.put }
 
   -- the offset of the next record
   pub along_put : {u : Offsets} → Put v (d.at ∷ []) u → Along r o end (xs ++ end.at ∷ []) d u
@@ -83,14 +93,12 @@ module _ {r : Reader} {o : Offsets} {end : Cursor} {xs : List ℕ} {d : Reader} 
       let o = outcome_err (g r.bytes.now end) f (b.answer ∙ ap outcome k) in
       let n : (g r.bytes.now end).next.refused ≡ 0 → ⊥ = λ m. eqb-false _ _ o.0 m in
       let s = h n in
-      record {
-        reads = record {
-          bytes = b.bytes ∙ a.bytes;
-          answer = (rw (s, o.0, o.1));
-          at = λ m. absurd (n (rw (← s) m));
-        };
-        put = λ m. absurd (n (rw (← s) m));
-      }
+      placed_refused
+      (record {
+        bytes = b.bytes ∙ a.bytes;
+        answer = (rw (s, o.0, o.1));
+        at = λ m. absurd (n (rw (← s) m));
+      })
 
   -- the last of the records at hand, however that went
   pub placed_last : {A : Type 0} {form g : Form A} {ys zs : List ℕ → Cursor → List ℕ} {z : Result A InputRefusal} {e : Reader} {u : Offsets}
@@ -107,6 +115,12 @@ module _ {r : Reader} {o : Offsets} {end : Cursor} {xs : List ℕ} {d : Reader} 
         };
         put = λ m. rw (y, i) at (put_append a.put (b.put (rw k m)));
       }
+
+-- more records behind them
+pub placed_append : {A B : Type 0} {form : Form A} {behind : Form B} {xs ys : List ℕ → Cursor → List ℕ} {r d e : Reader} {o v u : Offsets} {x : A}
+    {z : Result B InputRefusal} → Placing form xs r o (Ok x) d v → Placing behind ys d v z e u
+    → Placing (λ s c. behind s (form s c).next) (λ s c. xs s c ++ ys s (form s c).next) r o z e u
+placed_append {r = r} {o = o} a b = placed_last (along_then (along_none r o) a) b refl refl
 
 -- the records at hand are placed
 pub placed : {A : Type 0} (form : Form A) (ys : List ℕ → Cursor → List ℕ) {r : Reader} {o : Offsets} {d : Reader} {v : Offsets} {x : A}
@@ -141,6 +155,10 @@ module _ (s : List ℕ) (c : Cursor) where
   pub entries_turn : (k : LookupKind) (i : ℕ) → entries k s c (i + 1) ≡ (read_entry k s (entries k s c i)).next
   unfolding entries
   entries_turn k i = rw add-one
+
+  pub entries_stay : (k : LookupKind) (i n : ℕ) → i ≤ n → ((entries k s c i).refused ≡ 0 → ⊥) → entries k s c n ≡ entries k s c i
+  unfolding entries
+  entries_stay k i n h = stays (entry_reader s k) c i n h
 
   pub lookups_turn : (i : ℕ) → lookups s c (i + 1) ≡ lookup_next s (lookups s c i)
   unfolding lookups
@@ -178,7 +196,7 @@ module _ {A : Type 0} {form : Form A} {xs : List ℕ → Cursor → List ℕ} {r
   rebased (Ok x) h = h
   rebased (Err f) h =
       let k = outcome_err (form r.bytes.now (fresh r.at)) f h.reads.answer in
-      record { reads = record { bytes = refl; answer = h.reads.answer; at = λ m. absurd (eqb-false _ _ k.0 m) }; put = h.put }
+      placed_refused (record { bytes = refl; answer = h.reads.answer; at = λ m. absurd (eqb-false _ _ k.0 m) })
 
 -- where a `?` returns
 module _ {A : Type 0} {form : Form A} {xs : List ℕ → Cursor → List ℕ} {r d : Reader} {o u : Offsets} where

@@ -1,6 +1,6 @@
 -- What the layers above go by: the record at a record's work position means that record of the pack's value.
 use Rattle.pack.specs.Items.{Cursor, Item}
-use Rattle.std.specs.Prelude.{None}
+use Rattle.std.specs.Prelude.{None, ◌==◌}
 use Prim.Native.Nat.{ℕ, zero, suc, ◌+◌, ◌-◌, ◌≤◌, ◌<◌}
 use native.Mathlib.Omega.{arith}
 use mathlib.Core.Path.{◌≡◌, refl, ap, ◌∙◌, sym}
@@ -8,8 +8,8 @@ use mathlib.Core.List.{List}
 use lib.ListN.{length, get_or, take, length-append, length-take, get_or-append}
 use lib.Seq.{get_or-append-add, get_or-take}
 use Rattle.pack.specs.Notation.{concat_below}
-use Rattle.pack.specs.Value.{Field, Pgn, no_field_type, no_entry, pgn_at, field_at, lookup_at}
-use Rattle.pack.specs.Items.{◌▷◌, give, fresh, bytes_of, read_number, read_text, read_index, read_code}
+use Rattle.pack.specs.Value.{Lookup, Field, Pgn, no_field_type, no_entry, pgn_at, field_at, lookup_at}
+use Rattle.pack.specs.Items.{◌▷◌, give, fresh, bytes_of, read_number, read_text, read_name, read_index, read_code}
 use Rattle.pack.specs.Records.{read_type, read_entry, read_lookup, read_names, read_scaling, read_authored, read_pgn, read_field, read_second_text}
 use Rattle.pack.specs.Format.{types, type_offsets, entries, entry_offsets, lookup_records, lookup_offsets, FieldState, field_next, fields}
 use Rattle.pack.specs.Format.{field_offsets, pgn_records, pgn_offsets, type_list, lookup_list, tree_list, type_part, lookup_part, tree_part}
@@ -21,9 +21,10 @@ use Rattle.pack.specs.Kinds.{kind_number}
 use Rattle.pack.proofs.KindLaws.{kind_once}
 use Rattle.pack.specs.declared.kinds.LookupKind.{LookupKind}
 use Rattle.pack.specs.declared.field.FieldView.{FieldView}
+use Rattle.pack.specs.declared.text.Text.{Text}
 use Rattle.pack.proofs.Tables.{length_concat_below, getD_concat_below, getD_tab}
 use Rattle.pack.proofs.Bounds.{offsets_bound}
-use Rattle.pack.proofs.Reading.{number_fits, back, text_reader, index_reader, code_reader, scaling_reader, authored_reader, links_reader}
+use Rattle.pack.proofs.Reading.{if_all, number_fits, back, number_reader, text_reader, index_reader, code_reader, scaling_reader, authored_reader, links_reader}
 use Rattle.pack.proofs.Places.{types_turn, entries_turn, fields_turn}
 use Rattle.pack.proofs.Free.{index_below, lookup_free, field_free}
 use Rattle.pack.proofs.Clean.{fresh_at, accepted_end, pgn_clean, field_clean, lookup_clean, entry_clean, type_clean}
@@ -111,10 +112,17 @@ module _ (s w : List ℕ) (r : Ready s w) where
   pub records_fit : length (offsets s) ≤ length w
   records_fit = let t : length (take (length (offsets s)) w) ≡ length (offsets s) = ap length r.begins in omega (arith, length-take (length (offsets s)) w)
 
+  -- a record's offset is in the work list, and in the pack
+  pub record_listed : (k : ℕ) → k < length (offsets s) → k < length w
+  record_listed k h = omega (arith, records_fit, h)
+
+  pub record_inside : (k : ℕ) → k < length (offsets s) → get_or w k 0 ≤ length s
+  record_inside k h = omega (arith, at_work k h, offsets_bound s k)
+
   -- at the cursor c, which the offset k stands for
   stands : (k : ℕ) (c : Cursor) (next : Cursor → Cursor) → k < length (offsets s) → fresh (get_or w k 0) ≡ c → (next c).refused ≡ 0 → Stands s w k next
   stands k c next h e z =
-      record { place = omega (arith, records_fit, h); inside = omega (arith, at_work k h, offsets_bound s k); clean = rw e z }
+      record { place = record_listed k h; inside = record_inside k h; clean = rw e z }
 
   type_cursor : (i : ℕ) → i < (type_list s).value → fresh (get_or w i 0) ≡ type_start s i
   type_cursor i l =
@@ -135,6 +143,10 @@ module _ (s w : List ℕ) (r : Ready s w) where
       rw (type_cursor i l) (sym (type_is s i l))
 
 -- a name with none before it
+name_first : (s : List ℕ) (c : Cursor) → read_name None s c ≡ read_text s c
+unfolding read_name
+name_first s c = if_all (λ (t : Item Text). t ≡ read_text s c) ((read_text s c).next.refused == 0) _ _ (λ _. refl) (λ _. refl)
+
 module _ {s w : List ℕ} {i p : ℕ} (a : LookupAt s w i p) where
   listed : i < (lookup_list s).value
   listed = omega (arith, lookups_are s, a.lookup)
@@ -155,11 +167,22 @@ module _ {s w : List ℕ} {i p : ℕ} (a : LookupAt s w i p) where
   lookup_view : read_lookup None s (fresh (get_or w p 0)) ≡ lookup_head s i
   lookup_view = rw lookup_cursor (sym (lookup_free s (lookup_start s i).next (lookup_start s i).before lookup_head_clean))
 
-  pub lookup_stands : Stands s w p (λ c. (read_lookup None s c).next)
-  lookup_stands =
+  pub lookup_listed : p < length (offsets s)
+  lookup_listed =
       let o = (lookup_offset s i 0 listed (omega (arith, length_lookup s (lookup_start s i)))).1 in
       let l = length_lookup s (lookup_start s i) in
-      stands s w a.ready p (fresh (get_or w p 0)) _ (omega (arith, a.place)) refl (rw lookup_view lookup_head_clean)
+      omega (arith, a.place)
+
+  pub lookup_stands : Stands s w p (λ c. (read_lookup None s c).next)
+  lookup_stands = stands s w a.ready p (fresh (get_or w p 0)) _ lookup_listed refl (rw lookup_view lookup_head_clean)
+
+  pub lookup_name_stands : Stands s w p (λ c. (read_text s c).next)
+  unfolding read_lookup ◌▷◌ give
+  lookup_name_stands =
+      let f = lookup_stands in
+      let n = (read_name None s (fresh (get_or w p 0))).next in
+      let z : n.refused ≡ 0 = back (code_reader s 3) n (back (number_reader s) _ (back (number_reader s) _ f.clean)) in
+      record { place = f.place; inside = f.inside; clean = rw (name_first s (fresh (get_or w p 0))) at z }
 
   pub lookup_room : p + 1 + length (lookup_at (pack_of s).lookups i).entries ≤ length w
   lookup_room =
@@ -169,6 +192,13 @@ module _ {s w : List ℕ} {i p : ℕ} (a : LookupAt s w i p) where
   pub lookup_law : LookupIs s (lookup_at (pack_of s).lookups i) (read_lookup None s (fresh (get_or w p 0))).value
   unfolding lookup_of_pack
   lookup_law = rw lookup_view (record { means = (rw (lookup_is s i listed)); entries = sym (entries_are s i listed) })
+
+  pub lookup_name_law : bytes_of s (read_text s (fresh (get_or w p 0))).value ≡ (lookup_at (pack_of s).lookups i).name
+  unfolding read_lookup ◌▷◌ give
+  lookup_name_law =
+      let e : bytes_of s (read_lookup None s (fresh (get_or w p 0))).value.name ≡ (lookup_at (pack_of s).lookups i).name
+      = ap (λ (L : Lookup). L.name) lookup_law.means in
+      rw (← name_first s (fresh (get_or w p 0))) e
 
   kind_is : (lookup_at (pack_of s).lookups i).kind ≡ kind_number (lookup_head s i).value.kind
   unfolding lookup_of_pack
@@ -230,12 +260,16 @@ module _ {s w : List ℕ} {t i p : ℕ} (a : PgnAt s w t i p) where
       (fresh_at (pgn_start s t i) (pgn_clean s (clean_end s w a.ready) t i a.tree (omega (arith, counted_pgn)))) in
       rw y
 
+  pub pgn_listed : p < length (offsets s)
+  pgn_listed =
+      let l = length_pgn s (type_list s).value (pgn_start s t i) in
+      let o = (pgn_offset s t i 0 a.tree counted_pgn (omega arith)).1 in
+      omega (arith, a.place)
+
   pub pgn_stands : Stands s w p (λ c. (read_pgn s c).next)
   unfolding fields
   pgn_stands =
-      let l = length_pgn s (type_list s).value (pgn_start s t i) in
-      let o = (pgn_offset s t i 0 a.tree counted_pgn (omega arith)).1 in
-      stands s w a.ready p (fresh (get_or w p 0)) _ (omega (arith, a.place)) refl
+      stands s w a.ready p (fresh (get_or w p 0)) _ pgn_listed refl
       (rw pgn_view (field_clean s (clean_end s w a.ready) t i 0 a.tree counted_pgn (omega arith)))
 
   pub pgn_room : p + 1 + length (pgn_at (pack_of s) t i).fields ≤ length w

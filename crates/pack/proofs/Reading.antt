@@ -495,13 +495,17 @@ capped_fits : (most n : ℕ) (c : Cursor) (e : ℕ) → (decoded c e (capped mos
 unfolding capped
 capped_fits most n c e = if_all (λ (o : Option ℕ). (decoded c e o).value ≤ most) (n ≤ᵇ most) _ _ (λ h. leb-true _ _ h) (λ _. omega arith)
 
-pub number_fits : (s : List ℕ) (c : Cursor) → (read_number s c).value ≤ largest32
-unfolding read_number read_wide
-number_fits s c =
-    let P : Item ℕ → Type 0 = λ w. w.value ≤ largest32 in
+pub wide_fits : (most : ℕ) (s : List ℕ) (c : Cursor) → (read_wide most s c).value ≤ most
+unfolding read_wide
+wide_fits most s c =
+    let P : Item ℕ → Type 0 = λ w. w.value ≤ most in
     let l = last_byte_at s c.at in
     if_all P (c.refused == 0) _ _
     (λ _. if_all P (l <ᵇ length s) _ _
-    (λ _. if_all P (shortest s c.at l) _ _ (λ _. capped_fits largest32 (groups s (l + 1) (l + 1 - c.at)) c (l + 1)) (λ _. omega arith))
+    (λ _. if_all P (shortest s c.at l) _ _ (λ _. capped_fits most (groups s (l + 1) (l + 1 - c.at)) c (l + 1)) (λ _. omega arith))
     (λ _. omega arith))
     (λ _. omega arith)
+
+pub number_fits : (s : List ℕ) (c : Cursor) → (read_number s c).value ≤ largest32
+unfolding read_number
+number_fits s c = wide_fits largest32 s c

@@ -4,11 +4,12 @@ use Prim.Native.Nat.{ℕ, ◌+◌, ◌-◌, ◌≤◌, ◌<◌}
 use native.Mathlib.Omega.{arith}
 use native.Mathlib.Nat.{mod-eq_of_lt}
 use mathlib.Core.Path.{◌≡◌}
+use mathlib.Core.Bool.{false}
 use mathlib.Core.List.{List}
 use borrow.Author.Tests.{eq-eqb, lt-ltb, le-ltb, le-leb}
 use lib.ListN.{length, get_or, drop}
 use lib.Seq.{drop-cons}
-use Rattle.pack.specs.Items.{fresh, run, last_byte_at, groups, shortest, capped, read_wide}
+use Rattle.pack.specs.Items.{fresh, run, last_byte_at, groups, shortest, capped, largest32, give, ◌▷◌, read_wide, read_number, judged, read_code, read_mark}
 
 -- a byte without the top bit is a number's last
 pub run_ends : (s : List ℕ) (i : ℕ) → i < length s → get_or s i 0 < 128 → run (drop i s) ≡ 0
@@ -24,3 +25,7 @@ module _ (s : List ℕ) (c : Cursor) (clean : c.refused ≡ 0) (inside : c.at < 
       let f : c.at + 1 - 1 ≡ c.at = omega arith in
       let g : groups s (c.at + 1) 1 ≡ get_or s c.at 0 = rw (f, mod-eq_of_lt l) (omega arith) in
       rw (e, n, g, eq-eqb _ _ clean, lt-ltb _ _ inside, le-ltb c.at c.at (omega arith), le-leb _ _ m, clean)
+
+  pub no_item : get_or s c.at 0 ≡ 0 → read_mark s c ≡ record { value = false; next = fresh (c.at + 1) }
+  unfolding read_mark read_code read_number judged ◌▷◌ give
+  no_item z = rw (one_byte largest32 (omega (arith, z)) (omega (arith, z)), z)

@@ -18,7 +18,7 @@ use Rattle.pack.specs.declared.load.Index.{Index}
 use Rattle.pack.specs.declared.load.Refusal.{Refusal}
 
 -- each of the eight numbers names a fault
-fault_numbered : (n : ℕ) → (n == 0) ≡ false → n ≤ 8 → fault_number (fault_of n) ≡ n
+pub fault_numbered : (n : ℕ) → (n == 0) ≡ false → n ≤ 8 → fault_number (fault_of n) ≡ n
 fault_numbered zero h l = absurd (true≢false h)
 fault_numbered (suc zero) h l = refl
 fault_numbered (suc (suc zero)) h l = refl

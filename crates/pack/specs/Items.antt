@@ -6,20 +6,12 @@ use Rattle.std.specs.Prelude.{Bool, true, false, not, ◌&&◌, length, get_or, 
 use Rattle.std.specs.Prelude.{Option, None, Some}
 use Rattle.pack.specs.Notation.{◌<ᵇ◌, ◌≤ᵇ◌}
 use Rattle.pack.specs.declared.text.Text.{Text}
+pub use Rattle.pack.specs.declared.cursor.Cursor.{Cursor}
+pub use Rattle.pack.specs.declared.cursor.Item.{Item}
 
 infix 50 ◌≺◌
 infixr 20 ◌▷◌
 -- ---- the cursor
-
--- an offset; and 01's number of the refusal there, 0 where there is none
-pub record Cursor : Type 0 where
-  pub at : ℕ
-  pub refused : ℕ
-
--- an item, and the cursor behind it
-pub record Item (A : Type 0) : Type 0 where
-  pub value : A
-  pub next : Cursor
 
 -- from the bytes of a pack and a cursor
 abbrev pub Form : Type 0 → Type 0

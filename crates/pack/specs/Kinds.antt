@@ -15,6 +15,11 @@ kind_number Fieldtype = 3
 abbrev pub kind_of : ℕ → LookupKind
 kind_of n = if n == 0 then Pair else (if n == 1 then Triplet else (if n == 2 then Bit else Fieldtype))
 
+-- The kind as whose an entry is read, by any number: triplets and fieldtype entries have items of their own; "Pair and bit: value, name.", and so
+-- every number that no kind has.
+abbrev pub entries_of : ℕ → LookupKind
+entries_of n = if n == 1 then Triplet else (if n == 3 then Fieldtype else Pair)
+
 -- "type (0 Single, 1 Fast, 2 ISO, 3 Mixed)"
 abbrev pub message_type_number : MessageType → ℕ
 message_type_number Single = 0

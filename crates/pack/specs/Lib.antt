@@ -10,4 +10,5 @@ pub mod Placing
 pub mod Trees
 pub mod Ready
 pub mod Reads
+pub mod Cursors
 pub mod Loaded

@@ -1,8 +1,9 @@
 // A field, read item by item in 01's order.
-ghost use Rattle.std.specs.Prelude.{◌≡◌};
+ghost use Rattle.std.specs.Prelude.{◌≡◌, ◌+◌, ◌≤◌};
 ghost use Rattle.pack.specs.Reads.{Gives};
 ghost use Rattle.pack.specs.Records.{read_names, field_flags_of, read_scaling, read_authored, read_reference, read_links, read_field};
 
+use crate::cursor::{self, Cursor};
 use crate::items::{Float, Item, Number, Sum, Words};
 use crate::kinds::LookupKind;
 use crate::reader::{InputRefusal, Reader};
@@ -183,6 +184,127 @@ impl<'a> Reader<'a> {
     }
 }
 
+impl Cursor {
+    fn names(self, s: &[u8]) -> cursor::Item<NamesView>
+        ensures { result ≡ read_names s.now self }
+    {
+        let id = self.text(s);
+        let name = id.next.text(s);
+        let kind = name.next.text(s);
+        cursor::Item {
+            value: NamesView {
+                id: id.value,
+                name: name.value,
+                kind: kind.value,
+            },
+            next: kind.next,
+        }
+    }
+
+    // The scaling of a field, in a PGN whose fields before it have `total` bits.
+    fn scaling(self, s: &[u8], total: u32) -> cursor::Item<ScalingView>
+        ensures { record {
+          is : result ≡ read_scaling total s.now self;
+          bound : total + result.value.bits ≤ 4294967295;
+        } }
+    {
+        let bits = self.sum(s, total);
+        let resolution = bits.next.float(s);
+        let offset = resolution.next.float(s);
+        let unit = offset.next.opt_text(s);
+        cursor::Item {
+            value: ScalingView {
+                bits: bits.value,
+                resolution: resolution.value,
+                offset: offset.value,
+                unit: unit.value,
+            },
+            next: unit.next,
+        }
+    }
+
+    fn authored(self, s: &[u8]) -> cursor::Item<AuthoredView>
+        ensures { result ≡ read_authored s.now self }
+    {
+        let resolution = self.opt_float(s);
+        let offset = resolution.next.opt_float(s);
+        let spn = offset.next.opt_number(s);
+        let continues = spn.next.opt_text(s);
+        let matched = continues.next.opt_text(s);
+        cursor::Item {
+            value: AuthoredView {
+                resolution: resolution.value,
+                offset: offset.value,
+                spn: spn.value,
+                continues: continues.value,
+                matched: matched.value,
+            },
+            next: matched.next,
+        }
+    }
+
+    fn reference(self, s: &[u8]) -> cursor::Item<ReferenceView>
+        ensures { result ≡ read_reference s.now self }
+    {
+        let kind = self.code(s, 3);
+        let name = kind.next.text(s);
+        cursor::Item {
+            value: ReferenceView {
+                kind: LookupKind::of(kind.value),
+                name: name.value,
+            },
+            next: name.next,
+        }
+    }
+
+    // What a field of `bits` bits refers to.
+    fn links(self, s: &[u8], bits: u32) -> cursor::Item<LinksView>
+        ensures { result ≡ read_links bits s.now self }
+    {
+        let reference = self.optional(s, Reference);
+        let special = reference.next.opt_number(s);
+        let length = special.next.opt_text(s);
+        let trailing = length.next.opt_text(s);
+        let continuation = trailing.next.opt_sum(s, bits);
+        cursor::Item {
+            value: LinksView {
+                reference: reference.value,
+                special: special.value,
+                length: length.value,
+                trailing: trailing.value,
+                continuation: continuation.value,
+            },
+            next: continuation.next,
+        }
+    }
+
+    // A field, in a pack of `types` field types and a PGN whose fields before it have `total` bits.
+    pub fn field(self, s: &[u8], types: u64, total: u32) -> cursor::Item<FieldView>
+        ensures { record {
+          is : result ≡ read_field types total s.now self;
+          bound : total + result.value.scaling.bits ≤ 4294967295;
+        } }
+    {
+        let names = self.names(s);
+        let ft = names.next.index(s, types);
+        let flags = ft.next.code(s, 63);
+        let scaling = flags.next.scaling(s, total);
+        let authored = scaling.next.authored(s);
+        let links = authored.next.links(s, scaling.value.bits);
+        cursor::Item {
+            value: FieldView {
+                names: names.value,
+                ft: ft.value,
+                flags: field_flags(flags.value),
+                scaling: scaling.value,
+                authored: authored.value,
+                links: links.value,
+            },
+            next: links.next,
+        }
+    }
+}
+
 #[derive(Drop)]
 struct Reference;
 
@@ -193,5 +315,9 @@ impl Item for Reference {
 
     fn read<'a>(self, reader: Reader<'a>) -> Result<(ReferenceView, Reader<'a>), InputRefusal> {
         reader.reference()
+    }
+
+    fn read_at(self, cursor: Cursor, s: &[u8]) -> cursor::Item<ReferenceView> {
+        cursor.reference(s)
     }
 }

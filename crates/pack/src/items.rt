@@ -4,11 +4,24 @@ ghost use Rattle.pack.specs.Items.{Form, optional, read_wide, read_number, read_
 ghost use Rattle.pack.specs.Items.{read_text, read_name, read_float};
 ghost use Rattle.pack.specs.Reads.{Gives, Ends, refuse_unless};
 
+use crate::cursor::{self, Cursor};
 use crate::number::{decode, is_shortest, last_byte};
 use crate::reader::{Fault, InputRefusal, Reader};
 use crate::text::{Text, text_precedes};
 
 impl<'a> Reader<'a> {
+    // The next reader of the same bytes, of which only the offset is taken: its own bytes come out of an answer, whose parts were just stored.
+    #[inline(always)]
+    pub(crate) fn go_on(self, next: Reader<'a>) -> Reader<'a>
+        requires { next.bytes.now ≡ self.bytes.now }
+        ensures { record { bytes : result.bytes.now ≡ next.entry.bytes.now; at : result.at ≡ next.entry.at } }
+    {
+        Reader {
+            bytes: self.bytes,
+            at: next.at,
+        }
+    }
+
     // The offending item begins here.
     #[inline(always)]
     fn refusal(self, fault: Fault) -> InputRefusal
@@ -213,7 +226,8 @@ impl<'a> Reader<'a> {
     }
 }
 
-// What may be left out: how it is read where it is there. Each item of the format that may be has an impl, as it has a method above.
+// What may be left out: how it is read where it is there, by a reader and by a cursor. Each item of the format that may be has an impl, as it
+// has a method above.
 pub(crate) trait Item: Drop {
     type Value;
 
@@ -221,6 +235,9 @@ pub(crate) trait Item: Drop {
 
     fn read<'a>(self, reader: Reader<'a>) -> Result<(Self::Value, Reader<'a>), InputRefusal>
         ensures { Gives reader.entry (form self) result };
+
+    fn read_at(self, cursor: Cursor, s: &[u8]) -> cursor::Item<Self::Value>
+        ensures { result ≡ form self s.now cursor };
 }
 
 #[derive(Drop)]
@@ -233,6 +250,10 @@ impl Item for Number {
 
     fn read<'a>(self, reader: Reader<'a>) -> Result<(u32, Reader<'a>), InputRefusal> {
         reader.number()
+    }
+
+    fn read_at(self, cursor: Cursor, s: &[u8]) -> cursor::Item<u32> {
+        cursor.number(s)
     }
 }
 
@@ -248,6 +269,10 @@ impl Item for Sum {
     fn read<'a>(self, reader: Reader<'a>) -> Result<(u32, Reader<'a>), InputRefusal> {
         reader.sum(self.0)
     }
+
+    fn read_at(self, cursor: Cursor, s: &[u8]) -> cursor::Item<u32> {
+        cursor.sum(s, self.0)
+    }
 }
 
 #[derive(Drop)]
@@ -260,6 +285,10 @@ impl Item for Length {
 
     fn read<'a>(self, reader: Reader<'a>) -> Result<(u32, Reader<'a>), InputRefusal> {
         reader.length()
+    }
+
+    fn read_at(self, cursor: Cursor, s: &[u8]) -> cursor::Item<u32> {
+        cursor.bytes(s)
     }
 }
 
@@ -274,6 +303,10 @@ impl Item for Words {
     fn read<'a>(self, reader: Reader<'a>) -> Result<(Text, Reader<'a>), InputRefusal> {
         reader.text()
     }
+
+    fn read_at(self, cursor: Cursor, s: &[u8]) -> cursor::Item<Text> {
+        cursor.text(s)
+    }
 }
 
 #[derive(Drop)]
@@ -286,5 +319,9 @@ impl Item for Float {
 
     fn read<'a>(self, reader: Reader<'a>) -> Result<(u64, Reader<'a>), InputRefusal> {
         reader.float()
+    }
+
+    fn read_at(self, cursor: Cursor, s: &[u8]) -> cursor::Item<u64> {
+        cursor.float(s)
     }
 }

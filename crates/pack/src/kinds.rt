@@ -1,6 +1,6 @@
 // The kinds that 01 gives by a number: two tables of data, which a common trait would not shorten.
 ghost use Rattle.std.specs.Prelude.{◌≡◌};
-ghost use Rattle.pack.specs.Kinds.{kind_of, message_type_of};
+ghost use Rattle.pack.specs.Kinds.{kind_of, entries_of, message_type_of};
 
 // A lookup's kind, also a reference's.
 #[derive(Clone, Copy, PartialEq, Eq, Debug)]
@@ -21,6 +21,17 @@ impl LookupKind {
             1 => LookupKind::Triplet,
             2 => LookupKind::Bit,
             _ => LookupKind::Fieldtype,
+        }
+    }
+
+    // As whose an entry is read, by any number.
+    pub(crate) fn of_entries(number: u32) -> LookupKind
+        ensures { result ≡ entries_of number }
+    {
+        match number {
+            1 => LookupKind::Triplet,
+            3 => LookupKind::Fieldtype,
+            _ => LookupKind::Pair,
         }
     }
 }

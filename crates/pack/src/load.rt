@@ -7,6 +7,7 @@ ghost use Rattle.pack.specs.Load.{refusal_number, refusal_detail, most_bytes, Lo
 ghost use Rattle.pack.specs.Placing.{Put, PlacesRecords, Stays, alone, PlacesList, PlacesLookup, PlacesTree, PlacesAll};
 ghost use Rattle.pack.specs.declared.load.Refusal.TheVariants.{Input};
 
+use crate::buffers::copy;
 use crate::kinds::LookupKind;
 use crate::reader::Reader;
 pub use crate::reader::{Fault, InputRefusal};
@@ -233,7 +234,7 @@ fn place_fields<'a>(
     for _i in 0..n {
         offsets.put(next.at);
         let (field, after) = next.field(types as u64, total)?;
-        next = after;
+        next = reader.go_on(after);
         total += field.scaling.bits;
     }
     Ok(next)
@@ -298,10 +299,11 @@ fn load_by(pack: &[u8], work: &mut [u32], short: &mut [u32]) -> Result<Index, Re
         return Err(Refusal::Work(n));
     }
     if n <= short.len() {
-        work[..n].copy_from_slice(&short[..n]);
-        return Ok(index);
+        copy(short, work, n);
+    } else {
+        place_all(pack, work)?;
     }
-    Ok(place_all(pack, work)?)
+    Ok(index)
 }
 
 // With room for N offsets on the stack.

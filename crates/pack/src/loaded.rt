@@ -1,14 +1,12 @@
 // An accepted pack with what `load` left in the work buffer: its records by their index, each with the facts that a reader of it asks.
-ghost use Rattle.std.specs.Prelude.{◌≡◌, ◌+◌, ◌≤◌, ◌<◌, length, get_or};
+ghost use Rattle.std.specs.Prelude.{◌≡◌, ◌+◌, ◌<◌, length, get_or};
 ghost use Rattle.std.specs.List.{slice_get};
 ghost use Rattle.std.specs.Bool.{then_some};
 ghost use Rattle.std.specs.Option.{option_map};
 ghost use Rattle.pack.specs.Notation.{◌<ᵇ◌};
-ghost use Rattle.pack.specs.Items.{bytes_of, fresh, read_text};
+ghost use Rattle.pack.specs.Items.{bytes_of};
 ghost use Rattle.pack.specs.Meaning.{type_meaning, entry_meaning, field_meaning, pack_of};
-ghost use Rattle.pack.specs.Ready.{Ready, IndexIs, LookupAt, LookupIs, PgnAt, PgnIs, Stands, place_of_lookup, place_of_pgn};
-ghost use Rattle.pack.specs.Reads.{outcome};
-ghost use Rattle.pack.specs.Records.{read_entry, read_field, read_second_text, read_type};
+ghost use Rattle.pack.specs.Ready.{Ready, IndexIs, LookupAt, LookupIs, PgnAt, PgnIs, place_of_lookup, place_of_pgn};
 ghost use Rattle.pack.specs.Trees.{tree_number};
 ghost use Rattle.pack.specs.Value.{no_field_type, no_entry, pgns_of, pgn_at, field_at, lookup_at};
 
@@ -17,9 +15,9 @@ use crate::field::FieldView;
 use crate::field_type::FieldTypeView;
 use crate::load::Index;
 use crate::lookup::LookupView;
+use crate::of::{entry_of, field_id_of, field_name_of, field_of, lookup_of, pgn_of, type_of};
 use crate::pgn::PgnView;
 use crate::protocol::Protocol;
-use crate::reader::{InputRefusal, Reader};
 use crate::text::{Text, part};
 
 // An accepted pack. The calls make it of `load`'s answer: a function that did so would lend the work buffer on, and could not promise what it
@@ -88,15 +86,6 @@ pub struct Pgns<'a> {
     ghost placed: { place ≡ place_of_pgn (pack_of pack.bytes.now) (tree_number protocol) item },
 }
 
-// The text behind the one that a record begins with: a field's name.
-fn second_text(reader: Reader) -> Result<Text, InputRefusal>
-    ensures { result ≡ outcome (read_second_text reader.entry.bytes.now (fresh reader.entry.at)) }
-{
-    let (_, next) = reader.text()?;
-    let (text, _) = next.text()?;
-    Ok(text)
-}
-
 impl<'a> Pack<'a> {
     ghost use Rattle.pack.specs.Loaded.{lookups_left, pgns_left, lookup_spots, pgn_spots};
 
@@ -114,60 +103,12 @@ impl<'a> Pack<'a> {
         self.work[p]
     }
 
-    // A reader at the record of that offset.
-    fn reader(&self, p: usize) -> Reader<'a>
-        requires { record { place : p < length self.now.work.now; inside : get_or self.now.work.now p 0 ≤ length self.now.bytes.now } }
-        ensures { record { bytes : result.bytes.now ≡ self.now.bytes.now; at : result.at ≡ get_or self.now.work.now p 0 } }
-    {
-        Reader {
-            bytes: self.bytes,
-            at: self.offset(p) as usize,
-        }
-    }
-
-    // A reader at field type i.
-    fn type_reader(&self, i: u32) -> Reader<'a>
-        requires { i < length (pack_of self.now.bytes.now).fieldtypes }
-        ensures { record {
-          bytes : result.bytes.now ≡ self.now.bytes.now;
-          at : result.at ≡ get_or self.now.work.now i 0;
-          stands : Stands self.now.bytes.now self.now.work.now i (λ c. (read_type self.now.bytes.now c).next);
-        } }
-    {
-        self.reader(i as usize)
-    }
-
-    // The lookup of that index, at that work position.
-    fn lookup_view(&self, item: u32, place: usize) -> LookupView
-        requires { LookupAt self.now.bytes.now self.now.work.now item place }
-        ensures { LookupIs self.now.bytes.now (lookup_at (pack_of self.now.bytes.now).lookups item) result }
-    {
-        let Ok((lookup, _)) = self.reader(place).lookup(None) else {
-            unreachable!()
-        };
-        lookup
-    }
-
-    // The PGN of that tree and index, at that work position.
-    fn pgn_view(&self, protocol: Protocol, item: u32, place: usize) -> PgnView
-        requires { PgnAt self.now.bytes.now self.now.work.now (tree_number protocol) item place }
-        ensures { PgnIs self.now.bytes.now (pgn_at (pack_of self.now.bytes.now) (tree_number protocol) item) result }
-    {
-        let Ok((pgn, _)) = self.reader(place).pgn() else {
-            unreachable!()
-        };
-        pgn
-    }
-
     // Field type i.
     pub fn field_type(&self, i: u32) -> FieldTypeView
         requires { i < length (pack_of self.now.bytes.now).fieldtypes }
         ensures { type_meaning self.now.bytes.now result ≡ get_or (pack_of self.now.bytes.now).fieldtypes i no_field_type }
     {
-        let Ok((field_type, _)) = self.type_reader(i).field_type() else {
-            unreachable!()
-        };
-        field_type
+        type_of(self.bytes, self.work, i)
     }
 
     // The byte at which it begins.
@@ -221,6 +162,9 @@ impl<'a> Pack<'a> {
         ensures { option_map lookup_spot result ≡ then_some (item <ᵇ length (pack_of self.now.bytes.now).lookups)
             (record { bytes = self.now.bytes.now; work = self.now.work.now; item = item }) }
     {
+        if self.index.lookups.count <= item {
+            return None;
+        }
         self.lookups().nth(item as usize)
     }
 
@@ -229,6 +173,9 @@ impl<'a> Pack<'a> {
         ensures { option_map pgn_spot result ≡ then_some (item <ᵇ length (pgns_of (pack_of self.now.bytes.now) (tree_number protocol)))
             (record { bytes = self.now.bytes.now; work = self.now.work.now; tree = tree_number protocol; item = item }) }
     {
+        if protocol.section(self.index).count <= item {
+            return None;
+        }
         self.pgns(protocol).nth(item as usize)
     }
 }
@@ -260,28 +207,20 @@ impl<'a> LookupRef<'a> {
         self.pack.offset(self.place_of_entry(k))
     }
 
-    // A reader at entry k.
-    fn reader(&self, k: u32) -> Reader<'a>
-        requires { k < self.now.view.entries }
-        ensures { record {
-          bytes : result.bytes.now ≡ self.now.pack.bytes.now;
-          at : result.at ≡ get_or self.now.pack.work.now (self.now.place + 1 + k) 0;
-          stands : Stands self.now.pack.bytes.now self.now.pack.work.now (self.now.place + 1 + k)
-              (λ c. (read_entry self.now.view.kind self.now.pack.bytes.now c).next);
-        } }
-    {
-        self.pack.reader(self.place_of_entry(k))
-    }
-
     // Entry k.
+    #[inline(always)]
     pub fn entry(&self, k: u32) -> EntryView
         requires { k < self.now.view.entries }
         ensures { entry_meaning self.now.pack.bytes.now result ≡ get_or (lookup_value self.now).entries k no_entry }
     {
-        let Ok((entry, _)) = self.reader(k).entry(self.view.kind) else {
-            unreachable!()
-        };
-        entry
+        let LookupRef {
+            pack,
+            item,
+            place,
+            view,
+            ..
+        } = *self;
+        entry_of(pack.bytes, pack.work, item, place, view.kind, k)
     }
 }
 
@@ -311,31 +250,19 @@ impl<'a> PgnRef<'a> {
         self.pack.offset(self.place_of_field(k))
     }
 
-    // A reader at field k, for the whole of it, its id, or its name.
-    fn reader(&self, k: u32) -> Reader<'a>
-        requires { k < self.now.view.fields }
-        ensures { record {
-          bytes : result.bytes.now ≡ self.now.pack.bytes.now;
-          at : result.at ≡ get_or self.now.pack.work.now (self.now.place + 1 + k) 0;
-          whole : Stands self.now.pack.bytes.now self.now.pack.work.now (self.now.place + 1 + k)
-              (λ c. (read_field 4294967296 0 self.now.pack.bytes.now c).next);
-          id : Stands self.now.pack.bytes.now self.now.pack.work.now (self.now.place + 1 + k) (λ c. (read_text self.now.pack.bytes.now c).next);
-          name : Stands self.now.pack.bytes.now self.now.pack.work.now (self.now.place + 1 + k)
-              (λ c. (read_second_text self.now.pack.bytes.now c).next);
-        } }
-    {
-        self.pack.reader(self.place_of_field(k))
-    }
-
     // Field k.
     pub fn field(&self, k: u32) -> FieldView
         requires { k < self.now.view.fields }
         ensures { field_meaning self.now.pack.bytes.now result ≡ field_at (pgn_value self.now) k }
     {
-        let Ok((field, _)) = self.reader(k).field(0x1_0000_0000, 0) else {
-            unreachable!()
-        };
-        field
+        let PgnRef {
+            pack,
+            protocol,
+            item,
+            place,
+            ..
+        } = *self;
+        field_of(pack.bytes, pack.work, protocol.tree(), item, place, k)
     }
 
     // The same with its PGN and its index.
@@ -359,10 +286,14 @@ impl<'a> PgnRef<'a> {
         requires { k < self.now.view.fields }
         ensures { bytes_of self.now.pack.bytes.now result ≡ (field_at (pgn_value self.now) k).id }
     {
-        let Ok((id, _)) = self.reader(k).text() else {
-            unreachable!()
-        };
-        id
+        let PgnRef {
+            pack,
+            protocol,
+            item,
+            place,
+            ..
+        } = *self;
+        field_id_of(pack.bytes, pack.work, protocol.tree(), item, place, k)
     }
 
     // Its name.
@@ -370,10 +301,14 @@ impl<'a> PgnRef<'a> {
         requires { k < self.now.view.fields }
         ensures { bytes_of self.now.pack.bytes.now result ≡ (field_at (pgn_value self.now) k).name }
     {
-        let Ok(name) = second_text(self.reader(k)) else {
-            unreachable!()
-        };
-        name
+        let PgnRef {
+            pack,
+            protocol,
+            item,
+            place,
+            ..
+        } = *self;
+        field_name_of(pack.bytes, pack.work, protocol.tree(), item, place, k)
     }
 
     // Field k; None past the last.
@@ -410,13 +345,14 @@ impl<'a> Iterator for Lookups<'a> {
 
     ghost remaining = { item_count lookups_left };
 
+    #[inline(always)]
     fn next(&mut self) -> Option<LookupRef<'a>> {
         let Lookups { pack, item, place } = *self;
         let count = pack.index.lookups.count;
         if count <= item {
             return None;
         }
-        let view = pack.lookup_view(item, place);
+        let view = lookup_of(pack.bytes, pack.work, item, place);
         *self = Lookups {
             pack,
             item: item + 1,
@@ -452,7 +388,7 @@ impl<'a> Iterator for Pgns<'a> {
         if count <= item {
             return None;
         }
-        let view = pack.pgn_view(protocol, item, place);
+        let view = pgn_of(pack.bytes, pack.work, protocol.tree(), item, place);
         *self = Pgns {
             pack,
             protocol,

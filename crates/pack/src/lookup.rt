@@ -1,7 +1,9 @@
 // A lookup, read item by item in 01's order, up to its entries.
+ghost use Rattle.std.specs.Prelude.{◌≡◌};
 ghost use Rattle.pack.specs.Reads.{Gives};
 ghost use Rattle.pack.specs.Records.{read_lookup};
 
+use crate::cursor::{Cursor, Item};
 use crate::kinds::LookupKind;
 use crate::reader::{InputRefusal, Reader};
 use crate::text::Text;
@@ -17,6 +19,7 @@ pub struct LookupView {
 
 impl<'a> Reader<'a> {
     // A lookup up to its entries, its name above the one before it.
+    #[inline(always)]
     pub(crate) fn lookup(self, before: Option<Text>) -> Result<(LookupView, Self), InputRefusal>
         ensures { Gives self.entry (read_lookup before) result }
     {
@@ -31,5 +34,26 @@ impl<'a> Reader<'a> {
             entries,
         };
         Ok((view, next))
+    }
+}
+
+impl Cursor {
+    // A lookup up to its entries, its name above the one before it.
+    pub fn lookup(self, s: &[u8], before: Option<Text>) -> Item<LookupView>
+        ensures { result ≡ read_lookup before s.now self }
+    {
+        let name = self.name(s, before);
+        let kind = name.next.code(s, 3);
+        let bits = kind.next.number(s);
+        let entries = bits.next.number(s);
+        Item {
+            value: LookupView {
+                name: name.value,
+                kind: LookupKind::of(kind.value),
+                bits: bits.value,
+                entries: entries.value,
+            },
+            next: entries.next,
+        }
     }
 }

@@ -4,6 +4,7 @@ ghost use Rattle.std.specs.Prelude.{None};
 ghost use Rattle.pack.specs.Reads.{Gives};
 ghost use Rattle.pack.specs.Records.{order_of, pgn_flags_of, read_repeating, read_pgn};
 
+use crate::cursor::{self, Cursor};
 use crate::items::{Item, Length, Number};
 use crate::kinds::MessageType;
 use crate::protocol::FieldOrder;
@@ -82,6 +83,7 @@ impl<'a> Reader<'a> {
     }
 
     // A PGN up to its fields.
+    #[inline(always)]
     pub(crate) fn pgn(self) -> Result<(PgnView, Self), InputRefusal>
         ensures { Gives self.entry read_pgn result }
     {
@@ -110,6 +112,55 @@ impl<'a> Reader<'a> {
     }
 }
 
+impl Cursor {
+    fn repeating(self, s: &[u8]) -> cursor::Item<RepeatingView>
+        ensures { result ≡ read_repeating s.now self }
+    {
+        let count = self.number(s);
+        let start = count.next.sum(s, count.value);
+        let counter = start.next.opt_number(s);
+        let nested = counter.next.mark(s);
+        cursor::Item {
+            value: RepeatingView {
+                count: count.value,
+                start: FieldOrder(start.value),
+                counter: order_of(counter.value),
+                nested: nested.value,
+            },
+            next: nested.next,
+        }
+    }
+
+    // A PGN up to its fields.
+    pub fn pgn(self, s: &[u8]) -> cursor::Item<PgnView>
+        ensures { result ≡ read_pgn s.now self }
+    {
+        let pgn = self.number(s);
+        let id = pgn.next.text(s);
+        let kind = id.next.code(s, 3);
+        let flags = kind.next.code(s, 7);
+        let length = flags.next.number(s);
+        let minimum = length.next.opt_bytes(s);
+        let first = minimum.next.optional(s, Repeating);
+        let second = first.next.optional(s, Repeating);
+        let fields = second.next.number(s);
+        cursor::Item {
+            value: PgnView {
+                pgn: pgn.value,
+                id: id.value,
+                kind: MessageType::of(kind.value),
+                flags: pgn_flags(flags.value),
+                length: length.value,
+                minimum: minimum.value,
+                sets: [first.value, second.value, None, None],
+                places: 2,
+                fields: fields.value,
+            },
+            next: fields.next,
+        }
+    }
+}
+
 #[derive(Drop)]
 struct Repeating;
 
@@ -120,5 +171,9 @@ impl Item for Repeating {
 
     fn read<'a>(self, reader: Reader<'a>) -> Result<(RepeatingView, Reader<'a>), InputRefusal> {
         reader.repeating()
+    }
+
+    fn read_at(self, cursor: Cursor, s: &[u8]) -> cursor::Item<RepeatingView> {
+        cursor.repeating(s)
     }
 }

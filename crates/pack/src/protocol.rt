@@ -15,13 +15,26 @@ pub enum Protocol {
 }
 
 impl Protocol {
-    pub const ALL: [Protocol; 3] = [Protocol::Nmea2000, Protocol::J1939, Protocol::Quick];
+    pub const COUNT: usize = 3;
+
+    pub const ALL: [Protocol; Protocol::COUNT] = [
+        Protocol::Nmea2000,
+        Protocol::J1939,
+        Protocol::Quick,
+    ];
 
     // The tree of that number.
-    pub fn of_tree(tree: u32) -> Option<Protocol>
+    pub fn from_number(tree: u32) -> Option<Protocol>
         ensures { result ≡ then_some (tree <ᵇ 3) (protocol_of tree) }
     {
         Protocol::ALL.get(tree as usize).copied()
+    }
+
+    // The same; Quick for every other.
+    pub fn of_tree(tree: u32) -> Protocol
+        ensures { result ≡ protocol_of tree }
+    {
+        Protocol::from_number(tree).unwrap_or(Protocol::Quick)
     }
 
     pub fn tree(self) -> u32

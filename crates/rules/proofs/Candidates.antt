@@ -11,6 +11,7 @@ use Rattle.std.proofs.lemmas.Option.{none-some, same_Some}
 use mathlib.Core.Path.{◌≡◌, refl, sym, ap, ◌∙◌}
 use lib.ListN.{length, get_or}
 use borrow.Author.Tests.{ltb-true, ltb-false, lt-ltb, le-ltb, eqb-true, eq-eqb}
+use Rattle.numerals.proofs.Tests.{and_false}
 use Rattle.pack.specs.Notation.{◌<ᵇ◌, ◌≐◌}
 use Rattle.pack.specs.Value.{Bytes, Pgn, no_pgn, field_at}
 use Rattle.rules.specs.Search.{max_below, lower_key, least_below}
@@ -107,10 +108,6 @@ named pgns e h = go (spn_pgn pgns e) refl h
         at i u r.0 (spn_field (get_or pgns i no_pgn) e) refl r.1
 
 -- ---- candidates
-
-and_false : (a : Bool) → (a && false) ≡ false
-and_false true = refl
-and_false false = refl
 
 strict : (x e : ℕ) → x ≤ e → (x ≡ e → ⊥) → x < e
 strict x e l n = go (ℕ_discrete x e)

@@ -20,6 +20,9 @@ pub emitted_turn : {o o' o'' : Findings} (turn : ℕ → List Finding) (k : ℕ)
     → Emitted o (concat_below turn (k + 1)) o''
 emitted_turn turn k p q = rw (add-one k) (emitted_append p q)
 
+pub reporting_none : (o : Findings) (turn : ℕ → List Finding) (all : ℕ) → Reporting o turn all 0 o
+reporting_none o turn all = record { turns = omega arith; emitted = emitted_none o }
+
 pub reporting_turn : {o o' o'' : Findings} {turn : ℕ → List Finding} {all k : ℕ} → Reporting o turn all k o' → k < all
     → Emitted o' (turn k) o'' → Reporting o turn all (k + 1) o''
 reporting_turn {turn = turn} {k = k} p h q = record { turns = omega (arith, h); emitted = emitted_turn turn k p.emitted q }

@@ -9,7 +9,7 @@ use Rattle.std.specs.Bool.{then_some}
 use Rattle.std.specs.Prelude.{Some}
 use Rattle.std.proofs.lemmas.Option.{none-some, same_Some}
 use Rattle.std.proofs.lemmas.Bool.{false≢true}
-use borrow.Author.Tests.{lt-leb}
+use borrow.Author.Tests.{lt-leb, ne_eqb}
 use mathlib.Core.Bool.{Bool, true, false}
 use Rattle.pack.specs.Notation.{◌<ᵇ◌}
 use Rattle.pack.specs.Trees.{tree_number, protocol_of, prefix_of}
@@ -25,10 +25,16 @@ use Rattle.rules.specs.declared.locs.Loc.{Loc}
 use Rattle.rules.specs.declared.locs.Loc.TheVariants.{FieldTypes, Pgn, Lookup, Group}
 use Rattle.rules.specs.Texts.{bytes}
 
+-- of every tree number
+pub prefix_of_tree : (t : ℕ) → prefix_of (protocol_of t) ≡ check_prefix t
+prefix_of_tree zero = refl
+prefix_of_tree (suc zero) = refl
+prefix_of_tree (suc (suc t)) = rw (ne_eqb (suc (suc t)) 0 (λ z. omega arith), ne_eqb (suc (suc t)) 1 (λ z. omega arith))
+
 pub prefix_is : (p : Protocol) → prefix_of p ≡ check_prefix (tree_number p)
-prefix_is Nmea2000 = refl
-prefix_is J1939 = refl
-prefix_is Quick = refl
+prefix_is Nmea2000 = prefix_of_tree 0
+prefix_is J1939 = prefix_of_tree 1
+prefix_is Quick = prefix_of_tree 2
 
 prefix_short : (t : ℕ) → length (check_prefix t) ≤ 6
 prefix_short zero = omega arith

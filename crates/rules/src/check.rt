@@ -14,6 +14,7 @@ use crate::lookup_wiring::check_lookup_wiring;
 use crate::spn_names::check_spn_names;
 use crate::spns::check_spns;
 use crate::trees::{check_trees, check_trees_continues};
+use pack::buffers::copy;
 use pack::load::{Refusal, load};
 use pack::loaded::Pack;
 
@@ -75,7 +76,7 @@ fn deliver(pack: &Pack, findings: &mut [u32], short: &[u32], count: usize)
 {
     let numbers = 8 * count;
     if numbers <= short.len() {
-        findings[..numbers].copy_from_slice(&short[..numbers]);
+        copy(short, findings, numbers);
         return;
     }
     find_all(findings, pack);

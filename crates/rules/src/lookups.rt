@@ -6,21 +6,23 @@ ghost use Rattle.pack.specs.Loaded.{lookup_value};
 ghost use Rattle.pack.specs.Meaning.{pack_of};
 ghost use Rattle.rules.specs.Model.{find_lookup};
 
+use crate::of;
 use pack::kinds::LookupKind;
 use pack::loaded::{LookupRef, Pack};
-use pack::text::{Text, same_text};
+use pack::text::Text;
 
 // The lookup of that name.
 pub fn find_lookup<'a>(pack: &Pack<'a>, name: Text) -> Option<LookupRef<'a>>
     ensures found { option_map (λ l. l.item) result ≡ find_lookup (pack_of pack.now.bytes.now).lookups (bytes_of pack.now.bytes.now name) }
     ensures same { IfSome result (λ l. record { bytes : l.pack.bytes.now ≡ pack.now.bytes.now; work : l.pack.work.now ≡ pack.now.work.now }) }
 {
-    for lookup in pack.lookups() {
-        if same_text(pack.bytes, lookup.view.name, name) {
-            return Some(lookup);
-        }
-    }
-    None
+    let found = of::find_lookup(pack.bytes, pack.work, pack.index.lookups, name)?;
+    Some(LookupRef {
+        pack: *pack,
+        item: found.item,
+        place: found.place,
+        view: found.view,
+    })
 }
 
 // Whether its entries name field types, and lookups nested in them.

@@ -88,6 +88,7 @@ fn next_piece(pgn: &PgnRef, from: u32) -> Option<KeyByte>
 }
 
 // The text without its first byte, which comes, or the next piece where it is empty.
+#[inline(always)]
 fn next_of_text(pgn: &PgnRef, key: MatchKey) -> Option<KeyByte>
     requires { record {
       field : key.field ≤ pgn.now.view.fields;
@@ -112,6 +113,7 @@ fn next_of_text(pgn: &PgnRef, key: MatchKey) -> Option<KeyByte>
 }
 
 // The next byte of the key.
+#[inline(always)]
 fn next(pgn: &PgnRef, key: MatchKey) -> Option<KeyByte>
     requires { record {
       field : key.field ≤ pgn.now.view.fields;

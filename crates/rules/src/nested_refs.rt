@@ -10,21 +10,15 @@ ghost use Rattle.rules.specs.LookupWiring.{is_fieldtype, nested_lookup_at, field
 
 use crate::emit::{Findings, lookup_error};
 use crate::lookups::{find_lookup, has_fieldtypes};
+use crate::of;
 use pack::loaded::{LookupRef, Pack};
-use pack::text::{Text, same_text};
+use pack::text::Text;
 
 // `db.fieldtype(name)`
-#[tactic(auto, using(crate::specs::SearchLaws::any_turn), unfolding(crate::specs::LookupWiring::is_fieldtype))]
 pub fn is_fieldtype(pack: &Pack, name: Text) -> bool
     ensures { result ≡ is_fieldtype (pack_of pack.now.bytes.now).fieldtypes (bytes_of pack.now.bytes.now name) }
 {
-    for j in 0..pack.index.types.count {
-        let v = pack.field_type(j);
-        if same_text(pack.bytes, v.name, name) {
-            return true;
-        }
-    }
-    false
+    of::is_fieldtype(pack.bytes, pack.work, pack.index.types.count, name)
 }
 
 // Cause 7: the nested lookup of entry e.

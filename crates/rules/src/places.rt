@@ -1,9 +1,10 @@
 // The record that a finding's place names, found in the pack. Place and tree are numbers here: so the C interface gives them.
 ghost use Rattle.std.specs.Bool.{then_some};
 ghost use Rattle.std.specs.Option.{option_map};
-ghost use Rattle.std.specs.Prelude.{◌≡◌, ◌&&◌, length, ◌==◌};
+ghost use Rattle.std.specs.Prelude.{◌≡◌, ◌&&◌, ◌<◌, length, ◌==◌};
 ghost use Rattle.pack.specs.Meaning.{pack_of};
 ghost use Rattle.pack.specs.Notation.{◌<ᵇ◌};
+ghost use Rattle.pack.specs.Ready.{Ready, PgnAt, place_of_tree};
 ghost use Rattle.pack.specs.Trees.{tree_number};
 ghost use Rattle.pack.specs.Value.{pgns_of, pgn_at, lookup_at};
 ghost use Rattle.rules.specs.Locs.{loc_text};
@@ -11,7 +12,26 @@ ghost use Rattle.rules.specs.PlaceText.{pgn_loc, group_loc, lookup_loc, has_numb
 
 use crate::locs::Loc;
 use pack::loaded::Pack;
+use pack::of::pgn_of;
 use pack::protocol::Protocol;
+
+// The work position of a PGN of tree t, which begins at `first`.
+pub fn pgn_position(s: &[u8], work: &[u32], t: u32, first: usize, item: u32) -> usize
+    requires { record {
+      ready : Ready s.now work.now;
+      trees : t < 3;
+      first : first ≡ place_of_tree (pack_of s.now) t;
+      item : item < length (pgns_of (pack_of s.now) t);
+    } }
+    ensures { PgnAt s.now work.now t item result }
+{
+    let mut p = first;
+    for i in 0..item {
+        let g = pgn_of(s, work, t, i, p);
+        p = p + 1 + g.fields as usize;
+    }
+    p
+}
 
 // "for place 3 a PGN of that number in the tree"
 fn has_number(pack: &Pack, protocol: Protocol, number: u32) -> bool
@@ -39,7 +59,7 @@ fn pgn_loc(pack: &Pack, tree: u32, item: u32) -> Option<Loc>
         ((tree <ᵇ 3) && (item <ᵇ length (pgns_of (pack_of pack.now.bytes.now) tree)))
         (pgn_loc tree (pgn_at (pack_of pack.now.bytes.now) tree item)) }
 {
-    let protocol = Protocol::of_tree(tree)?;
+    let protocol = Protocol::from_number(tree)?;
     let pgn = pack.pgn(protocol, item)?;
     Some(Loc::Pgn {
         protocol,
@@ -66,7 +86,7 @@ fn group_loc(pack: &Pack, tree: u32, item: u32) -> Option<Loc>
     ensures { option_map (loc_text pack.now.bytes.now) result ≡ then_some
         ((tree <ᵇ 3) && has_number (pack_of pack.now.bytes.now) tree item) (group_loc tree item) }
 {
-    let protocol = Protocol::of_tree(tree)?;
+    let protocol = Protocol::from_number(tree)?;
     has_number(pack, protocol, item).then_some(Loc::Group {
         protocol,
         number: item,

@@ -8,31 +8,40 @@ ghost use Rattle.rules.specs.Search.{first_below};
 ghost use Rattle.rules.specs.Model.{target};
 ghost use Rattle.rules.specs.Texts.{NUMBER, LOOKUP};
 
+use crate::of;
 use pack::field_type::FieldTypeView;
 use pack::loaded::PgnRef;
-use pack::text::{Text, same_text, text_is};
+use pack::text::{Text, text_is};
 
 // The first of n fields of a PGN with that id.
-#[tactic(auto, using(crate::specs::SearchLaws::first_turn))]
 pub(crate) fn first_with_id(pgn: &PgnRef, n: u32, id: Text) -> Option<u32>
     requires { n ≤ pgn.now.view.fields }
     ensures { result ≡ first_below (λ j. (field_at (pgn_value pgn.now) j).id ≐ bytes_of pgn.now.pack.bytes.now id) n }
 {
-    for j in 0..n {
-        let other = pgn.field_id(j);
-        if same_text(pgn.pack.bytes, other, id) {
-            return Some(j);
-        }
-    }
-    None
+    of::first_with_id(
+        pgn.pack.bytes,
+        pgn.pack.work,
+        pgn.protocol.tree(),
+        pgn.item,
+        pgn.place,
+        n,
+        id,
+    )
 }
 
 // "A target is the first field with that id", of a PGN's fields.
-#[tactic(auto, unfolding(crate::specs::Model::target))]
 pub fn target(pgn: &PgnRef, id: Text) -> Option<u32>
     ensures { result ≡ target (pgn_value pgn.now) (bytes_of pgn.now.pack.bytes.now id) }
 {
-    first_with_id(pgn, pgn.view.fields, id)
+    of::target(
+        pgn.pack.bytes,
+        pgn.pack.work,
+        pgn.protocol.tree(),
+        pgn.item,
+        pgn.place,
+        pgn.view.fields,
+        id,
+    )
 }
 
 // `integer`: NUMBER or LOOKUP, by the root's name of a field type.

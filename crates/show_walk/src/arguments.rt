@@ -36,7 +36,7 @@ fn bytes(argument: &String) -> &[u8] {
 
 fn protocol(argument: &String) -> Option<Protocol> {
     let tree = u32::try_from(parse_u64(bytes(argument))?).ok()?;
-    Protocol::of_tree(tree)
+    Protocol::from_number(tree)
 }
 
 // The first of them is the program's name.

@@ -4,7 +4,7 @@ use crate::find::find;
 use crate::passes::{Passes, counts_passes, indent};
 use listing::input::load_pack;
 use listing::words::{Counted, Refused, protocol_name, text};
-use pack::loaded::{Pack, PgnRef};
+use pack::loaded::PgnRef;
 use pack::protocol::{FieldIndex, Protocol};
 use rules::check::{Reported, check};
 use std::alloc::{AllocError, Global};
@@ -34,6 +34,14 @@ impl Buffers {
             visits: vec![in alloc; 0; VISITS]?,
         })
     }
+}
+
+// A PGN of a pack: the pack's bytes, the tree, and which one of it.
+#[derive(Clone, Copy)]
+struct Named<'a> {
+    bytes: &'a [u8],
+    protocol: Protocol,
+    item: u32,
 }
 
 // A tree by its number and its protocol's name.
@@ -144,26 +152,51 @@ fn show_end(out: &mut impl Write, end: End, visits: usize) -> io::Result<()> {
     }
 }
 
+// The visits, by the pack loaded once more: the walk had the work buffer.
+fn show_visits(
+    out: &mut impl Write,
+    named: Named<'_>,
+    readings: &[u64],
+    work: &mut [u32],
+    visits: &[u32],
+) -> io::Result<()> {
+    let Ok(pack) = load_pack(named.bytes, work) else {
+        return Ok(());
+    };
+    let Some(pgn) = pack.pgn(named.protocol, named.item) else {
+        return Ok(());
+    };
+    let mut passes = Passes::none();
+    for (k, reading) in visits.iter().zip(readings) {
+        show_visit(out, pgn, &mut passes, *k, *reading)?;
+    }
+    Ok(())
+}
+
 fn show_walk(
     out: &mut impl Write,
-    found: PgnRef<'_>,
+    named: Named<'_>,
     readings: &[u64],
     buffers: &mut Buffers,
 ) -> io::Result<()> {
     match walk(
-        found.pack.bytes,
+        named.bytes,
         &mut buffers.work,
-        found.protocol.tree(),
-        found.item,
+        named.protocol.tree(),
+        named.item,
         readings,
         &mut buffers.visits,
     ) {
         Err(refusal) => writeln!(out, "{}", Refused(refusal)),
         Ok(Ended { end, visits }) => {
-            let mut passes = Passes::none();
-            for (k, reading) in buffers.visits.iter().zip(readings).take(visits) {
-                show_visit(out, found, &mut passes, *k, *reading)?;
-            }
+            let made = visits.min(buffers.visits.len());
+            show_visits(
+                out,
+                named,
+                readings,
+                &mut buffers.work,
+                &buffers.visits[..made],
+            )?;
             show_end(out, end, visits)
         }
     }
@@ -172,48 +205,69 @@ fn show_walk(
 // The walk first, and at once, since a check can take long.
 fn show_found(
     out: &mut impl Write,
-    alloc: Global,
-    found: PgnRef<'_>,
+    named: Named<'_>,
     readings: &[u64],
+    buffers: &mut Buffers,
 ) -> io::Result<()> {
-    let PgnRef {
-        pack,
-        protocol,
-        item,
-        view,
-        ..
-    } = found;
-    let mut buffers = Buffers::new(alloc, pack.bytes.len())?;
-    write!(out, "PGN {}", view.pgn)?;
-    text(out, " ", pack.text(view.id))?;
-    writeln!(out, " of {}, index {}", Tree(protocol), item)?;
-    show_walk(out, found, readings, &mut buffers)?;
+    show_walk(out, named, readings, buffers)?;
     out.flush()?;
-    let clean = show_errors(out, pack.bytes, &mut buffers)?;
-    match held(pack.bytes, &mut buffers.work, protocol.tree(), item) {
+    let clean = show_errors(out, named.bytes, buffers)?;
+    match held(
+        named.bytes,
+        &mut buffers.work,
+        named.protocol.tree(),
+        named.item,
+    ) {
         Err(refusal) => writeln!(out, "{}", Refused(refusal)),
         Ok(held) => writeln!(out, "{}", meaning(held, clean)),
     }
 }
 
-// The PGN of that name in the tree.
+// The index of the PGN of that name, once its heading is written; None where the pack is refused or has none, which is written then.
+fn head(
+    out: &mut impl Write,
+    bytes: &[u8],
+    work: &mut [u32],
+    arguments: &Arguments<'_>,
+) -> io::Result<Option<u32>> {
+    let protocol = arguments.protocol;
+    match load_pack(bytes, work) {
+        Err(refusal) => {
+            writeln!(out, "{}", Refused(refusal))?;
+            Ok(None)
+        }
+        Ok(pack) => {
+            let Some(found) = find(&pack, protocol, arguments.name) else {
+                writeln!(
+                    out,
+                    "not in the pack: no PGN of that number or id in {}",
+                    Tree(protocol)
+                )?;
+                return Ok(None);
+            };
+            write!(out, "PGN {}", found.view.pgn)?;
+            text(out, " ", pack.text(found.view.id))?;
+            writeln!(out, " of {}, index {}", Tree(protocol), found.item)?;
+            Ok(Some(found.item))
+        }
+    }
+}
+
+// The PGN of that name in the tree. One work buffer serves every call.
 pub fn show(
     out: &mut impl Write,
     alloc: Global,
     bytes: &[u8],
     arguments: &Arguments<'_>,
 ) -> io::Result<()> {
-    let protocol = arguments.protocol;
-    let mut work = vec![in alloc; 0u32; bytes.len() / 2]?;
-    match load_pack(bytes, &mut work) {
-        Err(refusal) => writeln!(out, "{}", Refused(refusal)),
-        Ok(pack) => match find(&pack, protocol, arguments.name) {
-            Some(found) => show_found(out, alloc, found, &arguments.readings),
-            None => writeln!(
-                out,
-                "not in the pack: no PGN of that number or id in {}",
-                Tree(protocol)
-            ),
-        },
-    }
+    let mut buffers = Buffers::new(alloc, bytes.len())?;
+    let Some(item) = head(out, bytes, &mut buffers.work, arguments)? else {
+        return Ok(());
+    };
+    let named = Named {
+        bytes,
+        protocol: arguments.protocol,
+        item,
+    };
+    show_found(out, named, &arguments.readings, &mut buffers)
 }

@@ -26,13 +26,14 @@ pub fn find_pgn<'a>(pack: &Pack<'a>, tree: u32, pgn: u32) -> Result<PgnRef<'a>, 
     ensures { result_map_both pgn_spot (λ r. r) result ≡ naming (in_pack (pack_of pack.now.bytes.now) tree pgn)
         (record { bytes = pack.now.bytes.now; work = pack.now.work.now; tree = tree; item = pgn }) }
 {
-    let Some(protocol) = Protocol::of_tree(tree) else {
+    let Some(protocol) = Protocol::from_number(tree) else {
         return Err(Refusal::Absent);
     };
     pack.pgn(protocol, pgn).ok_or(Refusal::Absent)
 }
 
 // The PGN that is there, with its sets.
+#[inline(always)]
 pub fn found_pgn<'a>(pgn: &PgnRef<'a>) -> FoundPgn<'a>
     ensures { result.pgn ≡ pgn.now }
 {

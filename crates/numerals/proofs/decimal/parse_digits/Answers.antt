@@ -1,10 +1,11 @@
-use Rattle.std.proofs.Common.{ℕ, suc, ◌≡◌, ◌∙◌, sym, ◌≤◌, ◌+◌, ◌-◌, ◌*◌, ◌^◌, Bool, true, false, ◌&&◌, refl}
+use Rattle.std.proofs.Common.{ℕ, suc, ◌≡◌, ◌∙◌, sym, ◌≤◌, ◌+◌, ◌-◌, ◌*◌, ◌^◌}
 use Rattle.std.proofs.Common.{List, [], ◌∷◌, get_or, drop, drop-cons, arith}
 use Rattle.std.proofs.lemmas.Bool.{le-ltb}
 use Rattle.std.proofs.lemmas.Grind.{common_steps}
 use Rattle.std.specs.Prelude.{None, Some}
 use Rattle.std.specs.Bool.{then_some}
 use Rattle.numerals.specs.Numerals.{is_digit, all_digits, decimal}
+use Rattle.numerals.proofs.Tests.{and_false}
 use Rattle.numerals.proofs.decimal.parse_digits.Invariants.{left}
 use Rattle.numerals.proofs.decimal.parse_digits.Goals as goal
 
@@ -16,10 +17,6 @@ too_large : (v x : ℕ) (xs : List ℕ) → 2 ^ 64 ≤ 10 * v + (x - 48) → lef
 too_large v x xs h =
     let e = le-ltb (decimal (10 * v + (x - 48)) xs) (2 ^ 64) (omega (arith, decimal_grows (10 * v + (x - 48)) xs)) in
     rw (e, and_false (all_digits (x ∷ xs)))
-  where
-    and_false : (b : Bool) → (b && false) ≡ false
-    and_false true = refl
-    and_false false = refl
 
 its_value : (x d : ℕ) → then_some (is_digit x) (x - 48) ≡ Some d → x - 48 ≡ d
 its_value x d e = grind (arith, common_steps)

@@ -66,14 +66,11 @@ returns-then-n-short c =
     let n = counted p in
     let t = take_stored c.args.short.now (offsets s) (omega (arith, c.if-n-short.true, n, c.place_all.auto.work)) in
     let front : take c.in_ok-index.index.records c.place_all.new.work ≡ offsets s = rw (n, p.work (accepted p)) t in
-    all p c.requires c.if-work-n.false (rw (c.copy_from_slice.ensures.after ∙ front, n))
+    all p c.requires c.if-work-n.false (rw front at c.copy.ensures)
 
-pub returns-in_err-place_all : goal.returns-in_err-place_all
-returns-in_err-place_all c = absurd (not_accepted c.in_err-place_all.ensures (accepted c.in_ok-index.ensures))
-
-pub returns : goal.returns
-returns c =
-    let p = c.in_ok-place_all.ensures in
-    let same : c.in_ok-place_all.field-0 ≡ c.in_ok-index.index = index p ∙ sym (index c.in_ok-index.ensures) in
-    let room = rw (← same) at c.if-work-n.false in
-    all p c.requires room (p.work (accepted p) ∙ sets_over c.args.work.now (offsets c.args.pack.now) (omega (arith, room, counted p)))
+pub returns-in_ok-place_all : goal.returns-in_ok-place_all
+returns-in_ok-place_all c =
+    let p = c.in_ok-index.ensures in
+    let q = c.in_ok-place_all.ensures in
+    let room : length (offsets c.args.pack.now) ≤ length c.args.work.now = omega (arith, c.if-work-n.false, counted p) in
+    all p c.requires c.if-work-n.false (q.work (accepted q) ∙ sets_over c.args.work.now (offsets c.args.pack.now) room)

@@ -1,5 +1,5 @@
 use Rattle.pack.proofs.Places.{past_out}
-use Rattle.pack.proofs.Places.{along_none, along_put, along_read, along_value, placed, refused, fields_turn, field_offsets_turn, fields_stay}
+use Rattle.pack.proofs.Places.{along_none, along_put, along_read, along_same, along_value, placed, refused, fields_turn, field_offsets_turn, fields_stay}
 use Rattle.pack.proofs.ReaderLaws.{outcome_ok}
 use Rattle.pack.proofs.Free.{field_fits}
 use Rattle.pack.specs.Items.{fresh}
@@ -7,7 +7,7 @@ use Rattle.pack.specs.Format.{fields, field_offsets, field_next}
 use Rattle.pack.specs.Records.{read_field}
 use Prim.Native.Nat.{◌+◌}
 use native.Mathlib.Omega.{arith}
-use mathlib.Core.Path.{◌≡◌, refl, ap}
+use mathlib.Core.Path.{◌≡◌, ◌∙◌, refl, ap}
 use Rattle.pack.proofs.load.place_fields.Goals as goal
 
 pub loop-i-init : goal.loop-i-init
@@ -20,6 +20,9 @@ overflow_add-total c =
     let o = outcome_ok f c.in_ok-field.field c.in_ok-field.ensures.answer in
     omega (arith, (rw o.1 at (field_fits c.loop-i.next.bytes.now (fresh c.loop-i.next.at) c.args.types c.loop-i.total o.0)))
 
+pub go_on-next-requires : goal.go_on-next-requires
+go_on-next-requires c = c.in_ok-field.ensures.bytes ∙ c.loop-i.invariant.along.bytes
+
 pub loop-i-preserved : goal.loop-i-preserved
 unfolding field_next
 loop-i-preserved c =
@@ -30,7 +33,8 @@ loop-i-preserved c =
     let a = along_put c.loop-i.invariant.along c.put.ensures in
     let t = c.loop-i.invariant.total in
     record {
-      along = rw (fields_turn s k types i, field_offsets_turn s k types i, ← t) (along_read a c.in_ok-field.ensures);
+      along = rw (fields_turn s k types i, field_offsets_turn s k types i, ← t)
+          (along_same (along_read a c.in_ok-field.ensures) c.go_on-next.ensures.bytes c.go_on-next.ensures.at);
       total = rw (fields_turn s k types i, ← t) (ap (λ r. c.loop-i.total + r.scaling.bits) (along_value a c.in_ok-field.ensures));
     }
 

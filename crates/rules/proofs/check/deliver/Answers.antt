@@ -1,19 +1,13 @@
 use Rattle.rules.specs.Check.{check}
-use Rattle.rules.specs.Checked.{all_numbers}
-use Rattle.rules.proofs.Reports.{all_stored, length_numbers}
+use Rattle.rules.proofs.Reports.{all_stored}
 use Rattle.rules.proofs.Totals.{findings_few}
 use native.Mathlib.Omega.{arith}
-use Prim.Native.Nat.{◌*◌}
-use lib.ListN.{length}
-use mathlib.Core.Path.{◌≡◌, ◌∙◌}
+use mathlib.Core.Path.{◌∙◌}
 use Rattle.pack.specs.Meaning.{pack_of}
 use Rattle.rules.proofs.check.deliver.Goals as goal
 
 pub returns-then-numbers-short : goal.returns-then-numbers-short
-returns-then-numbers-short c =
-    let fs = check (pack_of c.args.pack.now.bytes.now) in
-    let n : 8 * c.args.count ≡ length (all_numbers fs) = omega (arith, c.requires.counted, length_numbers fs) in
-    rw (c.copy_from_slice.ensures.after ∙ c.requires.short c.if-numbers-short.true, n)
+returns-then-numbers-short c = rw (c.requires.short c.if-numbers-short.true) at c.copy.ensures
 
 pub returns : goal.returns
 returns c =

@@ -15,7 +15,7 @@ unfolding pgn_loc pgn_text
 returns c =
     let P = pack_of c.args.pack.now.bytes.now in
     let p = c.in_ok-protocol.protocol in
-    let t = tree_read c.args.tree p (sym c.in_ok-protocol.was ∙ c.of_tree.ensures) in
+    let t = tree_read c.args.tree p (sym c.in_ok-protocol.was ∙ c.from_number.ensures) in
     let y = rw c.in_ok-pgn.was at c.pgn.ensures in
     let x = some_then (c.args.item <ᵇ length (pgns_of P (tree_number p))) y in
     let m = pgn_there c.in_ok-pgn.pgn x.1 in

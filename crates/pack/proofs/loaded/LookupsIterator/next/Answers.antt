@@ -15,4 +15,4 @@ overflow_add-self-3 c =
     let i = c.args.self.now in
     let a : LookupAt i.pack.bytes.now i.pack.work.now i.item i.place =
     record { ready = i.pack.ready; lookup = omega (arith, i.pack.indexed.lookups.count, c.if-count-item.false); place = i.placed } in
-    omega (arith, entries_few a, c.lookup_view-view.ensures.entries)
+    omega (arith, entries_few a, c.lookup_of-view.ensures.entries)

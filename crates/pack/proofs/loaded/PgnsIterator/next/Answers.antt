@@ -16,4 +16,4 @@ overflow_add-self-3 c =
     let i = c.args.self.now in
     let a : PgnAt i.pack.bytes.now i.pack.work.now (tree_number i.protocol) i.item i.place =
     record { ready = i.pack.ready; tree = tree_small i.protocol; pgn = omega (arith, i.counted, c.if-count-item.false); place = i.placed } in
-    omega (arith, fields_few a, c.pgn_view-view.ensures.fields)
+    omega (arith, fields_few a, c.pgn_of-view.ensures.fields)

@@ -1,0 +1,8 @@
+use Rattle.pack.proofs.CursorLaws.{leaf_read, leaf_none, leaf_float}
+use Rattle.pack.proofs.cursor.Cursor.float.Goals as goal
+
+pub returns-in-Ok : goal.returns-in-Ok
+returns-in-Ok c = leaf_read leaf_float _ c.reader.ensures c.in-Ok.is c.float.ensures c.as_item.ensures
+
+pub returns-in-Err : goal.returns-in-Err
+returns-in-Err c = leaf_none leaf_float c.reader.ensures c.in-Err.is
