@@ -1,8 +1,9 @@
 -- Loops over an accepted pack's lookups, or a tree's PGNs, that report or search.
+use Rattle.std.specs.Prelude.{None, Some}
 use Prim.Native.Nat.{ℕ, zero, suc, ◌<◌}
 use native.Mathlib.Omega.{arith}
 use mathlib.Core.Bool.{Bool, true, false}
-use mathlib.Core.Path.{◌≡◌, refl}
+use mathlib.Core.Path.{◌≡◌, refl, ap, ◌∙◌, sym}
 use mathlib.Core.List.{List, [], ◌∷◌, ◌++◌}
 use lib.ListN.{length, get_or}
 use Rattle.pack.specs.Loaded.{lookup_spot, pgn_spot, lookups_left, pgns_left}
@@ -19,8 +20,8 @@ use Rattle.pack.proofs.Turns.{LookupTurn, LookupsGiven, lookups_turn, lookups_gi
 use Rattle.rules.specs.declared.Finding.{Finding}
 use Rattle.rules.specs.declared.emit.Findings.{Findings}
 use Rattle.rules.specs.Emit.{Emitted}
-use Rattle.rules.specs.Search.{any_below}
-use Rattle.rules.specs.SearchLaws.{any_turn, any_hit}
+use Rattle.rules.specs.Search.{any_below, first_below}
+use Rattle.rules.specs.SearchLaws.{any_turn, any_hit, any_missed, first_hit}
 use Rattle.rules.proofs.Emits.{emitted_turn}
 use Rattle.rules.proofs.PgnSearches.{one_more}
 
@@ -60,6 +61,10 @@ all_lookups p h = rw (← lookups_given p.given h) p.emitted
 
 -- ---- searches
 
+first_none : (p : ℕ → Bool) (n : ℕ) → ((k : ℕ) → k < n → p k ≡ false) → first_below p n ≡ None
+first_none p zero h = refl
+first_none p (suc n) h = rw (first_none p n (λ k l. h k (omega arith)), h n (omega arith))
+
 -- the invariant: the lookups ys were given, none of them has p, and d gives the others
 pub record NoneOfLookups (s w : List ℕ) (p : ℕ → Bool) (ys : List LookupRef) (d : Lookups) : Type 0 where
   pub given : LookupsGiven s w (length (pack_of s).lookups) (length ys) d
@@ -79,8 +84,19 @@ module _ {s w : List ℕ} {p : ℕ → Bool} {ys : List LookupRef} {d : Lookups}
       let u = lookups_turn x e a.given h in
       any_hit p (length (pack_of s).lookups) (length ys) u.0.inside (own u.0)
 
+  pub lookup_hit_first : (x : LookupRef) (e : Lookups) → lookups_left d ≡ lookup_spot x ∷ lookups_left e
+      → (LookupTurn s w (length ys) (length (pack_of s).lookups) x (lookups_left e) → p (length ys) ≡ true)
+      → first_below p (length (pack_of s).lookups) ≡ Some x.item
+  lookup_hit_first x e h own =
+      let u = lookups_turn x e a.given h in
+      first_hit p (length (pack_of s).lookups) (length ys) u.0.inside (first_none p (length ys) (any_missed p (length ys) a.none_yet)) (own u.0)
+      ∙ ap Some (sym u.0.item)
+
   pub no_lookup : lookups_left d ≡ [] → any_below p (length (pack_of s).lookups) ≡ false
   no_lookup h = rw (← lookups_given a.given h) a.none_yet
+
+  pub no_lookup_first : lookups_left d ≡ [] → first_below p (length (pack_of s).lookups) ≡ None
+  no_lookup_first h = first_none p (length (pack_of s).lookups) (any_missed p (length (pack_of s).lookups) (no_lookup h))
 
 -- ---- the trees
 
