@@ -6,12 +6,20 @@ use Rattle.std.specs.Prelude.{Bool, true, false, not, ◌&&◌, length, get_or, 
 use Rattle.std.specs.Prelude.{Option, None, Some}
 use Rattle.pack.specs.Notation.{◌<ᵇ◌, ◌≤ᵇ◌}
 use Rattle.pack.specs.declared.text.Text.{Text}
-pub use Rattle.pack.specs.declared.cursor.Cursor.{Cursor}
-pub use Rattle.pack.specs.declared.cursor.Item.{Item}
+use Rattle.pack.specs.declared.cursor.Cursor as cursors
+use Rattle.pack.specs.declared.cursor.Item as items
 
 infix 50 ◌≺◌
 infixr 20 ◌▷◌
--- ---- the cursor
+-- ---- the cursor: the code's records
+
+-- an offset; and 01's number of the refusal there, 0 where there is none
+abbrev pub Cursor : Type 0
+Cursor = cursors.Cursor
+
+-- an item, and the cursor behind it
+abbrev pub Item : Type 0 → Type 0
+Item A = items.Item A
 
 -- from the bytes of a pack and a cursor
 abbrev pub Form : Type 0 → Type 0
