@@ -11,7 +11,7 @@ use Rattle.pack.specs.declared.cursor.Item as items
 
 infix 50 ◌≺◌
 infixr 20 ◌▷◌
--- ---- the cursor: the code's records
+-- ---- the cursor: the code's records, by names of their own, since another crate cannot name what `pub use` hands on of `declared`
 
 -- an offset; and 01's number of the refusal there, 0 where there is none
 abbrev pub Cursor : Type 0
